@@ -1,0 +1,185 @@
+// A text of Unicode characters.
+
+ghost use Rattle.std.specs.Prelude.{◌≡◌, [], ◌∷◌, ◌++◌, true, IfOk, OnOk, OnErr, IsTrue, ◌↔◌, ◌<◌, length, IfNone, IfSome, OnSome};
+ghost use Rattle.std.specs.Str.{chars, encode_utf8_all, all_scalars, IsUtf8};
+ghost use Rattle.std.specs.Str.Iter.{chars_rest};
+ghost use Rattle.std.specs.Cmp.{partial_order_from_own_ties};
+ghost use Rattle.std.specs.Cmp.Rules.{comparing, hashing};
+ghost use Rattle.std.specs.Ordering.{as_partial_cmp};
+ghost use Rattle.std.specs.Hash as fed;
+ghost use Rattle.std.proofs.Common.{rules};
+ghost use Rattle.gx_base.specs.Text.{same_text, text_cmp};
+
+use std::alloc::{AllocError, Global};
+use std::cmp::Ordering;
+use std::fmt;
+use std::hash::{Hash, Hasher};
+use std::marker::Model;
+use std::str::Chars;
+
+/// A text, which contracts see as the list of its characters (XML 1.0, section 2.2; XQuery 1.0 and XPath 2.0 Data
+/// Model, section 2.1). Texts are compared by code points.
+#[derive(Drop)]
+pub struct Text {
+    text: String,
+}
+
+impl Model for Text {
+    ghost use Rattle.std.specs.Prelude.{List, ℕ, string_bytes};
+    ghost use Rattle.std.specs.Str.{chars};
+
+    ghost Value = { List ℕ };
+
+    ghost view = { λ t. chars (string_bytes t.text) };
+}
+
+#[tactic(auto, using(crate::proofs::TextLemmas::string_rules))]
+impl Text {
+    /// The empty text.
+    pub fn new(alloc: Global) -> Text
+        ensures { result ≡ [] }
+    {
+        Text {
+            text: String::new(alloc),
+        }
+    }
+
+    /// The text of a string slice.
+    pub fn from_str(alloc: Global, text: &str) -> Result<Text, AllocError>
+        ensures { IfOk result (λ t. t ≡ chars text.now) }
+    {
+        Ok(Text {
+            text: String::from_str(alloc, text)?,
+        })
+    }
+
+    /// The text as a string slice, which holds its characters in UTF-8.
+    pub fn as_str(&self) -> &str
+        ensures bytes { result.now ≡ encode_utf8_all self.now }
+        ensures characters { all_scalars self.now ≡ true }
+    {
+        self.text.as_str()
+    }
+
+    /// Whether the text has no character.
+    pub fn is_empty(&self) -> bool
+        ensures { IsTrue result ↔ (self.now ≡ []) }
+    {
+        self.text.as_str().is_empty()
+    }
+
+    /// Adds a character at the end. An `Err` leaves the text as it was.
+    pub fn push(&mut self, character: char) -> Result<(), AllocError>
+        ensures ok { OnOk result (self.new ≡ self.old ++ character ∷ []) }
+        ensures err { OnErr result (self.new ≡ self.old) }
+    {
+        Ok(self.text.push(character)?)
+    }
+
+    /// Adds a text at the end. An `Err` leaves the text as it was.
+    pub fn push_text(&mut self, other: &Text) -> Result<(), AllocError>
+        ensures ok { OnOk result (self.new ≡ self.old ++ other.now) }
+        ensures err { OnErr result (self.new ≡ self.old) }
+    {
+        Ok(self.text.push_str(other.text.as_str())?)
+    }
+}
+
+impl Clone for Text {
+    ghost is_clone = { λ t copy. copy ≡ t };
+
+    fn clone(&self) -> Result<Text, AllocError> {
+        Ok(Text {
+            text: self.text.clone()?,
+        })
+    }
+}
+
+#[tactic(auto, using(crate::proofs::TextLemmas::string_rules))]
+impl PartialEq for Text {
+    ghost eq = { same_text };
+
+    ghost laws = { Prim.search (comparing, rules) };
+
+    fn eq(&self, other: &Text) -> bool {
+        self.text == other.text
+    }
+}
+
+impl Eq for Text {
+    ghost laws = { Prim.search (comparing, rules) };
+}
+
+impl Ord for Text {
+    ghost cmp = { text_cmp };
+
+    ghost total = { Prim.search (comparing, rules) };
+
+    ghost matches_partial_cmp = { Prim.search (comparing, rules) };
+
+    ghost matches_eq = { Prim.search (comparing, rules) };
+
+    fn cmp(&self, other: &Text) -> Ordering {
+        compare_characters(self.text.as_str(), other.text.as_str())
+    }
+}
+
+impl PartialOrd for Text {
+    ghost partial_cmp = { as_partial_cmp text_cmp };
+
+    ghost laws = { partial_order_from_own_ties (Prim.search (comparing, rules)) (Prim.search (comparing, rules)) };
+
+    fn partial_cmp(&self, other: &Text) -> Option<Ordering> {
+        Some(self.cmp(other))
+    }
+}
+
+#[tactic(auto, using(crate::proofs::TextLemmas::string_rules))]
+impl Hash for Text {
+    ghost hash_input = { λ t. fed.str (encode_utf8_all t) };
+
+    ghost respects_eq = { Prim.search (hashing, rules) };
+
+    fn hash<H: Hasher>(&self, state: &mut H) {
+        self.text.as_str().hash(state);
+    }
+}
+
+impl fmt::Debug for Text {
+    fn fmt<W: fmt::Write>(&self, f: &mut fmt::Formatter<W>) -> fmt::Result {
+        let text = self.text.as_str();
+        write!(f, "{text:?}")
+    }
+}
+
+// The order of two texts by code points.
+#[tactic(auto, using(crate::proofs::TextLemmas::string_rules))]
+fn compare_characters(a: &str, b: &str) -> Ordering
+    ensures { result ≡ text_cmp (chars a.now) (chars b.now) }
+{
+    let mut first = a.chars();
+    let mut second = b.chars();
+    while let Some(x) = next_character(&mut first) {
+        let Some(y) = next_character(&mut second) else {
+            return Ordering::Greater;
+        };
+        if x != y {
+            return x.cmp(&y);
+        }
+    }
+    match next_character(&mut second) {
+        Some(_) => Ordering::Less,
+        None => Ordering::Equal,
+    }
+}
+
+// Takes the next character.
+fn next_character(rest: &mut Chars<'_>) -> Option<char>
+    requires { IsUtf8 (chars_rest rest.old) }
+    ensures text { IsUtf8 (chars_rest rest.new) }
+    ensures end { IfNone result (chars (chars_rest rest.old) ≡ []) }
+    ensures next { IfSome result (λ c. chars (chars_rest rest.old) ≡ c ∷ chars (chars_rest rest.new)) }
+    ensures shorter { OnSome result (length (chars_rest rest.new) < length (chars_rest rest.old)) }
+{
+    rest.next()
+}
