@@ -1,0 +1,3 @@
+mod FilesLemmas
+pub mod Growth
+mod KnownLemmas

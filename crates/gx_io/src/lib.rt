@@ -1,0 +1,20 @@
+//! Where files come from and where bytes go: a library of files and a sink, each as a trait, in memory, and over std.
+#![tactic(auto)]
+
+mod errors;
+mod file_library;
+mod library;
+mod memory_library;
+mod memory_sink;
+mod sink;
+#[cfg(test)]
+mod tests;
+mod writer_sink;
+
+pub use errors::{LoadError, PutError};
+pub use file_library::FileLibrary;
+pub use library::Library;
+pub use memory_library::{MemoryLibrary, law_of_names};
+pub use memory_sink::MemorySink;
+pub use sink::Sink;
+pub use writer_sink::WriterSink;
