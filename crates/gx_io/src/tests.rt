@@ -37,6 +37,8 @@ fn libraries_load_whole_files(rt: HostRuntime) -> Result<(), Fail> {
     );
     let loaded = files.load(rt.alloc(), "long.txt", 20000)?;
     assert_eq!(rt; loaded.as_slice(), long.as_slice());
+    fs::remove_file(&rt, "loaded.txt")?;
+    fs::remove_file(&rt, "long.txt")?;
     Ok(())
 }
 

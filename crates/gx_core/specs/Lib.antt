@@ -1,0 +1,16 @@
+pub mod Expression
+pub mod ExpressionCode
+pub mod ExpressionView
+pub mod ExpressionParts
+pub mod SequenceType
+pub mod TypeCode
+pub mod TypeView
+pub mod TypeParts
+pub mod Occurs
+pub mod Occurrence
+pub mod TypeRules
+pub mod Values
+pub mod Meaning
+pub mod Judgement
+pub mod Soundness
+pub mod Refusal

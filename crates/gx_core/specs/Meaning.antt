@@ -1,0 +1,66 @@
+-- What a Core expression means (Formal Semantics, section 4; XQuery 1.0, section 3).
+use Rattle.std.specs.Prelude.{ℕ, ◌^◌, nat_lt, ℤ, pos, negsuc, ◌+ℤ◌, Bool, List, [], ◌∷◌, ◌++◌, Option, Some, None, nat_eq, if◌then◌else◌}
+use Rattle.gx_base.specs.declared.code.Code.{Code}
+use Rattle.gx_base.specs.declared.code.Code.TheVariants.{FOAR0002}
+use Rattle.gx_core.specs.declared.expression.BinaryOp.{BinaryOp}
+use Rattle.gx_core.specs.declared.expression.BinaryOp.TheVariants.{Add}
+use Rattle.gx_core.specs.Expression.{Expression, At, Form, literal, variable, empty, sequence, let_in, data_of, binary}
+
+-- what an evaluation comes to: a value, a dynamic error, or a type error, which typing excludes
+pub data Outcome : Type 0 where
+  gives : (items : List ℤ) → Outcome
+  raises : (code : Code) → Outcome
+  wrong : Outcome
+
+-- the first outcome that is no value is that of the whole
+abbrev pub after : Outcome → (List ℤ → Outcome) → Outcome
+after (gives items) next = next items
+after (raises code) next = raises code
+after wrong next = wrong
+
+-- what is bound to a variable, the innermost binding first
+abbrev pub look_up : {A : Type 0} → List (ℕ × A) → ℕ → Option A
+look_up [] number = None
+look_up (binding ∷ bindings) number = if nat_eq binding.0 number then Some binding.1 else look_up bindings number
+
+abbrev pub Bindings : Type 0
+Bindings = List (ℕ × List ℤ)
+
+-- an xs:integer lies in -2^127 to 2^127 - 1
+abbrev pub is_in_range : ℤ → Bool
+is_in_range (pos n) = nat_lt n (2 ^ 127)
+is_in_range (negsuc n) = nat_lt n (2 ^ 127)
+
+abbrev pub added : ℤ → Outcome
+added sum = if is_in_range sum then gives (sum ∷ []) else raises FOAR0002
+
+-- a sum is empty where an operand is; an operand of more than one item is a type error
+abbrev pub sum_of : List ℤ → List ℤ → Outcome
+sum_of [] [] = gives []
+sum_of [] (y ∷ []) = gives []
+sum_of (x ∷ []) [] = gives []
+sum_of (x ∷ []) (y ∷ []) = added (x +ℤ y)
+sum_of _ _ = wrong
+
+abbrev pub operator_meaning : BinaryOp → List ℤ → List ℤ → Outcome
+operator_meaning Add left right = sum_of left right
+
+abbrev pub variable_meaning : Option (List ℤ) → Outcome
+variable_meaning None = wrong
+variable_meaning (Some items) = gives items
+
+abbrev mutual
+  pub meaning : Expression → Bindings → Outcome
+  meaning (At place outer form) bindings = form_meaning form bindings
+
+  pub form_meaning : Form → Bindings → Outcome
+  form_meaning (literal value) bindings = gives (value ∷ [])
+  form_meaning (variable number) bindings = variable_meaning (look_up bindings number)
+  form_meaning empty bindings = gives []
+  form_meaning (sequence first second) bindings =
+      after (meaning first bindings) (λ items. after (meaning second bindings) (λ more. gives (items ++ more)))
+  form_meaning (let_in binder value body) bindings =
+      after (meaning value bindings) (λ items. meaning body ((binder.variable, items) ∷ bindings))
+  form_meaning (data_of operand) bindings = meaning operand bindings
+  form_meaning (binary operator left right) bindings =
+      after (meaning left bindings) (λ items. after (meaning right bindings) (λ others. operator_meaning operator items others))

@@ -1,0 +1,4 @@
+//! The evaluator: the outcome that a query's meaning has.
+#![tactic(auto)]
+
+pub mod evaluator;
