@@ -1,0 +1,1 @@
+let $x := 20 return ($x + 1, $x)

@@ -1,0 +1,11 @@
+pub mod Runs
+pub mod Digits
+pub mod Members
+pub mod Phrases
+pub mod TokenLaws
+pub mod GrammarLaws
+pub mod NodesLemmas
+pub mod TextLemmas
+pub mod RunLemmas
+pub mod AnswerLemmas
+pub mod PromiseLemmas

@@ -1,0 +1,35 @@
+use Rattle.std.proofs.Common.{map, string_bytes}
+use Rattle.gx_io.specs.Faults.{Rose}
+use Rattle.galax.specs.Ending.{Change}
+use Rattle.galax.proofs.PromiseLemmas.{part_clause, too_long_clause, complete_clause, headline_clause, rejected_clause}
+use Rattle.galax.proofs.processor.galax.Goals as goal
+
+pub returns-clause-part : goal.returns-clause-part
+returns-clause-part g c =
+    let out : Change = record { before = g.O.Sink.written c.args.out.now; now = g.O.Sink.written c.finish.new.out; faults_before = g.O.Sink.faults c.args.out.now; faults_now = g.O.Sink.faults c.finish.new.out } in
+    let err : Change = record { before = g.E.Sink.written c.args.err.now; now = g.E.Sink.written c.finish.new.err; faults_before = g.E.Sink.faults c.args.err.now; faults_now = g.E.Sink.faults c.finish.new.err } in
+    part_clause (map string_bytes c.args.words.now) (g.L.Library.files c.args.library.now) (Rose (g.L.Library.faults c.args.library.now) (g.L.Library.faults c.reply_to-reply.new.library)) c.reply_to-reply.result c.finish.result out err c.reply_to-reply.ensures.cause c.finish.ensures c.reply_to-reply.ensures.answer
+
+pub returns-clause-too_long : goal.returns-clause-too_long
+returns-clause-too_long g c =
+    let out : Change = record { before = g.O.Sink.written c.args.out.now; now = g.O.Sink.written c.finish.new.out; faults_before = g.O.Sink.faults c.args.out.now; faults_now = g.O.Sink.faults c.finish.new.out } in
+    let err : Change = record { before = g.E.Sink.written c.args.err.now; now = g.E.Sink.written c.finish.new.err; faults_before = g.E.Sink.faults c.args.err.now; faults_now = g.E.Sink.faults c.finish.new.err } in
+    too_long_clause (map string_bytes c.args.words.now) (g.L.Library.files c.args.library.now) (Rose (g.L.Library.faults c.args.library.now) (g.L.Library.faults c.reply_to-reply.new.library)) c.reply_to-reply.result c.finish.result out err c.reply_to-reply.ensures.cause c.finish.ensures c.reply_to-reply.ensures.answer
+
+pub returns-clause-complete : goal.returns-clause-complete
+returns-clause-complete g c =
+    let out : Change = record { before = g.O.Sink.written c.args.out.now; now = g.O.Sink.written c.finish.new.out; faults_before = g.O.Sink.faults c.args.out.now; faults_now = g.O.Sink.faults c.finish.new.out } in
+    let err : Change = record { before = g.E.Sink.written c.args.err.now; now = g.E.Sink.written c.finish.new.err; faults_before = g.E.Sink.faults c.args.err.now; faults_now = g.E.Sink.faults c.finish.new.err } in
+    complete_clause (map string_bytes c.args.words.now) (g.L.Library.files c.args.library.now) (Rose (g.L.Library.faults c.args.library.now) (g.L.Library.faults c.reply_to-reply.new.library)) c.reply_to-reply.result c.finish.result out err c.reply_to-reply.ensures.cause c.finish.ensures c.reply_to-reply.ensures.answer
+
+pub returns-clause-headline : goal.returns-clause-headline
+returns-clause-headline g c =
+    let out : Change = record { before = g.O.Sink.written c.args.out.now; now = g.O.Sink.written c.finish.new.out; faults_before = g.O.Sink.faults c.args.out.now; faults_now = g.O.Sink.faults c.finish.new.out } in
+    let err : Change = record { before = g.E.Sink.written c.args.err.now; now = g.E.Sink.written c.finish.new.err; faults_before = g.E.Sink.faults c.args.err.now; faults_now = g.E.Sink.faults c.finish.new.err } in
+    headline_clause c.typing_is_sound.ensures (map string_bytes c.args.words.now) (g.L.Library.files c.args.library.now) (Rose (g.L.Library.faults c.args.library.now) (g.L.Library.faults c.reply_to-reply.new.library)) c.reply_to-reply.result c.finish.result out err c.reply_to-reply.ensures.cause c.finish.ensures c.reply_to-reply.ensures.answer
+
+pub returns-clause-rejected : goal.returns-clause-rejected
+returns-clause-rejected g c =
+    let out : Change = record { before = g.O.Sink.written c.args.out.now; now = g.O.Sink.written c.finish.new.out; faults_before = g.O.Sink.faults c.args.out.now; faults_now = g.O.Sink.faults c.finish.new.out } in
+    let err : Change = record { before = g.E.Sink.written c.args.err.now; now = g.E.Sink.written c.finish.new.err; faults_before = g.E.Sink.faults c.args.err.now; faults_now = g.E.Sink.faults c.finish.new.err } in
+    rejected_clause (map string_bytes c.args.words.now) (g.L.Library.files c.args.library.now) (Rose (g.L.Library.faults c.args.library.now) (g.L.Library.faults c.reply_to-reply.new.library)) c.reply_to-reply.result c.finish.result out err c.reply_to-reply.ensures.cause c.finish.ensures c.reply_to-reply.ensures.answer

@@ -1,0 +1,9 @@
+// Laws over the definitions.
+
+ghost use Rattle.std.specs.Prelude.{◌≡◌, ℕ, List};
+ghost use Rattle.galax.specs.Answer.{Answer, Answers};
+
+/// The words and the files have at most one answer.
+pub fn one_answer()
+    ensures { (words : List (List ℕ)) (files : List (List ℕ × List ℕ)) (a b : Answer) → Answers words files a → Answers words files b → a ≡ b }
+{}
