@@ -1,0 +1,5 @@
+pub mod Collapsing
+pub mod Texts
+pub mod IntegerTypes
+pub mod SameValues
+pub mod Words

@@ -1,0 +1,45 @@
+-- Collapsing by words.
+use Rattle.std.proofs.Common.{◌≡◌, ℕ, Bool, true, false, cond, List, [], ◌∷◌, ◌++◌, refl, ap, sym, ◌∙◌}
+use Rattle.gx_facets.specs.WhiteSpace.{is_space, collapsed, collapsed_behind, before_part, parts_of, spaced, joined}
+
+-- what follows a character that stays: the rest of its part, and then the other parts
+continued : List (List ℕ) → List ℕ
+continued [] = []
+continued (part ∷ parts) = part ++ spaced parts
+
+by_test : (P : Bool → Type 0) (b : Bool) → P true → P false → P b
+by_test P true yes' no' = yes'
+by_test P false yes' no' = no'
+
+continued_before : (c : ℕ) (parts : List (List ℕ)) → continued (before_part c parts) ≡ c ∷ continued parts
+unfolding continued
+continued_before c [] = refl
+continued_before c (part ∷ parts) = refl
+
+spaced_before : (c : ℕ) (parts : List (List ℕ)) → spaced (before_part c parts) ≡ 32 ∷ c ∷ continued parts
+unfolding continued
+spaced_before c [] = refl
+spaced_before c (part ∷ parts) = refl
+
+joined_before : (c : ℕ) (parts : List (List ℕ)) → joined (before_part c parts) ≡ c ∷ continued parts
+unfolding continued
+joined_before c [] = refl
+joined_before c (part ∷ parts) = refl
+
+-- with white space before, and without
+behind : (cs : List ℕ) → (collapsed_behind true cs ≡ spaced (parts_of cs)) × (collapsed_behind false cs ≡ continued (parts_of cs))
+unfolding continued
+behind [] = (refl, refl)
+behind (c ∷ cs) =
+    let rest = behind cs in
+    by_test (λ b. (cond b (collapsed_behind true cs) (32 ∷ c ∷ collapsed_behind false cs) ≡ spaced (cond b ([] ∷ parts_of cs) (before_part c (parts_of cs))))
+    × (cond b (collapsed_behind true cs) (c ∷ collapsed_behind false cs) ≡ continued (cond b ([] ∷ parts_of cs) (before_part c (parts_of cs))))) (is_space c)
+    (rest.0, rest.0)
+    (ap (λ t. 32 ∷ c ∷ t) rest.1 ∙ sym (spaced_before c (parts_of cs)), ap (λ t. c ∷ t) rest.1 ∙ sym (continued_before c (parts_of cs)))
+
+pub collapsed_words : (cs : List ℕ) → collapsed cs ≡ joined (parts_of cs)
+collapsed_words [] = refl
+collapsed_words (c ∷ cs) =
+    by_test (λ b. cond b (collapsed cs) (c ∷ collapsed_behind false cs) ≡ joined (cond b ([] ∷ parts_of cs) (before_part c (parts_of cs)))) (is_space c)
+    (collapsed_words cs)
+    (ap (λ t. c ∷ t) (behind cs).1 ∙ sym (joined_before c (parts_of cs)))

@@ -1,0 +1,79 @@
+//! Atomic values: their lexical forms, their printed form and their order.
+#![tactic(auto)]
+
+ghost use Rattle.std.specs.Prelude.{◌≡◌};
+
+mod admission;
+pub mod laws;
+mod reading;
+pub mod restriction;
+mod values;
+mod white_space;
+
+pub use admission::{admits, admits_list};
+use gx_base::text::Text;
+use gx_base::type_name::TypeName;
+use gx_num::Number;
+pub use reading::read_value;
+pub use restriction::Facets;
+use std::alloc::AllocError;
+pub use values::{compare_values, print_value};
+
+/// An atomic value without its type (XQuery 1.0 and XPath 2.0 Data Model, section 2.7).
+#[derive(Debug, PartialEq, Eq, Drop)]
+pub enum AtomValue {
+    /// An xs:untypedAtomic.
+    Untyped(Text),
+    /// An xs:string, or of a type that derives from it.
+    Str(Text),
+    /// An xs:boolean.
+    Truth(bool),
+    /// An xs:integer or an xs:decimal, or of a type that derives from them.
+    Num(Number),
+}
+
+impl Clone for AtomValue {
+    ghost is_clone = { λ value copy. copy ≡ value };
+
+    fn clone(&self) -> Result<AtomValue, AllocError> {
+        match self {
+            AtomValue::Untyped(text) => Ok(AtomValue::Untyped(text.clone()?)),
+            AtomValue::Str(text) => Ok(AtomValue::Str(text.clone()?)),
+            AtomValue::Truth(truth) => Ok(AtomValue::Truth(*truth)),
+            AtomValue::Num(number) => Ok(AtomValue::Num(*number)),
+        }
+    }
+}
+
+/// An atomic value with its type.
+#[derive(Debug, PartialEq, Eq, Drop)]
+pub struct Atomic {
+    pub value: AtomValue,
+    pub kind: TypeName,
+}
+
+/// Why a text is not read as a value.
+#[derive(Clone, Copy, PartialEq, Eq, Debug)]
+pub enum ValueRead {
+    /// The text is not in the type's lexical space, or its number is out of the type's range.
+    NotLexical,
+    /// A number that is out of the range of xs:integer or xs:decimal.
+    TooLarge,
+    /// A decimal of which more than 6 places remain after trailing zeros are dropped.
+    TooPrecise,
+    /// Memory ran out.
+    Memory,
+}
+
+impl From<AllocError> for ValueRead {
+    ghost use Rattle.gx_facets.specs.declared.ValueRead.TheVariants.{Memory};
+
+    ghost from_gives = { λ _ e. e ≡ Memory };
+
+    fn from(_error: AllocError) -> ValueRead {
+        ValueRead::Memory
+    }
+}
+
+#[cfg(test)]
+mod tests;

@@ -1,0 +1,7 @@
+pub mod Digits
+pub mod Places
+pub mod PrintedPlaces
+pub mod Forms
+pub mod DecimalForms
+pub mod ReadBack
+pub mod Division

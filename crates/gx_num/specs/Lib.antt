@@ -1,0 +1,6 @@
+pub mod Number
+pub mod Arithmetic
+pub mod Operands
+pub mod Lexical
+pub mod Printed
+pub mod Laws
