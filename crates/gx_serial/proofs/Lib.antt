@@ -1,0 +1,7 @@
+mod TextLemmas
+mod PieceLemmas
+mod BindingLemmas
+mod TagLemmas
+mod WriteLemmas
+mod FreeLemmas
+mod ReadingLemmas

@@ -1,0 +1,12 @@
+//! The text of an answer, written to a sink.
+#![tactic(auto)]
+
+mod binding;
+mod escape;
+pub mod item;
+mod put;
+pub mod reading;
+mod tag;
+#[cfg(test)]
+mod tests;
+mod write;

@@ -1,0 +1,3 @@
+pub mod TreesLemmas
+mod ErasureLemmas
+mod StringValueLemmas

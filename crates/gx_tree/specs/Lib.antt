@@ -1,0 +1,6 @@
+pub mod PlainTree
+pub mod TreeCode
+pub mod TreeView
+pub mod TreeParts
+pub mod Erasure
+pub mod StringValue

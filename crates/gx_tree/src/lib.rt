@@ -1,0 +1,10 @@
+//! Trees of nodes: documents, elements, attributes and texts with their names and type annotations.
+#![tactic(auto)]
+
+pub mod attribute;
+pub mod erase;
+pub mod same;
+pub mod string_value;
+#[cfg(test)]
+mod tests;
+pub mod tree;
