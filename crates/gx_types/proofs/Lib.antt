@@ -1,0 +1,4 @@
+pub mod DerivationLemmas
+pub mod EqualTypes
+pub mod Joined
+pub mod TakesLemmas

@@ -1,0 +1,87 @@
+// Derivation of types, and what item types take.
+
+ghost use Rattle.std.specs.Prelude.{◌≡◌, IsTrue, ◌↔◌, option_copied};
+ghost use Rattle.gx_types.specs.Derivation.{Derives, LeadsTo, declared_base_of};
+ghost use Rattle.gx_types.specs.Grounded.{EndsWithin};
+ghost use Rattle.gx_types.specs.ItemTakes.{ItemTakes, name_fits};
+
+use crate::builtin::builtin_base;
+use crate::item_type::{ItemType, same_kinds};
+use crate::schemas::Schemas;
+use crate::shape::Shape;
+use gx_base::name::Name;
+use gx_base::type_name::TypeName;
+
+/// Whether a type is derived from another one: a finite chain of bases, possibly of no step, leads from the one to the
+/// other (XML Schema 1.0 part 1, section 2.2.1.1; XQuery 1.0, section 2.5.4).
+pub fn derives(schemas: &Schemas, t: &TypeName, u: &TypeName) -> bool
+    ensures { IsTrue result ↔ Derives schemas.now t.now u.now }
+{
+    let bases = schemas.bases.as_slice();
+    leads_to(bases, t, u, bases.len())
+}
+
+/// Whether an item type takes a shape (XQuery 1.0, section 2.5.4).
+pub fn item_takes(schemas: &Schemas, item: &ItemType, shape: &Shape) -> bool
+    ensures { IsTrue result ↔ ItemTakes schemas.now item.now shape.now }
+{
+    match (item, shape) {
+        (ItemType::Element { name, kind }, Shape::Elem(given, t)) => {
+            fits(name, given) && derives(schemas, t, kind)
+        }
+        (ItemType::Attribute { name, kind }, Shape::Attr(given, t)) => {
+            fits(name, given) && derives(schemas, t, kind)
+        }
+        (ItemType::Text, Shape::Text) => true,
+        (ItemType::Document(None), Shape::Doc(_)) => true,
+        (ItemType::Document(Some((name, kind))), Shape::Doc(Some((given, t)))) => {
+            fits(name, given) && derives(schemas, t, kind)
+        }
+        (ItemType::Atom(kind), Shape::Atom(t)) => derives(schemas, t, kind),
+        _ => false,
+    }
+}
+
+// Whether a name fits an optional one.
+fn fits(wanted: &Option<Name>, name: &Name) -> bool
+    ensures { result ≡ name_fits wanted.now name.now }
+{
+    match wanted {
+        Some(wanted) => wanted == name,
+        None => true,
+    }
+}
+
+// Whether a chain of bases with at most so many declared types leads from a type to another one.
+fn leads_to(bases: &[(TypeName, TypeName)], t: &TypeName, u: &TypeName, steps: usize) -> bool
+    requires { EndsWithin bases.now steps t.now }
+    ensures { IsTrue result ↔ LeadsTo bases.now t.now u.now }
+{
+    if same_kinds(t, u) {
+        return true;
+    }
+    match t {
+        TypeName::Builtin(builtin) => match builtin_base(*builtin) {
+            Some(base) => leads_to(bases, &TypeName::Builtin(base), u, steps),
+            None => false,
+        },
+        TypeName::Named(_) | TypeName::Anonymous(_) => match declared_base(bases, t) {
+            Some(base) => leads_to(bases, base, u, steps - 1),
+            None => false,
+        },
+    }
+}
+
+// The base that a type is declared with.
+fn declared_base<'a>(bases: &'a [(TypeName, TypeName)], t: &TypeName) -> Option<&'a TypeName>
+    ensures { option_copied result ≡ declared_base_of bases.now t.now }
+{
+    let mut rest = bases;
+    while let Some((declaration, others)) = rest.split_first() {
+        if same_kinds(&declaration.0, t) {
+            return Some(&declaration.1);
+        }
+        rest = others;
+    }
+    None
+}

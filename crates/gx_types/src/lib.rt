@@ -1,0 +1,16 @@
+//! The type language: item types, sequence types, shapes, the schemas that types are read against, and how types are made
+//! of types.
+#![tactic(auto)]
+
+mod builtin;
+pub mod derivation;
+pub mod item_type;
+pub mod laws;
+pub mod occurrence;
+pub mod schemas;
+pub mod sequence_type;
+pub mod shape;
+pub mod step;
+#[cfg(test)]
+mod tests;
+pub mod type_rules;

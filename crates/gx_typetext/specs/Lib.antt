@@ -1,0 +1,4 @@
+pub mod BuiltinName
+pub mod NameText
+pub mod ItemText
+pub mod TypeText

@@ -1,0 +1,9 @@
+//! The texts of types.
+#![tactic(auto)]
+
+mod builtin_name;
+mod context;
+mod item_text;
+pub mod print;
+#[cfg(test)]
+mod tests;
