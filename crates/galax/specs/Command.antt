@@ -1,5 +1,9 @@
 -- Which words name a command.
-use Rattle.std.specs.Prelude.{ℕ, ◌==◌, nat_le, not, Bool, false, ◌&&◌, List, [], ◌∷◌, length, Option, None, Some, codes, bytes_eq, if◌then◌else◌}
+use Rattle.std.specs.Prelude.{String, string_bytes, map, ℕ, ◌==◌, nat_le, not, Bool, false, ◌&&◌, List, [], ◌∷◌, length, Option, None, Some, codes, bytes_eq, if◌then◌else◌}
+
+-- the bytes of each word
+abbrev pub bytes_of : {Z : Type 0} → List (String Z) → List (List ℕ)
+bytes_of = map string_bytes
 
 -- a word behind the command's name: not empty, at most 16,777,216 bytes long, and without a `-` at its front
 abbrev pub is_operand : List ℕ → Bool

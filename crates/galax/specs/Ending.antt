@@ -16,6 +16,9 @@ pub record Change : Type 0 where
   pub faults_before : ℕ
   pub faults_now : ℕ
 
+abbrev pub change : Option (List ℕ) → Option (List ℕ) → ℕ → ℕ → Change
+change before now faults_before faults_now = record { before = before; now = now; faults_before = faults_before; faults_now = faults_now }
+
 abbrev pub Grew : Change → List ℕ → Type 0
 Grew sink bytes = GrowsBy sink.before sink.now bytes
 

@@ -1,14 +1,14 @@
 // The words of the command line.
 
-ghost use Rattle.std.specs.Prelude.{◌≡◌, map, string_bytes, option_map};
+ghost use Rattle.std.specs.Prelude.{◌≡◌};
 ghost use Rattle.std.specs.Option.{option_copied};
-ghost use Rattle.galax.specs.Command.{is_operand, file_to_run};
+ghost use Rattle.galax.specs.Command.{bytes_of, is_operand, file_to_run};
 
 const LONGEST_WORD: usize = 16_777_216;
 
 /// The file of the command `run FILE`, if the words name it.
 pub fn file_of_words(words: &[String]) -> Option<&str>
-    ensures { option_copied result ≡ file_to_run (map string_bytes words.now) }
+    ensures { option_copied result ≡ file_to_run (bytes_of words.now) }
 {
     match words {
         [command, file] if command.as_str() == "run" && is_operand(file.as_str()) => {

@@ -1,10 +1,10 @@
 // The call that answers the words of the command line.
 
-ghost use Rattle.std.specs.Prelude.{◌≡◌, ℕ, ◌≤◌, List, ◌++◌, map, string_bytes, IfOk, IfSome, None, ◌⊎◌};
+ghost use Rattle.std.specs.Prelude.{◌≡◌, ℕ, ◌≤◌, List, ◌++◌, string_bytes, IfOk, IfSome, None, ◌⊎◌};
 ghost use Rattle.gx_io.specs.Faults.{Rose};
 ghost use Rattle.galax.specs.Answer.{Answer, Answers, writes};
-ghost use Rattle.galax.specs.Command.{file_to_run};
-ghost use Rattle.galax.specs.Ending.{Ends, Put, PutOutput, Grew, Failed};
+ghost use Rattle.galax.specs.Command.{bytes_of, file_to_run};
+ghost use Rattle.galax.specs.Ending.{Ends, Put, PutOutput, Grew, Failed, change};
 ghost use Rattle.galax.specs.FaultLines.{line, write_fault_line, code_line};
 ghost use Rattle.galax.specs.Headline.{RunsTyped, RunsRejected};
 ghost use Rattle.galax.specs.Promise.{IsCertain, IsCutShort, IsAnswered, OutputAfter, LineAfter, IsPart, IsFaultless, IsTooLong};
@@ -32,44 +32,53 @@ pub fn galax<L: Library, O: Sink, E: Sink>(
     err: &mut E,
 ) -> Status
     // Unless a fault outside or want of memory ends the run, it ends with the answer.
-    ensures answer { IfSome (L.files library.old) (λ files. IsCertain result → IsAnswered (map string_bytes words.now) files result
-        (record { before = O.written out.old; now = O.written out.new; faults_before = O.faults out.old; faults_now = O.faults out.new })
-        (record { before = E.written err.old; now = E.written err.new; faults_before = E.faults err.old; faults_now = E.faults err.new })) }
+    ensures answer { IfSome (L.files library.old) (λ files. IsCertain result → IsAnswered (bytes_of words.now) files result
+        (change (O.written out.old) (O.written out.new) (O.faults out.old) (O.faults out.new))
+        (change (E.written err.old) (E.written err.new) (E.faults err.old) (E.faults err.new))) }
 
     // What the sinks hold after each status.
     ensures output { OutputAfter result
-        (record { before = O.written out.old; now = O.written out.new; faults_before = O.faults out.old; faults_now = O.faults out.new }) }
-    ensures line { LineAfter (map string_bytes words.now) result
-        (record { before = E.written err.old; now = E.written err.new; faults_before = E.faults err.old; faults_now = E.faults err.new }) }
-    ensures part { IfSome (L.files library.old) (λ files. (answer : Answer) → Answers (map string_bytes words.now) files answer → IsCutShort result → IsPart (map string_bytes words.now) answer
-        (record { before = O.written out.old; now = O.written out.new; faults_before = O.faults out.old; faults_now = O.faults out.new })
-        (record { before = E.written err.old; now = E.written err.new; faults_before = E.faults err.old; faults_now = E.faults err.new })) }
+        (change (O.written out.old) (O.written out.new) (O.faults out.old) (O.faults out.new)) }
+    ensures line { LineAfter (bytes_of words.now) result
+        (change (E.written err.old) (E.written err.new) (E.faults err.old) (E.faults err.new)) }
+    ensures part { IfSome (L.files library.old) (λ files. (answer : Answer) → Answers (bytes_of words.now) files answer
+        → IsCutShort result → IsPart (bytes_of words.now) answer
+        (change (O.written out.old) (O.written out.new) (O.faults out.old) (O.faults out.new))
+        (change (E.written err.old) (E.written err.new) (E.faults err.old) (E.faults err.new))) }
 
     // When each status comes.
-    ensures usage { result ≡ Status.Usage → file_to_run (map string_bytes words.now) ≡ None }
-    ensures usage_always { file_to_run (map string_bytes words.now) ≡ None → (result ≡ Status.Usage) ⊎ IsCutShort result }
-    ensures read_fault { result ≡ Status.ReadFault → (Rose (L.faults library.old) (L.faults library.new)) }
+    ensures usage { result ≡ Status.Usage → file_to_run (bytes_of words.now) ≡ None }
+    ensures usage_always { file_to_run (bytes_of words.now) ≡ None → (result ≡ Status.Usage) ⊎ IsCutShort result }
+    ensures read_fault { result ≡ Status.ReadFault → Rose (L.faults library.old) (L.faults library.new) }
     ensures write_fault { result ≡ Status.WriteFault → Failed
-        (record { before = O.written out.old; now = O.written out.new; faults_before = O.faults out.old; faults_now = O.faults out.new }) ⊎ Failed
-        (record { before = E.written err.old; now = E.written err.new; faults_before = E.faults err.old; faults_now = E.faults err.new }) }
-    ensures too_long { IfSome (L.files library.old) (λ files. IsTooLong (map string_bytes words.now) files → IsCertain result → (result ≡ Status.Query) × Grew
-        (record { before = E.written err.old; now = E.written err.new; faults_before = E.faults err.old; faults_now = E.faults err.new }) (code_line Code.GLXS0001)) }
-    ensures complete { IfSome (L.files library.old) (λ files. (bytes : List ℕ) → Answers (map string_bytes words.now) files (writes bytes) → IsFaultless (Rose (L.faults library.old) (L.faults library.new))
-        (record { before = O.written out.old; now = O.written out.new; faults_before = O.faults out.old; faults_now = O.faults out.new })
-        (record { before = E.written err.old; now = E.written err.new; faults_before = E.faults err.old; faults_now = E.faults err.new }) → ((result ≡ Status.Done) × Grew
-        (record { before = O.written out.old; now = O.written out.new; faults_before = O.faults out.old; faults_now = O.faults out.new }) bytes) ⊎ (result ≡ Status.Memory)) }
+        (change (O.written out.old) (O.written out.new) (O.faults out.old) (O.faults out.new))
+        ⊎ Failed
+        (change (E.written err.old) (E.written err.new) (E.faults err.old) (E.faults err.new)) }
+    ensures too_long { IfSome (L.files library.old) (λ files. IsTooLong (bytes_of words.now) files
+        → IsCertain result → (result ≡ Status.Query) × Grew
+        (change (E.written err.old) (E.written err.new) (E.faults err.old) (E.faults err.new)) (code_line Code.GLXS0001)) }
+    ensures complete { IfSome (L.files library.old) (λ files. (bytes : List ℕ) → Answers (bytes_of words.now) files (writes bytes)
+        → IsFaultless (Rose (L.faults library.old) (L.faults library.new))
+        (change (O.written out.old) (O.written out.new) (O.faults out.old) (O.faults out.new))
+        (change (E.written err.old) (E.written err.new) (E.faults err.old) (E.faults err.new))
+        → ((result ≡ Status.Done) × Grew
+        (change (O.written out.old) (O.written out.new) (O.faults out.old) (O.faults out.new)) bytes) ⊎ (result ≡ Status.Memory)) }
 
     // The headline: a query that has a type, and one that typing rejects.
-    ensures headline { IfSome (L.files library.old) (λ files. IsFaultless (Rose (L.faults library.old) (L.faults library.new))
-        (record { before = O.written out.old; now = O.written out.new; faults_before = O.faults out.old; faults_now = O.faults out.new })
-        (record { before = E.written err.old; now = E.written err.new; faults_before = E.faults err.old; faults_now = E.faults err.new }) → RunsTyped (map string_bytes words.now) files result
-        (record { before = O.written out.old; now = O.written out.new; faults_before = O.faults out.old; faults_now = O.faults out.new })
-        (record { before = E.written err.old; now = E.written err.new; faults_before = E.faults err.old; faults_now = E.faults err.new })) }
-    ensures rejected { IfSome (L.files library.old) (λ files. IsFaultless (Rose (L.faults library.old) (L.faults library.new))
-        (record { before = O.written out.old; now = O.written out.new; faults_before = O.faults out.old; faults_now = O.faults out.new })
-        (record { before = E.written err.old; now = E.written err.new; faults_before = E.faults err.old; faults_now = E.faults err.new }) → RunsRejected (map string_bytes words.now) files result
-        (record { before = O.written out.old; now = O.written out.new; faults_before = O.faults out.old; faults_now = O.faults out.new })
-        (record { before = E.written err.old; now = E.written err.new; faults_before = E.faults err.old; faults_now = E.faults err.new })) }
+    ensures headline { IfSome (L.files library.old) (λ files.
+        IsFaultless (Rose (L.faults library.old) (L.faults library.new))
+        (change (O.written out.old) (O.written out.new) (O.faults out.old) (O.faults out.new))
+        (change (E.written err.old) (E.written err.new) (E.faults err.old) (E.faults err.new))
+        → RunsTyped (bytes_of words.now) files result
+        (change (O.written out.old) (O.written out.new) (O.faults out.old) (O.faults out.new))
+        (change (E.written err.old) (E.written err.new) (E.faults err.old) (E.faults err.new))) }
+    ensures rejected { IfSome (L.files library.old) (λ files.
+        IsFaultless (Rose (L.faults library.old) (L.faults library.new))
+        (change (O.written out.old) (O.written out.new) (O.faults out.old) (O.faults out.new))
+        (change (E.written err.old) (E.written err.new) (E.faults err.old) (E.faults err.new))
+        → RunsRejected (bytes_of words.now) files result
+        (change (O.written out.old) (O.written out.new) (O.faults out.old) (O.faults out.new))
+        (change (E.written err.old) (E.written err.new) (E.faults err.old) (E.faults err.new))) }
 {
     typing_is_sound();
     let reply = reply_to(alloc, words, library);
@@ -79,9 +88,9 @@ pub fn galax<L: Library, O: Sink, E: Sink>(
 // What the program replies to its words.
 fn reply_to<L: Library>(alloc: Global, words: &[String], library: &mut L) -> Reply
     ensures counted { L.faults library.old ≤ L.faults library.new }
-    ensures answer { IfSome (L.files library.old) (λ files. RepliesSo result (Answers (map string_bytes words.now) files)) }
-    ensures cause { IsWellFormed (map string_bytes words.now) (Rose (L.faults library.old) (L.faults library.new)) result }
-    ensures usage { file_to_run (map string_bytes words.now) ≡ None → IsUsageOrStarved result }
+    ensures answer { IfSome (L.files library.old) (λ files. RepliesSo result (Answers (bytes_of words.now) files)) }
+    ensures cause { IsWellFormed (bytes_of words.now) (Rose (L.faults library.old) (L.faults library.new)) result }
+    ensures usage { file_to_run (bytes_of words.now) ≡ None → IsUsageOrStarved result }
 {
     let Some(file) = file_of_words(words) else {
         return fault(alloc, Status::Usage, "Usage: words", "");
@@ -116,8 +125,8 @@ fn fault_line(alloc: Global, start: &str, end: &str) -> Result<String, AllocErro
 
 fn finish<O: Sink, E: Sink>(reply: Reply, out: &mut O, err: &mut E) -> Status
     ensures { Ends reply result
-        (record { before = O.written out.old; now = O.written out.new; faults_before = O.faults out.old; faults_now = O.faults out.new })
-        (record { before = E.written err.old; now = E.written err.new; faults_before = E.faults err.old; faults_now = E.faults err.new }) }
+        (change (O.written out.old) (O.written out.new) (O.faults out.old) (O.faults out.new))
+        (change (E.written err.old) (E.written err.new) (E.faults err.old) (E.faults err.new)) }
 {
     match reply {
         Reply::Output(text) => write_output(text.as_str(), out, err),
@@ -128,8 +137,8 @@ fn finish<O: Sink, E: Sink>(reply: Reply, out: &mut O, err: &mut E) -> Status
 
 fn write_output<O: Sink, E: Sink>(text: &str, out: &mut O, err: &mut E) -> Status
     ensures { PutOutput text.now result
-        (record { before = O.written out.old; now = O.written out.new; faults_before = O.faults out.old; faults_now = O.faults out.new })
-        (record { before = E.written err.old; now = E.written err.new; faults_before = E.faults err.old; faults_now = E.faults err.new }) }
+        (change (O.written out.old) (O.written out.new) (O.faults out.old) (O.faults out.new))
+        (change (E.written err.old) (E.written err.new) (E.faults err.old) (E.faults err.new)) }
 {
     match out.put(text.as_bytes()) {
         Ok(()) => Status::Done,
@@ -141,7 +150,7 @@ fn write_output<O: Sink, E: Sink>(text: &str, out: &mut O, err: &mut E) -> Statu
 // Puts a line in one piece.
 fn report<E: Sink>(status: Status, line: &str, err: &mut E) -> Status
     ensures { Put status line.now result
-        (record { before = E.written err.old; now = E.written err.new; faults_before = E.faults err.old; faults_now = E.faults err.new }) }
+        (change (E.written err.old) (E.written err.new) (E.faults err.old) (E.faults err.new)) }
 {
     match err.put(line.as_bytes()) {
         Ok(()) => status,
