@@ -7,14 +7,15 @@ use Rattle.gx_core.specs.Meaning.{Outcome, gives, raises, wrong, meaning}
 use Rattle.gx_core.specs.Judgement.{Judgement, typed, rejected, judged}
 use Rattle.gx_io.specs.Load.{file_of}
 use Rattle.galax.specs.declared.status.Status.TheVariants as status
-use Rattle.galax.specs.SyntaxTree.{SyntaxTree}
-use Rattle.galax.specs.Grammar.{IsQuery}
+use Rattle.gx_parse.specs.SyntaxTree.{SyntaxTree}
 use Rattle.galax.specs.Normalisation.{Normalised, made, unknown, normalised}
 use Rattle.galax.specs.Command.{file_to_run}
 use Rattle.galax.specs.FaultLines.{code_line}
-use Rattle.galax.specs.Answer.{Answer, refuses, HasTree, AnswersOutcome, AnswersJudged, AnswersNamed, AnswersTree, AnswersBytes, AnswersFile, AnswersCommand, Answers}
+use Rattle.galax.specs.Answer.{Answer, refuses, AnswersOutcome, AnswersJudged, AnswersNamed, AnswersTree, AnswersBytes, AnswersFile, AnswersCommand, Answers}
+use Rattle.gx_parse.specs.Query.{IsQuery}
+use Rattle.gx_parse.proofs.Verdict.{one_tree}
+use Rattle.galax.specs.Query.{HasTree}
 use Rattle.galax.proofs.TextLemmas.{one_text}
-use Rattle.galax.proofs.GrammarLaws.{one_tree}
 
 outcome_unique : (o : Outcome) (a b : Answer) → AnswersOutcome o a → AnswersOutcome o b → a ≡ b
 outcome_unique (gives items) a b h k = h ∙ sym k
@@ -40,7 +41,7 @@ one_tree_of bytes None (Some u) h k = absurd (h k.0 u k.1 k.2)
 one_tree_of bytes (Some t) None h k = absurd (k h.0 t h.1 h.2)
 one_tree_of bytes (Some t) (Some u) h k =
     let same = one_text bytes k.0 h.0 k.1 h.1 in
-    ap Some (one_tree h.0 t u h.2 (subst (λ (text : List ℕ). IsQuery text u) same k.2))
+    ap Some (one_tree h.0 t u h.2.parsed (subst (λ (text : List ℕ). IsQuery text u) same k.2.parsed))
 
 bytes_unique : (bytes : List ℕ) (a b : Answer) → AnswersBytes bytes a → AnswersBytes bytes b → a ≡ b
 bytes_unique bytes a b h k = tree_unique h.0 a b h.2 (subst (λ (t : Option SyntaxTree). AnswersTree t b) (one_tree_of bytes k.0 h.0 k.1 h.1) k.2)

@@ -1,10 +1,3 @@
-pub mod Runs
-pub mod Digits
-pub mod Members
-pub mod Phrases
-pub mod TokenLaws
-pub mod GrammarLaws
-pub mod NodesLemmas
 pub mod TextLemmas
 pub mod RunLemmas
 pub mod AnswerLemmas

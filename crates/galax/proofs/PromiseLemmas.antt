@@ -14,7 +14,7 @@ use Rattle.galax.specs.declared.status.Status.{Status}
 use Rattle.galax.specs.declared.status.Status.TheVariants.{Done, Usage, Query, Schema, Document, Dynamic, ReadFault, WriteFault, Memory}
 use Rattle.galax.specs.declared.reply.Reply.{Reply}
 use Rattle.galax.specs.declared.reply.Reply.TheVariants.{Output, Fault, Starved}
-use Rattle.galax.specs.SyntaxTree.{SyntaxTree}
+use Rattle.gx_parse.specs.SyntaxTree.{SyntaxTree}
 use Rattle.galax.specs.Normalisation.{Normalised}
 use Rattle.galax.specs.FaultLines.{write_fault_line, code_line}
 use Rattle.galax.specs.Answer.{Answer, writes, refuses, status_of, output_of, line_of, AnswersOutcome, AnswersJudged, AnswersNamed, AnswersTree, AnswersBytes, Answers}

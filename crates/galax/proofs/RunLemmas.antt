@@ -1,8 +1,9 @@
 -- The steps of an answer, one behind another.
 use Rattle.std.proofs.Common.{ℕ, List, Some, Result, Ok, Err, IfOk, IfErr, String, string_bytes}
-use Rattle.galax.specs.SyntaxTree.{SyntaxTree}
+use Rattle.gx_parse.specs.SyntaxTree.{SyntaxTree}
 use Rattle.galax.specs.Normalisation.{normalised}
-use Rattle.galax.specs.Answer.{Answer, writes, AnswersNamed, AnswersBytes, HasTree}
+use Rattle.galax.specs.Answer.{Answer, writes, AnswersNamed, AnswersBytes}
+use Rattle.galax.specs.Query.{HasTree}
 use Rattle.galax.specs.Replies.{RefusesSo}
 use Rattle.galax.specs.declared.run.Refusal.{Refusal}
 use Rattle.galax.specs.declared.run.Refusal.TheVariants.{ReadFault, Query, Dynamic, Memory}

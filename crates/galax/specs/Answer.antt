@@ -1,6 +1,5 @@
 -- What the program answers to its words, over the files that its library holds.
-use Rattle.std.specs.Prelude.{◌≡◌, ℕ, nat_le, List, [], length, Option, None, Some, true, MatchBool}
-use Rattle.std.specs.Str.{encode_utf8_all, all_scalars}
+use Rattle.std.specs.Prelude.{◌≡◌, ℕ, nat_le, List, [], length, Option, None, Some, MatchBool}
 use Rattle.gx_base.specs.declared.code.Code.TheVariants.{GLXS0001, XPST0003}
 use Rattle.gx_core.specs.Expression.{Expression}
 use Rattle.gx_core.specs.Meaning.{Outcome, gives, raises, wrong, meaning}
@@ -8,8 +7,8 @@ use Rattle.gx_core.specs.Judgement.{Judgement, typed, rejected, judged}
 use Rattle.gx_io.specs.Load.{file_of}
 use Rattle.galax.specs.declared.status.Status.{Status}
 use Rattle.galax.specs.declared.status.Status.TheVariants as status
-use Rattle.galax.specs.SyntaxTree.{SyntaxTree}
-use Rattle.galax.specs.Grammar.{IsQuery}
+use Rattle.gx_parse.specs.SyntaxTree.{SyntaxTree}
+use Rattle.galax.specs.Query.{HasTree}
 use Rattle.galax.specs.Normalisation.{Normalised, made, unknown, normalised}
 use Rattle.galax.specs.Serialisation.{serialised}
 use Rattle.galax.specs.Command.{file_to_run}
@@ -31,16 +30,6 @@ output_of (refuses status line) = []
 abbrev pub line_of : Answer → List ℕ
 line_of (writes bytes) = []
 line_of (refuses status line) = line
-
--- the bytes are the UTF-8 of the text
-pub record IsText (bytes text : List ℕ) : Type 0 where
-  pub characters : all_scalars text ≡ true
-  pub encoded : encode_utf8_all text ≡ bytes
-
--- the bytes are those of a query with this tree, or of none
-abbrev pub HasTree : List ℕ → Option SyntaxTree → Type 0
-HasTree bytes (Some tree) = (text : List ℕ) × IsText bytes text × IsQuery text tree
-HasTree bytes None = (text : List ℕ) (tree : SyntaxTree) → IsText bytes text → IsQuery text tree → ⊥
 
 -- evaluation, and the writing of the value
 abbrev pub AnswersOutcome : Outcome → Answer → Type 0

@@ -12,14 +12,13 @@ use Rattle.gx_core.specs.Values.{Belongs}
 use Rattle.gx_io.specs.Load.{file_of}
 use Rattle.galax.specs.declared.status.Status.{Status}
 use Rattle.galax.specs.declared.status.Status.TheVariants.{Done, Query, Dynamic, Memory}
-use Rattle.galax.specs.Answer.{IsText}
+use Rattle.galax.specs.Query.{IsText, IsPlainQuery}
 use Rattle.galax.specs.Command.{file_to_run}
 use Rattle.galax.specs.Ending.{Change, Grew, IsUnchanged}
 use Rattle.galax.specs.FaultLines.{code_line}
-use Rattle.galax.specs.Grammar.{IsQuery}
 use Rattle.galax.specs.Normalisation.{made, normalised}
 use Rattle.galax.specs.Serialisation.{serialised}
-use Rattle.galax.specs.SyntaxTree.{SyntaxTree}
+use Rattle.gx_parse.specs.SyntaxTree.{SyntaxTree}
 
 -- the words ask to run a file that holds a query with this Core
 pub record IsQueryOf (words : List (List ℕ)) (files : List (List ℕ × List ℕ)) (core : Expression) : Type 0 where
@@ -32,7 +31,7 @@ pub record IsQueryOf (words : List (List ℕ)) (files : List (List ℕ × List �
   pub held : file_of files name ≡ Some bytes
   pub within : length bytes ≤ 16777216
   pub decoded : IsText bytes text
-  pub parsed : IsQuery text tree
+  pub parsed : IsPlainQuery text tree
   pub named : normalised tree ≡ made core free
 
 -- the value that the query has, of the type, is written, and nothing else

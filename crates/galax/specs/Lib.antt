@@ -1,11 +1,4 @@
-pub mod SyntaxTree
-pub mod SyntaxCode
-pub mod SyntaxView
-pub mod SyntaxFalls
-pub mod Characters
-pub mod Tokens
-pub mod Grammar
-pub mod Reading
+pub mod Query
 pub mod Normalisation
 pub mod NameRefusal
 pub mod Serialisation

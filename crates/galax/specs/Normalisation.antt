@@ -6,7 +6,7 @@ use Rattle.gx_base.specs.declared.code.Code.TheVariants.{XPST0008}
 use Rattle.gx_base.specs.Text.{same_text}
 use Rattle.gx_core.specs.declared.expression.BinaryOp.TheVariants.{Add}
 use Rattle.gx_core.specs.Expression.{Expression, At, Form, literal, variable, empty, sequence, let_in, data_of, binary}
-use Rattle.galax.specs.SyntaxTree.{SyntaxTree, IntegerTree, VariableTree, ParenthesisedTree, EmptyTree, SequenceTree, SumTree, LetTree}
+use Rattle.gx_parse.specs.SyntaxTree.{SyntaxTree, IntegerTree, VariableTree, ParenthesisedTree, EmptyTree, SequenceTree, SumTree, LetTree}
 
 -- an expression, with the number that is free after it, or the first refused name
 pub data Normalised : Type 0 where

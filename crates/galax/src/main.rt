@@ -5,14 +5,11 @@ mod command;
 mod laws;
 mod names;
 mod normalise;
-mod parser;
 mod processor;
-mod reader;
 mod reply;
 mod run;
 mod serialise;
 mod status;
-mod syntax;
 #[cfg(test)]
 mod tests;
 

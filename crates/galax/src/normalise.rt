@@ -3,17 +3,17 @@
 ghost use Rattle.std.specs.Prelude.{◌≡◌, ℕ, ◌+◌, ◌<◌, ◌≤◌, ◌^◌, [], IfOk, IfErr, OnOk};
 ghost use Rattle.galax.specs.Normalisation.{made, core_of, normalised, variable_at, number_of, outer_of, within, around};
 ghost use Rattle.galax.specs.NameRefusal.{RefusesName};
-ghost use Rattle.galax.specs.SyntaxTree.{nodes};
+ghost use Rattle.gx_parse.specs.SyntaxTree.{nodes};
 ghost use Rattle.gx_core.specs.Expression.{At, data_of, binary, let_in, sequence as sequence_form};
 ghost use Rattle.gx_core.specs.ExpressionView.{form_of};
 ghost use Rattle.gx_core.specs.declared.expression.BinaryOp.TheVariants as operators;
 
 use crate::names::Names;
-use crate::syntax::{LetHead, Syntax, SyntaxNode};
 use gx_base::code::Code;
 use gx_base::place::Place;
 use gx_base::text::Text;
 use gx_core::expression::{BinaryOp, Binder, Core, CoreExpr, CoreForm};
+use gx_parse::syntax::{LetHead, Syntax, SyntaxNode};
 use std::alloc::{AllocError, AllocFailed, Global};
 
 /// Why a query has no Core: the first name that is refused, or want of memory.

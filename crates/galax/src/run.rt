@@ -1,27 +1,29 @@
 // The command `run`.
 
-ghost use Rattle.std.specs.Prelude.{◌≡◌, ◌≢◌, ℕ, ◌≤◌, ◌<◌, ◌^◌, [], length, IfOk, IfErr, IfSome, IsErrOf, Some, None, string_bytes};
+ghost use Rattle.std.specs.Prelude.{◌≡◌, ◌≢◌, ℕ, ◌≤◌, ◌<◌, ◌^◌, [], length, IfOk, IfErr, IfSome, IfNone, IsErrOf, string_bytes};
 ghost use Rattle.gx_core.specs.SequenceType.{SequenceType};
 ghost use Rattle.gx_core.specs.Judgement.{judged, typed};
 ghost use Rattle.gx_core.specs.Meaning.{meaning};
 ghost use Rattle.gx_io.specs.Faults.{Rose};
 ghost use Rattle.gx_io.specs.Load.{file_of};
-ghost use Rattle.galax.specs.Answer.{writes, AnswersFile, AnswersBytes, AnswersNamed, AnswersJudged, AnswersOutcome, HasTree};
+ghost use Rattle.galax.specs.Answer.{writes, AnswersFile, AnswersBytes, AnswersNamed, AnswersJudged, AnswersOutcome};
+ghost use Rattle.galax.specs.Query.{HasTree, IsPlainQuery, has_comment};
 ghost use Rattle.galax.specs.Normalisation.{normalised};
 ghost use Rattle.galax.specs.Replies.{RefusesSo};
 ghost use Rattle.galax.specs.Serialisation.{serialised};
-ghost use Rattle.galax.specs.SyntaxTree.{nodes};
+ghost use Rattle.gx_parse.specs.SyntaxTree.{SyntaxTree, nodes};
 
 use crate::normalise::{NameRefusal, normalise};
-use crate::parser::{DecodeError, ParseError, decode, parse};
 use crate::serialise::serialise;
-use crate::syntax::Syntax;
 use gx_base::code::Code;
 use gx_core::dyn_error::DynError;
 use gx_core::expression::Core;
 use gx_core::typing::{InferError, infer};
 use gx_eval::evaluator::evaluate;
+use gx_grammar::decode::{DecodeError, decode};
 use gx_io::{Library, LoadError};
+use gx_parse::parser::{ParseError, parse};
+use gx_parse::syntax::Syntax;
 use std::alloc::{AllocError, Global};
 
 const MOST_BYTES: usize = 16_777_216;
@@ -59,23 +61,53 @@ fn query_output(alloc: Global, bytes: &[u8]) -> Result<String, Refusal>
     ensures no_fault { IsErrOf result Refusal.ReadFault → ⊥ }
 {
     match syntax_of(alloc, bytes) {
-        Ok(syntax) => syntax_output(alloc, &syntax),
-        Err(ParseError::NotAQuery) => Err(Refusal::Query(Code::XPST0003)),
-        Err(ParseError::Memory) => Err(Refusal::Memory),
+        Ok(Some(syntax)) => syntax_output(alloc, &syntax),
+        Ok(None) => Err(Refusal::Query(Code::XPST0003)),
+        Err(AllocError) => Err(Refusal::Memory),
     }
 }
 
-fn syntax_of(alloc: Global, bytes: &[u8]) -> Result<Syntax, ParseError>
+// The tree of the bytes, if they have one.
+fn syntax_of(alloc: Global, bytes: &[u8]) -> Result<Option<Syntax>, AllocError>
     requires { length bytes.now ≤ 16777216 }
-    ensures tree { IfOk result (λ t. HasTree bytes.now (Some t)) }
-    ensures none { IsErrOf result ParseError.NotAQuery → HasTree bytes.now None }
-    ensures small { IfOk result (λ t. nodes t < 2 ^ 31) }
+    ensures tree { IfOk result (λ tree. HasTree bytes.now tree) }
+    ensures small { IfOk result (λ tree. IfSome tree (λ t. nodes t < 2 ^ 31)) }
 {
     match decode(alloc, bytes) {
-        Ok(text) => parse(alloc, text.as_slice()),
-        Err(DecodeError::NotUtf8) => Err(ParseError::NotAQuery),
-        Err(DecodeError::Memory) => Err(ParseError::Memory),
+        Ok(text) => plain_syntax(alloc, text.as_slice()),
+        Err(DecodeError::NotUtf8(_)) => Ok(None),
+        Err(DecodeError::Memory) => Err(AllocError),
     }
+}
+
+// The tree of a text without comments.
+fn plain_syntax(alloc: Global, text: &[char]) -> Result<Option<Syntax>, AllocError>
+    requires { length text.now ≤ 16777216 }
+    ensures tree { IfOk result (λ tree. IfSome tree (IsPlainQuery text.now)) }
+    ensures none { IfOk result (λ tree. IfNone tree ((t : SyntaxTree) → IsPlainQuery text.now t → ⊥)) }
+    ensures small { IfOk result (λ tree. IfSome tree (λ t. nodes t < 2 ^ 31)) }
+{
+    if has_comment(text) {
+        return Ok(None);
+    }
+    match parse(alloc, text) {
+        Ok(syntax) => Ok(Some(syntax)),
+        Err(ParseError::NotAQuery { .. }) => Ok(None),
+        Err(ParseError::Memory) => Err(AllocError),
+    }
+}
+
+fn has_comment(text: &[char]) -> bool
+    ensures { result ≡ has_comment text.now }
+{
+    let mut opened = false;
+    for character in text {
+        if opened && *character == ':' {
+            return true;
+        }
+        opened = *character == '(';
+    }
+    false
 }
 
 fn syntax_output(alloc: Global, syntax: &Syntax) -> Result<String, Refusal>

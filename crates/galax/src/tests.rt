@@ -38,7 +38,7 @@ fn holding(alloc: Global, query: &[u8]) -> Result<MemoryLibrary, AllocError> {
 }
 
 // The lines are worked out by hand from the grammar, the scopes, the static rules and the meaning.
-const QUERIES: [(&str, Status, &str, &str); 16] = [
+const QUERIES: [(&str, Status, &str, &str); 17] = [
     (
         "let $x := 20 return ($x + 1, $x)",
         Status::Done,
@@ -71,6 +71,7 @@ const QUERIES: [(&str, Status, &str, &str); 16] = [
     ("\"a\"", Status::Query, "", "XPST0003\n"),
     ("", Status::Query, "", "XPST0003\n"),
     ("let $x := 20 retur", Status::Query, "", "XPST0003\n"),
+    ("(: c :) 1", Status::Query, "", "XPST0003\n"),
     ("1e3", Status::Query, "", "XPST0003\n"),
     (
         "170141183460469231731687303715884105728",

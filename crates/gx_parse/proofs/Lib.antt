@@ -1,0 +1,8 @@
+pub mod Literal
+pub mod Sorted
+pub mod Verdict
+pub mod GapSteps
+pub mod Members
+pub mod Digits
+pub mod Phrases
+pub mod TreeSizes

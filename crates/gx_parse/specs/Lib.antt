@@ -1,0 +1,13 @@
+pub mod SyntaxTree
+pub mod SyntaxCode
+pub mod SyntaxView
+pub mod SyntaxFalls
+pub mod Characters
+pub mod Literal
+pub mod Tokens
+pub mod Nodes
+pub mod Grammar
+pub mod Fronts
+pub mod Query
+pub mod Reading
+pub mod GapSteps
