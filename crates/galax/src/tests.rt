@@ -38,7 +38,7 @@ fn holding(alloc: Global, query: &[u8]) -> Result<MemoryLibrary, AllocError> {
 }
 
 // The lines are worked out by hand from the grammar, the scopes, the static rules and the meaning.
-const QUERIES: [(&str, Status, &str, &str); 17] = [
+const QUERIES: [(&str, Status, &str, &str); 18] = [
     (
         "let $x := 20 return ($x + 1, $x)",
         Status::Done,
@@ -55,6 +55,12 @@ const QUERIES: [(&str, Status, &str, &str); 17] = [
         "",
     ),
     ("(1, 2) + 1", Status::Query, "", "XPTY0004\n"),
+    (
+        "((1,1,1,1,1,1,1,1,1,1,1,1,1,1,1,1,1,1,1,1,1,1,1,1,1,1,1,1,1,1,1,1,1), (1,1,1,1,1,1,1,1,1,1,1,1,1,1,1,1,1,1,1,1,1,1,1,1,1,1,1,1,1,1,1,1,1)) + 1",
+        Status::Query,
+        "",
+        "XPTY0004\n",
+    ),
     (
         "1 + (let $x := (1, 2) return $x)",
         Status::Query,
