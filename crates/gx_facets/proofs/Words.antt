@@ -1,6 +1,7 @@
--- Collapsing by words.
+-- One pass over a text finds the words.
 use Rattle.std.proofs.Common.{◌≡◌, ℕ, Bool, true, false, cond, List, [], ◌∷◌, ◌++◌, refl, ap, sym, ◌∙◌}
-use Rattle.gx_facets.specs.WhiteSpace.{is_space, collapsed, collapsed_behind, before_part, parts_of, spaced, joined}
+use Rattle.gx_facets.specs.WhiteSpace.{is_space, collapsed, before_part, parts_of, spaced, joined}
+use Rattle.gx_facets.proofs.Collapsing.{collapsed_behind, in_one_pass}
 
 -- what follows a character that stays: the rest of its part, and then the other parts
 continued : List (List ℕ) → List ℕ
@@ -37,9 +38,10 @@ behind (c ∷ cs) =
     (rest.0, rest.0)
     (ap (λ t. 32 ∷ c ∷ t) rest.1 ∙ sym (spaced_before c (parts_of cs)), ap (λ t. c ∷ t) rest.1 ∙ sym (continued_before c (parts_of cs)))
 
-pub collapsed_words : (cs : List ℕ) → collapsed cs ≡ joined (parts_of cs)
-collapsed_words [] = refl
-collapsed_words (c ∷ cs) =
-    by_test (λ b. cond b (collapsed cs) (c ∷ collapsed_behind false cs) ≡ joined (cond b ([] ∷ parts_of cs) (before_part c (parts_of cs)))) (is_space c)
-    (collapsed_words cs)
+-- one pass over a text collapses it
+pub one_pass : (cs : List ℕ) → in_one_pass cs ≡ collapsed cs
+one_pass [] = refl
+one_pass (c ∷ cs) =
+    by_test (λ b. cond b (in_one_pass cs) (c ∷ collapsed_behind false cs) ≡ joined (cond b ([] ∷ parts_of cs) (before_part c (parts_of cs)))) (is_space c)
+    (one_pass cs)
     (ap (λ t. c ∷ t) (behind cs).1 ∙ sym (joined_before c (parts_of cs)))

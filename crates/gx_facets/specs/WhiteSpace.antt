@@ -1,5 +1,5 @@
 -- White space of a lexical form (XML Schema Part 2, 4.3.6).
-use Rattle.std.specs.Prelude.{ℕ, Bool, true, false, ◌==◌, ◌||◌, ◌++◌, if◌then◌else◌, List, [], ◌∷◌, map}
+use Rattle.std.specs.Prelude.{ℕ, Bool, ◌==◌, ◌||◌, ◌++◌, if◌then◌else◌, List, [], ◌∷◌, map}
 
 -- space, tab, line feed and carriage return
 abbrev pub is_space : ℕ → Bool
@@ -11,20 +11,6 @@ space_for c = if is_space c then 32 else c
 -- each is replaced by a space
 abbrev pub replaced : List ℕ → List ℕ
 replaced text = map space_for text
-
--- what follows a character that stays; the flag says that white space waits for the next
-abbrev pub collapsed_behind : Bool → List ℕ → List ℕ
-collapsed_behind gap [] = []
-collapsed_behind gap (c ∷ cs) =
-    if is_space c then collapsed_behind true cs
-    else (if gap then 32 ∷ c ∷ collapsed_behind false cs else c ∷ collapsed_behind false cs)
-
--- white space goes from both ends, and each run of it becomes one space
-abbrev pub collapsed : List ℕ → List ℕ
-collapsed [] = []
-collapsed (c ∷ cs) = if is_space c then collapsed cs else c ∷ collapsed_behind false cs
-
--- ---- the same by words
 
 -- c before the first part
 abbrev pub before_part : ℕ → List (List ℕ) → List (List ℕ)
@@ -47,3 +33,7 @@ abbrev pub joined : List (List ℕ) → List ℕ
 joined [] = []
 joined ([] ∷ parts) = joined parts
 joined ((c ∷ cs) ∷ parts) = (c ∷ cs) ++ spaced parts
+
+-- white space goes from both ends, and each run of it becomes one space
+abbrev pub collapsed : List ℕ → List ℕ
+collapsed text = joined (parts_of text)
