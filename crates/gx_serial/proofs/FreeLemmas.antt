@@ -1,6 +1,6 @@
 -- A free prefix is free.
 use Rattle.std.proofs.Common.{◌≡◌, ℕ, zero, suc, ◌+◌, ◌^◌, ◌<◌, ◌≤◌, List, [], ◌∷◌, ◌++◌, length, drop, map, Bool, true, false, cond, refl, sym, ap, ◌∙◌, subst, arith}
-use Rattle.std.specs.Prelude.{Option, Some, None, bytes_eq, codes, decimal, ◌||◌}
+use Rattle.std.specs.Prelude.{Some, None, bytes_eq, decimal, ◌||◌}
 use Rattle.std.specs.Cmp.Lexicographic.{bytes_decides}
 use Rattle.std.proofs.lemmas.Fmt.{decimal_injective}
 use Rattle.gx_serial.specs.Binding.{Binding, bound_to, last_of, is_among, numbered_prefix, free_number, free_prefix}

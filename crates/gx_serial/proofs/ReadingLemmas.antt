@@ -1,13 +1,13 @@
 -- The names of a written tree are read with the URIs that the tree has.
-use Rattle.std.proofs.Common.{◌≡◌, ℕ, zero, suc, ◌+◌, ◌*◌, ◌^◌, ◌<◌, ◌≤◌, List, [], ◌∷◌, ◌++◌, length, get_or, drop, map, Bool, true, false, cond, not, refl, sym, ap, ◌∙◌, subst, arith, append_assoc, append-nil, length-append}
-use Rattle.std.specs.Prelude.{Option, Some, None, bytes_eq, ◌&&◌}
+use Rattle.std.proofs.Common.{◌≡◌, ℕ, suc, ◌+◌, ◌^◌, ◌<◌, List, [], ◌∷◌, ◌++◌, length, get_or, drop, map, Bool, true, false, cond, refl, sym, ap, ◌∙◌, subst, arith, append_assoc, append-nil, length-append}
+use Rattle.std.specs.Prelude.{Option, Some, None, bytes_eq}
 use Rattle.std.proofs.Math.Seq.{drop-append_seam}
 use Rattle.std.proofs.lemmas.List.{length-map}
 use Rattle.gx_base.specs.declared.name.Name.{Name}
 use Rattle.gx_tree.specs.declared.attribute.Attribute.{Attribute}
 use Rattle.gx_tree.specs.PlainTree.{PlainTree, PlainTrees, document, element, attribute, text, no_trees, a_tree}
-use Rattle.gx_serial.specs.Binding.{Binding, bound_to, gives, needs_declaration, xml, xml_uri, is_among, numbered_prefix, free_number, free_prefix}
-use Rattle.gx_serial.specs.Marked.{Begun, begun, prefixes_of, with_prefix, unless_taken, written_prefix, after_attribute, after_attributes, written_attributes, scope_within, tag_of, marked, all_marked}
+use Rattle.gx_serial.specs.Binding.{Binding, bound_to, gives, needs_declaration, xml, xml_uri, numbered_prefix, free_prefix}
+use Rattle.gx_serial.specs.Marked.{Begun, begun, prefixes_of, with_prefix, unless_taken, written_prefix, after_attribute, after_attributes, written_attributes, scope_within, marked, all_marked}
 use Rattle.gx_serial.specs.Reading.{uri_read, attribute_uri_read, AttributesReadAs, ReadsAs, AllReadAs, IsWritableAttribute, AreWritableAttributes, IsWritable, AreWritable}
 use Rattle.gx_serial.proofs.FreeLemmas.{by_bool, bytes_same, bytes_self, free_prefix_is_free, is_among-back, not_bound, bound_to-snoc}
 

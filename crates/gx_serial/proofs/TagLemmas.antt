@@ -1,5 +1,5 @@
 -- A tag that is written attribute by attribute.
-use Rattle.std.proofs.Common.{◌≡◌, ℕ, zero, suc, ◌+◌, ◌<◌, ◌≤◌, List, [], ◌∷◌, ◌++◌, length, get_or, drop, take, Bool, true, false, not, refl, sym, ap, ◌∙◌, subst, arith, add-one, append_assoc, append-nil}
+use Rattle.std.proofs.Common.{◌≡◌, ℕ, zero, suc, ◌+◌, ◌<◌, ◌≤◌, List, [], ◌∷◌, ◌++◌, length, get_or, drop, take, Bool, true, false, not, refl, sym, ap, ◌∙◌, arith, add-one, append_assoc, append-nil}
 use Rattle.std.specs.Prelude.{codes}
 use Rattle.std.proofs.Math.Seq.{drop-append_seam, take-append_seam}
 use Rattle.std.proofs.lemmas.List.{at_drop_all}
@@ -19,6 +19,10 @@ spelled_declarations-append [] cs = refl
 spelled_declarations-append (b ∷ bs) cs =
     ap (λ t. spelled_declaration b ++ t) (spelled_declarations-append bs cs)
     ∙ sym (append_assoc (spelled_declaration b) (spelled_declarations bs) (spelled_declarations cs))
+
+-- nothing is declared yet
+pub Declares-none : (s : List Binding) (x : List ℕ) → Declares s s x x
+Declares-none s x = ([], sym (append-nil s), sym (append-nil x))
 
 -- two steps declare what each declared
 pub Declares-trans : (s t u : List Binding) (x y z : List ℕ) → Declares s t x y → Declares t u y z → Declares s u x z

@@ -1,5 +1,5 @@
 -- The text behind a start tag.
-use Rattle.std.proofs.Common.{◌≡◌, ℕ, List, [], ◌∷◌, ◌++◌, length, Bool, true, false, refl, sym, ap, ◌∙◌, append_assoc, nat_eq}
+use Rattle.std.proofs.Common.{◌≡◌, ℕ, List, [], ◌∷◌, ◌++◌, length, false, ap, ◌∙◌, append_assoc, nat_eq}
 use Rattle.std.specs.Prelude.{codes}
 use Rattle.gx_tree.specs.PlainTree.{PlainTree, trees_of}
 use Rattle.gx_serial.specs.Binding.{Binding}

@@ -1,10 +1,9 @@
 -- The names of a written text as they are read (Namespaces in XML 1.0, sections 5 and 6).
-use Rattle.std.specs.Prelude.{◌≡◌, ◌≢◌, ℕ, ◌^◌, ◌<◌, List, [], ◌∷◌, ◌++◌, length, Option, Some, if◌then◌else◌, bytes_eq, ◌↔◌}
-use Rattle.gx_base.specs.declared.name.Name.{Name}
+use Rattle.std.specs.Prelude.{◌≡◌, ℕ, ◌^◌, ◌<◌, List, [], ◌∷◌, ◌++◌, length, Option, Some, if◌then◌else◌, bytes_eq}
 use Rattle.gx_tree.specs.declared.attribute.Attribute.{Attribute}
 use Rattle.gx_tree.specs.PlainTree.{PlainTree, PlainTrees, document, element, attribute, text, no_trees, a_tree}
 use Rattle.gx_serial.specs.Binding.{Binding, bound_to, xml, xml_uri}
-use Rattle.gx_serial.specs.Markup.{WrittenAttribute, Tag, Markup, Markups, tagged, characters, several, no_markup, a_markup}
+use Rattle.gx_serial.specs.Markup.{WrittenAttribute, Markup, Markups, tagged, characters, several, no_markup, a_markup}
 
 -- the URI of a prefix where these bindings are in force; the prefix xml is always bound
 abbrev pub uri_read : List Binding → List ℕ → Option (List ℕ)

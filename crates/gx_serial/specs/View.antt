@@ -1,21 +1,39 @@
--- What the code's bindings stand for.
-use Rattle.std.specs.Prelude.{◌≡◌, ℕ, List, ◌++◌, map}
-use Rattle.gx_serial.specs.declared.binding.Bound.{Bound}
-use Rattle.gx_serial.specs.Binding.{Binding}
+-- A tag that is being written.
+use Rattle.std.specs.Prelude.{◌≡◌, ℕ, ◌+◌, ◌<◌, ◌≤◌, List, [], ◌∷◌, ◌++◌, length, map, true}
+use Rattle.gx_base.specs.declared.name.Name.{Name}
+use Rattle.gx_serial.specs.Binding.{Binding, is_among, numbered_prefix}
 use Rattle.gx_serial.specs.Markup.{spelled_declarations}
 use Rattle.gx_serial.specs.Marked.{Begun}
 
-abbrev pub prefix_of : Bound → List ℕ
-prefix_of b = b.prefix
+-- the prefixes of the names of a tag, and those that they have taken so far
+pub record TagPrefixes : Type 0 where
+  pub used : List (List ℕ)
+  pub taken : List Binding
 
-abbrev pub binding_of : Bound → Binding
-binding_of b = (b.prefix, b.uri.now)
+-- all of these
+abbrev pub all_prefixes : TagPrefixes → List (List ℕ)
+all_prefixes p = p.used ++ map (λ (b : Binding). b.0) p.taken
 
 -- a tag so far
-abbrev pub begun_of : List Bound → List Bound → Begun
-begun_of taken scope = record { taken = map binding_of taken; scope = map binding_of scope }
+abbrev pub begun_of : TagPrefixes → List Binding → Begun
+begun_of p scope = record { taken = p.taken; scope = scope }
+
+-- a tag whose element's name alone has taken its prefix
+abbrev pub named : Name → List Binding → Begun
+named name scope = record { taken = (name.prefix, name.uri) ∷ []; scope = scope }
+
+-- where the search for a free number may start: no number below is free, and no more are passed over than there are prefixes
+pub record IsSearchStart (prefixes : List (List ℕ)) (number : ℕ) : Type 0 where
+  pub first : 1 ≤ number
+  pub last : number ≤ length prefixes + 1
+  pub used : (k : ℕ) → 1 ≤ k → k < number → is_among prefixes (numbered_prefix k) ≡ true
 
 -- the bindings in force grew by those whose declarations were written
 abbrev pub Declares : List Binding → List Binding → List ℕ → List ℕ → Type 0
 Declares before now written_before written_now =
     (added : List Binding) × (now ≡ before ++ added) × (written_now ≡ written_before ++ spelled_declarations added)
+
+-- the same, where more was written behind the declarations
+abbrev pub DeclaresThen : List Binding → List Binding → List ℕ → List ℕ → List ℕ → Type 0
+DeclaresThen before now written_before written_now more =
+    (declared : List ℕ) × Declares before now written_before declared × (written_now ≡ declared ++ more)

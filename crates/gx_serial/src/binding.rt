@@ -1,39 +1,116 @@
 // Prefixes and the URIs that they are bound to.
-ghost use Rattle.std.specs.Prelude.{◌≡◌, ◌∷◌, [], ◌++◌, map, option_map, IfOk, OnOk, OnErr, bytes_eq};
-ghost use Rattle.gx_serial.specs.Binding.{bound_to, gives, needs_declaration, xml, numbered_prefix, is_among, free_prefix};
-ghost use Rattle.gx_serial.specs.Marked.{prefixes_of};
-ghost use Rattle.gx_serial.specs.View.{binding_of, prefix_of};
+ghost use Rattle.std.specs.Prelude.{◌≡◌, ◌∷◌, [], ◌++◌, ◌-◌, ◌^◌, ◌<◌, take, length, option_map, OnOk, OnErr, bytes_eq};
+ghost use Rattle.gx_serial.specs.Binding.{bound_to, gives, needs_declaration, xml};
 
-use gx_base::name::Name;
 use gx_base::text::Text;
-use gx_tree::attribute::Attribute;
 use std::alloc::{AllocError, Global};
+use std::collections::BTreeMap;
+use std::marker::Model;
 
-// A prefix with its URI. The empty prefix stands for the default namespace.
+// A prefix with its URI, and the URI that the bindings before it give the prefix.
 #[derive(Drop)]
-pub(crate) struct Bound<'a> {
-    pub(crate) prefix: Text,
-    pub(crate) uri: &'a Text,
+struct Bound<'a> {
+    prefix: Text,
+    uri: &'a Text,
+    hidden: Option<&'a Text>,
 }
 
-// The URI that the last of these bindings of a prefix gives it.
-pub(crate) fn bound_to<'a>(bindings: &[Bound<'a>], prefix: &Text) -> Option<&'a Text>
-    ensures { option_map (λ u. u.now) result ≡ bound_to (map binding_of bindings.now) prefix.now }
-{
-    let mut found = None;
-    for binding in bindings {
-        if binding.prefix == *prefix {
-            found = Some(binding.uri);
+// Bindings one after another, with an index. The last one of a prefix counts. The empty prefix stands for the default
+// namespace.
+#[derive(Drop)]
+pub(crate) struct Bindings<'a> {
+    all: Vec<Bound<'a>>,
+    last: BTreeMap<Text, &'a Text>,
+}
+
+impl<'a> Model for Bindings<'a> {
+    ghost use Rattle.std.specs.Prelude.{List};
+    ghost use Rattle.gx_serial.specs.Binding.{Binding};
+
+    ghost Value = { List Binding };
+
+    ghost use Rattle.gx_serial.specs.Index.{listed, IsIndexed};
+
+    ghost view = { listed };
+
+    ghost invariant = { IsIndexed };
+}
+
+impl<'a> Bindings<'a> {
+    pub(crate) fn new(alloc: Global) -> Bindings<'a>
+        ensures { result ≡ [] }
+    {
+        Bindings {
+            all: Vec::new(alloc),
+            last: BTreeMap::new(alloc),
         }
     }
-    found
-}
 
-// Whether a prefix has to be declared for a URI.
-pub(crate) fn needs_declaration(scope: &[Bound<'_>], prefix: &Text, uri: &Text) -> bool
-    ensures { result ≡ needs_declaration (map binding_of scope.now) prefix.now uri.now }
-{
-    !is_xml(prefix) && !gives(bound_to(scope, prefix), uri)
+    pub(crate) fn len(&self) -> usize
+        ensures len { result ≡ length self.now }
+        ensures small { result < 2 ^ 63 }
+    {
+        self.all.len()
+    }
+
+    // The URI that the last binding of a prefix gives it.
+    pub(crate) fn bound_to(&self, prefix: &Text) -> Option<&'a Text>
+        ensures { option_map (λ u. u.now) result ≡ bound_to self.now prefix.now }
+    {
+        self.last.get(prefix).copied()
+    }
+
+    // Whether a prefix has to be declared for a URI.
+    pub(crate) fn needs_declaration(&self, prefix: &Text, uri: &Text) -> bool
+        ensures { result ≡ needs_declaration self.now prefix.now uri.now }
+    {
+        !is_xml(prefix) && !gives(self.bound_to(prefix), uri)
+    }
+
+    // Adds a binding. An `Err` leaves the bindings as they were.
+    pub(crate) fn push(&mut self, prefix: &Text, uri: &'a Text) -> Result<(), AllocError>
+        ensures ok { OnOk result (self.new ≡ self.old ++ ((prefix.now, uri.now) ∷ [])) }
+        ensures err { OnErr result (self.new ≡ self.old) }
+    {
+        let key = prefix.clone()?;
+        let prefix = prefix.clone()?;
+        // Room is made first, so that nothing fails once the index has changed.
+        self.all.reserve(1)?;
+        let hidden = self.last.insert(key, uri)?;
+        self.all.push(Bound {
+            prefix,
+            uri,
+            hidden,
+        })?;
+        Ok(())
+    }
+
+    // Takes the last binding away, so that what it hid counts again.
+    fn pop(&mut self)
+        ensures { self.new ≡ take (length self.old - 1) self.old }
+    {
+        let Some(bound) = self.all.pop() else {
+            return;
+        };
+        match bound.hidden {
+            Some(uri) => {
+                // The index has the prefix, so this needs no memory.
+                let _ = self.last.insert(bound.prefix, uri);
+            }
+            None => {
+                self.last.remove(&bound.prefix);
+            }
+        }
+    }
+
+    // Takes all bindings away but the first `len`.
+    pub(crate) fn truncate(&mut self, len: usize)
+        ensures { self.new ≡ take len self.old }
+    {
+        while self.len() > len {
+            self.pop();
+        }
+    }
 }
 
 fn gives(bound: Option<&Text>, uri: &Text) -> bool
@@ -49,54 +126,4 @@ fn is_xml(prefix: &Text) -> bool
     ensures { result ≡ bytes_eq prefix.now xml }
 {
     prefix.as_str() == "xml"
-}
-
-// The prefix `ns` with a number.
-fn numbered_prefix(alloc: Global, number: usize) -> Result<Text, AllocError>
-    ensures { IfOk result (λ prefix. prefix ≡ numbered_prefix number) }
-{
-    let text = format!(in alloc; "ns{number}")?;
-    Text::from_str(alloc, text.as_str())
-}
-
-// Whether a name of the tag has the prefix, or has taken it.
-fn is_used(name: &Name, attributes: &[Attribute], taken: &[Bound<'_>], prefix: &Text) -> bool
-    ensures { result ≡ is_among (prefixes_of name.now attributes.now ++ map prefix_of taken.now) prefix.now }
-{
-    if name.prefix == *prefix {
-        return true;
-    }
-    for attribute in attributes {
-        if attribute.name.prefix == *prefix {
-            return true;
-        }
-    }
-    for binding in taken {
-        if binding.prefix == *prefix {
-            return true;
-        }
-    }
-    false
-}
-
-// The first of ns1, ns2, .. that no name of the tag has or has taken.
-pub(crate) fn free_prefix(
-    alloc: Global,
-    name: &Name,
-    attributes: &[Attribute],
-    taken: &[Bound<'_>],
-) -> Result<Text, AllocError>
-    ensures { IfOk result (λ prefix. prefix
-        ≡ free_prefix (prefixes_of name.now attributes.now ++ map prefix_of taken.now)) }
-{
-    let mut number = 1;
-    let spare = 1 + attributes.len() + taken.len();
-    for turn in 0..spare {
-        let prefix = numbered_prefix(alloc, number)?;
-        if !is_used(name, attributes, taken, &prefix) {
-            return Ok(prefix);
-        }
-        number = turn + 2;
-    }
-    numbered_prefix(alloc, number)
 }

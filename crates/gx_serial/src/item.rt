@@ -6,9 +6,8 @@ ghost use Rattle.gx_io.specs.Put.{GrowsBy, GrowsByPrefix};
 ghost use Rattle.gx_serial.specs.declared.item.SerialItem.{SerialItem};
 ghost use Rattle.gx_serial.specs.Answer.{answer_text, left_after};
 ghost use Rattle.gx_serial.specs.Binding.{no_declarations};
-ghost use Rattle.gx_serial.specs.View.{binding_of};
 
-use crate::binding::Bound;
+use crate::binding::Bindings;
 use crate::escape::push_text;
 use crate::put::put_in_pieces;
 use crate::write::push_tree;
@@ -45,11 +44,8 @@ fn text_of(alloc: Global, items: &[SerialItem]) -> Result<Text, AllocError>
     ensures { IfOk result (λ text. text ≡ answer_text items.now) }
 {
     let none = Text::new(alloc);
-    let mut scope = Vec::new(alloc);
-    scope.push(Bound {
-        prefix: Text::new(alloc),
-        uri: &none,
-    })?;
+    let mut scope = Bindings::new(alloc);
+    scope.push(&none, &none)?;
     let mut out = Text::new(alloc);
     push_items(alloc, &mut out, &mut scope, items)?;
     Ok(out)
@@ -58,10 +54,10 @@ fn text_of(alloc: Global, items: &[SerialItem]) -> Result<Text, AllocError>
 fn push_items<'a>(
     alloc: Global,
     out: &mut Text,
-    scope: &mut Vec<Bound<'a>>,
+    scope: &mut Bindings<'a>,
     items: &'a [SerialItem],
 ) -> Result<(), AllocError>
-    requires { map binding_of scope.old.items ≡ no_declarations }
+    requires { scope.old ≡ no_declarations }
     ensures { OnOk result (out.new ≡ out.old ++ answer_text items.now) }
 {
     let mut follows_value = false;
@@ -75,14 +71,14 @@ fn push_items<'a>(
 fn push_item<'a>(
     alloc: Global,
     out: &mut Text,
-    scope: &mut Vec<Bound<'a>>,
+    scope: &mut Bindings<'a>,
     follows_value: bool,
     item: &'a SerialItem,
 ) -> Result<bool, AllocError>
-    requires { map binding_of scope.old.items ≡ no_declarations }
+    requires { scope.old ≡ no_declarations }
     ensures text { IfOk result (λ is_value. (rest : List SerialItem)
         → out.new ++ left_after is_value rest ≡ out.old ++ left_after follows_value (item.now ∷ rest)) }
-    ensures scope { OnOk result (map binding_of scope.new.items ≡ no_declarations) }
+    ensures scope { OnOk result (scope.new ≡ no_declarations) }
 {
     match item {
         SerialItem::Text(text) => {

@@ -4,6 +4,7 @@
 mod binding;
 mod escape;
 pub mod item;
+mod prefix;
 mod put;
 pub mod reading;
 mod tag;

@@ -1,11 +1,10 @@
 // Trees as text.
-ghost use Rattle.std.specs.Prelude.{◌≡◌, ◌++◌, map, OnOk, take, length};
+ghost use Rattle.std.specs.Prelude.{◌≡◌, ◌++◌, OnOk};
 ghost use Rattle.gx_tree.specs.PlainTree.{trees_of};
 ghost use Rattle.gx_serial.specs.Markup.{tagged, spelled, spelled_content, spelled_end, all_spelled};
 ghost use Rattle.gx_serial.specs.Marked.{marked, all_marked, scope_within, tag_of};
-ghost use Rattle.gx_serial.specs.View.{binding_of};
 
-use crate::binding::Bound;
+use crate::binding::Bindings;
 use crate::escape::{push_ascii, push_text};
 use crate::tag::{push_name, push_start};
 use gx_base::name::Name;
@@ -19,11 +18,11 @@ use std::alloc::{AllocError, Global};
 pub(crate) fn push_tree<'a>(
     alloc: Global,
     out: &mut Text,
-    scope: &mut Vec<Bound<'a>>,
+    scope: &mut Bindings<'a>,
     tree: &'a Tree,
 ) -> Result<(), AllocError>
-    ensures text { OnOk result (out.new ≡ out.old ++ spelled (marked (map binding_of scope.old.items) tree.now)) }
-    ensures scope { OnOk result (map binding_of scope.new.items ≡ map binding_of scope.old.items) }
+    ensures text { OnOk result (out.new ≡ out.old ++ spelled (marked scope.old tree.now)) }
+    ensures scope { OnOk result (scope.new ≡ scope.old) }
 {
     match &tree.node {
         TreeNode::Document(children) => push_trees(alloc, out, scope, children),
@@ -42,15 +41,15 @@ pub(crate) fn push_tree<'a>(
 fn push_element<'a>(
     alloc: Global,
     out: &mut Text,
-    scope: &mut Vec<Bound<'a>>,
+    scope: &mut Bindings<'a>,
     name: &'a Name,
     attributes: &'a Vec<Attribute>,
     children: &'a Vec<Tree>,
 ) -> Result<(), AllocError>
     ensures text { OnOk result (out.new ≡ out.old
-        ++ spelled (tagged (tag_of (map binding_of scope.old.items) name.now attributes.now.items)
-        (all_marked (scope_within (map binding_of scope.old.items) name.now attributes.now.items) (trees_of children.now.items)))) }
-    ensures scope { OnOk result (map binding_of scope.new.items ≡ map binding_of scope.old.items) }
+        ++ spelled (tagged (tag_of scope.old name.now attributes.now.items)
+        (all_marked (scope_within scope.old name.now attributes.now.items) (trees_of children.now.items)))) }
+    ensures scope { OnOk result (scope.new ≡ scope.old) }
 {
     let outer = scope.len();
     push_start(alloc, out, scope, name, attributes.as_slice())?;
@@ -64,13 +63,13 @@ fn push_element<'a>(
 fn push_content<'a>(
     alloc: Global,
     out: &mut Text,
-    scope: &mut Vec<Bound<'a>>,
+    scope: &mut Bindings<'a>,
     name: &'a Name,
     children: &'a Vec<Tree>,
 ) -> Result<(), AllocError>
     ensures text { OnOk result (out.new ≡ out.old
-        ++ spelled_content name.now.prefix name.now.local (all_marked (map binding_of scope.old.items) (trees_of children.now.items))) }
-    ensures scope { OnOk result (map binding_of scope.new.items ≡ map binding_of scope.old.items) }
+        ++ spelled_content name.now.prefix name.now.local (all_marked scope.old (trees_of children.now.items))) }
+    ensures scope { OnOk result (scope.new ≡ scope.old) }
 {
     if children.is_empty() {
         return push_ascii(out, "/>");
@@ -93,12 +92,12 @@ fn push_end(out: &mut Text, name: &Name) -> Result<(), AllocError>
 fn push_trees<'a>(
     alloc: Global,
     out: &mut Text,
-    scope: &mut Vec<Bound<'a>>,
+    scope: &mut Bindings<'a>,
     trees: &'a Vec<Tree>,
 ) -> Result<(), AllocError>
     ensures text { OnOk result (out.new
-        ≡ out.old ++ all_spelled (all_marked (map binding_of scope.old.items) (trees_of trees.now.items))) }
-    ensures scope { OnOk result (map binding_of scope.new.items ≡ map binding_of scope.old.items) }
+        ≡ out.old ++ all_spelled (all_marked scope.old (trees_of trees.now.items))) }
+    ensures scope { OnOk result (scope.new ≡ scope.old) }
 {
     for tree in trees {
         push_tree(alloc, out, scope, tree)?;

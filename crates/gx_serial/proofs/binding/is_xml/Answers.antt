@@ -1,4 +1,3 @@
-use Rattle.std.proofs.Common.{◌∙◌}
 use Rattle.gx_serial.proofs.BindingLemmas.{is_xml}
 use Rattle.gx_serial.proofs.binding.is_xml.Goals as goal
 

@@ -1,5 +1,4 @@
 use Rattle.std.proofs.Common.{◌≡◌, ◌++◌, ap, ◌∙◌}
-use Rattle.std.specs.Str.{chars}
 use Rattle.std.specs.Str.Iter.{chars_rest}
 use Rattle.gx_serial.specs.Escape.{text_escaped}
 use Rattle.gx_serial.proofs.TextLemmas.{utf8_of_text, chars_of_text}

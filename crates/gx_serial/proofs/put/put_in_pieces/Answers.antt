@@ -1,4 +1,4 @@
-use Rattle.std.proofs.Common.{rules, arith}
+use Rattle.std.proofs.Common.{arith}
 use Rattle.gx_serial.proofs.PieceLemmas.{GrowsBy-piece, GrowsByPrefix-piece}
 use Rattle.gx_serial.proofs.put.put_in_pieces.Goals as goal
 

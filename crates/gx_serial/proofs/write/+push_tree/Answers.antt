@@ -1,8 +1,5 @@
-use Rattle.std.proofs.Common.{◌≡◌, length, take, map, ap, sym, ◌∙◌, arith, nat_eq, false}
-use Rattle.std.proofs.lemmas.List.{length-map}
-use Rattle.std.specs.List.{take-map}
+use Rattle.std.proofs.Common.{take, ap, sym, ◌∙◌, arith, nat_eq}
 use Rattle.gx_tree.proofs.TreesLemmas.{item_le-trees_size}
-use Rattle.gx_serial.specs.View.{binding_of}
 use Rattle.gx_serial.proofs.WriteLemmas.{content_text}
 use Rattle.gx_serial.proofs.write.+push_tree.Goals as goal
 
@@ -14,16 +11,13 @@ push_trees-push_tree-requires t c =
 
 pub push_element-returns-clause-scope : goal.push_element-returns-clause-scope
 push_element-returns-clause-scope t c =
-    let old = c.args.scope.now.items in
-    let outer : c.len-outer.result ≡ length (map binding_of old) = omega (arith, c.len-outer.ensures, c.args.scope.now.ok.0, length-map old binding_of) in
-    ap (map binding_of) c.truncate.ensures.items
-    ∙ sym (take-map binding_of c.len-outer.result c.push_content.new.scope.items)
+    c.truncate.ensures
     ∙ ap (take c.len-outer.result) c.in_ok-push_content.ensures.scope
-    ∙ ap (λ n. take n (map binding_of c.push_start.new.scope.items)) outer
+    ∙ ap (λ n. take n c.push_start.new.scope) c.len-outer.ensures.len
     ∙ c.in_ok-push_start.ensures.kept
 
 pub push_content-returns-clause-text : goal.push_content-returns-clause-text
 push_content-returns-clause-text t c =
-    content_text c.args.children.now.items (map binding_of c.args.scope.now.items) c.args.name.now.prefix c.args.name.now.local
+    content_text c.args.children.now.items c.args.scope.now c.args.name.now.prefix c.args.name.now.local
     c.args.out.now c.push.new.self c.push_trees.new.out c.push_end.new.out (ap (λ n. nat_eq n 0) (sym c.args.children.now.ok.0) ∙ sym c.is_empty.ensures ∙ c.if-is_empty.false)
     c.in_ok-push.ensures.ok c.in_ok-push_trees.ensures.text c.in_ok-push_end.ensures

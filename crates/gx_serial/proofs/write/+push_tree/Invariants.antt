@@ -1,17 +1,16 @@
-use Rattle.std.proofs.Common.{◌≡◌, ◌++◌, ◌+◌, ◌*◌, drop, map}
+use Rattle.std.proofs.Common.{◌≡◌, ◌++◌, ◌+◌, ◌*◌, drop}
 use Rattle.gx_tree.specs.PlainTree.{trees_of, tree_size, trees_size}
 use Rattle.gx_serial.specs.Markup.{all_spelled}
 use Rattle.gx_serial.specs.Marked.{all_marked}
-use Rattle.gx_serial.specs.View.{binding_of}
 use Rattle.gx_serial.proofs.write.+push_tree.Given as goal
 
 -- what was written, and what is left to write
 abbrev pub invariant-push_trees-loop-tree : goal.invariant-push_trees-loop-tree
 invariant-push_trees-loop-tree l =
-    let scope = map binding_of l.fn.scope.items in
     record {
-      text : l.out ++ all_spelled (all_marked scope (trees_of (drop l.tree-index l.trees.items))) ≡ l.fn.out ++ all_spelled (all_marked scope (trees_of l.trees.items));
-      scope : map binding_of l.scope.items ≡ scope;
+      text : l.out ++ all_spelled (all_marked l.fn.scope (trees_of (drop l.tree-index l.trees.items)))
+          ≡ l.fn.out ++ all_spelled (all_marked l.fn.scope (trees_of l.trees.items));
+      scope : l.scope ≡ l.fn.scope;
     }
 
 abbrev pub decreases-push_tree : goal.decreases-push_tree

@@ -1,10 +1,8 @@
-use Rattle.std.proofs.Common.{◌≡◌, ◌∷◌, [], ◌++◌, ap, ◌∙◌, arith}
-use Rattle.std.specs.Prelude.{IfOk, codes}
+use Rattle.std.proofs.Common.{ap, ◌∙◌, arith}
 use Rattle.std.specs.Str.{chars}
 use Rattle.std.proofs.lemmas.Result.{IfOk-weaker}
-use Rattle.gx_serial.specs.Binding.{numbered_prefix}
 use Rattle.gx_serial.proofs.BindingLemmas.{chars-numbered_prefix}
-use Rattle.gx_serial.proofs.binding.numbered_prefix.Goals as goal
+use Rattle.gx_serial.proofs.prefix.numbered_prefix.Goals as goal
 
 pub returns : goal.returns
 returns c =

@@ -1,0 +1,20 @@
+use Rattle.gx_serial.specs.declared.binding.Bindings.TheInside.{Inside}
+use Rattle.gx_serial.proofs.IndexLemmas.{indexed_pop, indexed_again, updated}
+use Rattle.gx_serial.proofs.binding.Bindings.pop.Goals as goal
+
+pub invariant_of-self-in-Some-hidden : goal.invariant_of-self-in-Some-hidden
+invariant_of-self-in-Some-hidden c =
+    indexed_again c.insert.result c.self.inside (record { all = c.pop.new.self; last = c.insert.new.self }) c.in-Some.bound c.in-Some-hidden.uri
+    c.in-Some.ensures.items c.in-Some-hidden.is c.insert.ensures.updates c.insert.ensures.absent c.self.invariant
+
+pub invariant_of-self-in-Some-hidden-2 : goal.invariant_of-self-in-Some-hidden-2
+invariant_of-self-in-Some-hidden-2 c =
+    indexed_again c.insert.result c.self.inside (record { all = c.pop.new.self; last = c.insert.new.self }) c.in-Some.bound c.in-Some-hidden.uri
+    c.in-Some.ensures.items c.in-Some-hidden.is c.insert.ensures.updates c.insert.ensures.absent c.self.invariant
+
+pub invariant_of-self-in-None-bound : goal.invariant_of-self-in-None-bound
+invariant_of-self-in-None-bound c =
+    let new : Inside = record { all = c.pop.new.self; last = c.remove.new.self } in
+    let b = c.in-Some.bound in
+    indexed_pop c.self.inside new b c.in-Some.ensures.items
+    (updated c.self.inside new b.prefix b.hidden (rw c.in-None.is c.remove.ensures.updates)) c.self.invariant
