@@ -42,10 +42,10 @@ declared_base_is bases (names.Anonymous n) h = refl
 -- a base of a built-in type comes before it, and a declared type comes after all
 abbrev pub rank_of : TypeName → ℕ
 rank_of (names.Builtin b) = number_of b
-rank_of (names.Named n) = 24
-rank_of (names.Anonymous n) = 24
+rank_of (names.Named n) = 23
+rank_of (names.Anonymous n) = 23
 
-number_at_most : (b : Builtin) → number_of b ≤ 24
+number_at_most : (b : Builtin) → number_of b ≤ 23
 number_at_most AnyType = omega arith
 number_at_most Untyped = omega arith
 number_at_most AnySimple = omega arith
@@ -70,7 +70,7 @@ number_at_most UnsignedShort = omega arith
 number_at_most UnsignedByte = omega arith
 number_at_most Positive = omega arith
 
-pub rank_at_most : (t : TypeName) → rank_of t ≤ 24
+pub rank_at_most : (t : TypeName) → rank_of t ≤ 23
 rank_at_most (names.Builtin b) = number_at_most b
 rank_at_most (names.Named n) = omega arith
 rank_at_most (names.Anonymous n) = omega arith

@@ -2,3 +2,4 @@ pub mod DerivationLemmas
 pub mod EqualTypes
 pub mod Joined
 pub mod TakesLemmas
+pub mod DerivationTest

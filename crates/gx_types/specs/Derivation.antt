@@ -1,5 +1,5 @@
 -- When a type is derived from another one (XML Schema 1.0 part 1, section 2.2.1.1; XQuery 1.0, section 2.5.4).
-use Rattle.std.specs.Prelude.{◌≡◌, ℕ, zero, suc, List, [], ◌∷◌, Option, None, Some, if◌then◌else◌}
+use Rattle.std.specs.Prelude.{◌≡◌, ℕ, zero, suc, ◌+◌, Bool, false, ◌||◌, List, [], ◌∷◌, length, Option, None, Some, if◌then◌else◌}
 use Rattle.std.specs.Bool.{IsTrue}
 use Rattle.std.specs.Option.{option_map}
 use Rattle.gx_base.specs.declared.type_name.TypeName.{TypeName}
@@ -34,3 +34,17 @@ LeadsTo bases t u = (steps : ℕ) × Leads bases steps t u
 -- a type is derived from another one: a finite chain of bases, possibly of no step, leads there
 abbrev pub Derives : SchemaSet → TypeName → TypeName → Type 0
 Derives schemas t u = LeadsTo schemas.bases t u
+
+-- what holds of a base, if there is one
+abbrev pub of_base : Option TypeName → (TypeName → Bool) → Bool
+of_base None test = false
+of_base (Some base) test = test base
+
+-- a chain of at most so many bases leads from one type to another
+abbrev pub leads_within : Bases → ℕ → TypeName → TypeName → Bool
+leads_within bases zero t u = same_type_name t u
+leads_within bases (suc steps) t u = same_type_name t u || of_base (base_of bases t) (λ base. leads_within bases steps base u)
+
+-- the test for derivation: no chain has more bases than there are types, declared and built-in
+abbrev pub is_derived : SchemaSet → TypeName → TypeName → Bool
+is_derived schemas t u = leads_within schemas.bases (length schemas.bases + 23) t u

@@ -1,5 +1,5 @@
 -- What schema files declare.
-use Rattle.std.specs.Prelude.{ℕ, List}
+use Rattle.std.specs.Prelude.{ℕ, List, []}
 use Rattle.gx_base.specs.declared.name.Name.{Name}
 use Rattle.gx_base.specs.declared.type_name.TypeName.{TypeName}
 
@@ -10,3 +10,7 @@ pub record SchemaSet : Type 0 where
   pub elements : List (Name × TypeName)
   -- the target namespace of each file, empty where it has none
   pub targets : List (List ℕ)
+
+-- no file declares anything
+abbrev pub no_declarations : SchemaSet
+no_declarations = record { bases = []; elements = []; targets = [] }

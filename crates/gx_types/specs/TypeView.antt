@@ -6,7 +6,7 @@ use Rattle.gx_types.specs.SequenceType.{SequenceType, never, nothing, item, both
 abbrev pub type_of : TyNode → SequenceType
 type_of Never = never
 type_of Empty = nothing
-type_of (Item kind) = item kind
+type_of (Item kind) = item kind.value
 type_of (Seq a b) = both a.value b.value
 type_of (Alt a b) = either a.value b.value
 type_of (Optional a) = optional a.value

@@ -29,11 +29,12 @@ impl Model for Schemas {
 
 #[tactic(auto, using(crate::proofs::DerivationLemmas::no_bases_end))]
 impl Schemas {
-    ghost use Rattle.std.specs.Prelude.{◌≡◌, [], IfOk};
+    ghost use Rattle.std.specs.Prelude.{◌≡◌, IfOk};
+    ghost use Rattle.gx_types.specs.SchemaSet.{no_declarations};
 
     /// The schemas that declare nothing.
     pub fn empty(alloc: Global) -> Result<Schemas, AllocError>
-        ensures { IfOk result (λ s. s ≡ record { bases = []; elements = []; targets = [] }) }
+        ensures { IfOk result (λ s. s ≡ no_declarations) }
     {
         Ok(Schemas {
             bases: Vec::new(alloc),

@@ -1,13 +1,16 @@
 // Sequence types.
 
 ghost use Rattle.std.specs.Prelude.{◌≡◌, IfOk};
+ghost use Rattle.gx_types.specs.SequenceType.{item};
 ghost use Rattle.gx_types.specs.SameType.{same_type};
 
 use crate::item_type::ItemType;
-use std::alloc::AllocError;
+use std::alloc::{AllocError, Global};
 use std::marker::Model;
+use std::rc::Rc;
 
-/// A type of values, which contracts see as a plain tree (XQuery 1.0 and XPath 2.0 Formal Semantics, section 2.4.1).
+/// A type of values, which contracts see as a plain tree (XQuery 1.0 and XPath 2.0 Formal Semantics, section 2.4.1). Types
+/// share their parts, so that a copy takes no more than one level.
 #[cycle(type_tree)]
 #[derive(Debug, Drop)]
 pub struct Ty {
@@ -20,12 +23,12 @@ pub struct Ty {
 pub enum TyNode {
     Never,
     Empty,
-    Item(ItemType),
-    Seq(Box<Ty>, Box<Ty>),
-    Alt(Box<Ty>, Box<Ty>),
-    Optional(Box<Ty>),
-    Star(Box<Ty>),
-    Plus(Box<Ty>),
+    Item(Rc<ItemType>),
+    Seq(Rc<Ty>, Rc<Ty>),
+    Alt(Rc<Ty>, Rc<Ty>),
+    Optional(Rc<Ty>),
+    Star(Rc<Ty>),
+    Plus(Rc<Ty>),
 }
 
 impl Model for Ty {
@@ -50,12 +53,37 @@ impl Model for Ty {
 impl Clone for Ty {
     ghost is_clone = { λ t copy. copy ≡ t };
 
+    // The copy shares the parts.
     fn clone(&self) -> Result<Ty, AllocError> {
-        copy(self)
+        let node = match &self.node {
+            TyNode::Never => TyNode::Never,
+            TyNode::Empty => TyNode::Empty,
+            TyNode::Item(kind) => TyNode::Item(kind.clone()?),
+            TyNode::Seq(first, second) => {
+                let first = first.clone()?;
+                TyNode::Seq(first, second.clone()?)
+            }
+            TyNode::Alt(first, second) => {
+                let first = first.clone()?;
+                TyNode::Alt(first, second.clone()?)
+            }
+            TyNode::Optional(part) => TyNode::Optional(part.clone()?),
+            TyNode::Star(part) => TyNode::Star(part.clone()?),
+            TyNode::Plus(part) => TyNode::Plus(part.clone()?),
+        };
+        Ok(Ty { node })
     }
 }
 
 impl Ty {
+    /// The type of one item.
+    pub fn of_item(alloc: Global, kind: ItemType) -> Result<Ty, AllocError>
+        ensures { IfOk result (λ t. t ≡ item kind) }
+    {
+        let node = TyNode::Item(Rc::new(alloc, kind)?);
+        Ok(Ty { node })
+    }
+
     /// Whether two types are equal part by part, where names are by their URIs and local parts.
     pub fn same(&self, other: &Ty) -> bool
         ensures { result ≡ same_type self.now other.now }
@@ -72,39 +100,4 @@ impl Ty {
             _ => false,
         }
     }
-}
-
-fn copy(t: &Ty) -> Result<Ty, AllocError>
-    ensures { IfOk result (λ u. u ≡ t.now) }
-{
-    let node = match &t.node {
-        TyNode::Never => TyNode::Never,
-        TyNode::Empty => TyNode::Empty,
-        TyNode::Item(item) => TyNode::Item(item.clone()?),
-        TyNode::Seq(first, second) => {
-            let copied = copy(first)?;
-            let first = Box::new(*Box::allocator(first), copied)?;
-            let copied = copy(second)?;
-            TyNode::Seq(first, Box::new(*Box::allocator(second), copied)?)
-        }
-        TyNode::Alt(first, second) => {
-            let copied = copy(first)?;
-            let first = Box::new(*Box::allocator(first), copied)?;
-            let copied = copy(second)?;
-            TyNode::Alt(first, Box::new(*Box::allocator(second), copied)?)
-        }
-        TyNode::Optional(part) => {
-            let copied = copy(part)?;
-            TyNode::Optional(Box::new(*Box::allocator(part), copied)?)
-        }
-        TyNode::Star(part) => {
-            let copied = copy(part)?;
-            TyNode::Star(Box::new(*Box::allocator(part), copied)?)
-        }
-        TyNode::Plus(part) => {
-            let copied = copy(part)?;
-            TyNode::Plus(Box::new(*Box::allocator(part), copied)?)
-        }
-    };
-    Ok(Ty { node })
 }

@@ -11,10 +11,8 @@ use gx_base::type_name::{Builtin, TypeName};
 use std::alloc::Global;
 use std::test::Fail;
 
-fn atom(builtin: Builtin) -> Ty {
-    Ty {
-        node: TyNode::Item(ItemType::Atom(TypeName::Builtin(builtin))),
-    }
+fn atom(alloc: Global, builtin: Builtin) -> Result<Ty, Fail> {
+    Ok(Ty::of_item(alloc, ItemType::Atom(TypeName::Builtin(builtin)))?)
 }
 
 fn empty() -> Ty {
@@ -31,37 +29,53 @@ fn name(alloc: Global, local: &str) -> Result<Name, Fail> {
     })
 }
 
+const ONCE_OR_MORE: Occurrence = Occurrence {
+    least: 1,
+    greatest: 2,
+};
+
+const AT_MOST_ONCE: Occurrence = Occurrence {
+    least: 0,
+    greatest: 1,
+};
+
+fn integer_or_string(alloc: Global) -> Result<Ty, Fail> {
+    let integer = atom(alloc, Builtin::Integer)?;
+    Ok(alt(alloc, integer, atom(alloc, Builtin::Str)?)?)
+}
+
+fn maybe_string(alloc: Global) -> Result<Ty, Fail> {
+    Ok(alt(alloc, empty(), atom(alloc, Builtin::Str)?)?)
+}
+
+fn integer_and_strings(alloc: Global) -> Result<Ty, Fail> {
+    let integer = atom(alloc, Builtin::Integer)?;
+    let strings = times(alloc, maybe_string(alloc)?, ONCE_OR_MORE)?;
+    Ok(seq(alloc, integer, strings)?)
+}
+
 #[test]
-fn types_are_made_of_types(rt: HostRuntime) -> Result<(), Fail> {
+fn equal_members_of_a_choice_are_one(rt: HostRuntime) -> Result<(), Fail> {
     let alloc = rt.alloc();
-    let choice = alt(alloc, atom(Builtin::Integer), atom(Builtin::Str))?;
-    let again = alt(alloc, choice.clone()?, atom(Builtin::Integer))?;
+    let choice = integer_or_string(alloc)?;
+    let again = alt(alloc, choice.clone()?, atom(alloc, Builtin::Integer)?)?;
     assert!(rt; again.same(&choice));
-    let maybe = alt(alloc, empty(), atom(Builtin::Str))?;
-    assert!(rt;
-        occurrence(&maybe)
-            == Occurrence {
-                least: 0,
-                greatest: 1
-            }
-    );
-    let many = times(
-        alloc,
-        maybe,
-        Occurrence {
-            least: 1,
-            greatest: 2,
-        },
-    )?;
-    let both = seq(alloc, seq(alloc, atom(Builtin::Integer), empty())?, many)?;
-    assert!(rt;
-        occurrence(&both)
-            == Occurrence {
-                least: 1,
-                greatest: 2
-            }
-    );
-    assert!(rt; prime(alloc, &both)?.same(&choice));
+    Ok(())
+}
+
+#[test]
+fn types_have_occurrences(rt: HostRuntime) -> Result<(), Fail> {
+    let alloc = rt.alloc();
+    assert!(rt; occurrence(&maybe_string(alloc)?) == AT_MOST_ONCE);
+    assert!(rt; occurrence(&integer_and_strings(alloc)?) == ONCE_OR_MORE);
+    Ok(())
+}
+
+#[test]
+fn prime_is_the_choice_of_item_types(rt: HostRuntime) -> Result<(), Fail> {
+    let alloc = rt.alloc();
+    let prime = prime(alloc, &integer_and_strings(alloc)?)?;
+    assert!(rt; prime.same(&integer_or_string(alloc)?));
     Ok(())
 }
 

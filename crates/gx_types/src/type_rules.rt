@@ -10,6 +10,7 @@ ghost use Rattle.gx_types.specs.Prime.{with_items, prime_of};
 use crate::occurrence::Occurrence;
 use crate::sequence_type::{Ty, TyNode};
 use std::alloc::{AllocError, Global};
+use std::rc::Rc;
 
 const MOST_POSITIONS: usize = 64;
 
@@ -72,7 +73,7 @@ pub fn seq(alloc: Global, first: Ty, second: Ty) -> Result<Ty, AllocError>
 pub fn alt(alloc: Global, first: Ty, second: Ty) -> Result<Ty, AllocError>
     ensures { IfOk result (λ t. t ≡ choice_of first second) }
 {
-    limit(alloc, flat(alloc, first, second)?)
+    limit(alloc, flat(alloc, &first, &second)?)
 }
 
 /// A type as often as an occurrence says. A type of more than 64 positions becomes its prime type, as often as it occurs
@@ -117,9 +118,8 @@ fn optional(alloc: Global, t: Ty) -> Result<Ty, AllocError>
     let node = match t.node {
         TyNode::Never | TyNode::Empty => TyNode::Empty,
         TyNode::Optional(part) => TyNode::Optional(part),
-        TyNode::Star(part) => TyNode::Star(part),
-        TyNode::Plus(part) => TyNode::Star(part),
-        node => TyNode::Optional(Box::new(alloc, Ty { node })?),
+        TyNode::Plus(part) | TyNode::Star(part) => TyNode::Star(part),
+        node => TyNode::Optional(Rc::new(alloc, Ty { node })?),
     };
     Ok(Ty { node })
 }
@@ -132,7 +132,7 @@ fn star(alloc: Global, t: Ty) -> Result<Ty, AllocError>
         TyNode::Optional(part) => TyNode::Star(part),
         TyNode::Star(part) => TyNode::Star(part),
         TyNode::Plus(part) => TyNode::Star(part),
-        node => TyNode::Star(Box::new(alloc, Ty { node })?),
+        node => TyNode::Star(Rc::new(alloc, Ty { node })?),
     };
     Ok(Ty { node })
 }
@@ -146,7 +146,7 @@ fn plus(alloc: Global, t: Ty) -> Result<Ty, AllocError>
         TyNode::Optional(part) => TyNode::Star(part),
         TyNode::Star(part) => TyNode::Star(part),
         TyNode::Plus(part) => TyNode::Plus(part),
-        node => TyNode::Plus(Box::new(alloc, Ty { node })?),
+        node => TyNode::Plus(Rc::new(alloc, Ty { node })?),
     };
     Ok(Ty { node })
 }
@@ -172,8 +172,8 @@ fn follow(alloc: Global, first: Ty, second: Ty) -> Result<Ty, AllocError>
         }),
         TyNode::Empty => Ok(first),
         node => {
-            let first = Box::new(alloc, first)?;
-            let second = Box::new(alloc, Ty { node })?;
+            let first = Rc::new(alloc, first)?;
+            let second = Rc::new(alloc, Ty { node })?;
             Ok(Ty {
                 node: TyNode::Seq(first, second),
             })
@@ -182,10 +182,10 @@ fn follow(alloc: Global, first: Ty, second: Ty) -> Result<Ty, AllocError>
 }
 
 // The choice of two types, however long it is.
-fn flat(alloc: Global, first: Ty, second: Ty) -> Result<Ty, AllocError>
-    ensures { IfOk result (λ t. t ≡ flat_choice first second) }
+fn flat(alloc: Global, first: &Ty, second: &Ty) -> Result<Ty, AllocError>
+    ensures { IfOk result (λ t. t ≡ flat_choice first.now second.now) }
 {
-    let may_be_empty = holds_empty(&first) || holds_empty(&second);
+    let may_be_empty = holds_empty(first) || holds_empty(second);
     let start = Ty {
         node: TyNode::Never,
     };
@@ -209,16 +209,16 @@ fn holds_empty(t: &Ty) -> bool
 }
 
 // A choice with the members of a type behind its own.
-fn add_members(alloc: Global, choice: Ty, t: Ty) -> Result<Ty, AllocError>
-    ensures { IfOk result (λ u. u ≡ with_members choice t) }
+fn add_members(alloc: Global, choice: Ty, t: &Ty) -> Result<Ty, AllocError>
+    ensures { IfOk result (λ u. u ≡ with_members choice t.now) }
 {
-    match t.node {
+    match &t.node {
         TyNode::Never | TyNode::Empty => Ok(choice),
         TyNode::Alt(first, second) => {
-            let choice = add_members(alloc, choice, Box::into_inner(first))?;
-            add_members(alloc, choice, Box::into_inner(second))
+            let choice = add_members(alloc, choice, first)?;
+            add_members(alloc, choice, second)
         }
-        node => add_member(alloc, choice, Ty { node }),
+        _ => add_member(alloc, choice, t.clone()?),
     }
 }
 
@@ -232,8 +232,8 @@ fn add_member(alloc: Global, choice: Ty, member: Ty) -> Result<Ty, AllocError>
     match choice.node {
         TyNode::Never => Ok(member),
         node => {
-            let choice = Box::new(alloc, Ty { node })?;
-            let member = Box::new(alloc, member)?;
+            let choice = Rc::new(alloc, Ty { node })?;
+            let member = Rc::new(alloc, member)?;
             Ok(Ty {
                 node: TyNode::Alt(choice, member),
             })

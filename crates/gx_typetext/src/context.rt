@@ -8,6 +8,7 @@ use gx_base::type_name::{Builtin, TypeName};
 use gx_types::item_type::ItemType;
 use gx_types::sequence_type::{Ty, TyNode};
 use std::alloc::{AllocError, Global};
+use std::rc::Rc;
 
 // Where a type stands: alone, as a part of a sequence, as a member of a choice, or under an indicator.
 #[derive(Clone, Copy)]
@@ -87,9 +88,7 @@ fn whole_name(alloc: Global, choice: &Ty) -> Result<ChoiceName, AllocError>
 fn node_choice(alloc: Global) -> Result<Ty, AllocError>
     ensures { IfOk result (λ t. t ≡ node_type) }
 {
-    let document = Ty {
-        node: TyNode::Item(ItemType::Document(None)),
-    };
+    let document = Ty::of_item(alloc, ItemType::Document(None))?;
     let element = ItemType::Element {
         name: None,
         kind: TypeName::Builtin(Builtin::AnyType),
@@ -107,11 +106,8 @@ fn node_choice(alloc: Global) -> Result<Ty, AllocError>
 fn either(alloc: Global, first: Ty, second: ItemType) -> Result<Ty, AllocError>
     ensures { IfOk result (λ t. t ≡ choice_of_two first (item second)) }
 {
-    let first = Box::new(alloc, first)?;
-    let second = Ty {
-        node: TyNode::Item(second),
-    };
-    let second = Box::new(alloc, second)?;
+    let first = Rc::new(alloc, first)?;
+    let second = Rc::new(alloc, Ty::of_item(alloc, second)?)?;
     Ok(Ty {
         node: TyNode::Alt(first, second),
     })

@@ -4,19 +4,17 @@ use gx_base::text::Text;
 use gx_base::type_name::{Builtin, TypeName};
 use gx_types::item_type::ItemType;
 use gx_types::occurrence::Occurrence;
-use gx_types::sequence_type::{Ty, TyNode};
+use gx_types::sequence_type::Ty;
 use gx_types::type_rules::{alt, seq, times};
 use std::alloc::Global;
 use std::test::Fail;
 
-fn item(item: ItemType) -> Ty {
-    Ty {
-        node: TyNode::Item(item),
-    }
+fn item(alloc: Global, item: ItemType) -> Result<Ty, Fail> {
+    Ok(Ty::of_item(alloc, item)?)
 }
 
-fn atom(builtin: Builtin) -> Ty {
-    item(ItemType::Atom(TypeName::Builtin(builtin)))
+fn atom(alloc: Global, builtin: Builtin) -> Result<Ty, Fail> {
+    item(alloc, ItemType::Atom(TypeName::Builtin(builtin)))
 }
 
 fn element(alloc: Global, uri: &str, local: &str) -> Result<Ty, Fail> {
@@ -25,16 +23,19 @@ fn element(alloc: Global, uri: &str, local: &str) -> Result<Ty, Fail> {
         prefix: Text::new(alloc),
         local: Text::from_str(alloc, local)?,
     };
-    Ok(item(ItemType::Element {
-        name: Some(name),
-        kind: TypeName::Anonymous(12),
-    }))
+    let kind = TypeName::Anonymous(12);
+    let name = Some(name);
+    item(alloc, ItemType::Element { name, kind })
 }
 
 #[test]
 fn types_are_printed(rt: HostRuntime) -> Result<(), Fail> {
     let alloc = rt.alloc();
-    let choice = alt(alloc, atom(Builtin::Integer), element(alloc, "u", "q")?)?;
+    let choice = alt(
+        alloc,
+        atom(alloc, Builtin::Integer)?,
+        element(alloc, "u", "q")?,
+    )?;
     let first = times(
         alloc,
         choice,
@@ -46,7 +47,11 @@ fn types_are_printed(rt: HostRuntime) -> Result<(), Fail> {
     let both = seq(
         alloc,
         first,
-        alt(alloc, atom(Builtin::Str), item(ItemType::Text))?,
+        alt(
+            alloc,
+            atom(alloc, Builtin::Str)?,
+            item(alloc, ItemType::Text)?,
+        )?,
     )?;
     let text = print_type(alloc, &both)?;
     assert_eq!(rt;
@@ -59,16 +64,16 @@ fn types_are_printed(rt: HostRuntime) -> Result<(), Fail> {
 #[test]
 fn nodes_are_printed_by_name(rt: HostRuntime) -> Result<(), Fail> {
     let alloc = rt.alloc();
-    let element = item(ItemType::Element {
-        name: None,
-        kind: TypeName::Builtin(Builtin::AnyType),
-    });
-    let attribute = item(ItemType::Attribute {
-        name: None,
-        kind: TypeName::Builtin(Builtin::AnySimple),
-    });
-    let two = alt(alloc, item(ItemType::Document(None)), element)?;
-    let nodes = alt(alloc, alt(alloc, two, attribute)?, item(ItemType::Text))?;
+    let kind = TypeName::Builtin(Builtin::AnyType);
+    let element = item(alloc, ItemType::Element { name: None, kind })?;
+    let kind = TypeName::Builtin(Builtin::AnySimple);
+    let attribute = item(alloc, ItemType::Attribute { name: None, kind })?;
+    let two = alt(alloc, item(alloc, ItemType::Document(None))?, element)?;
+    let nodes = alt(
+        alloc,
+        alt(alloc, two, attribute)?,
+        item(alloc, ItemType::Text)?,
+    )?;
     let many = times(
         alloc,
         nodes,
