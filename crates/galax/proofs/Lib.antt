@@ -1,4 +1,5 @@
 pub mod TextLemmas
-pub mod RunLemmas
+pub mod QueryLemmas
 pub mod AnswerLemmas
 pub mod PromiseLemmas
+pub mod NumberedVariables

@@ -1,9 +1,11 @@
 -- What the program answers to its words, over the files that its library holds.
 use Rattle.std.specs.Prelude.{◌≡◌, ℕ, nat_le, List, [], length, Option, None, Some, MatchBool}
 use Rattle.gx_base.specs.declared.code.Code.TheVariants.{GLXS0001, XPST0003}
-use Rattle.gx_core.specs.Expression.{Expression}
+use Rattle.gx_types.specs.SchemaSet.{no_declarations}
+use Rattle.gx_core.specs.Expression.{CoreExpression, annotation_of}
 use Rattle.gx_core.specs.Meaning.{Outcome, gives, raises, wrong, meaning}
-use Rattle.gx_core.specs.Judgement.{Judgement, typed, rejected, judged}
+use Rattle.gx_core.specs.Soundness.{TypedExpression}
+use Rattle.gx_static.specs.Judgement.{Judgement, typed, rejected, judged}
 use Rattle.gx_io.specs.Load.{file_of}
 use Rattle.galax.specs.declared.status.Status.{Status}
 use Rattle.galax.specs.declared.status.Status.TheVariants as status
@@ -11,8 +13,9 @@ use Rattle.gx_parse.specs.SyntaxTree.{SyntaxTree}
 use Rattle.galax.specs.Query.{HasTree}
 use Rattle.galax.specs.Normalisation.{Normalised, made, unknown, normalised}
 use Rattle.galax.specs.Serialisation.{serialised}
-use Rattle.galax.specs.Command.{file_to_run}
-use Rattle.galax.specs.FaultLines.{usage_line, read_fault_line, code_line}
+use Rattle.galax.specs.TypeBytes.{type_bytes}
+use Rattle.galax.specs.Command.{Command, run_file, check_file, query_file, command_of}
+use Rattle.galax.specs.FaultLines.{usage_line, read_fault_line, code_line, placed_line}
 
 -- bytes for standard output, or a refusal with its fault line
 pub data Answer : Type 0 where
@@ -37,35 +40,46 @@ AnswersOutcome (gives items) answer = answer ≡ writes (serialised items)
 AnswersOutcome (raises code) answer = answer ≡ refuses status.Dynamic (code_line code)
 AnswersOutcome wrong answer = ⊥
 
+-- what a command does with a query that has a type: a run evaluates it, and a check writes its type
+abbrev pub AnswersTyped : Command → CoreExpression → TypedExpression → Answer → Type 0
+AnswersTyped (run_file name) e t answer = AnswersOutcome (meaning e []) answer
+AnswersTyped (check_file name) e t answer = answer ≡ writes (type_bytes (annotation_of t))
+
 -- typing
-abbrev pub AnswersJudged : Expression → Judgement → Answer → Type 0
-AnswersJudged e (rejected place code) answer = answer ≡ refuses status.Query (code_line code)
-AnswersJudged e (typed t) answer = AnswersOutcome (meaning e []) answer
+abbrev pub AnswersJudged : Command → CoreExpression → Judgement → Answer → Type 0
+AnswersJudged command e (rejected place code) answer = answer ≡ refuses status.Query (placed_line code place)
+AnswersJudged command e (typed t) answer = AnswersTyped command e t answer
 
 -- names
-abbrev pub AnswersNamed : Normalised → Answer → Type 0
-AnswersNamed (unknown place code) answer = answer ≡ refuses status.Query (code_line code)
-AnswersNamed (made e free) answer = AnswersJudged e (judged e []) answer
+abbrev pub AnswersNamed : Command → Normalised → Answer → Type 0
+AnswersNamed command (unknown place code) answer = answer ≡ refuses status.Query (code_line code)
+AnswersNamed command (made e free) answer = AnswersJudged command e (judged no_declarations e []) answer
 
 -- parsing
-abbrev pub AnswersTree : Option SyntaxTree → Answer → Type 0
-AnswersTree None answer = answer ≡ refuses status.Query (code_line XPST0003)
-AnswersTree (Some tree) answer = AnswersNamed (normalised tree) answer
+abbrev pub AnswersTree : Command → Option SyntaxTree → Answer → Type 0
+AnswersTree command None answer = answer ≡ refuses status.Query (code_line XPST0003)
+AnswersTree command (Some tree) answer = AnswersNamed command (normalised tree) answer
 
-abbrev pub AnswersBytes : List ℕ → Answer → Type 0
-AnswersBytes bytes answer = (tree : Option SyntaxTree) × HasTree bytes tree × AnswersTree tree answer
+abbrev pub AnswersBytes : Command → List ℕ → Answer → Type 0
+AnswersBytes command bytes answer = (tree : Option SyntaxTree) × HasTree bytes tree × AnswersTree command tree answer
 
 -- loading, within the limit on the bytes of a file
-abbrev pub AnswersFile : List ℕ → Option (List ℕ) → Answer → Type 0
-AnswersFile name None answer = answer ≡ refuses status.ReadFault (read_fault_line name)
-AnswersFile name (Some bytes) answer =
-    MatchBool (nat_le (length bytes) 16777216) (AnswersBytes bytes answer) (answer ≡ refuses status.Query (code_line GLXS0001))
+abbrev pub AnswersFile : Command → Option (List ℕ) → Answer → Type 0
+AnswersFile command None answer = answer ≡ refuses status.ReadFault (read_fault_line (query_file command))
+AnswersFile command (Some bytes) answer =
+    MatchBool (nat_le (length bytes) 16777216) (AnswersBytes command bytes answer) (answer ≡ refuses status.Query (code_line GLXS0001))
 
 -- the words
-abbrev pub AnswersCommand : List (List ℕ × List ℕ) → Option (List ℕ) → Answer → Type 0
+abbrev pub AnswersCommand : List (List ℕ × List ℕ) → Option Command → Answer → Type 0
 AnswersCommand files None answer = answer ≡ refuses status.Usage usage_line
-AnswersCommand files (Some name) answer = AnswersFile name (file_of files name) answer
+AnswersCommand files (Some command) answer = AnswersFile command (file_of files (query_file command)) answer
 
 -- each step of the work is done only where no step before it refuses
 abbrev pub Answers : List (List ℕ) → List (List ℕ × List ℕ) → Answer → Type 0
-Answers words files answer = AnswersCommand files (file_to_run words) answer
+Answers words files answer = AnswersCommand files (command_of words) answer
+
+-- what a check of a file refuses, a run of it refuses with the same line
+abbrev pub ChecksRefuseForRuns : Type 0
+ChecksRefuseForRuns =
+    (files : List (List ℕ × List ℕ)) (name : List ℕ) (status : Status) (line : List ℕ)
+    → AnswersCommand files (Some (check_file name)) (refuses status line) → AnswersCommand files (Some (run_file name)) (refuses status line)

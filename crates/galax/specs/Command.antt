@@ -1,5 +1,15 @@
 -- Which words name a command.
-use Rattle.std.specs.Prelude.{String, string_bytes, map, ℕ, ◌==◌, nat_le, not, Bool, false, ◌&&◌, List, [], ◌∷◌, length, Option, None, Some, codes, bytes_eq, if◌then◌else◌}
+use Rattle.std.specs.Prelude.{◌≡◌, String, string_bytes, map, ℕ, ◌==◌, nat_le, not, Bool, false, ◌&&◌, List, [], ◌∷◌, length, Option, None, Some, codes, bytes_eq, if◌then◌else◌}
+
+-- what the program is asked to do: to run the query in a file, or to check it
+pub data Command : Type 0 where
+  run_file : (name : List ℕ) → Command
+  check_file : (name : List ℕ) → Command
+
+-- the file of the query
+abbrev pub query_file : Command → List ℕ
+query_file (run_file name) = name
+query_file (check_file name) = name
 
 -- the bytes of each word
 abbrev pub bytes_of : {Z : Type 0} → List (String Z) → List (List ℕ)
@@ -10,7 +20,16 @@ abbrev pub is_operand : List ℕ → Bool
 is_operand [] = false
 is_operand (first ∷ others) = not (first == 45) && nat_le (length (first ∷ others)) 16777216
 
--- the file of the command `run FILE`, if the words name it
-abbrev pub file_to_run : List (List ℕ) → Option (List ℕ)
-file_to_run (command ∷ file ∷ []) = if bytes_eq command (codes "run") && is_operand file then Some file else None
-file_to_run _ = None
+-- the command of that name over a file
+abbrev pub command_named : List ℕ → List ℕ → Option Command
+command_named name file =
+    if bytes_eq name (codes "run") then Some (run_file file) else (if bytes_eq name (codes "check") then Some (check_file file) else None)
+
+-- the commands are `run FILE` and `check FILE`
+abbrev pub command_of : List (List ℕ) → Option Command
+command_of (name ∷ file ∷ []) = if is_operand file then command_named name file else None
+command_of _ = None
+
+-- the words are `run FILE`
+abbrev pub AskToRun : List (List ℕ) → Type 0
+AskToRun words = (name : List ℕ) × (command_of words ≡ Some (run_file name))

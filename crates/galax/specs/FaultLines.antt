@@ -1,6 +1,7 @@
 -- The lines that tell of refusals.
-use Rattle.std.specs.Prelude.{ℕ, List, [], ◌∷◌, ◌++◌, codes}
+use Rattle.std.specs.Prelude.{◌≡◌, ℕ, List, [], ◌∷◌, ◌++◌, codes, decimal, ◌⊎◌}
 use Rattle.gx_base.specs.declared.code.Code.{Code}
+use Rattle.gx_base.specs.declared.place.Place.{Place}
 use Rattle.gx_base.specs.Code.{spelling}
 
 -- ended by a line feed
@@ -13,8 +14,17 @@ usage_line = line (codes "Usage: words")
 abbrev pub read_fault_line : List ℕ → List ℕ
 read_fault_line file = line (codes "ReadFault " ++ file)
 
+-- a code alone
 abbrev pub code_line : Code → List ℕ
 code_line code = line (spelling code)
+
+-- a code, and the line and the column that it is about
+abbrev pub placed_line : Code → Place → List ℕ
+placed_line code place = line (spelling code ++ codes " at " ++ decimal place.line ++ codes ":" ++ decimal place.column)
+
+-- the line of a refused query: a code alone, or with its place
+abbrev pub IsQueryLine : List ℕ → Type 0
+IsQueryLine told = (code : Code) × ((told ≡ code_line code) ⊎ ((place : Place) × (told ≡ placed_line code place)))
 
 abbrev pub write_fault_line : List ℕ
 write_fault_line = line (codes "WriteFault")

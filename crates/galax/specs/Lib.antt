@@ -2,7 +2,9 @@ pub mod Query
 pub mod Normalisation
 pub mod NameRefusal
 pub mod Serialisation
+pub mod TypeBytes
 pub mod Command
+pub mod CommandView
 pub mod FaultLines
 pub mod Status
 pub mod Answer

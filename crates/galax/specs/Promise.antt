@@ -5,9 +5,9 @@ use Rattle.gx_io.specs.Load.{file_of}
 use Rattle.galax.specs.declared.status.Status.{Status}
 use Rattle.galax.specs.declared.status.Status.TheVariants.{Done, Usage, Query, Schema, Document, Dynamic, ReadFault, WriteFault, Memory}
 use Rattle.galax.specs.Answer.{Answer, Answers, status_of, output_of, line_of}
-use Rattle.galax.specs.Command.{file_to_run}
+use Rattle.galax.specs.Command.{Command, query_file, command_of}
 use Rattle.galax.specs.Ending.{Change, Grew, GrewByPrefix, IsUnchanged, Failed}
-use Rattle.galax.specs.FaultLines.{usage_line, read_fault_line, code_line, write_fault_line}
+use Rattle.galax.specs.FaultLines.{usage_line, read_fault_line, code_line, IsQueryLine, write_fault_line}
 
 -- neither a fault outside nor want of memory ended the run
 abbrev pub IsCertain : Status → Type 0
@@ -49,9 +49,9 @@ OutputAfter ReadFault out = IsUnchanged out
 abbrev pub LineAfter : List (List ℕ) → Status → Change → Type 0
 LineAfter words Done err = IsUnchanged err
 LineAfter words Usage err = Grew err usage_line
-LineAfter words Query err = (code : Code) × Grew err (code_line code)
+LineAfter words Query err = (told : List ℕ) × IsQueryLine told × Grew err told
 LineAfter words Dynamic err = (code : Code) × Grew err (code_line code)
-LineAfter words ReadFault err = (name : List ℕ) × (file_to_run words ≡ Some name) × Grew err (read_fault_line name)
+LineAfter words ReadFault err = (command : Command) × (command_of words ≡ Some command) × Grew err (read_fault_line (query_file command))
 LineAfter words WriteFault err = Grew err write_fault_line ⊎ Failed err
 LineAfter words Memory err = Unit {0}
 LineAfter words Schema err = ⊥
@@ -59,7 +59,8 @@ LineAfter words Document err = ⊥
 
 -- the one line of which a part may stand after a write fault or want of memory
 abbrev pub IsLineOf : List (List ℕ) → Answer → List ℕ → Type 0
-IsLineOf words answer line = (line ≡ write_fault_line) ⊎ ((line ≡ line_of answer) ⊎ ((name : List ℕ) × (file_to_run words ≡ Some name) × (line ≡ read_fault_line name)))
+IsLineOf words answer line =
+    (line ≡ write_fault_line) ⊎ ((line ≡ line_of answer) ⊎ ((command : Command) × (command_of words ≡ Some command) × (line ≡ read_fault_line (query_file command))))
 
 -- a part of the output and a part of one line
 abbrev pub IsPart : List (List ℕ) → Answer → Change → Change → Type 0
@@ -73,8 +74,8 @@ pub record IsFaultless (Rose : Type 0) (out err : Change) : Type 0 where
 
 -- the file of the query is longer than the limit
 pub record IsTooLong (words : List (List ℕ)) (files : List (List ℕ × List ℕ)) : Type 0 where
-  pub name : List ℕ
+  pub command : Command
   pub bytes : List ℕ
-  pub command : file_to_run words ≡ Some name
-  pub held : file_of files name ≡ Some bytes
+  pub asked : command_of words ≡ Some command
+  pub held : file_of files (query_file command) ≡ Some bytes
   pub long : 16777216 < length bytes

@@ -1,8 +1,11 @@
 -- Which texts are queries of this language, and which bytes are those of one.
-use Rattle.std.specs.Prelude.{◌≡◌, ℕ, List, [], ◌∷◌, Bool, true, false, ◌&&◌, ◌||◌, ◌==◌, Option, Some, None}
+use Rattle.std.specs.Prelude.{◌≡◌, ℕ, ◌≤◌, List, [], ◌∷◌, length, Bool, true, false, ◌&&◌, ◌||◌, ◌==◌, Option, Some, None}
 use Rattle.std.specs.Str.{encode_utf8_all, all_scalars}
+use Rattle.gx_core.specs.Expression.{CoreExpression}
+use Rattle.gx_io.specs.Load.{file_of}
 use Rattle.gx_parse.specs.Query.{IsQuery}
 use Rattle.gx_parse.specs.SyntaxTree.{SyntaxTree}
+use Rattle.galax.specs.Normalisation.{made, normalised}
 
 -- a `:` stands behind a `(`, at the front where a `(` stands before the text
 abbrev pub has_colon_behind : Bool → List ℕ → Bool
@@ -27,3 +30,19 @@ pub record IsText (bytes text : List ℕ) : Type 0 where
 abbrev pub HasTree : List ℕ → Option SyntaxTree → Type 0
 HasTree bytes (Some tree) = (text : List ℕ) × IsText bytes text × IsPlainQuery text tree
 HasTree bytes None = (text : List ℕ) (tree : SyntaxTree) → IsText bytes text → IsPlainQuery text tree → ⊥
+
+-- the bytes are those of a query with this Core
+pub record IsQueryOf (bytes : List ℕ) (core : CoreExpression) : Type 0 where
+  pub text : List ℕ
+  pub tree : SyntaxTree
+  pub free : ℕ
+  pub decoded : IsText bytes text
+  pub parsed : IsPlainQuery text tree
+  pub named : normalised tree ≡ made core free
+
+-- the file of that name holds a query with this Core
+pub record HoldsQuery (files : List (List ℕ × List ℕ)) (name : List ℕ) (core : CoreExpression) : Type 0 where
+  pub bytes : List ℕ
+  pub held : file_of files name ≡ Some bytes
+  pub within : length bytes ≤ 16777216
+  pub query : IsQueryOf bytes core

@@ -1,23 +1,32 @@
 -- What a reply says of the answer.
 use Rattle.std.specs.Prelude.{◌≡◌, ℕ, List, None, Some}
 use Rattle.std.specs.String.{string_bytes}
+use Rattle.gx_base.specs.declared.code.Code.{Code}
 use Rattle.galax.specs.declared.status.Status.{Status}
 use Rattle.galax.specs.declared.status.Status.TheVariants as status
 use Rattle.galax.specs.declared.reply.Reply.{Reply}
 use Rattle.galax.specs.declared.reply.Reply.TheVariants.{Output, Fault, Starved}
-use Rattle.galax.specs.declared.run.Refusal.{Refusal}
-use Rattle.galax.specs.declared.run.Refusal.TheVariants as refusal
+use Rattle.galax.specs.declared.refusal.Refusal.{Refusal}
+use Rattle.galax.specs.declared.refusal.Refusal.TheVariants as refusal
 use Rattle.galax.specs.Answer.{Answer, writes, refuses}
-use Rattle.galax.specs.Command.{file_to_run}
-use Rattle.galax.specs.FaultLines.{usage_line, read_fault_line, code_line}
-use Rattle.gx_base.specs.declared.code.Code.{Code}
+use Rattle.galax.specs.Command.{Command, query_file, command_of, AskToRun}
+use Rattle.galax.specs.FaultLines.{usage_line, read_fault_line, code_line, placed_line, IsQueryLine}
 
 -- a refusal of the query or a dynamic error is the answer; a read fault and want of memory say nothing of it
 abbrev pub RefusesSo : Refusal → (Answer → Type 0) → Type 0
 RefusesSo (refusal.Query code) Answered = Answered (refuses status.Query (code_line code))
+RefusesSo (refusal.NoType place code) Answered = Answered (refuses status.Query (placed_line code place))
 RefusesSo (refusal.Dynamic code) Answered = Answered (refuses status.Dynamic (code_line code))
 RefusesSo refusal.ReadFault Answered = Unit {0}
 RefusesSo refusal.Memory Answered = Unit {0}
+
+-- why a refusal comes: a read fault where a count of faults rose, and a dynamic error where a query is run
+abbrev pub HasCause : (Rose Runs : Type 0) → Refusal → Type 0
+HasCause Rose Runs refusal.ReadFault = Rose
+HasCause Rose Runs (refusal.Dynamic code) = Runs
+HasCause Rose Runs (refusal.Query code) = Unit {0}
+HasCause Rose Runs (refusal.NoType place code) = Unit {0}
+HasCause Rose Runs refusal.Memory = Unit {0}
 
 -- likewise of a reply
 abbrev pub RepliesSo : Reply → (Answer → Type 0) → Type 0
@@ -28,10 +37,10 @@ RepliesSo Starved Answered = Unit {0}
 
 -- the line of a reply that refuses, and why it can be given: only the words make it Usage, and only they can
 abbrev pub HasLine : List (List ℕ) → Type 0 → Status → List ℕ → Type 0
-HasLine words Rose status.Usage line = (file_to_run words ≡ None) × (line ≡ usage_line)
-HasLine words Rose status.Query line = (code : Code) × (line ≡ code_line code)
-HasLine words Rose status.Dynamic line = (code : Code) × (line ≡ code_line code)
-HasLine words Rose status.ReadFault line = (name : List ℕ) × (file_to_run words ≡ Some name) × (line ≡ read_fault_line name) × Rose
+HasLine words Rose status.Usage line = (command_of words ≡ None) × (line ≡ usage_line)
+HasLine words Rose status.Query line = IsQueryLine line
+HasLine words Rose status.Dynamic line = AskToRun words × ((code : Code) × (line ≡ code_line code))
+HasLine words Rose status.ReadFault line = (command : Command) × (command_of words ≡ Some command) × (line ≡ read_fault_line (query_file command)) × Rose
 HasLine words Rose status.Done line = ⊥
 HasLine words Rose status.Schema line = ⊥
 HasLine words Rose status.Document line = ⊥
@@ -39,7 +48,7 @@ HasLine words Rose status.WriteFault line = ⊥
 HasLine words Rose status.Memory line = ⊥
 
 abbrev pub IsWellFormed : List (List ℕ) → Type 0 → Reply → Type 0
-IsWellFormed words Rose (Output text) = (name : List ℕ) × (file_to_run words ≡ Some name)
+IsWellFormed words Rose (Output text) = (command : Command) × (command_of words ≡ Some command)
 IsWellFormed words Rose (Fault status line) = HasLine words Rose status (string_bytes line)
 IsWellFormed words Rose Starved = Unit {0}
 

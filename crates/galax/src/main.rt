@@ -5,9 +5,11 @@ mod command;
 mod laws;
 mod names;
 mod normalise;
+mod output;
 mod processor;
+mod query;
+mod refusal;
 mod reply;
-mod run;
 mod serialise;
 mod status;
 #[cfg(test)]

@@ -1,11 +1,12 @@
 // From syntax trees to Core.
 
 ghost use Rattle.std.specs.Prelude.{◌≡◌, ℕ, ◌+◌, ◌<◌, ◌≤◌, ◌^◌, [], IfOk, IfErr, OnOk};
-ghost use Rattle.galax.specs.Normalisation.{made, core_of, normalised, variable_at, number_of, outer_of, within, around};
+ghost use Rattle.galax.specs.Normalisation.{made, core_of, normalised, variable_at, number_of, within, around};
 ghost use Rattle.galax.specs.NameRefusal.{RefusesName};
 ghost use Rattle.gx_parse.specs.SyntaxTree.{nodes};
-ghost use Rattle.gx_core.specs.Expression.{At, data_of, binary, let_in, sequence as sequence_form};
+ghost use Rattle.gx_core.specs.Expression.{core_at, data_of, binary, let_in, sequence as sequence_form};
 ghost use Rattle.gx_core.specs.ExpressionView.{form_of};
+ghost use Rattle.gx_core.specs.Invariant.{HasVariablesInOrder};
 ghost use Rattle.gx_core.specs.declared.expression.BinaryOp.TheVariants as operators;
 
 use crate::names::Names;
@@ -58,6 +59,7 @@ pub fn normalise(alloc: Global, syntax: &Syntax) -> Result<Core, NameRefusal>
     requires { nodes syntax.now < 2 ^ 31 }
     ensures core { IfOk result (λ core. (free : ℕ) × (normalised syntax.now ≡ made core.body free)) }
     ensures refused { IfErr result (λ e. RefusesName e (normalised syntax.now)) }
+    ensures variables { IfOk result (λ core. HasVariablesInOrder core.body) }
 {
     let mut names = Names::new(alloc);
     let normalised = expression(alloc, syntax, &mut names, 1)?;
@@ -107,7 +109,7 @@ fn expression<'a>(
 }
 
 fn leaf(place: Place, form: CoreForm, free: u32) -> Normalised
-    ensures expression { result.expression ≡ At place place (form_of form) }
+    ensures expression { result.expression ≡ core_at place place (form_of form) }
     ensures free { result.free ≡ free }
 {
     Normalised {
@@ -170,7 +172,7 @@ fn sum(
     left: CoreExpr,
     right: Normalised,
 ) -> Result<Normalised, AllocFailed<CoreExpr>>
-    ensures expression { IfOk result (λ n. n.expression ≡ At place place
+    ensures expression { IfOk result (λ n. n.expression ≡ core_at place place
         (binary operators.Add (around left (data_of left)) (around right.expression (data_of right.expression)))) }
     ensures free { IfOk result (λ n. n.free ≡ right.free) }
 {
@@ -198,7 +200,7 @@ fn let_expression(
     bound: Normalised,
     body: Normalised,
 ) -> Result<Normalised, AllocFailed<CoreExpr>>
-    ensures expression { IfOk result (λ n. n.expression ≡ At head.now.place head.now.place
+    ensures expression { IfOk result (λ n. n.expression ≡ core_at head.now.place head.now.place
         (let_in (record { variable = bound.free; place = head.now.variable }) bound.expression body.expression)) }
     ensures free { IfOk result (λ n. n.free ≡ body.free) }
 {

@@ -54,18 +54,18 @@ const QUERIES: [(&str, Status, &str, &str); 18] = [
         "2",
         "",
     ),
-    ("(1, 2) + 1", Status::Query, "", "XPTY0004\n"),
+    ("(1, 2) + 1", Status::Query, "", "XPTY0004 at 1:8\n"),
     (
         "((1,1,1,1,1,1,1,1,1,1,1,1,1,1,1,1,1,1,1,1,1,1,1,1,1,1,1,1,1,1,1,1,1), (1,1,1,1,1,1,1,1,1,1,1,1,1,1,1,1,1,1,1,1,1,1,1,1,1,1,1,1,1,1,1,1,1)) + 1",
         Status::Query,
         "",
-        "XPTY0004\n",
+        "XPTY0004 at 1:140\n",
     ),
     (
         "1 + (let $x := (1, 2) return $x)",
         Status::Query,
         "",
-        "XPTY0004\n",
+        "XPTY0004 at 1:3\n",
     ),
     ("$y", Status::Query, "", "XPST0008\n"),
     (
@@ -109,14 +109,61 @@ fn queries_have_their_answers(rt: HostRuntime) -> Result<(), Fail> {
     Ok(())
 }
 
+// The types and the places are worked out by hand from the static rules.
+const CHECKS: [(&str, Status, &str, &str); 11] = [
+    (
+        "let $x := 20 return ($x + 1, $x)",
+        Status::Done,
+        "xs:integer, xs:integer\n",
+        "",
+    ),
+    ("()", Status::Done, "empty-sequence()\n", ""),
+    ("() + 1", Status::Done, "empty-sequence()\n", ""),
+    (
+        "170141183460469231731687303715884105727 + 1",
+        Status::Done,
+        "xs:integer\n",
+        "",
+    ),
+    ("(1, 2) + 1", Status::Query, "", "XPTY0004 at 1:8\n"),
+    ("1 +\n(1,\n2) + 3", Status::Query, "", "XPTY0004 at 1:3\n"),
+    ("1,\n(1,\n2) + 3", Status::Query, "", "XPTY0004 at 3:4\n"),
+    (
+        "let $x := (1, 2) return\r\n  1 + $x",
+        Status::Query,
+        "",
+        "XPTY0004 at 2:5\n",
+    ),
+    ("1, $y", Status::Query, "", "XPST0008\n"),
+    ("1 +", Status::Query, "", "XPST0003\n"),
+    (
+        "((1,1,1,1,1,1,1,1,1,1,1,1,1,1,1,1,1,1,1,1,1,1,1,1,1,1,1,1,1,1,1,1,1), (1,1,1,1,1,1,1,1,1,1,1,1,1,1,1,1,1,1,1,1,1,1,1,1,1,1,1,1,1,1,1,1,1))",
+        Status::Done,
+        "xs:integer+\n",
+        "",
+    ),
+];
+
+#[test]
+fn checks_have_their_answers(rt: HostRuntime) -> Result<(), Fail> {
+    let alloc = rt.alloc();
+    for (query, status, out, err) in CHECKS {
+        let answer = answer_to(alloc, &["check", "q.xq"], holding(alloc, query.as_bytes())?)?;
+        assert!(rt; answer.is(status, out, err), "{query}");
+    }
+    Ok(())
+}
+
 #[test]
 fn other_words_are_usage(rt: HostRuntime) -> Result<(), Fail> {
     let alloc = rt.alloc();
-    let lists: [&[&str]; 7] = [
+    let lists: [&[&str]; 9] = [
         &[],
         &["run"],
         &["Run", "q.xq"],
-        &["check", "q.xq"],
+        &["check"],
+        &["checks", "q.xq"],
+        &["check", ""],
         &["run", ""],
         &["run", "-q"],
         &["run", "q.xq", "d=p.xml"],

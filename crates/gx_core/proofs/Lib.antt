@@ -1,2 +1,1 @@
-pub mod TakesLemmas
-pub mod SoundnessLemmas
+pub mod PlainMeaning

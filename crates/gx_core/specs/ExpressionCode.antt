@@ -3,10 +3,12 @@ use Rattle.std.specs.Prelude.{◌≡◌, zero, suc, ℤ, pos, negsuc, refl}
 use Rattle.std.proofs.Common.{sym, ◌∙◌, ap}
 use base.Stored.{Gv, gnil, gnum, gcons, Coded}
 use Rattle.gx_base.specs.declared.place.Place.{Place}
+use Rattle.gx_types.specs.SequenceType.{SequenceType}
+use Rattle.gx_types.specs.TypeCode.{type_code}
 use Rattle.gx_core.specs.declared.expression.Binder.{Binder}
 use Rattle.gx_core.specs.declared.expression.BinaryOp.{BinaryOp}
 use Rattle.gx_core.specs.declared.expression.BinaryOp.TheVariants.{Add}
-use Rattle.gx_core.specs.Expression.{Expression, At, Form, literal, variable, empty, sequence, let_in, data_of, binary}
+use Rattle.gx_core.specs.Expression.{Expression, At, Form, literal, variable, empty, sequence, let_in, data_of, binary, CoreExpression}
 
 abbrev pub store_place : Place → Gv
 store_place p = gcons (gnum p.line) (gnum p.column)
@@ -15,12 +17,18 @@ abbrev pub place_back : Gv → Place
 place_back (gcons (gnum l) (gnum c)) = record { line = l; column = c }
 place_back _ = record { line = 0; column = 0 }
 
+pub place_once : (p q : Place) → store_place p ≡ store_place q → p ≡ q
+place_once p q e = ap place_back e
+
 abbrev pub store_binder : Binder → Gv
 store_binder b = gcons (gnum b.variable) (store_place b.place)
 
 abbrev pub binder_back : Gv → Binder
 binder_back (gcons (gnum v) p) = record { variable = v; place = place_back p }
 binder_back _ = record { variable = 0; place = place_back gnil }
+
+pub binder_once : (b c : Binder) → store_binder b ≡ store_binder c → b ≡ c
+binder_once b c e = ap binder_back e
 
 abbrev pub store_integer : ℤ → Gv
 store_integer (pos n) = gcons (gnum 0) (gnum n)
@@ -31,64 +39,71 @@ integer_back (gcons (gnum zero) (gnum n)) = pos n
 integer_back (gcons (gnum (suc z)) (gnum n)) = negsuc n
 integer_back _ = pos 0
 
-pub integer_returns : (z : ℤ) → integer_back (store_integer z) ≡ z
+integer_returns : (z : ℤ) → integer_back (store_integer z) ≡ z
 integer_returns (pos n) = refl
 integer_returns (negsuc n) = refl
+
+pub integer_once : (y z : ℤ) → store_integer y ≡ store_integer z → y ≡ z
+integer_once y z e = sym (integer_returns y) ∙ ap integer_back e ∙ integer_returns z
 
 abbrev pub store_operator : BinaryOp → Gv
 store_operator Add = gnum 0
 
-abbrev pub operator_back : Gv → BinaryOp
-operator_back _ = Add
-
-pub operator_returns : (o : BinaryOp) → operator_back (store_operator o) ≡ o
-operator_returns Add = refl
+pub operator_once : (o p : BinaryOp) → store_operator o ≡ store_operator p → o ≡ p
+operator_once Add Add e = refl
 
 abbrev mutual
-  pub store_expression : Expression → Gv
-  store_expression (At p o f) = gcons (store_place p) (gcons (store_place o) (store_form f))
+  pub store_expression : {A : Type 0} → (A → Gv) → Expression A → Gv
+  store_expression code (At p o n f) = gcons (store_place p) (gcons (store_place o) (gcons (code n) (store_form code f)))
 
-  pub store_form : Form → Gv
-  store_form empty = gnil
-  store_form (literal z) = gcons (gnum 0) (store_integer z)
-  store_form (variable n) = gcons (gnum 1) (gnum n)
-  store_form (sequence a b) = gcons (gnum 2) (gcons (store_expression a) (store_expression b))
-  store_form (let_in v a b) = gcons (gnum 3) (gcons (store_binder v) (gcons (store_expression a) (store_expression b)))
-  store_form (data_of a) = gcons (gnum 4) (store_expression a)
-  store_form (binary o a b) = gcons (gnum 5) (gcons (store_operator o) (gcons (store_expression a) (store_expression b)))
+  pub store_form : {A : Type 0} → (A → Gv) → Form A → Gv
+  store_form code empty = gnil
+  store_form code (literal z) = gcons (gnum 0) (store_integer z)
+  store_form code (variable n) = gcons (gnum 1) (gnum n)
+  store_form code (sequence a b) = gcons (gnum 2) (gcons (store_expression code a) (store_expression code b))
+  store_form code (let_in v a b) = gcons (gnum 3) (gcons (store_binder v) (gcons (store_expression code a) (store_expression code b)))
+  store_form code (data_of a) = gcons (gnum 4) (store_expression code a)
+  store_form code (binary o a b) = gcons (gnum 5) (gcons (store_operator o) (gcons (store_expression code a) (store_expression code b)))
 
-abbrev mutual
-  pub expression_back : Gv → Expression
-  expression_back (gcons p (gcons o f)) = At (place_back p) (place_back o) (form_back f)
-  expression_back _ = At (place_back gnil) (place_back gnil) empty
+-- the two halves of a pair, and the number of a leaf
+abbrev before : Gv → Gv
+before (gcons a b) = a
+before a = a
 
-  pub form_back : Gv → Form
-  form_back (gcons (gnum zero) z) = literal (integer_back z)
-  form_back (gcons (gnum (suc zero)) (gnum n)) = variable n
-  form_back (gcons (gnum (suc (suc zero))) (gcons a b)) = sequence (expression_back a) (expression_back b)
-  form_back (gcons (gnum (suc (suc (suc zero)))) (gcons v (gcons a b))) = let_in (binder_back v) (expression_back a) (expression_back b)
-  form_back (gcons (gnum (suc (suc (suc (suc zero))))) a) = data_of (expression_back a)
-  form_back (gcons (gnum (suc (suc (suc (suc (suc zero)))))) (gcons o (gcons a b))) = binary (operator_back o) (expression_back a) (expression_back b)
-  form_back _ = empty
+abbrev behind : Gv → Gv
+behind (gcons a b) = b
+behind a = a
 
 mutual
-  pub expression_returns : (e : Expression) → expression_back (store_expression e) ≡ e
-  expression_returns (At p o f) = ap (At p o) (form_returns f)
+  pub expression_once : {A : Type 0} (c : Coded A) (x y : Expression A) → store_expression c.code x ≡ store_expression c.code y → x ≡ y
+  expression_once c (At p o n f) (At q r m g) e =
+      ap (λ x. At x o n f) (place_once p q (ap before e))
+      ∙ ap (λ x. At q x n f) (place_once o r (ap (λ v. before (behind v)) e))
+      ∙ ap (λ x. At q r x f) (c.inj n m (ap (λ v. before (behind (behind v))) e))
+      ∙ ap (At q r m) (form_once c f g (ap (λ v. behind (behind (behind v))) e))
 
-  pub form_returns : (f : Form) → form_back (store_form f) ≡ f
-  form_returns empty = refl
-  form_returns (literal z) = ap literal (integer_returns z)
-  form_returns (variable n) = refl
-  form_returns (sequence a b) = ap (λ x. sequence x (expression_back (store_expression b))) (expression_returns a) ∙ ap (sequence a) (expression_returns b)
-  form_returns (let_in v a b) = ap (λ x. let_in v x (expression_back (store_expression b))) (expression_returns a) ∙ ap (let_in v a) (expression_returns b)
-  form_returns (data_of a) = ap data_of (expression_returns a)
-  form_returns (binary o a b) =
-      ap (λ x. binary x (expression_back (store_expression a)) (expression_back (store_expression b))) (operator_returns o)
-      ∙ ap (λ x. binary o x (expression_back (store_expression b))) (expression_returns a)
-      ∙ ap (binary o a) (expression_returns b)
+  pub form_once : {A : Type 0} (c : Coded A) (f g : Form A) → store_form c.code f ≡ store_form c.code g → f ≡ g
+  form_once c empty empty e = refl
+  form_once c (literal y) (literal z) e = ap literal (integer_once y z (ap behind e))
+  form_once c (variable m) (variable n) e = let same : m ≡ n = cc in ap variable same
+  form_once c (sequence a b) (sequence d h) e =
+      ap (λ x. sequence x b) (expression_once c a d (ap (λ v. before (behind v)) e)) ∙ ap (sequence d) (expression_once c b h (ap (λ v. behind (behind v)) e))
+  form_once c (let_in v a b) (let_in w d h) e =
+      ap (λ x. let_in x a b) (binder_once v w (ap (λ v. before (behind v)) e))
+      ∙ ap (λ x. let_in w x b) (expression_once c a d (ap (λ v. before (behind (behind v))) e))
+      ∙ ap (let_in w d) (expression_once c b h (ap (λ v. behind (behind (behind v))) e))
+  form_once c (data_of a) (data_of d) e = ap data_of (expression_once c a d (ap behind e))
+  form_once c (binary o a b) (binary p d h) e =
+      ap (λ x. binary x a b) (operator_once o p (ap (λ v. before (behind v)) e))
+      ∙ ap (λ x. binary p x b) (expression_once c a d (ap (λ v. before (behind (behind v))) e))
+      ∙ ap (binary p d) (expression_once c b h (ap (λ v. behind (behind (behind v))) e))
+  form_once c _ _ e = absurd (cc)
 
-abbrev pub expression_code : Coded Expression
-expression_code = record {
-  code = store_expression;
-  inj = λ x y p. sym (expression_returns x) ∙ ap expression_back p ∙ expression_returns y;
-}
+abbrev pub unit_code : Coded (Unit {0})
+unit_code = record { code = λ u. gnil; inj = λ x y e. refl }
+
+abbrev pub expression_code : Coded CoreExpression
+expression_code = record { code = store_expression unit_code.code; inj = expression_once unit_code }
+
+abbrev pub typed_expression_code : Coded (Expression SequenceType)
+typed_expression_code = record { code = store_expression type_code.code; inj = expression_once type_code }

@@ -49,11 +49,12 @@ abbrev pub variable_meaning : Option (List ℤ) → Outcome
 variable_meaning None = wrong
 variable_meaning (Some items) = gives items
 
+-- the meaning looks at no place and at no annotation
 abbrev mutual
-  pub meaning : Expression → Bindings → Outcome
-  meaning (At place outer form) bindings = form_meaning form bindings
+  pub meaning : {A : Type 0} → Expression A → Bindings → Outcome
+  meaning (At place outer annotation form) bindings = form_meaning form bindings
 
-  pub form_meaning : Form → Bindings → Outcome
+  pub form_meaning : {A : Type 0} → Form A → Bindings → Outcome
   form_meaning (literal value) bindings = gives (value ∷ [])
   form_meaning (variable number) bindings = variable_meaning (look_up bindings number)
   form_meaning empty bindings = gives []

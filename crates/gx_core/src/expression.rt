@@ -50,10 +50,10 @@ pub enum CoreForm {
 }
 
 impl Model for CoreExpr {
-    ghost use Rattle.gx_core.specs.Expression.{Expression, expression_size};
+    ghost use Rattle.gx_core.specs.Expression.{CoreExpression, expression_size};
     ghost use Rattle.gx_core.specs.ExpressionCode.{expression_code};
 
-    ghost Value = { Expression };
+    ghost Value = { CoreExpression };
 
     ghost coded = { expression_code };
 

@@ -1,8 +1,11 @@
 // Laws over the definitions.
 
-ghost use Rattle.gx_core.specs.Soundness.{TypingIsSound};
+ghost use Rattle.std.specs.Prelude.{◌≡◌};
+ghost use Rattle.gx_core.specs.Expression.{plain};
+ghost use Rattle.gx_core.specs.Meaning.{Bindings, meaning};
+ghost use Rattle.gx_core.specs.Soundness.{TypedExpression};
 
-/// What has a type does not go wrong, and its value belongs to the type.
-pub fn typing_is_sound()
-    ensures { TypingIsSound }
+/// The meaning of a typed expression is that of the same expression without its types.
+pub fn meaning_looks_at_no_type()
+    ensures { (e : TypedExpression) (bindings : Bindings) → meaning (plain e) bindings ≡ meaning e bindings }
 {}

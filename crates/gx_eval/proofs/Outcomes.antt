@@ -1,11 +1,10 @@
 -- Values and failures of parts, and of what is made of them.
 use Rattle.std.proofs.Common.{◌≡◌, ℕ, ℤ, List, [], ◌∷◌, Vec, Some, nat_eq, Bool, true, false, refl, ap, subst, if◌then◌else◌, Result, Ok, Err, IfErr}
 use Rattle.std.specs.Option.{option_map}
-use Rattle.gx_core.specs.Expression.{Expression}
-use Rattle.gx_core.specs.SequenceType.{SequenceType}
+use Rattle.gx_types.specs.SchemaSet.{SchemaSet}
+use Rattle.gx_core.specs.Expression.{At, annotation_of}
 use Rattle.gx_core.specs.Values.{Belongs}
-use Rattle.gx_core.specs.Judgement.{Judgement, judged, typed}
-use Rattle.gx_core.specs.Soundness.{Keeps, KeepsIfTyped, TypingIsSound}
+use Rattle.gx_core.specs.Soundness.{TypedExpression, Keeps, IsSound}
 use Rattle.gx_core.specs.Meaning.{meaning, Outcome, gives, raises, wrong, after, look_up}
 use Rattle.gx_eval.specs.declared.evaluator.Failure.{Failure}
 use Rattle.gx_eval.specs.declared.evaluator.Failure.TheVariants.{Raised, Wrong, Memory}
@@ -47,12 +46,6 @@ pub result_fails : {V : Type 0} (o p : Outcome) (xs ys : List ℤ) (k : List ℤ
 result_fails o p xs ys k (Ok v) d e h = tt
 result_fails o p xs ys k (Err f) d e h = made_fails o xs (λ us. after p (k us)) f d (made_fails p ys (k xs) f e h)
 
-keeps_at : (j : Judgement) (o : Outcome) (t : SequenceType) (p : Outcome) → KeepsIfTyped j o → j ≡ typed t → o ≡ p → Keeps t p
-keeps_at j o t p k e f = subst (λ (q : Outcome). Keeps t q) f (subst (λ (i : Judgement). KeepsIfTyped i o) e k)
-
--- by soundness the value belongs to the type, and the outcome is no type error
-pub value_belongs : TypingIsSound → (e : Expression) (t : SequenceType) (items : List ℤ) → judged e [] ≡ typed t → meaning e [] ≡ gives items → Belongs items t
-value_belongs sound e t items j m = keeps_at (judged e []) (meaning e []) t (gives items) (sound e [] [] tt) j m
-
-pub not_wrong : TypingIsSound → (e : Expression) (t : SequenceType) → judged e [] ≡ typed t → meaning e [] ≡ wrong → ⊥
-not_wrong sound e t j m = keeps_at (judged e []) (meaning e []) t wrong (sound e [] [] tt) j m
+-- where an expression is sound, its value belongs to its type
+pub value_belongs : (schemas : SchemaSet) (e : TypedExpression) (items : List ℤ) → IsSound schemas e [] → meaning e [] ≡ gives items → Belongs schemas items (annotation_of e)
+value_belongs schemas (At place outer t form) items sound m = subst (λ (o : Outcome). Keeps schemas t o) m (sound.0 [] tt)

@@ -1,21 +1,22 @@
 // The evaluation of Core expressions.
 
-ghost use Rattle.std.specs.Prelude.{◌≡◌, [], ◌∷◌, IfOk, IfErr, OnOk, map};
-ghost use Rattle.gx_core.specs.SequenceType.{SequenceType};
-ghost use Rattle.gx_core.specs.Judgement.{judged, typed};
-ghost use Rattle.gx_core.specs.Meaning.{meaning, gives, look_up, variable_meaning, operator_meaning, sum_of};
+ghost use Rattle.std.specs.Prelude.{◌≡◌, ◌≢◌, [], ◌∷◌, IfOk, IfErr, OnOk, map};
+ghost use Rattle.gx_types.specs.SchemaSet.{SchemaSet};
+ghost use Rattle.gx_core.specs.Expression.{annotation_of};
+ghost use Rattle.gx_core.specs.Soundness.{IsSound};
+ghost use Rattle.gx_core.specs.Meaning.{meaning, gives, wrong, look_up, variable_meaning, operator_meaning, sum_of};
 ghost use Rattle.gx_core.specs.Refusal.{Fails};
 ghost use Rattle.gx_core.specs.Values.{Belongs};
 ghost use Rattle.gx_eval.specs.Extended.{extended, items_of, FailsSo};
 
 use gx_base::code::Code;
 use gx_core::dyn_error::DynError;
-use gx_core::expression::{BinaryOp, Core, CoreExpr, CoreForm};
-use gx_core::laws::typing_is_sound;
+use gx_core::expression::BinaryOp;
 use gx_core::scope::Scope;
+use gx_core::typed::{TypedCore, TypedExpr, TypedForm};
 use std::alloc::{AllocError, AllocFailed, Global};
 
-// Why an evaluation has no value. Typing excludes `Wrong`.
+// Why an evaluation has no value.
 #[derive(Clone, Copy, Debug, PartialEq, Eq)]
 enum Failure {
     Raised(Code),
@@ -45,15 +46,15 @@ impl<T: Drop> From<AllocFailed<T>> for Failure {
     }
 }
 
-/// The value of a query that has a type, or the dynamic error that it raises (XQuery 1.0, section 2.2.3.2). The value
-/// belongs to the type.
-pub fn evaluate(alloc: Global, core: &Core) -> Result<Vec<i128>, DynError>
-    requires { (t : SequenceType) × (judged core.now.body [] ≡ typed t) }
+/// The value of a query that does not go wrong, or the dynamic error that it raises (XQuery 1.0, section 2.2.3.2). Where the
+/// typing is sound, the value belongs to the type.
+pub fn evaluate(alloc: Global, core: &TypedCore) -> Result<Vec<i128>, DynError>
+    requires { meaning core.now.body [] ≢ wrong }
     ensures value { IfOk result (λ v. meaning core.now.body [] ≡ gives v.items) }
     ensures raised { IfErr result (λ e. Fails e (meaning core.now.body [])) }
-    ensures belongs { IfOk result (λ v. (t : SequenceType) → judged core.now.body [] ≡ typed t → Belongs v.items t) }
+    ensures belongs { (schemas : SchemaSet) → IsSound schemas core.now.body []
+        → IfOk result (λ v. Belongs schemas v.items (annotation_of core.now.body)) }
 {
-    typing_is_sound();
     let mut scope = Scope::new(alloc);
     match value_of(alloc, &core.body, &mut scope) {
         Ok(items) => Ok(items),
@@ -66,7 +67,7 @@ pub fn evaluate(alloc: Global, core: &Core) -> Result<Vec<i128>, DynError>
 // The value of an expression, in a list of its own.
 fn value_of(
     alloc: Global,
-    expression: &CoreExpr,
+    expression: &TypedExpr,
     scope: &mut Scope<Vec<i128>>,
 ) -> Result<Vec<i128>, Failure>
     ensures value { IfOk result (λ v. meaning expression.now (items_of scope.old) ≡ gives v.items) }
@@ -82,7 +83,7 @@ fn value_of(
 #[cycle(append)]
 fn append(
     alloc: Global,
-    expression: &CoreExpr,
+    expression: &TypedExpr,
     scope: &mut Scope<Vec<i128>>,
     items: &mut Vec<i128>,
 ) -> Result<(), Failure>
@@ -91,14 +92,14 @@ fn append(
     ensures kept { OnOk result (scope.new ≡ scope.old) }
 {
     match &expression.form {
-        CoreForm::Lit(value) => Ok(items.push(*value)?),
-        CoreForm::Var(number) => append_variable(*number, scope, items),
-        CoreForm::Empty => Ok(()),
-        CoreForm::Seq(first, second) => {
+        TypedForm::Lit(value) => Ok(items.push(*value)?),
+        TypedForm::Var(number) => append_variable(*number, scope, items),
+        TypedForm::Empty => Ok(()),
+        TypedForm::Seq(first, second) => {
             append(alloc, first, scope, items)?;
             append(alloc, second, scope, items)
         }
-        CoreForm::Let(binder, value, body) => {
+        TypedForm::Let(binder, value, body) => {
             let mut bound = Vec::new(alloc);
             append(alloc, value, scope, &mut bound)?;
             scope.bind(binder.variable, bound)?;
@@ -106,8 +107,8 @@ fn append(
             scope.unbind();
             Ok(())
         }
-        CoreForm::DataOf(operand) => append(alloc, operand, scope, items),
-        CoreForm::Binary(operator, left, right) => {
+        TypedForm::DataOf(operand) => append(alloc, operand, scope, items),
+        TypedForm::Binary(operator, left, right) => {
             let mut first = Vec::new(alloc);
             append(alloc, left, scope, &mut first)?;
             let mut second = Vec::new(alloc);

@@ -1,0 +1,60 @@
+// Core expressions with their types.
+
+use crate::expression::{BinaryOp, Binder};
+use gx_base::place::Place;
+use gx_types::sequence_type::Ty;
+use std::marker::Model;
+
+/// A typed expression inside another one.
+pub type T = Box<TypedExpr>;
+
+/// A whole query in Core, each expression with its type (XQuery 1.0 and XPath 2.0 Formal Semantics, section 2.3).
+#[derive(Debug, Drop)]
+pub struct TypedCore {
+    pub body: TypedExpr,
+}
+
+/// A Core expression with its type `kind`. `place` is its own place, `outer` that of its outermost parentheses as they were
+/// written; the two are equal where there are none.
+#[cycle(typed_tree)]
+#[derive(Debug, Drop)]
+pub struct TypedExpr {
+    pub place: Place,
+    pub outer: Place,
+    pub kind: Ty,
+    pub form: TypedForm,
+}
+
+/// What a typed expression is: a literal, a variable by its number, the empty sequence, a sequence of two parts, a `let`,
+/// the atomization of its operand, or an operator of two operands.
+#[cycle(typed_tree)]
+#[derive(Debug, Drop)]
+pub enum TypedForm {
+    Lit(i128),
+    Var(u32),
+    Empty,
+    Seq(T, T),
+    Let(Binder, T, T),
+    DataOf(T),
+    Binary(BinaryOp, T, T),
+}
+
+impl Model for TypedExpr {
+    ghost use Rattle.gx_types.specs.SequenceType.{SequenceType};
+    ghost use Rattle.gx_core.specs.Expression.{Expression, expression_size};
+    ghost use Rattle.gx_core.specs.ExpressionCode.{typed_expression_code};
+
+    ghost Value = { Expression SequenceType };
+
+    ghost coded = { typed_expression_code };
+
+    ghost use Rattle.gx_core.specs.TypedView.{typed_expression_of};
+
+    ghost view = { typed_expression_of };
+
+    ghost size = { expression_size };
+
+    ghost use Rattle.gx_core.specs.TypedParts.{typed_parts_are_smaller};
+
+    ghost size_decreases = { λ a h. typed_parts_are_smaller a.form };
+}

@@ -1,0 +1,5 @@
+pub mod Keeping
+pub mod Arithmetic
+pub mod SoundTyping
+pub mod Failing
+pub mod ScopedVariables

@@ -1,0 +1,5 @@
+pub mod Rule
+pub mod Judgement
+pub mod Refusal
+pub mod Failure
+pub mod Laws

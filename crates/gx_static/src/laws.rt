@@ -1,0 +1,57 @@
+// Laws of typing: one for each operator, and the one that is joined of them.
+
+ghost use Rattle.gx_static.specs.Laws.{LiteralKeepsType, VariableKeepsType, EmptyKeepsType, SequenceKeepsType, LetKeepsType, DataKeepsType, AddKeepsType, TypingIsSound, RejectionNamesFailure, ScopedVariablesHaveTypes};
+
+/// A literal has the type of its value.
+pub fn literal_keeps_its_type()
+    ensures { LiteralKeepsType }
+{}
+
+/// A variable has the type of what it is bound to.
+pub fn variable_keeps_its_type()
+    ensures { VariableKeepsType }
+{}
+
+/// The empty sequence has its type.
+pub fn empty_sequence_keeps_its_type()
+    ensures { EmptyKeepsType }
+{}
+
+/// The value of a sequence belongs to its type where those of its parts belong to theirs.
+pub fn sequence_keeps_its_type()
+    ensures { SequenceKeepsType }
+{}
+
+/// The value of a `let` belongs to its type where that of its body does, under the bindings of the variable to the values of
+/// its type.
+pub fn let_keeps_its_type()
+    ensures { LetKeepsType }
+{}
+
+/// An atomized value belongs to its type where that of the operand does.
+pub fn data_keeps_its_type()
+    ensures { DataKeepsType }
+{}
+
+/// A sum belongs to its type where the operands belong to theirs, and it is no type error.
+pub fn sum_keeps_its_type()
+    ensures { AddKeepsType }
+{}
+
+/// What is judged to have a type is the same tree with its types; no expression in it goes wrong, and the value of each
+/// belongs to its type (XQuery 1.0 and XPath 2.0 Formal Semantics, section 4).
+pub fn typing_is_sound()
+    ensures { TypingIsSound }
+{}
+
+/// Where a query is rejected, an expression in it fails: its parts have types, and its own rule gives none, with this code at
+/// this place; and each expression that comes before it has a type.
+pub fn rejection_names_a_failure()
+    ensures { RejectionNamesFailure }
+{}
+
+/// Where each variable stands in the scope of its binder, typing rejects none: a variable that nothing binds is refused with
+/// the names of the query.
+pub fn scoped_variables_have_types()
+    ensures { ScopedVariablesHaveTypes }
+{}
