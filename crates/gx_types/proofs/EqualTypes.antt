@@ -31,14 +31,14 @@ pub right_holds : (a b : Bool) → a && b ≡ true → b ≡ true
 right_holds true b h = h
 right_holds false b h = absurd (cc)
 
-names_are_equivalent : IsEquivalence same_name
+pub names_are_equivalent : IsEquivalence same_name
 names_are_equivalent = search (comparing, rules)
 
 -- two names that are equal to each other are equal to the same names
-same_names_trans : (a b c : Name) → same_name a b ≡ true → same_name b c ≡ true → same_name a c ≡ true
+pub same_names_trans : (a b c : Name) → same_name a b ≡ true → same_name b c ≡ true → same_name a c ≡ true
 same_names_trans a b c h k = names_are_equivalent.congr a b c h ∙ k
 
-numbers_trans : (a b c : ℕ) → nat_eq a b ≡ true → nat_eq b c ≡ true → nat_eq a c ≡ true
+pub numbers_trans : (a b c : ℕ) → nat_eq a b ≡ true → nat_eq b c ≡ true → nat_eq a c ≡ true
 numbers_trans a b c h k =
     let e : a ≡ b = eqb_yes (subst (λ (x : Bool). T x) (sym h) tt) in
     subst (λ (n : ℕ). nat_eq n c ≡ true) (sym e) k

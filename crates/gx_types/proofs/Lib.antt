@@ -3,3 +3,5 @@ pub mod EqualTypes
 pub mod Joined
 pub mod TakesLemmas
 pub mod DerivationTest
+pub mod DerivationOrder
+pub mod TimesTakes

@@ -56,7 +56,7 @@ optional_takes s (star a) ss (inr h) = h
 optional_takes s (plus a) ss (inl e) = ([], e, tt)
 optional_takes s (plus a) ss (inr h) = (h.0 ∷ h.1, h.2, (h.3, h.4))
 
-optional_takes_no_more : (s : SchemaSet) (t : SequenceType) (ss : List Shape) → Takes s (optional_of t) ss → (ss ≡ []) ⊎ Takes s t ss
+pub optional_takes_no_more : (s : SchemaSet) (t : SequenceType) (ss : List Shape) → Takes s (optional_of t) ss → (ss ≡ []) ⊎ Takes s t ss
 optional_takes_no_more s never ss h = inl h
 optional_takes_no_more s nothing ss h = inl h
 optional_takes_no_more s (item kind) ss h = h
