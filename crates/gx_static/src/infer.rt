@@ -2,9 +2,11 @@
 
 ghost use Rattle.std.specs.Prelude.{◌≡◌, [], ◌∷◌, IfOk, IfErr, OnOk, get_or};
 ghost use Rattle.gx_core.specs.declared.operator.Operator.TheVariants as operators;
-ghost use Rattle.gx_core.specs.Expression.{At, plain, annotation_of, outer_of, sequence as sequence_form, let_in, data_of, binary as binary_form};
+ghost use Rattle.gx_core.specs.Expression.{At, plain, annotation_of, outer_of, empty as empty_form, sequence as sequence_form, let_in, data_of, binary as binary_form};
 ghost use Rattle.gx_core.specs.Meaning.{look_up};
 ghost use Rattle.gx_core.specs.Soundness.{IsSound};
+ghost use Rattle.gx_core.specs.TypedView.{typed_form_of};
+ghost use Rattle.gx_types.specs.SequenceType.{nothing};
 ghost use Rattle.gx_static.specs.Judgement.{judged, typed, concluded, code_place, variable_judged};
 ghost use Rattle.gx_static.specs.Failure.{FailsFirst};
 ghost use Rattle.gx_static.specs.Refusal.{Rejects, NamesFailure};
@@ -61,21 +63,12 @@ fn typed_expression(
 {
     let CoreExpr { place, outer, form } = expression;
     match form {
-        CoreForm::Lit(value) => Ok(TypedExpr {
-            place,
-            outer,
-            kind: integer.clone()?,
-            form: TypedForm::Lit(value),
-        }),
+        CoreForm::Lit(value) => {
+            let kind = integer.clone()?;
+            Ok(typed(place, outer, kind, TypedForm::Lit(value)))
+        }
         CoreForm::Var(number) => variable(place, outer, number, scope),
-        CoreForm::Empty => Ok(TypedExpr {
-            place,
-            outer,
-            kind: Ty {
-                node: TyNode::Empty,
-            },
-            form: TypedForm::Empty,
-        }),
+        CoreForm::Empty => Ok(empty(place, outer)),
         CoreForm::Seq(first, second) => {
             let first = typed_expression(alloc, schemas, integer, Box::into_inner(first), scope)?;
             let second = typed_expression(alloc, schemas, integer, Box::into_inner(second), scope)?;
@@ -89,13 +82,8 @@ fn typed_expression(
             Ok(let_expression(alloc, place, outer, binder, value, body)?)
         }
         CoreForm::DataOf(operand) => {
-            let operand = typed_expression(
-                alloc,
-                schemas,
-                integer,
-                Box::into_inner(operand),
-                scope,
-            )?;
+            let operand = Box::into_inner(operand);
+            let operand = typed_expression(alloc, schemas, integer, operand, scope)?;
             Ok(data(alloc, place, outer, operand)?)
         }
         CoreForm::Binary(operator, left, right) => {
@@ -104,6 +92,26 @@ fn typed_expression(
             binary(alloc, schemas, place, outer, operator, left, right)
         }
     }
+}
+
+fn typed(place: Place, outer: Place, kind: Ty, form: TypedForm) -> TypedExpr
+    ensures { result ≡ At place outer kind (typed_form_of form) }
+{
+    TypedExpr {
+        place,
+        outer,
+        kind,
+        form,
+    }
+}
+
+fn empty(place: Place, outer: Place) -> TypedExpr
+    ensures { result ≡ At place outer nothing empty_form }
+{
+    let kind = Ty {
+        node: TyNode::Empty,
+    };
+    typed(place, outer, kind, TypedForm::Empty)
 }
 
 fn variable(
@@ -117,12 +125,10 @@ fn variable(
         → IfErr result (λ e. Rejects e (variable_judged schemas place outer number (look_up scope.now number))) }
 {
     match scope.find(number) {
-        Some(bound) => Ok(TypedExpr {
-            place,
-            outer,
-            kind: bound.clone()?,
-            form: TypedForm::Var(number),
-        }),
+        Some(bound) => {
+            let kind = bound.clone()?;
+            Ok(typed(place, outer, kind, TypedForm::Var(number)))
+        }
         None => Err(InferError::NoType {
             place,
             code: Code::XPST0008,
@@ -144,12 +150,7 @@ fn sequence(
     let kind = seq(alloc, kind, second.kind.clone()?)?;
     let first = Box::new(alloc, first)?;
     let form = TypedForm::Seq(first, Box::new(alloc, second)?);
-    Ok(TypedExpr {
-        place,
-        outer,
-        kind,
-        form,
-    })
+    Ok(typed(place, outer, kind, form))
 }
 
 fn let_expression(
@@ -166,12 +167,7 @@ fn let_expression(
     let kind = body.kind.clone()?;
     let value = Box::new(alloc, value)?;
     let form = TypedForm::Let(binder, value, Box::new(alloc, body)?);
-    Ok(TypedExpr {
-        place,
-        outer,
-        kind,
-        form,
-    })
+    Ok(typed(place, outer, kind, form))
 }
 
 fn data(
@@ -185,12 +181,7 @@ fn data(
 {
     let kind = operand.kind.clone()?;
     let form = TypedForm::DataOf(Box::new(alloc, operand)?);
-    Ok(TypedExpr {
-        place,
-        outer,
-        kind,
-        form,
-    })
+    Ok(typed(place, outer, kind, form))
 }
 
 fn binary(
@@ -217,12 +208,7 @@ fn binary(
     };
     let left = Box::new(alloc, left)?;
     let form = TypedForm::Binary(operator, left, Box::new(alloc, right)?);
-    Ok(TypedExpr {
-        place,
-        outer,
-        kind,
-        form,
-    })
+    Ok(typed(place, outer, kind, form))
 }
 
 // Where the code of an operator stands: at a part, or at the operator itself.
