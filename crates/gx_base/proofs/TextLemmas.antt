@@ -1,9 +1,9 @@
 -- The characters of a string's bytes.
-use Rattle.std.proofs.Common.{◌≡◌, ℕ, [], ◌∷◌, ◌++◌, refl, sym, ◌∙◌, ap, string_bytes, String, Bool, true, nat_eq, Option, Some, None, IfSome, IfNone, length, subst}
+use Rattle.std.proofs.Common.{◌≡◌, ℕ, List, [], ◌∷◌, ◌++◌, refl, sym, ◌∙◌, ap, string_bytes, String, Bool, true, nat_eq, Option, Some, None, IfSome, IfNone, length, subst}
 use Rattle.std.specs.Str.{chars, IsUtf8, all_scalars, encode_utf8_all}
 use Rattle.std.specs.Char.{IsScalar}
 use Rattle.std.proofs.Math.Utf8.{encode}
-use Rattle.std.proofs.lemmas.Str.{IsUtf8-string_bytes, IsUtf8-past_char, IsUtf8-encode, encodes-chars, scalars-chars, chars-append, chars_from_encodes, chars_past_char, chars-nil}
+use Rattle.std.proofs.lemmas.Str.{IsUtf8-string_bytes, IsUtf8-past_char, IsUtf8-encode, encodes-chars, scalars-chars, chars-append, chars-encodes, chars_from_encodes, chars_past_char, chars-nil}
 use Rattle.std.proofs.lemmas.List.{append-nil, nil_from_length}
 use Rattle.std.specs.Cmp.Lexicographic.{pointwise, bytes_decides}
 use Rattle.std.specs.declared.str.Chars.{Chars}
@@ -26,9 +26,9 @@ chars_of_one c h = chars_past_char (encode c) [] c (IsUtf8-encode c h) (sym (app
 pub chars_push : {Z : Type 0} (s : String Z) (c : ℕ) → IsScalar c → chars (string_bytes s ++ encode c) ≡ chars (string_bytes s) ++ c ∷ []
 chars_push s c h = chars-append (string_bytes s) (encode c) (IsUtf8-string_bytes s) ∙ ap (λ cs. chars (string_bytes s) ++ cs) (chars_of_one c h)
 
--- another string behind it
-pub chars_push_string : {Z W : Type 0} (s : String Z) (t : String W) → chars (string_bytes s ++ string_bytes t) ≡ chars (string_bytes s) ++ chars (string_bytes t)
-chars_push_string s t = chars-append (string_bytes s) (string_bytes t) (IsUtf8-string_bytes s)
+-- more bytes behind it
+pub chars_push_bytes : {Z : Type 0} (s : String Z) (bytes : List ℕ) → chars (string_bytes s ++ bytes) ≡ chars (string_bytes s) ++ chars bytes
+chars_push_bytes s bytes = chars-append (string_bytes s) bytes (IsUtf8-string_bytes s)
 
 -- a string without characters has no bytes
 pub no_chars : {Z : Type 0} (s : String Z) → chars (string_bytes s) ≡ [] → string_bytes s ≡ []
@@ -62,4 +62,4 @@ empty_string s b e = (
   λ n. e ∙ ap (λ bs. nat_eq (length bs) 0) (no_chars s n) ∙ refl,
 )
 
-pub ruleset string_rules = (encodes_string, scalars_string, chars_push, chars_push_string, chars-nil, no_chars, same_strings)
+pub ruleset string_rules = (chars-encodes, encodes_string, scalars_string, chars_push, chars_push_bytes, chars-nil, no_chars, same_strings)

@@ -2,9 +2,9 @@
 #![tactic(auto)]
 
 pub mod code;
+pub mod limits;
 pub mod name;
 pub mod place;
-#[cfg(test)]
-mod tests;
 pub mod text;
+pub mod text_builder;
 pub mod type_name;

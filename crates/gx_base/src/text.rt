@@ -1,6 +1,6 @@
 // A text of Unicode characters.
 
-ghost use Rattle.std.specs.Prelude.{◌≡◌, [], ◌∷◌, ◌++◌, true, IfOk, OnOk, OnErr, IsTrue, ◌↔◌, ◌<◌, length, IfNone, IfSome, OnSome};
+ghost use Rattle.std.specs.Prelude.{◌≡◌, [], ◌∷◌, true, IfOk, IsTrue, ◌↔◌, ◌<◌, length, IfNone, IfSome, OnSome, string_bytes};
 ghost use Rattle.std.specs.Str.{chars, encode_utf8_all, all_scalars, IsUtf8};
 ghost use Rattle.std.specs.Str.Iter.{chars_rest};
 ghost use Rattle.std.specs.Cmp.{partial_order_from_own_ties};
@@ -15,13 +15,14 @@ use std::cmp::Ordering;
 use std::fmt;
 use std::hash::{Hash, Hasher};
 use std::marker::Model;
+use std::rc::Rc;
 use std::str::Chars;
 
 /// A text, which contracts see as the list of its characters (XML 1.0, section 2.2; XQuery 1.0 and XPath 2.0 Data
-/// Model, section 2.1). Texts are compared by code points.
+/// Model, section 2.1). Copies share the characters, so copying a text takes no memory. Texts are compared by code points.
 #[derive(Drop)]
 pub struct Text {
-    text: String,
+    shared: Rc<String>,
 }
 
 impl Model for Text {
@@ -30,26 +31,31 @@ impl Model for Text {
 
     ghost Value = { List ℕ };
 
-    ghost view = { λ t. chars (string_bytes t.text) };
+    ghost view = { λ t. chars (string_bytes t.shared.value) };
 }
 
 #[tactic(auto, using(crate::proofs::TextLemmas::string_rules))]
 impl Text {
-    /// The empty text.
-    pub fn new(alloc: Global) -> Text
-        ensures { result ≡ [] }
+    /// The text without characters.
+    pub fn empty(alloc: Global) -> Result<Text, AllocError>
+        ensures { IfOk result (λ t. t ≡ []) }
     {
-        Text {
-            text: String::new(alloc),
-        }
+        Text::from_string(alloc, String::new(alloc))
     }
 
     /// The text of a string slice.
     pub fn from_str(alloc: Global, text: &str) -> Result<Text, AllocError>
         ensures { IfOk result (λ t. t ≡ chars text.now) }
     {
+        Text::from_string(alloc, String::from_str(alloc, text)?)
+    }
+
+    /// The text of a string, whose memory it keeps.
+    pub fn from_string(alloc: Global, text: String) -> Result<Text, AllocError>
+        ensures { IfOk result (λ t. t ≡ chars (string_bytes text)) }
+    {
         Ok(Text {
-            text: String::from_str(alloc, text)?,
+            shared: Rc::new(alloc, text)?,
         })
     }
 
@@ -58,39 +64,24 @@ impl Text {
         ensures bytes { result.now ≡ encode_utf8_all self.now }
         ensures characters { all_scalars self.now ≡ true }
     {
-        self.text.as_str()
+        self.shared.as_ref().as_str()
     }
 
     /// Whether the text has no character.
     pub fn is_empty(&self) -> bool
         ensures { IsTrue result ↔ (self.now ≡ []) }
     {
-        self.text.as_str().is_empty()
-    }
-
-    /// Adds a character at the end. An `Err` leaves the text as it was.
-    pub fn push(&mut self, character: char) -> Result<(), AllocError>
-        ensures ok { OnOk result (self.new ≡ self.old ++ character ∷ []) }
-        ensures err { OnErr result (self.new ≡ self.old) }
-    {
-        Ok(self.text.push(character)?)
-    }
-
-    /// Adds a text at the end. An `Err` leaves the text as it was.
-    pub fn push_text(&mut self, other: &Text) -> Result<(), AllocError>
-        ensures ok { OnOk result (self.new ≡ self.old ++ other.now) }
-        ensures err { OnErr result (self.new ≡ self.old) }
-    {
-        Ok(self.text.push_str(other.text.as_str())?)
+        has_no_character(self.shared.as_ref())
     }
 }
 
 impl Clone for Text {
     ghost is_clone = { λ t copy. copy ≡ t };
 
+    // The copy shares the characters.
     fn clone(&self) -> Result<Text, AllocError> {
         Ok(Text {
-            text: self.text.clone()?,
+            shared: self.shared.clone()?,
         })
     }
 }
@@ -102,7 +93,7 @@ impl PartialEq for Text {
     ghost laws = { Prim.search (comparing, rules) };
 
     fn eq(&self, other: &Text) -> bool {
-        self.text == other.text
+        self.shared.as_ref() == other.shared.as_ref()
     }
 }
 
@@ -120,7 +111,10 @@ impl Ord for Text {
     ghost matches_eq = { Prim.search (comparing, rules) };
 
     fn cmp(&self, other: &Text) -> Ordering {
-        compare_characters(self.text.as_str(), other.text.as_str())
+        compare_characters(
+            self.shared.as_ref().as_str(),
+            other.shared.as_ref().as_str(),
+        )
     }
 }
 
@@ -141,15 +135,22 @@ impl Hash for Text {
     ghost respects_eq = { Prim.search (hashing, rules) };
 
     fn hash<H: Hasher>(&self, state: &mut H) {
-        self.text.as_str().hash(state);
+        self.shared.as_ref().as_str().hash(state);
     }
 }
 
 impl fmt::Debug for Text {
     fn fmt<W: fmt::Write>(&self, f: &mut fmt::Formatter<W>) -> fmt::Result {
-        let text = self.text.as_str();
+        let text = self.shared.as_ref().as_str();
         write!(f, "{text:?}")
     }
+}
+
+// Whether a string has no character.
+pub(crate) fn has_no_character(text: &String) -> bool
+    ensures { IsTrue result ↔ (chars (string_bytes text.now) ≡ []) }
+{
+    text.as_str().is_empty()
 }
 
 // The order of two texts by code points.

@@ -2,7 +2,7 @@
 
 ghost use Rattle.std.specs.Prelude.{◌≡◌};
 
-use crate::name::Name;
+use crate::name::SharedName;
 use std::alloc::AllocError;
 
 /// The built-in types of the profile, in the order in which types are listed (XML Schema 1.0 part 2, section 3;
@@ -35,10 +35,11 @@ pub enum Builtin {
 }
 
 /// The name of a type: built-in, declared with a name, or the n-th anonymous type of the schema files, counted from 1.
+/// Copying it takes no memory.
 #[derive(Debug, PartialEq, Eq, PartialOrd, Ord, Hash, Drop)]
 pub enum TypeName {
     Builtin(Builtin),
-    Named(Name),
+    Named(SharedName),
     Anonymous(u32),
 }
 

@@ -18,7 +18,7 @@ pub fn print_value(alloc: Global, value: &AtomValue) -> Result<Text, AllocError>
         AtomValue::Str(text) => text.clone(),
         AtomValue::Truth(true) => Text::from_str(alloc, "true"),
         AtomValue::Truth(false) => Text::from_str(alloc, "false"),
-        AtomValue::Num(number) => Text::from_str(alloc, print_number(alloc, *number)?.as_str()),
+        AtomValue::Num(number) => Text::from_string(alloc, print_number(alloc, *number)?),
     }
 }
 

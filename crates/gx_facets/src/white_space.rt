@@ -5,6 +5,7 @@ ghost use Rattle.std.specs.Str.Iter.{chars_rest};
 ghost use Rattle.gx_facets.specs.WhiteSpace.{is_space, replaced, collapsed};
 
 use gx_base::text::Text;
+use gx_base::text_builder::TextBuilder;
 use std::alloc::{AllocError, Global};
 use std::str::Chars;
 
@@ -12,19 +13,19 @@ use std::str::Chars;
 pub fn replace(alloc: Global, text: &Text) -> Result<Text, AllocError>
     ensures { IfOk result (λ t. t ≡ replaced text.now) }
 {
-    let mut done = Text::new(alloc);
+    let mut done = TextBuilder::new(alloc);
     let mut rest = text.as_str().chars();
     while let Some(c) = next_character(&mut rest) {
         done.push(if is_white(c) { ' ' } else { c })?;
     }
-    Ok(done)
+    done.finish()
 }
 
 /// The text without white space at its ends, and with one space for each run of it.
 pub fn collapse(alloc: Global, text: &Text) -> Result<Text, AllocError>
     ensures { IfOk result (λ t. t ≡ collapsed text.now) }
 {
-    let mut done = Text::new(alloc);
+    let mut done = TextBuilder::new(alloc);
     let mut gap = false;
     let mut rest = text.as_str().chars();
     while let Some(c) = next_character(&mut rest) {
@@ -38,7 +39,7 @@ pub fn collapse(alloc: Global, text: &Text) -> Result<Text, AllocError>
             gap = false;
         }
     }
-    Ok(done)
+    done.finish()
 }
 
 fn is_white(c: char) -> bool

@@ -12,6 +12,7 @@ ghost use Rattle.gx_parse.specs.Reading.{Gives, read_gap, read_spelled, read_wor
 ghost use Rattle.gx_parse.specs.GapSteps.{GoesOn, Stops};
 
 use gx_base::text::Text;
+use gx_base::text_builder::TextBuilder;
 use std::alloc::{AllocError, AllocFailed, Global};
 use std::marker::Model;
 
@@ -311,7 +312,7 @@ impl Reader<'_> {
     fn name_characters(&mut self, alloc: Global) -> Result<Text, AllocError>
         ensures { IfOk result (λ name. (name ≡ run_of is_name_character self.old.rest) × (self.new ≡ notes (record { rest = behind_run is_name_character self.old.rest; far = self.old.far }) (length (behind_run is_name_character self.old.rest)))) }
     {
-        let mut name = Text::new(alloc);
+        let mut name = TextBuilder::new(alloc);
         while let [character, tail @ ..] = self.rest {
             if !is_name_character(*character) {
                 break;
@@ -320,7 +321,7 @@ impl Reader<'_> {
             self.rest = tail;
         }
         self.note();
-        Ok(name)
+        name.finish()
     }
 
     /// Reads a name.

@@ -6,11 +6,12 @@ ghost use Rattle.std.specs.Str.Iter.{chars_rest};
 ghost use Rattle.gx_serial.specs.Escape.{digit, reference, escaped_in_text, escaped_in_value, text_escaped, value_escaped};
 
 use gx_base::text::Text;
+use gx_base::text_builder::TextBuilder;
 use std::alloc::AllocError;
 use std::str::Chars;
 
 // Adds an ASCII text at the end.
-pub(crate) fn push_ascii(out: &mut Text, text: &str) -> Result<(), AllocError>
+pub(crate) fn push_ascii(out: &mut TextBuilder, text: &str) -> Result<(), AllocError>
     requires { IsTrue (list_all (λ c. nat_lt c 128) text.now) }
     ensures { OnOk result (out.new ≡ out.old ++ text.now) }
 {
@@ -33,7 +34,7 @@ fn digit(n: u8) -> char
 }
 
 // Adds a reference to a character below 256.
-fn push_reference(out: &mut Text, code: u8) -> Result<(), AllocError>
+fn push_reference(out: &mut TextBuilder, code: u8) -> Result<(), AllocError>
     ensures { OnOk result (out.new ≡ out.old ++ reference code) }
 {
     push_ascii(out, "&#x")?;
@@ -45,7 +46,7 @@ fn push_reference(out: &mut Text, code: u8) -> Result<(), AllocError>
 }
 
 // Adds a character of a text.
-fn push_in_text(out: &mut Text, c: char) -> Result<(), AllocError>
+fn push_in_text(out: &mut TextBuilder, c: char) -> Result<(), AllocError>
     ensures { OnOk result (out.new ≡ out.old ++ escaped_in_text c) }
 {
     if c == '&' {
@@ -64,7 +65,7 @@ fn push_in_text(out: &mut Text, c: char) -> Result<(), AllocError>
 }
 
 // Adds a character of an attribute's value.
-fn push_in_value(out: &mut Text, c: char) -> Result<(), AllocError>
+fn push_in_value(out: &mut TextBuilder, c: char) -> Result<(), AllocError>
     ensures { OnOk result (out.new ≡ out.old ++ escaped_in_value c) }
 {
     if c == '"' {
@@ -77,7 +78,7 @@ fn push_in_value(out: &mut Text, c: char) -> Result<(), AllocError>
 }
 
 // Adds the characters of a text.
-pub(crate) fn push_text(out: &mut Text, text: &Text) -> Result<(), AllocError>
+pub(crate) fn push_text(out: &mut TextBuilder, text: &Text) -> Result<(), AllocError>
     ensures { OnOk result (out.new ≡ out.old ++ text_escaped text.now) }
 {
     let mut rest = text.as_str().chars();
@@ -88,7 +89,7 @@ pub(crate) fn push_text(out: &mut Text, text: &Text) -> Result<(), AllocError>
 }
 
 // Adds the characters of an attribute's value.
-pub(crate) fn push_value(out: &mut Text, text: &Text) -> Result<(), AllocError>
+pub(crate) fn push_value(out: &mut TextBuilder, text: &Text) -> Result<(), AllocError>
     ensures { OnOk result (out.new ≡ out.old ++ value_escaped text.now) }
 {
     let mut rest = text.as_str().chars();

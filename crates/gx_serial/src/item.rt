@@ -12,6 +12,7 @@ use crate::escape::push_text;
 use crate::put::put_in_pieces;
 use crate::write::push_tree;
 use gx_base::text::Text;
+use gx_base::text_builder::TextBuilder;
 use gx_io::{PutError, Sink};
 use gx_tree::tree::Tree;
 use std::alloc::{AllocError, Global};
@@ -40,20 +41,20 @@ pub fn serialise<S: Sink>(alloc: Global, items: &[SerialItem], sink: &mut S) -> 
     }
 }
 
-fn text_of(alloc: Global, items: &[SerialItem]) -> Result<Text, AllocError>
+fn text_of(alloc: Global, items: &[SerialItem]) -> Result<TextBuilder, AllocError>
     ensures { IfOk result (λ text. text ≡ answer_text items.now) }
 {
-    let none = Text::new(alloc);
+    let none = Text::empty(alloc)?;
     let mut scope = Bindings::new(alloc);
     scope.push(&none, &none)?;
-    let mut out = Text::new(alloc);
+    let mut out = TextBuilder::new(alloc);
     push_items(alloc, &mut out, &mut scope, items)?;
     Ok(out)
 }
 
 fn push_items<'a>(
     alloc: Global,
-    out: &mut Text,
+    out: &mut TextBuilder,
     scope: &mut Bindings<'a>,
     items: &'a [SerialItem],
 ) -> Result<(), AllocError>
@@ -70,7 +71,7 @@ fn push_items<'a>(
 // Adds an item, and says whether it is an atomic value.
 fn push_item<'a>(
     alloc: Global,
-    out: &mut Text,
+    out: &mut TextBuilder,
     scope: &mut Bindings<'a>,
     follows_value: bool,
     item: &'a SerialItem,

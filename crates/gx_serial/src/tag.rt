@@ -9,11 +9,16 @@ use crate::escape::{push_ascii, push_value};
 use crate::prefix::Prefixes;
 use gx_base::name::Name;
 use gx_base::text::Text;
+use gx_base::text_builder::TextBuilder;
 use gx_tree::attribute::Attribute;
 use std::alloc::{AllocError, Global};
 
 // Adds a name with its prefix.
-pub(crate) fn push_name(out: &mut Text, prefix: &Text, local: &Text) -> Result<(), AllocError>
+pub(crate) fn push_name(
+    out: &mut TextBuilder,
+    prefix: &Text,
+    local: &Text,
+) -> Result<(), AllocError>
     ensures { OnOk result (out.new ≡ out.old ++ spelled_name prefix.now local.now) }
 {
     if !prefix.is_empty() {
@@ -24,7 +29,11 @@ pub(crate) fn push_name(out: &mut Text, prefix: &Text, local: &Text) -> Result<(
 }
 
 // Adds the declaration of a prefix, or of the default.
-pub(crate) fn push_declaration(out: &mut Text, prefix: &Text, uri: &Text) -> Result<(), AllocError>
+pub(crate) fn push_declaration(
+    out: &mut TextBuilder,
+    prefix: &Text,
+    uri: &Text,
+) -> Result<(), AllocError>
     ensures { OnOk result (out.new ≡ out.old ++ spelled_declaration (prefix.now, uri.now)) }
 {
     push_ascii(out, " xmlns")?;
@@ -39,7 +48,7 @@ pub(crate) fn push_declaration(out: &mut Text, prefix: &Text, uri: &Text) -> Res
 
 // Adds an attribute.
 pub(crate) fn push_attribute(
-    out: &mut Text,
+    out: &mut TextBuilder,
     prefix: &Text,
     local: &Text,
     value: &Text,
@@ -56,7 +65,7 @@ pub(crate) fn push_attribute(
 
 // Adds the declaration of a prefix, where the URI needs it.
 fn declare<'a>(
-    out: &mut Text,
+    out: &mut TextBuilder,
     scope: &mut Bindings<'a>,
     prefix: &Text,
     uri: &'a Text,
@@ -74,8 +83,8 @@ fn declare<'a>(
 // Adds an attribute to the text of a tag's attributes, and the declaration that it needs to the tag.
 fn push_next<'a>(
     alloc: Global,
-    out: &mut Text,
-    written: &mut Text,
+    out: &mut TextBuilder,
+    written: &mut TextBuilder,
     prefixes: &mut Prefixes<'a>,
     scope: &mut Bindings<'a>,
     attribute: &'a Attribute,
@@ -104,7 +113,7 @@ fn push_next<'a>(
 // Adds the attributes of a tag behind the declarations that they need.
 fn push_attributes<'a>(
     alloc: Global,
-    out: &mut Text,
+    out: &mut TextBuilder,
     scope: &mut Bindings<'a>,
     name: &'a Name,
     attributes: &'a [Attribute],
@@ -115,18 +124,18 @@ fn push_attributes<'a>(
         (spelled_attributes (written_attributes (prefixes_of name.now attributes.now) (named name.now scope.old) attributes.now))) }
 {
     let mut prefixes = Prefixes::new(alloc, name, attributes)?;
-    let mut written = Text::new(alloc);
+    let mut written = TextBuilder::new(alloc);
     for attribute in attributes {
         push_next(alloc, out, &mut written, &mut prefixes, scope, attribute)?;
     }
-    out.push_text(&written)?;
+    out.append(&written)?;
     Ok(())
 }
 
 // Adds the start of a tag, without its end. The bindings in force grow by its declarations.
 pub(crate) fn push_start<'a>(
     alloc: Global,
-    out: &mut Text,
+    out: &mut TextBuilder,
     scope: &mut Bindings<'a>,
     name: &'a Name,
     attributes: &'a [Attribute],

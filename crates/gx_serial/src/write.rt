@@ -9,6 +9,7 @@ use crate::escape::{push_ascii, push_text};
 use crate::tag::{push_name, push_start};
 use gx_base::name::Name;
 use gx_base::text::Text;
+use gx_base::text_builder::TextBuilder;
 use gx_tree::attribute::Attribute;
 use gx_tree::tree::{Tree, TreeNode};
 use std::alloc::{AllocError, Global};
@@ -17,7 +18,7 @@ use std::alloc::{AllocError, Global};
 #[cycle(push_tree)]
 pub(crate) fn push_tree<'a>(
     alloc: Global,
-    out: &mut Text,
+    out: &mut TextBuilder,
     scope: &mut Bindings<'a>,
     tree: &'a Tree,
 ) -> Result<(), AllocError>
@@ -40,7 +41,7 @@ pub(crate) fn push_tree<'a>(
 #[cycle(push_tree)]
 fn push_element<'a>(
     alloc: Global,
-    out: &mut Text,
+    out: &mut TextBuilder,
     scope: &mut Bindings<'a>,
     name: &'a Name,
     attributes: &'a Vec<Attribute>,
@@ -62,7 +63,7 @@ fn push_element<'a>(
 #[cycle(push_tree)]
 fn push_content<'a>(
     alloc: Global,
-    out: &mut Text,
+    out: &mut TextBuilder,
     scope: &mut Bindings<'a>,
     name: &'a Name,
     children: &'a Vec<Tree>,
@@ -80,7 +81,7 @@ fn push_content<'a>(
     Ok(())
 }
 
-fn push_end(out: &mut Text, name: &Name) -> Result<(), AllocError>
+fn push_end(out: &mut TextBuilder, name: &Name) -> Result<(), AllocError>
     ensures { OnOk result (out.new ≡ out.old ++ spelled_end name.now.prefix name.now.local) }
 {
     push_ascii(out, "</")?;
@@ -91,7 +92,7 @@ fn push_end(out: &mut Text, name: &Name) -> Result<(), AllocError>
 #[cycle(push_tree)]
 fn push_trees<'a>(
     alloc: Global,
-    out: &mut Text,
+    out: &mut TextBuilder,
     scope: &mut Bindings<'a>,
     trees: &'a Vec<Tree>,
 ) -> Result<(), AllocError>

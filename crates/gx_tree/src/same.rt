@@ -95,7 +95,7 @@ fn same_type(a: &TypeName, b: &TypeName) -> bool
 {
     match (a, b) {
         (TypeName::Builtin(x), TypeName::Builtin(y)) => x == y,
-        (TypeName::Named(x), TypeName::Named(y)) => same_name(x, y),
+        (TypeName::Named(x), TypeName::Named(y)) => same_name(x.name(), y.name()),
         (TypeName::Anonymous(x), TypeName::Anonymous(y)) => x == y,
         _ => false,
     }

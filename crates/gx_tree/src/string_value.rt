@@ -8,6 +8,7 @@ ghost use Rattle.gx_tree.specs.StringValue.{string_value, string_values, all_nod
 
 use crate::tree::{Tree, TreeNode};
 use gx_base::text::Text;
+use gx_base::text_builder::TextBuilder;
 use std::alloc::{AllocError, Global};
 
 /// The string value: the texts that the node holds, in document order, one after another, or the value of an
@@ -15,13 +16,13 @@ use std::alloc::{AllocError, Global};
 pub fn string_value(alloc: Global, tree: &Tree) -> Result<Text, AllocError>
     ensures { IfOk result (λ value. value ≡ string_value tree.now) }
 {
-    let mut value = Text::new(alloc);
+    let mut value = TextBuilder::new(alloc);
     push_texts(&mut value, tree)?;
-    Ok(value)
+    value.finish()
 }
 
 #[cycle(push_texts)]
-fn push_texts(value: &mut Text, tree: &Tree) -> Result<(), AllocError>
+fn push_texts(value: &mut TextBuilder, tree: &Tree) -> Result<(), AllocError>
     ensures { OnOk result (value.new ≡ value.old ++ string_value tree.now) }
 {
     match &tree.node {
@@ -38,7 +39,7 @@ fn push_texts(value: &mut Text, tree: &Tree) -> Result<(), AllocError>
 }
 
 #[cycle(push_texts)]
-fn push_all(value: &mut Text, trees: &Vec<Tree>) -> Result<(), AllocError>
+fn push_all(value: &mut TextBuilder, trees: &Vec<Tree>) -> Result<(), AllocError>
     ensures { OnOk result (value.new ≡ value.old ++ string_values (trees_of trees.now.items)) }
 {
     for tree in trees {

@@ -23,8 +23,8 @@ fn empty() -> Ty {
 
 fn name(alloc: Global, local: &str) -> Result<Name, Fail> {
     Ok(Name {
-        uri: Text::new(alloc),
-        prefix: Text::new(alloc),
+        uri: Text::empty(alloc)?,
+        prefix: Text::empty(alloc)?,
         local: Text::from_str(alloc, local)?,
     })
 }

@@ -8,6 +8,7 @@ ghost use Rattle.gx_typetext.specs.ItemText.{is_any_type, is_any_simple_type, te
 use crate::builtin_name::builtin_name;
 use gx_base::name::Name;
 use gx_base::text::Text;
+use gx_base::text_builder::TextBuilder;
 use gx_base::type_name::{Builtin, TypeName};
 use gx_types::item_type::ItemType;
 use std::alloc::{AllocError, Global};
@@ -15,15 +16,23 @@ use std::alloc::{AllocError, Global};
 const SCHEMA_NAMESPACE: &str = "http://www.w3.org/2001/XMLSchema";
 
 // Adds a word at the end.
-pub(crate) fn write_word(alloc: Global, text: &mut Text, word: &str) -> Result<(), AllocError>
+pub(crate) fn write_word(
+    alloc: Global,
+    text: &mut TextBuilder,
+    word: &str,
+) -> Result<(), AllocError>
     ensures { OnOk result (text.new ≡ text.old ++ chars word.now) }
 {
-    text.push_text(&Text::from_str(alloc, word)?)
+    text.push_str(word)
 }
 
 // Adds an item type at the end.
 #[tactic(auto, using(std::proofs::Common::append_assoc))]
-pub(crate) fn write_item(alloc: Global, text: &mut Text, item: &ItemType) -> Result<(), AllocError>
+pub(crate) fn write_item(
+    alloc: Global,
+    text: &mut TextBuilder,
+    item: &ItemType,
+) -> Result<(), AllocError>
     ensures { OnOk result (text.new ≡ text.old ++ item_text item.now) }
 {
     match item {
@@ -43,7 +52,7 @@ pub(crate) fn write_item(alloc: Global, text: &mut Text, item: &ItemType) -> Res
 #[tactic(auto, using(std::proofs::Common::append_assoc))]
 fn write_element(
     alloc: Global,
-    text: &mut Text,
+    text: &mut TextBuilder,
     name: &Option<Name>,
     kind: &TypeName,
 ) -> Result<(), AllocError>
@@ -57,7 +66,7 @@ fn write_element(
 #[tactic(auto, using(std::proofs::Common::append_assoc))]
 fn write_attribute(
     alloc: Global,
-    text: &mut Text,
+    text: &mut TextBuilder,
     name: &Option<Name>,
     kind: &TypeName,
 ) -> Result<(), AllocError>
@@ -90,7 +99,7 @@ fn has_any_simple_type(kind: &TypeName) -> bool
 #[tactic(auto, using(std::proofs::Common::append_assoc))]
 fn write_test(
     alloc: Global,
-    text: &mut Text,
+    text: &mut TextBuilder,
     name: &Option<Name>,
     kind: &TypeName,
     has_any_type: bool,
@@ -113,7 +122,7 @@ fn write_test(
 }
 
 #[tactic(auto, using(std::proofs::Common::append_assoc))]
-fn write_type_name(alloc: Global, text: &mut Text, kind: &TypeName) -> Result<(), AllocError>
+fn write_type_name(alloc: Global, text: &mut TextBuilder, kind: &TypeName) -> Result<(), AllocError>
     ensures { OnOk result (text.new ≡ text.old ++ type_name_text kind.now) }
 {
     match kind {
@@ -121,7 +130,7 @@ fn write_type_name(alloc: Global, text: &mut Text, kind: &TypeName) -> Result<()
             write_word(alloc, text, "xs:")?;
             write_word(alloc, text, builtin_name(*builtin))
         }
-        TypeName::Named(name) => write_name(alloc, text, name),
+        TypeName::Named(name) => write_name(alloc, text, name.name()),
         TypeName::Anonymous(number) => {
             write_word(alloc, text, "#")?;
             write_number(alloc, text, *number)
@@ -129,7 +138,7 @@ fn write_type_name(alloc: Global, text: &mut Text, kind: &TypeName) -> Result<()
     }
 }
 
-fn write_number(alloc: Global, text: &mut Text, number: u32) -> Result<(), AllocError>
+fn write_number(alloc: Global, text: &mut TextBuilder, number: u32) -> Result<(), AllocError>
     ensures { OnOk result (text.new ≡ text.old ++ chars (decimal number)) }
 {
     let digits = format!(in alloc; "{number}")?;
@@ -137,7 +146,7 @@ fn write_number(alloc: Global, text: &mut Text, number: u32) -> Result<(), Alloc
 }
 
 #[tactic(auto, using(std::proofs::Common::append_assoc))]
-fn write_name(alloc: Global, text: &mut Text, name: &Name) -> Result<(), AllocError>
+fn write_name(alloc: Global, text: &mut TextBuilder, name: &Name) -> Result<(), AllocError>
     ensures { OnOk result (text.new ≡ text.old ++ name_text name.now) }
 {
     write_space(alloc, text, &name.uri)?;
@@ -145,10 +154,10 @@ fn write_name(alloc: Global, text: &mut Text, name: &Name) -> Result<(), AllocEr
 }
 
 // Adds what stands before the local part of a name.
-fn write_space(alloc: Global, text: &mut Text, uri: &Text) -> Result<(), AllocError>
+fn write_space(alloc: Global, text: &mut TextBuilder, uri: &Text) -> Result<(), AllocError>
     ensures { OnOk result (text.new ≡ text.old ++ space_text uri.now) }
 {
-    if *uri == Text::new(alloc) {
+    if uri.is_empty() {
         return Ok(());
     }
     if *uri == Text::from_str(alloc, SCHEMA_NAMESPACE)? {
@@ -159,7 +168,7 @@ fn write_space(alloc: Global, text: &mut Text, uri: &Text) -> Result<(), AllocEr
 
 // Adds a URI in braces.
 #[tactic(auto, using(std::proofs::Common::append_assoc))]
-fn write_braced(alloc: Global, text: &mut Text, uri: &Text) -> Result<(), AllocError>
+fn write_braced(alloc: Global, text: &mut TextBuilder, uri: &Text) -> Result<(), AllocError>
     ensures { OnOk result (text.new ≡ text.old ++ braced uri.now) }
 {
     write_word(alloc, text, "{")?;

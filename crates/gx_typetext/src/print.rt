@@ -6,6 +6,7 @@ ghost use Rattle.gx_typetext.specs.TypeText.{opening, closing, text_within, type
 use crate::context::{ChoiceName, Within};
 use crate::item_text::{write_item, write_word};
 use gx_base::text::Text;
+use gx_base::text_builder::TextBuilder;
 use gx_types::sequence_type::{Ty, TyNode};
 use std::alloc::{AllocError, Global};
 
@@ -16,14 +17,19 @@ use std::alloc::{AllocError, Global};
 pub fn print_type(alloc: Global, t: &Ty) -> Result<Text, AllocError>
     ensures { IfOk result (λ text. text ≡ type_text t.now) }
 {
-    let mut text = Text::new(alloc);
+    let mut text = TextBuilder::new(alloc);
     write_type(alloc, &mut text, Within::Whole, t)?;
-    Ok(text)
+    text.finish()
 }
 
 // Adds a type at the end.
 #[tactic(auto, using(std::proofs::Common::append_assoc))]
-fn write_type(alloc: Global, text: &mut Text, within: Within, t: &Ty) -> Result<(), AllocError>
+fn write_type(
+    alloc: Global,
+    text: &mut TextBuilder,
+    within: Within,
+    t: &Ty,
+) -> Result<(), AllocError>
     ensures { OnOk result (text.new ≡ text.old ++ text_within within t.now) }
 {
     match &t.node {
@@ -72,7 +78,7 @@ fn write_type(alloc: Global, text: &mut Text, within: Within, t: &Ty) -> Result<
 }
 
 // Adds an opening parenthesis where one is wanted.
-fn write_opening(alloc: Global, text: &mut Text, wrapped: bool) -> Result<(), AllocError>
+fn write_opening(alloc: Global, text: &mut TextBuilder, wrapped: bool) -> Result<(), AllocError>
     ensures { OnOk result (text.new ≡ text.old ++ opening wrapped) }
 {
     if wrapped {
@@ -82,7 +88,7 @@ fn write_opening(alloc: Global, text: &mut Text, wrapped: bool) -> Result<(), Al
 }
 
 // Adds a closing parenthesis where one is wanted.
-fn write_closing(alloc: Global, text: &mut Text, wrapped: bool) -> Result<(), AllocError>
+fn write_closing(alloc: Global, text: &mut TextBuilder, wrapped: bool) -> Result<(), AllocError>
     ensures { OnOk result (text.new ≡ text.old ++ closing wrapped) }
 {
     if wrapped {

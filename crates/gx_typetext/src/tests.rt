@@ -20,7 +20,7 @@ fn atom(alloc: Global, builtin: Builtin) -> Result<Ty, Fail> {
 fn element(alloc: Global, uri: &str, local: &str) -> Result<Ty, Fail> {
     let name = Name {
         uri: Text::from_str(alloc, uri)?,
-        prefix: Text::new(alloc),
+        prefix: Text::empty(alloc)?,
         local: Text::from_str(alloc, local)?,
     };
     let kind = TypeName::Anonymous(12);

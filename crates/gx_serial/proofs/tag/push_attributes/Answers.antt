@@ -57,6 +57,6 @@ returns c =
       text = (
         c.loop-attribute.out,
         c.loop-attribute.invariant.declares,
-        c.in_ok-push_text.ensures.ok ∙ ap (λ t. c.loop-attribute.out ++ t) listed,
+        c.in_ok-append.ensures.ok ∙ ap (λ t. c.loop-attribute.out ++ t) listed,
       );
     }

@@ -1,6 +1,0 @@
-use Rattle.std.proofs.Common.{ap, ◌∙◌, nat_eq, length}
-use Rattle.gx_base.proofs.TextLemmas.{empty_string}
-use Rattle.gx_base.proofs.text.Text.is_empty.Goals as goal
-
-pub returns : goal.returns
-returns c = rw (← c.self.view_is) (empty_string c.self.inside.text c.is_empty.result (c.is_empty.ensures ∙ ap (λ bs. nat_eq (length bs) 0) c.as_str.ensures.value))
