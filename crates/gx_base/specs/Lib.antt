@@ -1,3 +1,5 @@
 pub mod Text
 pub mod Name
 pub mod Code
+pub mod WhiteSpace
+pub mod Stored

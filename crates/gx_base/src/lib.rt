@@ -1,6 +1,7 @@
 //! Names, texts, places, built-in type names and error codes: what every layer speaks of.
 #![tactic(auto)]
 
+pub mod characters;
 pub mod code;
 pub mod limits;
 pub mod name;

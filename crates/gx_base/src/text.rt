@@ -10,13 +10,13 @@ ghost use Rattle.std.specs.Hash as fed;
 ghost use Rattle.std.proofs.Common.{rules};
 ghost use Rattle.gx_base.specs.Text.{same_text, text_cmp};
 
+use crate::characters::next_character;
 use std::alloc::{AllocError, Global};
 use std::cmp::Ordering;
 use std::fmt;
 use std::hash::{Hash, Hasher};
 use std::marker::Model;
 use std::rc::Rc;
-use std::str::Chars;
 
 /// A text, which contracts see as the list of its characters (XML 1.0, section 2.2; XQuery 1.0 and XPath 2.0 Data
 /// Model, section 2.1). Copies share the characters, so copying a text takes no memory. Texts are compared by code points.
@@ -172,15 +172,4 @@ fn compare_characters(a: &str, b: &str) -> Ordering
         Some(_) => Ordering::Less,
         None => Ordering::Equal,
     }
-}
-
-// Takes the next character.
-fn next_character(rest: &mut Chars<'_>) -> Option<char>
-    requires { IsUtf8 (chars_rest rest.old) }
-    ensures text { IsUtf8 (chars_rest rest.new) }
-    ensures end { IfNone result (chars (chars_rest rest.old) ≡ []) }
-    ensures next { IfSome result (λ c. chars (chars_rest rest.old) ≡ c ∷ chars (chars_rest rest.new)) }
-    ensures shorter { OnSome result (length (chars_rest rest.new) < length (chars_rest rest.old)) }
-{
-    rest.next()
 }

@@ -2,7 +2,7 @@
 use Rattle.std.specs.Prelude.{◌≡◌, zero, suc, ℤ, pos, negsuc, refl}
 use Rattle.std.proofs.Common.{sym, ◌∙◌, ap}
 use base.Stored.{Gv, gnil, gnum, gcons, Coded}
-use Rattle.gx_base.specs.declared.place.Place.{Place}
+use Rattle.gx_base.specs.Stored.{stored_place, place_back, place_once, stored_integer, integer_once}
 use Rattle.gx_types.specs.SequenceType.{SequenceType}
 use Rattle.gx_types.specs.TypeCode.{type_code}
 use Rattle.gx_core.specs.declared.expression.Binder.{Binder}
@@ -10,18 +10,8 @@ use Rattle.gx_core.specs.declared.expression.BinaryOp.{BinaryOp}
 use Rattle.gx_core.specs.declared.expression.BinaryOp.TheVariants.{Add}
 use Rattle.gx_core.specs.Expression.{Expression, At, Form, literal, variable, empty, sequence, let_in, data_of, binary, CoreExpression}
 
-abbrev pub store_place : Place → Gv
-store_place p = gcons (gnum p.line) (gnum p.column)
-
-abbrev pub place_back : Gv → Place
-place_back (gcons (gnum l) (gnum c)) = record { line = l; column = c }
-place_back _ = record { line = 0; column = 0 }
-
-pub place_once : (p q : Place) → store_place p ≡ store_place q → p ≡ q
-place_once p q e = ap place_back e
-
 abbrev pub store_binder : Binder → Gv
-store_binder b = gcons (gnum b.variable) (store_place b.place)
+store_binder b = gcons (gnum b.variable) (stored_place b.place)
 
 abbrev pub binder_back : Gv → Binder
 binder_back (gcons (gnum v) p) = record { variable = v; place = place_back p }
@@ -29,22 +19,6 @@ binder_back _ = record { variable = 0; place = place_back gnil }
 
 pub binder_once : (b c : Binder) → store_binder b ≡ store_binder c → b ≡ c
 binder_once b c e = ap binder_back e
-
-abbrev pub store_integer : ℤ → Gv
-store_integer (pos n) = gcons (gnum 0) (gnum n)
-store_integer (negsuc n) = gcons (gnum 1) (gnum n)
-
-abbrev pub integer_back : Gv → ℤ
-integer_back (gcons (gnum zero) (gnum n)) = pos n
-integer_back (gcons (gnum (suc z)) (gnum n)) = negsuc n
-integer_back _ = pos 0
-
-integer_returns : (z : ℤ) → integer_back (store_integer z) ≡ z
-integer_returns (pos n) = refl
-integer_returns (negsuc n) = refl
-
-pub integer_once : (y z : ℤ) → store_integer y ≡ store_integer z → y ≡ z
-integer_once y z e = sym (integer_returns y) ∙ ap integer_back e ∙ integer_returns z
 
 abbrev pub store_operator : BinaryOp → Gv
 store_operator Add = gnum 0
@@ -54,11 +28,11 @@ operator_once Add Add e = refl
 
 abbrev mutual
   pub store_expression : {A : Type 0} → (A → Gv) → Expression A → Gv
-  store_expression code (At p o n f) = gcons (store_place p) (gcons (store_place o) (gcons (code n) (store_form code f)))
+  store_expression code (At p o n f) = gcons (stored_place p) (gcons (stored_place o) (gcons (code n) (store_form code f)))
 
   pub store_form : {A : Type 0} → (A → Gv) → Form A → Gv
   store_form code empty = gnil
-  store_form code (literal z) = gcons (gnum 0) (store_integer z)
+  store_form code (literal z) = gcons (gnum 0) (stored_integer z)
   store_form code (variable n) = gcons (gnum 1) (gnum n)
   store_form code (sequence a b) = gcons (gnum 2) (gcons (store_expression code a) (store_expression code b))
   store_form code (let_in v a b) = gcons (gnum 3) (gcons (store_binder v) (gcons (store_expression code a) (store_expression code b)))

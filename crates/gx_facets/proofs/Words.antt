@@ -1,7 +1,8 @@
 -- One pass over a text finds the words.
 use Rattle.std.proofs.Common.{◌≡◌, ℕ, Bool, true, false, cond, List, [], ◌∷◌, ◌++◌, refl, ap, sym, ◌∙◌}
-use Rattle.gx_facets.specs.WhiteSpace.{is_space, collapsed, before_part, parts_of, spaced, joined}
+use Rattle.gx_facets.specs.WhiteSpace.{collapsed, before_part, parts_of, spaced, joined}
 use Rattle.gx_facets.proofs.Collapsing.{collapsed_behind, in_one_pass}
+use Rattle.gx_base.specs.WhiteSpace.{is_white_space}
 
 -- what follows a character that stays: the rest of its part, and then the other parts
 continued : List (List ℕ) → List ℕ
@@ -34,7 +35,7 @@ behind [] = (refl, refl)
 behind (c ∷ cs) =
     let rest = behind cs in
     by_test (λ b. (cond b (collapsed_behind true cs) (32 ∷ c ∷ collapsed_behind false cs) ≡ spaced (cond b ([] ∷ parts_of cs) (before_part c (parts_of cs))))
-    × (cond b (collapsed_behind true cs) (c ∷ collapsed_behind false cs) ≡ continued (cond b ([] ∷ parts_of cs) (before_part c (parts_of cs))))) (is_space c)
+    × (cond b (collapsed_behind true cs) (c ∷ collapsed_behind false cs) ≡ continued (cond b ([] ∷ parts_of cs) (before_part c (parts_of cs))))) (is_white_space c)
     (rest.0, rest.0)
     (ap (λ t. 32 ∷ c ∷ t) rest.1 ∙ sym (spaced_before c (parts_of cs)), ap (λ t. c ∷ t) rest.1 ∙ sym (continued_before c (parts_of cs)))
 
@@ -42,6 +43,6 @@ behind (c ∷ cs) =
 pub one_pass : (cs : List ℕ) → in_one_pass cs ≡ collapsed cs
 one_pass [] = refl
 one_pass (c ∷ cs) =
-    by_test (λ b. cond b (in_one_pass cs) (c ∷ collapsed_behind false cs) ≡ joined (cond b ([] ∷ parts_of cs) (before_part c (parts_of cs)))) (is_space c)
+    by_test (λ b. cond b (in_one_pass cs) (c ∷ collapsed_behind false cs) ≡ joined (cond b ([] ∷ parts_of cs) (before_part c (parts_of cs)))) (is_white_space c)
     (one_pass cs)
     (ap (λ t. c ∷ t) (behind cs).1 ∙ sym (joined_before c (parts_of cs)))

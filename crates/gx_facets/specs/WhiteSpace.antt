@@ -1,12 +1,9 @@
 -- White space of a lexical form (XML Schema Part 2, 4.3.6).
-use Rattle.std.specs.Prelude.{ℕ, Bool, ◌==◌, ◌||◌, ◌++◌, if◌then◌else◌, List, [], ◌∷◌, map}
-
--- space, tab, line feed and carriage return
-abbrev pub is_space : ℕ → Bool
-is_space c = (c == 32 || c == 9) || (c == 10 || c == 13)
+use Rattle.std.specs.Prelude.{ℕ, ◌++◌, if◌then◌else◌, List, [], ◌∷◌, map}
+use Rattle.gx_base.specs.WhiteSpace.{is_white_space}
 
 abbrev pub space_for : ℕ → ℕ
-space_for c = if is_space c then 32 else c
+space_for c = if is_white_space c then 32 else c
 
 -- each is replaced by a space
 abbrev pub replaced : List ℕ → List ℕ
@@ -20,7 +17,7 @@ before_part c (part ∷ parts) = (c ∷ part) ∷ parts
 -- the parts between one white space and the next
 abbrev pub parts_of : List ℕ → List (List ℕ)
 parts_of [] = [] ∷ []
-parts_of (c ∷ cs) = if is_space c then [] ∷ parts_of cs else before_part c (parts_of cs)
+parts_of (c ∷ cs) = if is_white_space c then [] ∷ parts_of cs else before_part c (parts_of cs)
 
 -- the parts that are not empty, each behind a space
 abbrev pub spaced : List (List ℕ) → List ℕ

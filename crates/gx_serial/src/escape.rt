@@ -5,10 +5,10 @@ ghost use Rattle.std.specs.Str.{chars, IsUtf8};
 ghost use Rattle.std.specs.Str.Iter.{chars_rest};
 ghost use Rattle.gx_serial.specs.Escape.{digit, reference, escaped_in_text, escaped_in_value, text_escaped, value_escaped};
 
+use gx_base::characters::next_character;
 use gx_base::text::Text;
 use gx_base::text_builder::TextBuilder;
 use std::alloc::AllocError;
-use std::str::Chars;
 
 // Adds an ASCII text at the end.
 pub(crate) fn push_ascii(out: &mut TextBuilder, text: &str) -> Result<(), AllocError>
@@ -97,15 +97,4 @@ pub(crate) fn push_value(out: &mut TextBuilder, text: &Text) -> Result<(), Alloc
         push_in_value(out, c)?;
     }
     Ok(())
-}
-
-// Takes the next character.
-fn next_character(rest: &mut Chars<'_>) -> Option<char>
-    requires { IsUtf8 (chars_rest rest.old) }
-    ensures text { IsUtf8 (chars_rest rest.new) }
-    ensures end { IfNone result (chars (chars_rest rest.old) ≡ []) }
-    ensures next { IfSome result (λ c. chars (chars_rest rest.old) ≡ c ∷ chars (chars_rest rest.new)) }
-    ensures shorter { OnSome result (length (chars_rest rest.new) < length (chars_rest rest.old)) }
-{
-    rest.next()
 }

@@ -1,5 +1,5 @@
 use Rattle.gx_base.proofs.TextLemmas.{next_is_text, next_is_none, next_is_some}
-use Rattle.gx_base.proofs.text.next_character.Goals as goal
+use Rattle.gx_base.proofs.characters.next_character.Goals as goal
 
 pub returns-clause-text : goal.returns-clause-text
 returns-clause-text c = next_is_text c.args.rest.now c.next.result c.next.new.self c.requires c.next.ensures.steps
