@@ -1,21 +1,21 @@
 -- Sums belong to the type of arithmetic.
 use Rattle.std.proofs.Common.{◌≡◌, ℕ, suc, ◌≤◌, min, ℤ, ◌+ℤ◌, Bool, true, false, ◌&&◌, List, [], ◌∷◌, length, None, refl, sym, ap, subst, arith, nat_le, if◌then◌else◌}
 use Rattle.std.proofs.Math.Dec.{T, leb→le}
+use Rattle.std.proofs.lemmas.Bool.{and_parts}
 use Rattle.gx_base.specs.declared.code.Code.TheVariants.{XPTY0004, FOAR0002}
 use Rattle.gx_base.specs.declared.type_name.Builtin.{Builtin}
 use Rattle.gx_base.specs.declared.type_name.Builtin.TheVariants.{Integer, Decimal}
 use Rattle.gx_base.specs.declared.type_name.TypeName.TheVariants as names
 use Rattle.gx_types.specs.declared.shape.Shape.TheVariants.{Atom}
 use Rattle.gx_types.specs.SchemaSet.{SchemaSet}
-use Rattle.gx_types.specs.Derivation.{Derives}
+use Rattle.gx_types.specs.Derivation.{DerivesFrom}
 use Rattle.gx_types.specs.Occurs.{Occurs}
 use Rattle.gx_types.specs.Occurrence.{occurs, occurrence_of}
 use Rattle.gx_types.specs.SequenceType.{SequenceType, never}
 use Rattle.gx_types.specs.SameType.{same_type}
 use Rattle.gx_types.specs.TypeRules.{times_of}
-use Rattle.gx_types.specs.Laws.{Within}
-use Rattle.gx_types.proofs.TakesLemmas.{takes_within, times_takes_joined}
-use Rattle.gx_types.proofs.EqualTypes.{left_holds, equal_takes}
+use Rattle.gx_types.specs.Laws.{Allows}
+use Rattle.gx_types.proofs.PublicLaws.{occurrence_bounds_length, times_takes_joined, equal_types_take_the_same}
 use Rattle.gx_core.specs.declared.expression.BinaryOp.TheVariants.{Add}
 use Rattle.gx_core.specs.Expression.{annotation_of}
 use Rattle.gx_core.specs.Values.{shapes_of, Belongs}
@@ -29,19 +29,19 @@ shapes_length : (xs : List ℤ) → length (shapes_of xs) ≡ length xs
 shapes_length [] = refl
 shapes_length (x ∷ xs) = ap suc (shapes_length xs)
 
-belongs_within : (s : SchemaSet) (t : SequenceType) (xs : List ℤ) → Belongs s xs t → Within (occurrence_of t) (length xs)
-belongs_within s t xs h = subst (λ (n : ℕ). Within (occurrence_of t) n) (shapes_length xs) (takes_within s t (shapes_of xs) h)
+belongs_within : (s : SchemaSet) (t : SequenceType) (xs : List ℤ) → Belongs s xs t → Allows (occurrence_of t) (length xs)
+belongs_within s t xs h = subst (λ (n : ℕ). Allows (occurrence_of t) n) (shapes_length xs) (occurrence_bounds_length s t (shapes_of xs) h)
 
 at_most_one : (n : ℕ) → nat_le n 1 ≡ true → n ≤ 1
 at_most_one n e = leb→le n 1 (subst (λ (b : Bool). T b) (sym e) tt)
 
 -- an integer is of type xs:integer, and of xs:decimal
-integer_is_number : (s : SchemaSet) (b : Bool) → Derives s (names.Builtin Integer) (names.Builtin (if b then Integer else Decimal))
+integer_is_number : (s : SchemaSet) (b : Bool) → DerivesFrom s (names.Builtin Integer) (names.Builtin (if b then Integer else Decimal))
 integer_is_number s true = (0, refl)
 integer_is_number s false = (1, (names.Builtin Decimal, refl, refl))
 
 -- at most one integer, whose number lies within an occurrence
-few_belong : (s : SchemaSet) (n : Builtin) (o : Occurs) (zs : List ℤ) → Derives s (names.Builtin Integer) (names.Builtin n) → length zs ≤ 1 → Within o (length zs) → Belongs s zs (times_of (atomic n) o)
+few_belong : (s : SchemaSet) (n : Builtin) (o : Occurs) (zs : List ℤ) → DerivesFrom s (names.Builtin Integer) (names.Builtin n) → length zs ≤ 1 → Allows o (length zs) → Belongs s zs (times_of (atomic n) o)
 few_belong s n o [] d h w = times_takes_joined s (atomic n) o [] tt w
 few_belong s n o (z ∷ []) d h w = times_takes_joined s (atomic n) o ((Atom (names.Builtin Integer) ∷ []) ∷ []) ((Atom (names.Builtin Integer), refl, d), tt) w
 few_belong s n o (z ∷ y ∷ zs) d h w = absurd (omega arith)
@@ -59,7 +59,7 @@ sum_value_keeps s t [] (y ∷ z ∷ ys) a b h = absurd (omega arith)
 sum_value_keeps s t (x ∷ []) (y ∷ z ∷ ys) a b h = absurd (omega arith)
 sum_value_keeps s t (x ∷ z ∷ xs) ys a b h = absurd (omega arith)
 
-counted_keeps : (s : SchemaSet) (n : Builtin) (o p : Occurs) (xs ys : List ℤ) → Derives s (names.Builtin Integer) (names.Builtin n) → o.greatest ≤ 1 → p.greatest ≤ 1 → Within o (length xs) → Within p (length ys)
+counted_keeps : (s : SchemaSet) (n : Builtin) (o p : Occurs) (xs ys : List ℤ) → DerivesFrom s (names.Builtin Integer) (names.Builtin n) → o.greatest ≤ 1 → p.greatest ≤ 1 → Allows o (length xs) → Allows p (length ys)
     → Keeps s (times_of (atomic n) (occurs (min o.least p.least) (min o.greatest p.greatest))) (sum_of xs ys)
 counted_keeps s n o p xs ys d a b v w =
     let l = v.greatest (omega arith) in
@@ -72,7 +72,7 @@ arithmetic_keeps : (s : SchemaSet) (t u : SequenceType) (xs ys : List ℤ) → (
 arithmetic_keeps s t u xs ys a b h k =
     elim (same_type never t) as (λ (none : Bool). same_type never t ≡ none
     → Keeps s (if none then never else times_of (atomic (number_type s t u)) (occurs (min (occurrence_of t).least (occurrence_of u).least) (min (occurrence_of t).greatest (occurrence_of u).greatest))) (sum_of xs ys)) [
-      | true ↦ λ e. absurd (equal_takes s never t (shapes_of xs) e h)
+      | true ↦ λ e. absurd (equal_types_take_the_same s never t (shapes_of xs) e h)
       | false ↦ λ _. counted_keeps s (number_type s t u) (occurrence_of t) (occurrence_of u) xs ys (integer_is_number s (is_all_in s Integer t && is_all_in s Integer u)) a b (belongs_within s t xs h) (belongs_within s u ys k)
     ] refl
 
@@ -87,8 +87,8 @@ sum_has_type : (s : SchemaSet) (t u v : SequenceType) (xs ys : List ℤ) → Bel
 sum_has_type s t u v xs ys h k e =
     let q = allowed (is_number_or_empty s t) (is_number_or_empty s u) (arithmetic_type s t u) v e in
     keeps_ruled s (arithmetic_type s t u) v (sum_of xs ys) q.2
-    (arithmetic_keeps s t u xs ys (at_most_one (occurrence_of t).greatest (left_holds (nat_le (occurrence_of t).greatest 1) (is_all_in s Decimal t) q.0))
-    (at_most_one (occurrence_of u).greatest (left_holds (nat_le (occurrence_of u).greatest 1) (is_all_in s Decimal u) q.1)) h k)
+    (arithmetic_keeps s t u xs ys (at_most_one (occurrence_of t).greatest ((and_parts (nat_le (occurrence_of t).greatest 1) (is_all_in s Decimal t) q.0).0))
+    (at_most_one (occurrence_of u).greatest ((and_parts (nat_le (occurrence_of u).greatest 1) (is_all_in s Decimal u) q.1).0)) h k)
 
 pub sum_keeps : AddKeepsType
 sum_keeps s a b types ka kb place outer t e bindings fits =

@@ -7,7 +7,7 @@ use Rattle.gx_types.specs.SchemaSet.{SchemaSet}
 use Rattle.gx_types.specs.SequenceType.{SequenceType, nothing}
 use Rattle.gx_types.specs.TypeRules.{sequence_of}
 use Rattle.gx_types.specs.Takes.{Takes}
-use Rattle.gx_types.proofs.TakesLemmas.{sequence_takes}
+use Rattle.gx_types.proofs.PublicLaws.{sequence_takes_parts}
 use Rattle.gx_core.specs.Expression.{annotation_of}
 use Rattle.gx_core.specs.Values.{shapes_of, Belongs}
 use Rattle.gx_core.specs.Meaning.{Outcome, gives, raises, wrong, after, look_up, Bindings, variable_meaning, meaning}
@@ -40,7 +40,7 @@ shapes-append [] ys = refl
 shapes-append (x ∷ xs) ys = ap (λ ss. Atom (Builtin Integer) ∷ ss) (shapes-append xs ys)
 
 joined_belongs : (s : SchemaSet) (t u : SequenceType) (xs ys : List ℤ) → Belongs s xs t → Belongs s ys u → Belongs s (xs ++ ys) (sequence_of t u)
-joined_belongs s t u xs ys h k = subst (Takes s (sequence_of t u)) (sym (shapes-append xs ys)) (sequence_takes s t u (shapes_of xs) (shapes_of ys) h k)
+joined_belongs s t u xs ys h k = subst (Takes s (sequence_of t u)) (sym (shapes-append xs ys)) (sequence_takes_parts s t u (shapes_of xs) (shapes_of ys) h k)
 
 pub sequence_keeps : SequenceKeepsType
 sequence_keeps s a b types ka kb place outer t e bindings fits =

@@ -5,16 +5,19 @@ use Rattle.gx_base.specs.declared.type_name.Builtin.{Builtin}
 use Rattle.gx_base.specs.declared.type_name.Builtin.TheVariants.{AnyType, Untyped, AnySimple, AnyAtomic, UntypedAtomic, Str, NormalizedStr, Token, Boolean, Decimal, Integer, NonPositive, Negative, Long, Int, Short, Byte, NonNegative, UnsignedLong, UnsignedInt, UnsignedShort, UnsignedByte, Positive}
 use Rattle.gx_base.specs.declared.type_name.TypeName.{TypeName}
 use Rattle.gx_base.specs.declared.type_name.TypeName.TheVariants as names
-use Rattle.gx_types.specs.BuiltinOrder.{number_of}
+use Rattle.gx_types.specs.BuiltinOrder.{builtin_number}
 use Rattle.gx_types.specs.SameItemType.{same_type_name}
 use Rattle.gx_types.specs.Derivation.{Bases, declared_base_of, base_of, Leads, LeadsTo}
 use Rattle.gx_types.specs.Grounded.{EndsWithin, Grounded}
 
 -- where nothing is declared, every chain ends
-pub no_bases_end : Grounded []
+no_bases_end : (t : TypeName) → EndsWithin [] 0 t
 no_bases_end (names.Builtin b) = tt
 no_bases_end (names.Named n) = refl
 no_bases_end (names.Anonymous n) = refl
+
+pub nothing_is_grounded : Grounded []
+nothing_is_grounded = record { ends = no_bases_end; based = λ t base e. absurd (cc) }
 
 -- a type that has no base leads to itself alone
 pub baseless : (bases : Bases) (t u : TypeName) → same_type_name t u ≡ false → base_of bases t ≡ None → LeadsTo bases t u → ⊥
@@ -41,11 +44,11 @@ declared_base_is bases (names.Anonymous n) h = refl
 
 -- a base of a built-in type comes before it, and a declared type comes after all
 abbrev pub rank_of : TypeName → ℕ
-rank_of (names.Builtin b) = number_of b
+rank_of (names.Builtin b) = builtin_number b
 rank_of (names.Named n) = 23
 rank_of (names.Anonymous n) = 23
 
-number_at_most : (b : Builtin) → number_of b ≤ 23
+number_at_most : (b : Builtin) → builtin_number b ≤ 23
 number_at_most AnyType = omega arith
 number_at_most Untyped = omega arith
 number_at_most AnySimple = omega arith

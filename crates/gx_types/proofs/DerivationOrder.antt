@@ -1,61 +1,23 @@
--- Derivation is reflexive and transitive.
-use Rattle.std.proofs.Common.{◌≡◌, ℕ, zero, suc, Bool, true, [], ◌∷◌, Option, Some, refl, sym, ◌∙◌, ap, subst, nat_eq, if◌then◌else◌}
+-- The order of derivation: reflexive, transitive, linear, and the same for equal types.
+use Rattle.std.proofs.Common.{◌≡◌, ℕ, zero, suc, ◌<◌, Bool, true, [], ◌∷◌, ◌⊎◌, inl, inr, Option, None, Some, is_some, length, refl, ◌∙◌, ap, subst, arith, if◌then◌else◌}
 use Rattle.std.specs.Option.{option_map}
-use Rattle.std.proofs.Math.Facts.{eqb_yes}
-use Rattle.std.proofs.Math.Dec.{T}
-use Rattle.std.proofs.lemmas.Bool.{eq-eqb}
 use Rattle.gx_base.specs.declared.type_name.Builtin.{Builtin}
 use Rattle.gx_base.specs.declared.type_name.Builtin.TheVariants.{AnyType, Untyped, AnySimple, AnyAtomic, UntypedAtomic, Str, NormalizedStr, Token, Boolean, Decimal, Integer, NonPositive, Negative, Long, Int, Short, Byte, NonNegative, UnsignedLong, UnsignedInt, UnsignedShort, UnsignedByte, Positive}
 use Rattle.gx_base.specs.declared.type_name.TypeName.{TypeName}
 use Rattle.gx_base.specs.declared.type_name.TypeName.TheVariants as names
 use Rattle.gx_types.specs.BuiltinBase.{builtin_base_of}
-use Rattle.gx_types.specs.BuiltinOrder.{number_of, same_builtin}
+use Rattle.gx_types.specs.BuiltinOrder.{builtin_number}
 use Rattle.gx_types.specs.SameItemType.{same_type_name}
-use Rattle.gx_types.specs.Derivation.{Bases, declared_base_of, base_of, Leads, LeadsTo}
-use Rattle.gx_types.specs.Laws.{DerivationIsAPreorder}
-use Rattle.gx_types.proofs.EqualTypes.{names_are_equivalent}
-
-same_number : (m n : ℕ) → nat_eq m n ≡ true → m ≡ n
-same_number m n h = eqb_yes (subst (λ (b : Bool). T b) (sym h) tt)
-
-builtins_are_one : (a b : Builtin) → same_builtin a b ≡ true → a ≡ b
-builtins_are_one AnyType AnyType h = refl
-builtins_are_one Untyped Untyped h = refl
-builtins_are_one AnySimple AnySimple h = refl
-builtins_are_one AnyAtomic AnyAtomic h = refl
-builtins_are_one UntypedAtomic UntypedAtomic h = refl
-builtins_are_one Str Str h = refl
-builtins_are_one NormalizedStr NormalizedStr h = refl
-builtins_are_one Token Token h = refl
-builtins_are_one Boolean Boolean h = refl
-builtins_are_one Decimal Decimal h = refl
-builtins_are_one Integer Integer h = refl
-builtins_are_one NonPositive NonPositive h = refl
-builtins_are_one Negative Negative h = refl
-builtins_are_one Long Long h = refl
-builtins_are_one Int Int h = refl
-builtins_are_one Short Short h = refl
-builtins_are_one Byte Byte h = refl
-builtins_are_one NonNegative NonNegative h = refl
-builtins_are_one UnsignedLong UnsignedLong h = refl
-builtins_are_one UnsignedInt UnsignedInt h = refl
-builtins_are_one UnsignedShort UnsignedShort h = refl
-builtins_are_one UnsignedByte UnsignedByte h = refl
-builtins_are_one Positive Positive h = refl
-builtins_are_one _ _ h = absurd (cc)
+use Rattle.gx_types.specs.Derivation.{Bases, declared_base_of, is_declared, base_of, Leads, LeadsTo}
+use Rattle.gx_types.specs.Grounded.{EndsWithin, is_known}
+use Rattle.gx_types.specs.DerivationLaws.{DerivationIsAPreorder, DerivationIsLinear, DerivationLooksAtNoPrefix, AllTypesAreDerivedFromAnyType}
+use Rattle.gx_types.proofs.EqualNames.{builtins_are_one, type_names_are_equivalent, type_name_symm, type_name_trans, type_name_itself}
+use Rattle.gx_types.proofs.EqualTypes.{leads_to_equal}
+use Rattle.gx_types.proofs.DerivationLemmas.{to_base}
 
 -- equal types pass the same tests
 tests_agree : (d t u : TypeName) → same_type_name t u ≡ true → same_type_name d t ≡ same_type_name d u
-tests_agree (names.Builtin d) (names.Builtin t) (names.Builtin u) h = ap (λ (n : ℕ). nat_eq (number_of d) n) (same_number (number_of t) (number_of u) h)
-tests_agree (names.Named d) (names.Builtin t) (names.Builtin u) h = refl
-tests_agree (names.Anonymous d) (names.Builtin t) (names.Builtin u) h = refl
-tests_agree (names.Builtin d) (names.Named t) (names.Named u) h = refl
-tests_agree (names.Named d) (names.Named t) (names.Named u) h = names_are_equivalent.symm d t ∙ names_are_equivalent.congr t u d h ∙ names_are_equivalent.symm u d
-tests_agree (names.Anonymous d) (names.Named t) (names.Named u) h = refl
-tests_agree (names.Builtin d) (names.Anonymous t) (names.Anonymous u) h = refl
-tests_agree (names.Named d) (names.Anonymous t) (names.Anonymous u) h = refl
-tests_agree (names.Anonymous d) (names.Anonymous t) (names.Anonymous u) h = ap (λ (n : ℕ). nat_eq d n) (same_number t u h)
-tests_agree _ _ _ h = absurd (cc)
+tests_agree d t u h = type_names_are_equivalent.symm d t ∙ type_names_are_equivalent.congr t u d h ∙ type_names_are_equivalent.symm u d
 
 -- and have the same bases
 declared_bases_agree : (bases : Bases) (t u : TypeName) → same_type_name t u ≡ true → declared_base_of bases t ≡ declared_base_of bases u
@@ -64,28 +26,89 @@ declared_bases_agree (d ∷ ds) t u h =
     ap (λ (b : Bool). if b then Some d.1 else declared_base_of ds t) (tests_agree d.0 t u h)
     ∙ ap (λ (o : Option TypeName). if same_type_name d.0 u then Some d.1 else o) (declared_bases_agree ds t u h)
 
-bases_agree : (bases : Bases) (t u : TypeName) → same_type_name t u ≡ true → base_of bases t ≡ base_of bases u
+pub bases_agree : (bases : Bases) (t u : TypeName) → same_type_name t u ≡ true → base_of bases t ≡ base_of bases u
 bases_agree bases (names.Builtin t) (names.Builtin u) h = ap (λ (b : Builtin). option_map names.Builtin (builtin_base_of b)) (builtins_are_one t u h)
 bases_agree bases (names.Named t) (names.Named u) h = declared_bases_agree bases (names.Named t) (names.Named u) h
 bases_agree bases (names.Anonymous t) (names.Anonymous u) h = declared_bases_agree bases (names.Anonymous t) (names.Anonymous u) h
 bases_agree bases _ _ h = absurd (cc)
 
-same_types_trans : (a b c : TypeName) → same_type_name a b ≡ true → same_type_name b c ≡ true → same_type_name a c ≡ true
-same_types_trans a b c h k = sym (tests_agree a b c k) ∙ h
-
 -- a chain from a type is one from an equal type
 leads_from_equal : (bases : Bases) (steps : ℕ) (t u v : TypeName) → same_type_name t u ≡ true → Leads bases steps u v → Leads bases steps t v
-leads_from_equal bases zero t u v h k = same_types_trans t u v h k
+leads_from_equal bases zero t u v h k = type_name_trans t u v h k
 leads_from_equal bases (suc n) t u v h (b, e, r) = (b, bases_agree bases t u h ∙ e, r)
 
 chains_join : (bases : Bases) (steps : ℕ) (t u v : TypeName) → Leads bases steps t u → LeadsTo bases u v → LeadsTo bases t v
 chains_join bases zero t u v h k = (k.0, leads_from_equal bases k.0 t u v h k.1)
 chains_join bases (suc n) t u v (b, e, r) k = let q = chains_join bases n b u v r k in (suc q.0, (b, e, q.1))
 
-same_as_itself : (t : TypeName) → same_type_name t t ≡ true
-same_as_itself (names.Builtin b) = eq-eqb (number_of b) (number_of b) refl
-same_as_itself (names.Named n) = names_are_equivalent.refl n
-same_as_itself (names.Anonymous n) = eq-eqb n n refl
-
 pub derivation_is_a_preorder : DerivationIsAPreorder
-derivation_is_a_preorder = record { reflexive = λ s t. (0, same_as_itself t); transitive = λ s t u v h k. chains_join s.bases h.0 t u v h.1 k }
+derivation_is_a_preorder = record { reflexive = λ s t. (0, type_name_itself t); transitive = λ s t u v h k. chains_join s.bases h.0 t u v h.1 k }
+
+-- of two chains from a type the longer one goes on from the end of the shorter
+chains_are_one : (bases : Bases) (m n : ℕ) (t u v : TypeName) → Leads bases m t u → Leads bases n t v → LeadsTo bases u v ⊎ LeadsTo bases v u
+chains_are_one bases zero n t u v h k = inl (n, leads_from_equal bases n u t v (type_name_symm t u h) k)
+chains_are_one bases (suc m) zero t u v h k = inr (suc m, leads_from_equal bases (suc m) v t u (type_name_symm t v k) h)
+chains_are_one bases (suc m) (suc n) t u v (b, e, h) (c, f, k) =
+    let same : c ≡ b = cc in chains_are_one bases m n b u v h (subst (λ (x : TypeName). Leads bases n x v) same k)
+
+pub derivation_is_linear : DerivationIsLinear
+derivation_is_linear s t u v h k = chains_are_one s.bases h.0 k.0 t u v h.1 k.1
+
+pub derivation_looks_at_no_prefix : DerivationLooksAtNoPrefix
+derivation_looks_at_no_prefix s t u v w h k d =
+    (d.0, leads_from_equal s.bases d.0 u t w (type_name_symm t u h) (leads_to_equal s.bases d.0 t w v (type_name_symm v w k) d.1))
+
+-- built-in types lead to xs:anyType, and so do declared ones
+leads_to_top : (bases : Bases) (n : ℕ) (b : Builtin) → builtin_number b < n → LeadsTo bases (names.Builtin b) (names.Builtin AnyType)
+leads_to_top bases zero b h = absurd (omega arith)
+leads_to_top bases (suc n) AnyType h = (0, refl)
+leads_to_top bases (suc n) Untyped h = to_base bases (names.Builtin Untyped) (names.Builtin AnyType) (names.Builtin AnyType) refl (leads_to_top bases n AnyType (omega arith))
+leads_to_top bases (suc n) AnySimple h = to_base bases (names.Builtin AnySimple) (names.Builtin AnyType) (names.Builtin AnyType) refl (leads_to_top bases n AnyType (omega arith))
+leads_to_top bases (suc n) AnyAtomic h = to_base bases (names.Builtin AnyAtomic) (names.Builtin AnyType) (names.Builtin AnySimple) refl (leads_to_top bases n AnySimple (omega arith))
+leads_to_top bases (suc n) UntypedAtomic h = to_base bases (names.Builtin UntypedAtomic) (names.Builtin AnyType) (names.Builtin AnyAtomic) refl (leads_to_top bases n AnyAtomic (omega arith))
+leads_to_top bases (suc n) Str h = to_base bases (names.Builtin Str) (names.Builtin AnyType) (names.Builtin AnyAtomic) refl (leads_to_top bases n AnyAtomic (omega arith))
+leads_to_top bases (suc n) NormalizedStr h = to_base bases (names.Builtin NormalizedStr) (names.Builtin AnyType) (names.Builtin Str) refl (leads_to_top bases n Str (omega arith))
+leads_to_top bases (suc n) Token h = to_base bases (names.Builtin Token) (names.Builtin AnyType) (names.Builtin NormalizedStr) refl (leads_to_top bases n NormalizedStr (omega arith))
+leads_to_top bases (suc n) Boolean h = to_base bases (names.Builtin Boolean) (names.Builtin AnyType) (names.Builtin AnyAtomic) refl (leads_to_top bases n AnyAtomic (omega arith))
+leads_to_top bases (suc n) Decimal h = to_base bases (names.Builtin Decimal) (names.Builtin AnyType) (names.Builtin AnyAtomic) refl (leads_to_top bases n AnyAtomic (omega arith))
+leads_to_top bases (suc n) Integer h = to_base bases (names.Builtin Integer) (names.Builtin AnyType) (names.Builtin Decimal) refl (leads_to_top bases n Decimal (omega arith))
+leads_to_top bases (suc n) NonPositive h = to_base bases (names.Builtin NonPositive) (names.Builtin AnyType) (names.Builtin Integer) refl (leads_to_top bases n Integer (omega arith))
+leads_to_top bases (suc n) Negative h = to_base bases (names.Builtin Negative) (names.Builtin AnyType) (names.Builtin NonPositive) refl (leads_to_top bases n NonPositive (omega arith))
+leads_to_top bases (suc n) Long h = to_base bases (names.Builtin Long) (names.Builtin AnyType) (names.Builtin Integer) refl (leads_to_top bases n Integer (omega arith))
+leads_to_top bases (suc n) Int h = to_base bases (names.Builtin Int) (names.Builtin AnyType) (names.Builtin Long) refl (leads_to_top bases n Long (omega arith))
+leads_to_top bases (suc n) Short h = to_base bases (names.Builtin Short) (names.Builtin AnyType) (names.Builtin Int) refl (leads_to_top bases n Int (omega arith))
+leads_to_top bases (suc n) Byte h = to_base bases (names.Builtin Byte) (names.Builtin AnyType) (names.Builtin Short) refl (leads_to_top bases n Short (omega arith))
+leads_to_top bases (suc n) NonNegative h = to_base bases (names.Builtin NonNegative) (names.Builtin AnyType) (names.Builtin Integer) refl (leads_to_top bases n Integer (omega arith))
+leads_to_top bases (suc n) UnsignedLong h = to_base bases (names.Builtin UnsignedLong) (names.Builtin AnyType) (names.Builtin NonNegative) refl (leads_to_top bases n NonNegative (omega arith))
+leads_to_top bases (suc n) UnsignedInt h = to_base bases (names.Builtin UnsignedInt) (names.Builtin AnyType) (names.Builtin UnsignedLong) refl (leads_to_top bases n UnsignedLong (omega arith))
+leads_to_top bases (suc n) UnsignedShort h = to_base bases (names.Builtin UnsignedShort) (names.Builtin AnyType) (names.Builtin UnsignedInt) refl (leads_to_top bases n UnsignedInt (omega arith))
+leads_to_top bases (suc n) UnsignedByte h = to_base bases (names.Builtin UnsignedByte) (names.Builtin AnyType) (names.Builtin UnsignedShort) refl (leads_to_top bases n UnsignedShort (omega arith))
+leads_to_top bases (suc n) Positive h = to_base bases (names.Builtin Positive) (names.Builtin AnyType) (names.Builtin NonNegative) refl (leads_to_top bases n NonNegative (omega arith))
+
+declared_to_top : (bases : Bases) (n : ℕ) (t : TypeName) → ((u base : TypeName) → declared_base_of bases u ≡ Some base → is_known bases base ≡ true)
+    → EndsWithin bases n t → is_known bases t ≡ true → LeadsTo bases t (names.Builtin AnyType)
+declared_to_top bases n (names.Builtin b) based ends known = leads_to_top bases (suc (builtin_number b)) b (omega arith)
+declared_to_top bases zero (names.Named m) based ends known = absurd (cc (ap (λ (o : Option TypeName). is_some o) ends))
+declared_to_top bases zero (names.Anonymous m) based ends known = absurd (cc (ap (λ (o : Option TypeName). is_some o) ends))
+declared_to_top bases (suc n) (names.Named m) based ends known =
+    elim (declared_base_of bases (names.Named m)) as (λ (o : Option TypeName). declared_base_of bases (names.Named m) ≡ o → LeadsTo bases (names.Named m) (names.Builtin AnyType)) [
+      | None ↦ λ e. absurd (cc (ap (λ (o : Option TypeName). is_some o) e))
+      | Some base ↦ λ e. to_base bases (names.Named m) (names.Builtin AnyType) base e (declared_to_top bases n base based (ends base e) (based (names.Named m) base e))
+    ] refl
+declared_to_top bases (suc n) (names.Anonymous m) based ends known =
+    elim (declared_base_of bases (names.Anonymous m)) as (λ (o : Option TypeName). declared_base_of bases (names.Anonymous m) ≡ o → LeadsTo bases (names.Anonymous m) (names.Builtin AnyType)) [
+      | None ↦ λ e. absurd (cc (ap (λ (o : Option TypeName). is_some o) e))
+      | Some base ↦ λ e. to_base bases (names.Anonymous m) (names.Builtin AnyType) base e (declared_to_top bases n base based (ends base e) (based (names.Anonymous m) base e))
+    ] refl
+
+-- a declared type is known: no built-in type is declared in its place
+known_if_declared : (bases : Bases) (t : TypeName) → is_declared bases t ≡ true → is_known bases t ≡ true
+known_if_declared bases (names.Builtin b) h = refl
+known_if_declared bases (names.Named n) h = h
+known_if_declared bases (names.Anonymous n) h = h
+
+pub all_types_are_derived_from_any_type : AllTypesAreDerivedFromAnyType
+all_types_are_derived_from_any_type = record {
+  builtin = λ s b. leads_to_top s.bases (suc (builtin_number b)) b (omega arith);
+  declared = λ s t g h. declared_to_top s.bases (length s.bases) t g.based (g.ends t) (known_if_declared s.bases t h);
+}

@@ -7,10 +7,10 @@ use Rattle.gx_base.specs.declared.type_name.Builtin.TheVariants.{AnyType, Untype
 use Rattle.gx_base.specs.declared.type_name.TypeName.{TypeName}
 use Rattle.gx_base.specs.declared.type_name.TypeName.TheVariants as names
 use Rattle.gx_types.specs.BuiltinBase.{builtin_base_of}
-use Rattle.gx_types.specs.BuiltinOrder.{number_of}
+use Rattle.gx_types.specs.BuiltinOrder.{builtin_number}
 use Rattle.gx_types.specs.SameItemType.{same_type_name}
 use Rattle.gx_types.specs.SchemaSet.{SchemaSet}
-use Rattle.gx_types.specs.Derivation.{Bases, base_of, Leads, LeadsTo, of_base, leads_within, is_derived, Derives}
+use Rattle.gx_types.specs.Derivation.{Bases, base_of, Leads, LeadsTo, of_base, leads_within, is_derived, DerivesFrom}
 use Rattle.gx_types.specs.Grounded.{EndsWithin, Grounded}
 use Rattle.gx_types.proofs.DerivationLemmas.{rank_of, rank_at_most}
 
@@ -39,30 +39,30 @@ found_is_chain bases (suc m) t u h =
       ] refl k
     ] refl h
 
-base_comes_before : (a b : Builtin) → builtin_base_of a ≡ Some b → number_of b < number_of a
+base_comes_before : (a b : Builtin) → builtin_base_of a ≡ Some b → builtin_number b < builtin_number a
 base_comes_before AnyType b e = absurd (cc)
-base_comes_before Untyped b e = let same : AnyType ≡ b = cc in subst (λ (x : Builtin). number_of x < 1) same (omega arith)
-base_comes_before AnySimple b e = let same : AnyType ≡ b = cc in subst (λ (x : Builtin). number_of x < 2) same (omega arith)
-base_comes_before AnyAtomic b e = let same : AnySimple ≡ b = cc in subst (λ (x : Builtin). number_of x < 3) same (omega arith)
-base_comes_before UntypedAtomic b e = let same : AnyAtomic ≡ b = cc in subst (λ (x : Builtin). number_of x < 4) same (omega arith)
-base_comes_before Str b e = let same : AnyAtomic ≡ b = cc in subst (λ (x : Builtin). number_of x < 5) same (omega arith)
-base_comes_before NormalizedStr b e = let same : Str ≡ b = cc in subst (λ (x : Builtin). number_of x < 6) same (omega arith)
-base_comes_before Token b e = let same : NormalizedStr ≡ b = cc in subst (λ (x : Builtin). number_of x < 7) same (omega arith)
-base_comes_before Boolean b e = let same : AnyAtomic ≡ b = cc in subst (λ (x : Builtin). number_of x < 8) same (omega arith)
-base_comes_before Decimal b e = let same : AnyAtomic ≡ b = cc in subst (λ (x : Builtin). number_of x < 9) same (omega arith)
-base_comes_before Integer b e = let same : Decimal ≡ b = cc in subst (λ (x : Builtin). number_of x < 10) same (omega arith)
-base_comes_before NonPositive b e = let same : Integer ≡ b = cc in subst (λ (x : Builtin). number_of x < 11) same (omega arith)
-base_comes_before Negative b e = let same : NonPositive ≡ b = cc in subst (λ (x : Builtin). number_of x < 12) same (omega arith)
-base_comes_before Long b e = let same : Integer ≡ b = cc in subst (λ (x : Builtin). number_of x < 13) same (omega arith)
-base_comes_before Int b e = let same : Long ≡ b = cc in subst (λ (x : Builtin). number_of x < 14) same (omega arith)
-base_comes_before Short b e = let same : Int ≡ b = cc in subst (λ (x : Builtin). number_of x < 15) same (omega arith)
-base_comes_before Byte b e = let same : Short ≡ b = cc in subst (λ (x : Builtin). number_of x < 16) same (omega arith)
-base_comes_before NonNegative b e = let same : Integer ≡ b = cc in subst (λ (x : Builtin). number_of x < 17) same (omega arith)
-base_comes_before UnsignedLong b e = let same : NonNegative ≡ b = cc in subst (λ (x : Builtin). number_of x < 18) same (omega arith)
-base_comes_before UnsignedInt b e = let same : UnsignedLong ≡ b = cc in subst (λ (x : Builtin). number_of x < 19) same (omega arith)
-base_comes_before UnsignedShort b e = let same : UnsignedInt ≡ b = cc in subst (λ (x : Builtin). number_of x < 20) same (omega arith)
-base_comes_before UnsignedByte b e = let same : UnsignedShort ≡ b = cc in subst (λ (x : Builtin). number_of x < 21) same (omega arith)
-base_comes_before Positive b e = let same : NonNegative ≡ b = cc in subst (λ (x : Builtin). number_of x < 22) same (omega arith)
+base_comes_before Untyped b e = let same : AnyType ≡ b = cc in subst (λ (x : Builtin). builtin_number x < 1) same (omega arith)
+base_comes_before AnySimple b e = let same : AnyType ≡ b = cc in subst (λ (x : Builtin). builtin_number x < 2) same (omega arith)
+base_comes_before AnyAtomic b e = let same : AnySimple ≡ b = cc in subst (λ (x : Builtin). builtin_number x < 3) same (omega arith)
+base_comes_before UntypedAtomic b e = let same : AnyAtomic ≡ b = cc in subst (λ (x : Builtin). builtin_number x < 4) same (omega arith)
+base_comes_before Str b e = let same : AnyAtomic ≡ b = cc in subst (λ (x : Builtin). builtin_number x < 5) same (omega arith)
+base_comes_before NormalizedStr b e = let same : Str ≡ b = cc in subst (λ (x : Builtin). builtin_number x < 6) same (omega arith)
+base_comes_before Token b e = let same : NormalizedStr ≡ b = cc in subst (λ (x : Builtin). builtin_number x < 7) same (omega arith)
+base_comes_before Boolean b e = let same : AnyAtomic ≡ b = cc in subst (λ (x : Builtin). builtin_number x < 8) same (omega arith)
+base_comes_before Decimal b e = let same : AnyAtomic ≡ b = cc in subst (λ (x : Builtin). builtin_number x < 9) same (omega arith)
+base_comes_before Integer b e = let same : Decimal ≡ b = cc in subst (λ (x : Builtin). builtin_number x < 10) same (omega arith)
+base_comes_before NonPositive b e = let same : Integer ≡ b = cc in subst (λ (x : Builtin). builtin_number x < 11) same (omega arith)
+base_comes_before Negative b e = let same : NonPositive ≡ b = cc in subst (λ (x : Builtin). builtin_number x < 12) same (omega arith)
+base_comes_before Long b e = let same : Integer ≡ b = cc in subst (λ (x : Builtin). builtin_number x < 13) same (omega arith)
+base_comes_before Int b e = let same : Long ≡ b = cc in subst (λ (x : Builtin). builtin_number x < 14) same (omega arith)
+base_comes_before Short b e = let same : Int ≡ b = cc in subst (λ (x : Builtin). builtin_number x < 15) same (omega arith)
+base_comes_before Byte b e = let same : Short ≡ b = cc in subst (λ (x : Builtin). builtin_number x < 16) same (omega arith)
+base_comes_before NonNegative b e = let same : Integer ≡ b = cc in subst (λ (x : Builtin). builtin_number x < 17) same (omega arith)
+base_comes_before UnsignedLong b e = let same : NonNegative ≡ b = cc in subst (λ (x : Builtin). builtin_number x < 18) same (omega arith)
+base_comes_before UnsignedInt b e = let same : UnsignedLong ≡ b = cc in subst (λ (x : Builtin). builtin_number x < 19) same (omega arith)
+base_comes_before UnsignedShort b e = let same : UnsignedInt ≡ b = cc in subst (λ (x : Builtin). builtin_number x < 20) same (omega arith)
+base_comes_before UnsignedByte b e = let same : UnsignedShort ≡ b = cc in subst (λ (x : Builtin). builtin_number x < 21) same (omega arith)
+base_comes_before Positive b e = let same : NonNegative ≡ b = cc in subst (λ (x : Builtin). builtin_number x < 22) same (omega arith)
 
 builtin_base_is : (b : Builtin) (found : Option Builtin) (base : TypeName) → builtin_base_of b ≡ found → option_map names.Builtin found ≡ Some base → (c : Builtin) × (builtin_base_of b ≡ Some c) × (base ≡ names.Builtin c)
 builtin_base_is b None base f e = absurd (cc)
@@ -81,14 +81,14 @@ chain_is_short bases (suc k) (suc n) (names.Named m) u h (base, e, r) = omega (a
 chain_is_short bases (suc k) (suc n) (names.Anonymous m) u h (base, e, r) = omega (arith, chain_is_short bases k n base u (h base e) r, rank_at_most base)
 
 -- where the bases of declared types end, the test is exact
-pub derives_when_tested : (schemas : SchemaSet) (t u : TypeName) → is_derived schemas t u ≡ true → Derives schemas t u
+pub derives_when_tested : (schemas : SchemaSet) (t u : TypeName) → is_derived schemas t u ≡ true → DerivesFrom schemas t u
 derives_when_tested schemas t u h = found_is_chain schemas.bases (length schemas.bases + 23) t u h
 
-pub tested_when_derives : (schemas : SchemaSet) (t u : TypeName) → Grounded schemas.bases → Derives schemas t u → is_derived schemas t u ≡ true
+pub tested_when_derives : (schemas : SchemaSet) (t u : TypeName) → Grounded schemas.bases → DerivesFrom schemas t u → is_derived schemas t u ≡ true
 tested_when_derives schemas t u g d =
-    chain_is_found schemas.bases (length schemas.bases + 23) d.0 t u (omega (arith, chain_is_short schemas.bases (length schemas.bases) d.0 t u (g t) d.1, rank_at_most t)) d.1
+    chain_is_found schemas.bases (length schemas.bases + 23) d.0 t u (omega (arith, chain_is_short schemas.bases (length schemas.bases) d.0 t u (g.ends t) d.1, rank_at_most t)) d.1
 
-pub test_is_exact : (schemas : SchemaSet) (t u : TypeName) (answer : Bool) → Grounded schemas.bases → (IsTrue answer ↔ Derives schemas t u) → answer ≡ is_derived schemas t u
+pub test_is_exact : (schemas : SchemaSet) (t u : TypeName) (answer : Bool) → Grounded schemas.bases → (IsTrue answer ↔ DerivesFrom schemas t u) → answer ≡ is_derived schemas t u
 test_is_exact schemas t u true g a = sym (tested_when_derives schemas t u g (a.0 refl))
 test_is_exact schemas t u false g a =
     elim (is_derived schemas t u) as (λ (b : Bool). is_derived schemas t u ≡ b → false ≡ b) [

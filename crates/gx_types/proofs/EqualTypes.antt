@@ -1,68 +1,28 @@
 -- Equal types take the same lists.
-use Rattle.std.proofs.Common.{◌≡◌, ℕ, zero, suc, Bool, true, false, ◌&&◌, List, [], ◌∷◌, inl, inr, Option, Some, None, refl, sym, ◌∙◌, subst, nat_eq}
+use Rattle.std.proofs.Common.{◌≡◌, ℕ, zero, suc, Bool, true, ◌&&◌, List, [], ◌∷◌, inl, inr, Option, Some, None, refl, sym, ◌∙◌, ap}
 use Rattle.std.specs.Cmp.{IsEquivalence}
-use Rattle.std.specs.Cmp.Rules.{comparing}
-use Rattle.std.proofs.Common.{rules}
-use Rattle.std.proofs.Math.Facts.{eqb_yes}
-use Rattle.std.proofs.Math.Dec.{T}
-use Rattle.gx_base.specs.Name.{same_name}
+use Rattle.std.proofs.lemmas.Bool.{and_from, and_parts}
 use Rattle.gx_base.specs.declared.name.Name.{Name}
 use Rattle.gx_base.specs.declared.type_name.TypeName.{TypeName}
-use Rattle.gx_base.specs.declared.type_name.TypeName.TheVariants as names
 use Rattle.gx_types.specs.declared.item_type.ItemType.{ItemType}
 use Rattle.gx_types.specs.declared.item_type.ItemType.TheVariants as items
 use Rattle.gx_types.specs.declared.shape.Shape.{Shape}
 use Rattle.gx_types.specs.declared.shape.Shape.TheVariants as shapes
-use Rattle.gx_types.specs.BuiltinOrder.{number_of}
 use Rattle.gx_types.specs.SameItemType.{same_optional_name, same_type_name, same_item_type}
 use Rattle.gx_types.specs.SameType.{same_type}
 use Rattle.gx_types.specs.SchemaSet.{SchemaSet}
-use Rattle.gx_types.specs.Derivation.{Bases, Leads, Derives}
+use Rattle.gx_types.specs.Derivation.{Bases, Leads, DerivesFrom}
 use Rattle.gx_types.specs.ItemTakes.{name_fits, ItemTakes}
 use Rattle.gx_types.specs.Takes.{Takes, Each}
 use Rattle.gx_types.specs.SequenceType.{SequenceType, never, nothing, item, both, either, optional, star, plus}
-
--- the two halves of a conjunction
-pub left_holds : (a b : Bool) → a && b ≡ true → a ≡ true
-left_holds true b h = refl
-left_holds false b h = absurd (cc)
-
-pub right_holds : (a b : Bool) → a && b ≡ true → b ≡ true
-right_holds true b h = h
-right_holds false b h = absurd (cc)
-
-pub names_are_equivalent : IsEquivalence same_name
-names_are_equivalent = search (comparing, rules)
-
--- two names that are equal to each other are equal to the same names
-pub same_names_trans : (a b c : Name) → same_name a b ≡ true → same_name b c ≡ true → same_name a c ≡ true
-same_names_trans a b c h k = names_are_equivalent.congr a b c h ∙ k
-
-pub numbers_trans : (a b c : ℕ) → nat_eq a b ≡ true → nat_eq b c ≡ true → nat_eq a c ≡ true
-numbers_trans a b c h k =
-    let e : a ≡ b = eqb_yes (subst (λ (x : Bool). T x) (sym h) tt) in
-    subst (λ (n : ℕ). nat_eq n c ≡ true) (sym e) k
-
-name_symm : (a b : Name) → same_name a b ≡ true → same_name b a ≡ true
-name_symm a b h = sym (names_are_equivalent.symm a b) ∙ h
-
-number_symm : (a b : ℕ) → nat_eq a b ≡ true → nat_eq b a ≡ true
-number_symm a b h =
-    let e : a ≡ b = eqb_yes (subst (λ (x : Bool). T x) (sym h) tt) in
-    subst (λ (n : ℕ). nat_eq n a ≡ true) e (subst (λ (n : ℕ). nat_eq a n ≡ true) (sym e) h)
-
-same_type_names_trans : (a b c : TypeName) → same_type_name a b ≡ true → same_type_name c b ≡ true → same_type_name c a ≡ true
-same_type_names_trans (names.Builtin a) (names.Builtin b) (names.Builtin c) h k = numbers_trans (number_of c) (number_of b) (number_of a) k (number_symm (number_of a) (number_of b) h)
-same_type_names_trans (names.Named a) (names.Named b) (names.Named c) h k = same_names_trans c b a k (name_symm a b h)
-same_type_names_trans (names.Anonymous a) (names.Anonymous b) (names.Anonymous c) h k = numbers_trans c b a k (number_symm a b h)
-same_type_names_trans _ _ _ h k = cc
+use Rattle.gx_types.proofs.EqualNames.{same_tests, same_names_trans, type_name_symm, type_name_trans, item_types_are_equivalent}
 
 -- what leads to a type leads to an equal one
-leads_to_equal : (bases : Bases) (steps : ℕ) (t a b : TypeName) → same_type_name a b ≡ true → Leads bases steps t b → Leads bases steps t a
-leads_to_equal bases zero t a b h k = same_type_names_trans a b t h k
+pub leads_to_equal : (bases : Bases) (steps : ℕ) (t a b : TypeName) → same_type_name a b ≡ true → Leads bases steps t b → Leads bases steps t a
+leads_to_equal bases zero t a b h k = type_name_trans t b a k (type_name_symm a b h)
 leads_to_equal bases (suc n) t a b h k = (k.0, k.1, leads_to_equal bases n k.0 a b h k.2)
 
-derives_from_equal : (s : SchemaSet) (t a b : TypeName) → same_type_name a b ≡ true → Derives s t b → Derives s t a
+derives_from_equal : (s : SchemaSet) (t a b : TypeName) → same_type_name a b ≡ true → DerivesFrom s t b → DerivesFrom s t a
 derives_from_equal s t a b h k = (k.0, leads_to_equal s.bases k.0 t a b h k.1)
 
 fits_equal : (a b : Option Name) (n : Name) → same_optional_name a b ≡ true → name_fits b n ≡ true → name_fits a n ≡ true
@@ -72,9 +32,9 @@ fits_equal None (Some b) n h k = absurd (cc)
 fits_equal (Some a) None n h k = absurd (cc)
 
 -- an equal name and an equal type
-fits_both : (s : SchemaSet) (a b : Option Name) (t u : TypeName) (n : Name) (v : TypeName) → same_optional_name a b && same_type_name t u ≡ true → (name_fits b n ≡ true) × Derives s v u → (name_fits a n ≡ true) × Derives s v t
+fits_both : (s : SchemaSet) (a b : Option Name) (t u : TypeName) (n : Name) (v : TypeName) → same_optional_name a b && same_type_name t u ≡ true → (name_fits b n ≡ true) × DerivesFrom s v u → (name_fits a n ≡ true) × DerivesFrom s v t
 fits_both s a b t u n v h k =
-    (fits_equal a b n (left_holds (same_optional_name a b) (same_type_name t u) h) k.0, derives_from_equal s v t u (right_holds (same_optional_name a b) (same_type_name t u) h) k.1)
+    (fits_equal a b n ((and_parts (same_optional_name a b) (same_type_name t u) h).0) k.0, derives_from_equal s v t u ((and_parts (same_optional_name a b) (same_type_name t u) h).1) k.1)
 
 pub item_takes_equal : (s : SchemaSet) (i j : ItemType) (shape : Shape) → same_item_type i j ≡ true → ItemTakes s j shape → ItemTakes s i shape
 item_takes_equal s (items.Element a t) (items.Element b u) (shapes.Elem n v) h k = fits_both s a b t u n v h k
@@ -99,12 +59,64 @@ equal_takes s never never ss h k = k
 equal_takes s nothing nothing ss h k = k
 equal_takes s (item i) (item j) ss h k = (k.0, k.1, item_takes_equal s i j k.0 h k.2)
 equal_takes s (both a b) (both c d) ss h k =
-    (k.0, k.1, k.2, equal_takes s a c k.0 (left_holds (same_type a c) (same_type b d) h) k.3, equal_takes s b d k.1 (right_holds (same_type a c) (same_type b d) h) k.4)
-equal_takes s (either a b) (either c d) ss h (inl k) = inl (equal_takes s a c ss (left_holds (same_type a c) (same_type b d) h) k)
-equal_takes s (either a b) (either c d) ss h (inr k) = inr (equal_takes s b d ss (right_holds (same_type a c) (same_type b d) h) k)
+    (k.0, k.1, k.2, equal_takes s a c k.0 ((and_parts (same_type a c) (same_type b d) h).0) k.3, equal_takes s b d k.1 ((and_parts (same_type a c) (same_type b d) h).1) k.4)
+equal_takes s (either a b) (either c d) ss h (inl k) = inl (equal_takes s a c ss ((and_parts (same_type a c) (same_type b d) h).0) k)
+equal_takes s (either a b) (either c d) ss h (inr k) = inr (equal_takes s b d ss ((and_parts (same_type a c) (same_type b d) h).1) k)
 equal_takes s (optional a) (optional b) ss h (inl k) = inl k
 equal_takes s (optional a) (optional b) ss h (inr k) = inr (equal_takes s a b ss h k)
 equal_takes s (star a) (star b) ss h k = (k.0, k.1, each_implies (Takes s b) (Takes s a) (λ xs. equal_takes s a b xs h) k.0 k.2)
 equal_takes s (plus a) (plus b) ss h k =
     (k.0, k.1, k.2, equal_takes s a b k.0 h k.3, each_implies (Takes s b) (Takes s a) (λ xs. equal_takes s a b xs h) k.1 k.4)
 equal_takes s _ _ ss h k = absurd (cc)
+
+-- equality of types is an equivalence
+
+both_same : (a b c d : SequenceType) → same_type a b ≡ true → same_type c d ≡ true → same_type a b && same_type c d ≡ true
+both_same a b c d h k = and_from (same_type a b) (same_type c d) h k
+
+type_symm : (t u : SequenceType) → same_type t u ≡ true → same_type u t ≡ true
+type_symm never never h = refl
+type_symm nothing nothing h = refl
+type_symm (item i) (item j) h = sym (item_types_are_equivalent.symm i j) ∙ h
+type_symm (both a b) (both c d) h = let p = and_parts (same_type a c) (same_type b d) h in both_same c a d b (type_symm a c p.0) (type_symm b d p.1)
+type_symm (either a b) (either c d) h = let p = and_parts (same_type a c) (same_type b d) h in both_same c a d b (type_symm a c p.0) (type_symm b d p.1)
+type_symm (optional a) (optional b) h = type_symm a b h
+type_symm (star a) (star b) h = type_symm a b h
+type_symm (plus a) (plus b) h = type_symm a b h
+type_symm _ _ h = absurd (cc)
+
+-- equal types are equal to the same types
+type_congr : (t u v : SequenceType) → same_type t u ≡ true → same_type t v ≡ same_type u v
+type_congr never never v h = refl
+type_congr nothing nothing v h = refl
+type_congr (item i) (item j) (item l) h = item_types_are_equivalent.congr i j l h
+type_congr (item i) (item j) _ h = refl
+type_congr (both a b) (both c d) (both e f) h =
+    let p = and_parts (same_type a c) (same_type b d) h in
+    ap (λ (x : Bool). x && same_type b f) (type_congr a c e p.0) ∙ ap (λ (x : Bool). same_type c e && x) (type_congr b d f p.1)
+type_congr (both a b) (both c d) _ h = refl
+type_congr (either a b) (either c d) (either e f) h =
+    let p = and_parts (same_type a c) (same_type b d) h in
+    ap (λ (x : Bool). x && same_type b f) (type_congr a c e p.0) ∙ ap (λ (x : Bool). same_type c e && x) (type_congr b d f p.1)
+type_congr (either a b) (either c d) _ h = refl
+type_congr (optional a) (optional b) (optional c) h = type_congr a b c h
+type_congr (optional a) (optional b) _ h = refl
+type_congr (star a) (star b) (star c) h = type_congr a b c h
+type_congr (star a) (star b) _ h = refl
+type_congr (plus a) (plus b) (plus c) h = type_congr a b c h
+type_congr (plus a) (plus b) _ h = refl
+type_congr _ _ v h = absurd (cc)
+
+type_itself : (t : SequenceType) → same_type t t ≡ true
+type_itself never = refl
+type_itself nothing = refl
+type_itself (item i) = item_types_are_equivalent.refl i
+type_itself (both a b) = both_same a a b b (type_itself a) (type_itself b)
+type_itself (either a b) = both_same a a b b (type_itself a) (type_itself b)
+type_itself (optional a) = type_itself a
+type_itself (star a) = type_itself a
+type_itself (plus a) = type_itself a
+
+pub types_are_equivalent : IsEquivalence same_type
+types_are_equivalent =
+    record { refl = type_itself; symm = λ t u. same_tests (same_type t u) (same_type u t) (type_symm t u) (type_symm u t); congr = type_congr }

@@ -1,7 +1,10 @@
 pub mod DerivationLemmas
+pub mod EqualNames
 pub mod EqualTypes
 pub mod Joined
 pub mod TakesLemmas
 pub mod DerivationTest
 pub mod DerivationOrder
 pub mod TimesTakes
+pub mod Distinct
+pub mod PublicLaws

@@ -1,15 +1,15 @@
--- A type as often as an occurrence says takes nothing but joined lists of the type.
-use Rattle.std.proofs.Common.{◌≡◌, ℕ, zero, suc, ◌≤◌, List, [], ◌∷◌, ◌++◌, ◌⊎◌, inl, inr, refl, ap, subst, arith}
+-- A type with an indicator, or as often as an occurrence says, takes joined lists of the type and nothing else.
+use Rattle.std.proofs.Common.{◌≡◌, ℕ, zero, suc, ◌≤◌, List, [], ◌∷◌, ◌++◌, ◌⊎◌, inl, inr, refl, sym, ap, subst, arith}
 use Rattle.gx_types.specs.declared.shape.Shape.{Shape}
 use Rattle.gx_types.specs.SchemaSet.{SchemaSet}
 use Rattle.gx_types.specs.Occurrence.{occurs}
 use Rattle.gx_types.specs.SequenceType.{SequenceType, never, nothing, item, both, either, optional, star, plus}
 use Rattle.gx_types.specs.Indicator.{star_of, plus_of, times_by}
 use Rattle.gx_types.specs.Takes.{Takes}
-use Rattle.gx_types.specs.Laws.{JoinedWithin, TimesTakesNoMore}
+use Rattle.gx_types.specs.Laws.{JoinedWithin, IndicatorsAreExact, RepeatedTakesJoined, RepeatedTakesNoMore, TimesTakesNoMore}
 use Rattle.gx_types.proofs.EqualTypes.{each_implies}
 use Rattle.gx_types.proofs.Joined.{MadeOf, made_of_one, made_of_none}
-use Rattle.gx_types.proofs.TakesLemmas.{optional_takes_no_more, short_is_kept}
+use Rattle.gx_types.proofs.TakesLemmas.{optional_takes, optional_takes_no_more, star_takes, plus_takes, repeated_takes, short_is_kept}
 
 append_nothing : (xs : List Shape) → xs ≡ xs ++ []
 append_nothing [] = refl
@@ -53,6 +53,22 @@ repeated_takes_no_more s t (suc zero) (suc (suc more)) ss a b h =
     let p = plus_takes_no_more s t ss h in
     record { parts = p.0 ∷ p.1; joined = p.2; each = (p.3, p.4); count = record { least = omega arith; greatest = λ g. absurd (omega arith) } }
 repeated_takes_no_more s t (suc (suc least)) greatest ss a b h = absurd (omega arith)
+
+pub indicators_are_exact : IndicatorsAreExact
+indicators_are_exact = record {
+  optional = λ s t ss. (optional_takes s t ss, optional_takes_no_more s t ss);
+  star = λ s t ss. (λ h. subst (Takes s (star_of t)) (sym h.1) (star_takes s t h.0 h.2), star_takes_no_more s t ss);
+  plus = λ s t ss. (λ h. subst (Takes s (plus_of t)) (sym h.2) (plus_takes s t h.0 h.1 h.3 h.4), plus_takes_no_more s t ss);
+}
+
+pub repeated_takes_joined : RepeatedTakesJoined
+repeated_takes_joined s t o ss j =
+    subst (Takes s (times_by t o.least o.greatest)) (sym j.joined) (repeated_takes s t o.least o.greatest j.parts j.each (record { least = j.count.least; greatest = j.count.greatest }))
+
+pub repeated_takes_nothing_else : RepeatedTakesNoMore
+repeated_takes_nothing_else s t o ss a b h =
+    let j = repeated_takes_no_more s t o.least o.greatest ss a b h in
+    record { parts = j.parts; joined = j.joined; each = j.each; count = record { least = j.count.least; greatest = j.count.greatest } }
 
 pub times_takes_no_more : TimesTakesNoMore
 times_takes_no_more s t o ss a b short h =

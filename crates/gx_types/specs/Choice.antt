@@ -1,19 +1,20 @@
 -- Choices: flat, without `none`, without the empty sequence, and without later equal members.
-use Rattle.std.specs.Prelude.{Bool, true, false, ◌||◌, if◌then◌else◌}
+use Rattle.std.specs.Prelude.{◌≡◌, Bool, true, false, ◌||◌, List, ◌∷◌, [], ◌++◌, fold, if◌then◌else◌}
+use Rattle.std.specs.List.{AllPairs, list_any}
 use Rattle.gx_types.specs.SequenceType.{SequenceType, never, nothing, item, both, either, optional, star, plus}
 use Rattle.gx_types.specs.SameType.{same_type}
 use Rattle.gx_types.specs.Indicator.{optional_of}
 
 -- a member of a choice is equal to a type
-abbrev pub is_among : SequenceType → SequenceType → Bool
-is_among member (either first second) = is_among member first || is_among member second
-is_among member never = same_type never member
-is_among member nothing = same_type nothing member
-is_among member (item kind) = same_type (item kind) member
-is_among member (both first second) = same_type (both first second) member
-is_among member (optional part) = same_type (optional part) member
-is_among member (star part) = same_type (star part) member
-is_among member (plus part) = same_type (plus part) member
+abbrev pub is_member_of : SequenceType → SequenceType → Bool
+is_member_of member (either first second) = is_member_of member first || is_member_of member second
+is_member_of member never = same_type never member
+is_member_of member nothing = same_type nothing member
+is_member_of member (item kind) = same_type (item kind) member
+is_member_of member (both first second) = same_type (both first second) member
+is_member_of member (optional part) = same_type (optional part) member
+is_member_of member (star part) = same_type (star part) member
+is_member_of member (plus part) = same_type (plus part) member
 
 -- one more alternative behind those of a choice
 abbrev pub or_else : SequenceType → SequenceType → SequenceType
@@ -28,7 +29,7 @@ or_else (plus part) member = either (plus part) member
 
 -- a choice with one more member, unless an equal one is there
 abbrev pub with_member : SequenceType → SequenceType → SequenceType
-with_member choice member = if is_among member choice then choice else or_else choice member
+with_member choice member = if is_member_of member choice then choice else or_else choice member
 
 -- a choice with the members of a type behind its own
 abbrev pub with_members : SequenceType → SequenceType → SequenceType
@@ -52,7 +53,25 @@ has_empty (optional part) = false
 has_empty (star part) = false
 has_empty (plus part) = false
 
--- the choice of two types, however long it is
-abbrev pub flat_choice : SequenceType → SequenceType → SequenceType
-flat_choice first second =
-    if has_empty first || has_empty second then optional_of (with_members (with_members never first) second) else with_members (with_members never first) second
+-- a choice with the members of all types of a list, the empty sequence apart
+abbrev pub gathered : List SequenceType → SequenceType
+gathered types = fold with_members never types
+
+-- the choice of all types of a list, made at once: a member of the empty sequence makes the rest optional
+abbrev pub choice_among : List SequenceType → SequenceType
+choice_among types = if list_any has_empty types then optional_of (gathered types) else gathered types
+
+-- the members of a choice; any other type is its own one member
+abbrev pub members_of : SequenceType → List SequenceType
+members_of never = never ∷ []
+members_of nothing = nothing ∷ []
+members_of (item kind) = item kind ∷ []
+members_of (both first second) = both first second ∷ []
+members_of (either first second) = members_of first ++ members_of second
+members_of (optional part) = optional part ∷ []
+members_of (star part) = star part ∷ []
+members_of (plus part) = plus part ∷ []
+
+-- no two types of a list are equal
+abbrev pub AreDistinctTypes : List SequenceType → Type 0
+AreDistinctTypes types = AllPairs (λ t u. same_type t u ≡ false) types

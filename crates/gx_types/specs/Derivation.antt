@@ -1,5 +1,5 @@
 -- When a type is derived from another one (XML Schema 1.0 part 1, section 2.2.1.1; XQuery 1.0, section 2.5.4).
-use Rattle.std.specs.Prelude.{◌≡◌, ℕ, zero, suc, ◌+◌, Bool, false, ◌||◌, List, [], ◌∷◌, length, Option, None, Some, if◌then◌else◌}
+use Rattle.std.specs.Prelude.{◌≡◌, ℕ, zero, suc, ◌+◌, Bool, false, ◌||◌, List, [], ◌∷◌, length, Option, None, Some, is_some, if◌then◌else◌}
 use Rattle.std.specs.Bool.{IsTrue}
 use Rattle.std.specs.Option.{option_map}
 use Rattle.gx_base.specs.declared.type_name.TypeName.{TypeName}
@@ -17,6 +17,9 @@ abbrev pub declared_base_of : Bases → TypeName → Option TypeName
 declared_base_of [] t = None
 declared_base_of (declaration ∷ others) t = if same_type_name declaration.0 t then Some declaration.1 else declared_base_of others t
 
+abbrev pub is_declared : Bases → TypeName → Bool
+is_declared bases t = is_some (declared_base_of bases t)
+
 -- the base of a type, declared or built-in
 abbrev pub base_of : Bases → TypeName → Option TypeName
 base_of bases (names.Builtin builtin) = option_map names.Builtin (builtin_base_of builtin)
@@ -32,8 +35,8 @@ abbrev pub LeadsTo : Bases → TypeName → TypeName → Type 0
 LeadsTo bases t u = (steps : ℕ) × Leads bases steps t u
 
 -- a type is derived from another one: a finite chain of bases, possibly of no step, leads there
-abbrev pub Derives : SchemaSet → TypeName → TypeName → Type 0
-Derives schemas t u = LeadsTo schemas.bases t u
+abbrev pub DerivesFrom : SchemaSet → TypeName → TypeName → Type 0
+DerivesFrom schemas t u = LeadsTo schemas.bases t u
 
 -- what holds of a base, if there is one
 abbrev pub of_base : Option TypeName → (TypeName → Bool) → Bool

@@ -1,8 +1,9 @@
--- The bases of declared types end.
-use Rattle.std.specs.Prelude.{◌≡◌, ℕ, zero, suc, length, None, Some}
+-- The bases of declared types end at built-in types.
+use Rattle.std.specs.Prelude.{◌≡◌, ℕ, zero, suc, Bool, true, length, None, Some}
+use Rattle.std.specs.Bool.{IsTrue}
 use Rattle.gx_base.specs.declared.type_name.TypeName.{TypeName}
 use Rattle.gx_base.specs.declared.type_name.TypeName.TheVariants as names
-use Rattle.gx_types.specs.Derivation.{Bases, declared_base_of}
+use Rattle.gx_types.specs.Derivation.{Bases, declared_base_of, is_declared}
 
 -- within so many steps from a type there is a built-in type, or one without a base
 abbrev pub EndsWithin : Bases → ℕ → TypeName → Type 0
@@ -14,6 +15,14 @@ EndsWithin bases (suc steps) (names.Named name) =
 EndsWithin bases (suc steps) (names.Anonymous number) =
     (base : TypeName) → declared_base_of bases (names.Anonymous number) ≡ Some base → EndsWithin bases steps base
 
--- every chain of bases has at most as many declared types as there are
-abbrev pub Grounded : Bases → Type 0
-Grounded bases = (t : TypeName) → EndsWithin bases (length bases) t
+-- a type is built-in or declared
+abbrev pub is_known : Bases → TypeName → Bool
+is_known bases (names.Builtin builtin) = true
+is_known bases (names.Named name) = is_declared bases (names.Named name)
+is_known bases (names.Anonymous number) = is_declared bases (names.Anonymous number)
+
+pub record Grounded (bases : Bases) : Type 0 where
+  -- every chain of bases has at most as many declared types as there are
+  pub ends : (t : TypeName) → EndsWithin bases (length bases) t
+  -- the base of a declared type is built-in or declared, so that the chain ends at a built-in type
+  pub based : (t base : TypeName) → declared_base_of bases t ≡ Some base → IsTrue (is_known bases base)

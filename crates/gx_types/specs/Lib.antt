@@ -18,3 +18,4 @@ pub mod Grounded
 pub mod ItemTakes
 pub mod Takes
 pub mod Laws
+pub mod DerivationLaws

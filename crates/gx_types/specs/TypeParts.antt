@@ -8,12 +8,12 @@ use Rattle.gx_types.specs.SequenceType.{type_size}
 use Rattle.gx_types.specs.TypeView.{type_of}
 
 -- each part of a type is smaller than the type
-pub parts_are_smaller : (t : TyNode) → max (deep-TyNode t) 0 ≤ type_size (type_of t)
-parts_are_smaller Never = omega arith
-parts_are_smaller Empty = omega arith
-parts_are_smaller (Item kind) = omega arith
-parts_are_smaller (Seq a b) = omega arith
-parts_are_smaller (Alt a b) = omega arith
-parts_are_smaller (Optional a) = omega arith
-parts_are_smaller (Star a) = omega arith
-parts_are_smaller (Plus a) = omega arith
+pub type_parts_are_smaller : (t : TyNode) → max (deep-TyNode t) 0 ≤ type_size (type_of t)
+type_parts_are_smaller Never = omega arith
+type_parts_are_smaller Empty = omega arith
+type_parts_are_smaller (Item kind) = omega arith
+type_parts_are_smaller (Seq a b) = omega arith
+type_parts_are_smaller (Alt a b) = omega arith
+type_parts_are_smaller (Optional a) = omega arith
+type_parts_are_smaller (Star a) = omega arith
+type_parts_are_smaller (Plus a) = omega arith

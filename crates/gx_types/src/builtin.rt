@@ -1,14 +1,14 @@
 // The built-in types in their order, and the bases that they derive from.
 
 ghost use Rattle.std.specs.Prelude.{◌≡◌};
-ghost use Rattle.gx_types.specs.BuiltinOrder.{number_of};
+ghost use Rattle.gx_types.specs.BuiltinOrder.{builtin_number};
 ghost use Rattle.gx_types.specs.BuiltinBase.{builtin_base_of};
 
 use gx_base::type_name::Builtin;
 
 // The number of a built-in type in the list of built-in types, counted from 0.
 pub(crate) fn number(builtin: Builtin) -> u8
-    ensures { result ≡ number_of builtin }
+    ensures { result ≡ builtin_number builtin }
 {
     match builtin {
         Builtin::AnyType => 0,

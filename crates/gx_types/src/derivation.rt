@@ -1,7 +1,7 @@
 // Derivation of types, and what item types take.
 
 ghost use Rattle.std.specs.Prelude.{◌≡◌, IsTrue, ◌↔◌, option_copied};
-ghost use Rattle.gx_types.specs.Derivation.{Derives, LeadsTo, declared_base_of, is_derived};
+ghost use Rattle.gx_types.specs.Derivation.{DerivesFrom, LeadsTo, declared_base_of, is_derived};
 ghost use Rattle.gx_types.specs.Grounded.{EndsWithin};
 ghost use Rattle.gx_types.specs.ItemTakes.{ItemTakes, name_fits};
 
@@ -15,7 +15,7 @@ use gx_base::type_name::TypeName;
 /// Whether a type is derived from another one: a finite chain of bases, possibly of no step, leads from the one to the
 /// other (XML Schema 1.0 part 1, section 2.2.1.1; XQuery 1.0, section 2.5.4).
 pub fn derives(schemas: &Schemas, t: &TypeName, u: &TypeName) -> bool
-    ensures exact { IsTrue result ↔ Derives schemas.now t.now u.now }
+    ensures exact { IsTrue result ↔ DerivesFrom schemas.now t.now u.now }
     ensures test { result ≡ is_derived schemas.now t.now u.now }
 {
     let bases = schemas.bases.as_slice();

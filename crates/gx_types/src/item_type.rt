@@ -24,19 +24,18 @@ impl Clone for ItemType {
 
     fn clone(&self) -> Result<ItemType, AllocError> {
         match self {
-            ItemType::Element { name, kind } => Ok(ItemType::Element {
-                name: copy_of_name(name)?,
-                kind: kind.clone()?,
-            }),
-            ItemType::Attribute { name, kind } => Ok(ItemType::Attribute {
-                name: copy_of_name(name)?,
-                kind: kind.clone()?,
-            }),
+            ItemType::Element { name, kind } => {
+                let (name, kind) = copy_of_test(name, kind)?;
+                Ok(ItemType::Element { name, kind })
+            }
+            ItemType::Attribute { name, kind } => {
+                let (name, kind) = copy_of_test(name, kind)?;
+                Ok(ItemType::Attribute { name, kind })
+            }
             ItemType::Text => Ok(ItemType::Text),
             ItemType::Document(None) => Ok(ItemType::Document(None)),
             ItemType::Document(Some((name, kind))) => {
-                let name = copy_of_name(name)?;
-                Ok(ItemType::Document(Some((name, kind.clone()?))))
+                Ok(ItemType::Document(Some(copy_of_test(name, kind)?)))
             }
             ItemType::Atom(kind) => Ok(ItemType::Atom(kind.clone()?)),
         }
@@ -63,6 +62,17 @@ impl ItemType {
             _ => false,
         }
     }
+}
+
+// A copy of an optional name with a type.
+fn copy_of_test(
+    name: &Option<Name>,
+    kind: &TypeName,
+) -> Result<(Option<Name>, TypeName), AllocError>
+    ensures { IfOk result (λ copy. copy ≡ (name.now, kind.now)) }
+{
+    let name = copy_of_name(name)?;
+    Ok((name, kind.clone()?))
 }
 
 // A copy of an optional name.

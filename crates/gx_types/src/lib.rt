@@ -11,6 +11,4 @@ pub mod schemas;
 pub mod sequence_type;
 pub mod shape;
 pub mod step;
-#[cfg(test)]
-mod tests;
 pub mod type_rules;

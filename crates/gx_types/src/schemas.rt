@@ -27,7 +27,7 @@ impl Model for Schemas {
     ghost invariant = { λ s. Grounded s.bases.items };
 }
 
-#[tactic(auto, using(crate::proofs::DerivationLemmas::no_bases_end))]
+#[tactic(auto, using(crate::proofs::DerivationLemmas::nothing_is_grounded))]
 impl Schemas {
     ghost use Rattle.std.specs.Prelude.{◌≡◌, IfOk};
     ghost use Rattle.gx_types.specs.SchemaSet.{no_declarations};

@@ -1,7 +1,7 @@
 // Sequence types.
 
 ghost use Rattle.std.specs.Prelude.{◌≡◌, IfOk};
-ghost use Rattle.gx_types.specs.SequenceType.{item};
+ghost use Rattle.gx_types.specs.SequenceType.{never, nothing, item};
 ghost use Rattle.gx_types.specs.SameType.{same_type};
 
 use crate::item_type::ItemType;
@@ -45,9 +45,9 @@ impl Model for Ty {
 
     ghost size = { type_size };
 
-    ghost use Rattle.gx_types.specs.TypeParts.{parts_are_smaller};
+    ghost use Rattle.gx_types.specs.TypeParts.{type_parts_are_smaller};
 
-    ghost size_decreases = { λ a h. parts_are_smaller a.node };
+    ghost size_decreases = { λ a h. type_parts_are_smaller a.node };
 }
 
 impl Clone for Ty {
@@ -60,12 +60,12 @@ impl Clone for Ty {
             TyNode::Empty => TyNode::Empty,
             TyNode::Item(kind) => TyNode::Item(kind.clone()?),
             TyNode::Seq(first, second) => {
-                let first = first.clone()?;
-                TyNode::Seq(first, second.clone()?)
+                let (first, second) = shared_twice(first, second)?;
+                TyNode::Seq(first, second)
             }
             TyNode::Alt(first, second) => {
-                let first = first.clone()?;
-                TyNode::Alt(first, second.clone()?)
+                let (first, second) = shared_twice(first, second)?;
+                TyNode::Alt(first, second)
             }
             TyNode::Optional(part) => TyNode::Optional(part.clone()?),
             TyNode::Star(part) => TyNode::Star(part.clone()?),
@@ -75,7 +75,34 @@ impl Clone for Ty {
     }
 }
 
+// Two parts, shared once more.
+fn shared_twice(first: &Rc<Ty>, second: &Rc<Ty>) -> Result<(Rc<Ty>, Rc<Ty>), AllocError>
+    ensures first { IfOk result (λ parts. parts.0.value ≡ first.now.value) }
+    ensures second { IfOk result (λ parts. parts.1.value ≡ second.now.value) }
+{
+    let first = first.clone()?;
+    Ok((first, second.clone()?))
+}
+
 impl Ty {
+    /// `none`, the type of no value.
+    pub fn none() -> Ty
+        ensures { result ≡ never }
+    {
+        Ty {
+            node: TyNode::Never,
+        }
+    }
+
+    /// The type of the empty sequence.
+    pub fn empty() -> Ty
+        ensures { result ≡ nothing }
+    {
+        Ty {
+            node: TyNode::Empty,
+        }
+    }
+
     /// The type of one item.
     pub fn of_item(alloc: Global, kind: ItemType) -> Result<Ty, AllocError>
         ensures { IfOk result (λ t. t ≡ item kind) }
@@ -99,5 +126,12 @@ impl Ty {
             (TyNode::Plus(a), TyNode::Plus(b)) => a.same(b),
             _ => false,
         }
+    }
+
+    // The type as a part that others share.
+    pub(crate) fn as_part(&self, alloc: Global) -> Result<Rc<Ty>, AllocError>
+        ensures { IfOk result (λ part. part.value ≡ self.now) }
+    {
+        Ok(Rc::new(alloc, self.clone()?)?)
     }
 }

@@ -1,10 +1,12 @@
 // How types are made of types.
 
 ghost use Rattle.std.specs.Prelude.{◌≡◌, ◌≤◌, ◌-◌, IfOk, SomeIff};
+ghost use Rattle.std.specs.List.{list_any};
 ghost use Rattle.gx_types.specs.Occurrence.{occurrence_of};
-ghost use Rattle.gx_types.specs.TypeRules.{times_of, positions_of, limited, joined, followed_by, sequence_of, choice_of};
+ghost use Rattle.gx_types.specs.SequenceType.{both as both_types, either as either_type};
+ghost use Rattle.gx_types.specs.TypeRules.{times_of, positions_of, factored, limited, joined_types, followed_by, sequence_of, choice_of};
 ghost use Rattle.gx_types.specs.Indicator.{optional_of, star_of, plus_of, times_by};
-ghost use Rattle.gx_types.specs.Choice.{is_among, with_member, with_members, has_empty, flat_choice};
+ghost use Rattle.gx_types.specs.Choice.{is_member_of, with_member, with_members, has_empty, gathered, choice_among};
 ghost use Rattle.gx_types.specs.Prime.{with_items, prime_of};
 
 use crate::occurrence::Occurrence;
@@ -64,7 +66,7 @@ pub fn occurrence(t: &Ty) -> Occurrence
 pub fn seq(alloc: Global, first: Ty, second: Ty) -> Result<Ty, AllocError>
     ensures { IfOk result (λ t. t ≡ sequence_of first second) }
 {
-    limit(alloc, join(alloc, first, second)?)
+    sequence_within_limit(alloc, &first, &second)
 }
 
 /// The choice of two types: choices in it are flattened, `none` and later equal members are dropped, and a member of the
@@ -73,7 +75,7 @@ pub fn seq(alloc: Global, first: Ty, second: Ty) -> Result<Ty, AllocError>
 pub fn alt(alloc: Global, first: Ty, second: Ty) -> Result<Ty, AllocError>
     ensures { IfOk result (λ t. t ≡ choice_of first second) }
 {
-    limit(alloc, flat(alloc, &first, &second)?)
+    choice_within_limit(alloc, &[first, second])
 }
 
 /// A type as often as an occurrence says. A type of more than 64 positions becomes its prime type, as often as it occurs
@@ -81,120 +83,177 @@ pub fn alt(alloc: Global, first: Ty, second: Ty) -> Result<Ty, AllocError>
 pub fn times(alloc: Global, t: Ty, times: Occurrence) -> Result<Ty, AllocError>
     ensures { IfOk result (λ u. u ≡ times_of t times) }
 {
-    limit(alloc, repeat(alloc, t, times)?)
+    limit(alloc, repeat(alloc, &t, times)?)
 }
 
 /// The choice of the item types of a type, in the order of their first appearance (Formal Semantics, section 8.4.1).
 pub fn prime(alloc: Global, t: &Ty) -> Result<Ty, AllocError>
     ensures { IfOk result (λ u. u ≡ prime_of t.now) }
 {
-    add_items(
-        alloc,
-        Ty {
-            node: TyNode::Never,
-        },
-        t,
-    )
+    add_items(alloc, &Ty::none(), t)
 }
 
-// A type as often as an occurrence says, however long it is.
-fn repeat(alloc: Global, t: Ty, times: Occurrence) -> Result<Ty, AllocError>
-    ensures { IfOk result (λ u. u ≡ times_by t times.least times.greatest) }
+/// The prime type of a type, as often as the type occurs, however long it is.
+pub fn factor(alloc: Global, t: &Ty) -> Result<Ty, AllocError>
+    ensures { IfOk result (λ u. u ≡ factored t.now) }
+{
+    let items = prime(alloc, t)?;
+    repeat(alloc, &items, occurrence(t))
+}
+
+/// A type of at most 64 positions as it is, and a longer one as its prime type, as often as it occurs. A rule of several
+/// steps makes its type without the limit, and calls this once at its end.
+pub fn limit(alloc: Global, t: Ty) -> Result<Ty, AllocError>
+    ensures { IfOk result (λ u. u ≡ limited t) }
+{
+    match room_after(&t, MOST_POSITIONS) {
+        Some(_) => Ok(t),
+        None => factor(alloc, &t),
+    }
+}
+
+/// The sequence of two types, however long it is.
+pub fn join(alloc: Global, first: &Ty, second: &Ty) -> Result<Ty, AllocError>
+    ensures { IfOk result (λ t. t ≡ joined_types first.now second.now) }
+{
+    match &first.node {
+        TyNode::Never => Ok(Ty::none()),
+        TyNode::Empty => second.clone(),
+        _ => follow(alloc, first, second),
+    }
+}
+
+/// The choice of all types of a list, made at once, however long it is.
+pub fn choose(alloc: Global, types: &[Ty]) -> Result<Ty, AllocError>
+    ensures { IfOk result (λ t. t ≡ choice_among types.now) }
+{
+    let choice = gather(alloc, types)?;
+    if some_holds_empty(types) {
+        optional(alloc, &choice)
+    } else {
+        Ok(choice)
+    }
+}
+
+/// A type as often as an occurrence says, however long it is.
+pub fn repeat(alloc: Global, t: &Ty, times: Occurrence) -> Result<Ty, AllocError>
+    ensures { IfOk result (λ u. u ≡ times_by t.now times.least times.greatest) }
 {
     match (times.least, times.greatest) {
-        (_, 0) => Ok(Ty {
-            node: TyNode::Empty,
-        }),
+        (_, 0) => Ok(Ty::empty()),
         (0, 1) => optional(alloc, t),
         (0, _) => star(alloc, t),
-        (_, 1) => Ok(t),
+        (_, 1) => t.clone(),
         _ => plus(alloc, t),
     }
 }
 
-fn optional(alloc: Global, t: Ty) -> Result<Ty, AllocError>
-    ensures { IfOk result (λ u. u ≡ optional_of t) }
+/// A type at most once.
+pub fn optional(alloc: Global, t: &Ty) -> Result<Ty, AllocError>
+    ensures { IfOk result (λ u. u ≡ optional_of t.now) }
 {
-    let node = match t.node {
+    let node = match &t.node {
         TyNode::Never | TyNode::Empty => TyNode::Empty,
-        TyNode::Optional(part) => TyNode::Optional(part),
-        TyNode::Plus(part) | TyNode::Star(part) => TyNode::Star(part),
-        node => TyNode::Optional(Rc::new(alloc, Ty { node })?),
+        TyNode::Optional(part) => TyNode::Optional(part.clone()?),
+        TyNode::Plus(part) | TyNode::Star(part) => TyNode::Star(part.clone()?),
+        _ => TyNode::Optional(t.as_part(alloc)?),
     };
     Ok(Ty { node })
 }
 
-fn star(alloc: Global, t: Ty) -> Result<Ty, AllocError>
-    ensures { IfOk result (λ u. u ≡ star_of t) }
+/// A type any number of times.
+pub fn star(alloc: Global, t: &Ty) -> Result<Ty, AllocError>
+    ensures { IfOk result (λ u. u ≡ star_of t.now) }
 {
-    let node = match t.node {
+    let node = match &t.node {
         TyNode::Never | TyNode::Empty => TyNode::Empty,
-        TyNode::Optional(part) => TyNode::Star(part),
-        TyNode::Star(part) => TyNode::Star(part),
-        TyNode::Plus(part) => TyNode::Star(part),
-        node => TyNode::Star(Rc::new(alloc, Ty { node })?),
+        TyNode::Optional(part) | TyNode::Plus(part) | TyNode::Star(part) => {
+            TyNode::Star(part.clone()?)
+        }
+        _ => TyNode::Star(t.as_part(alloc)?),
     };
     Ok(Ty { node })
 }
 
-fn plus(alloc: Global, t: Ty) -> Result<Ty, AllocError>
-    ensures { IfOk result (λ u. u ≡ plus_of t) }
+/// A type once or more.
+pub fn plus(alloc: Global, t: &Ty) -> Result<Ty, AllocError>
+    ensures { IfOk result (λ u. u ≡ plus_of t.now) }
 {
-    let node = match t.node {
+    let node = match &t.node {
         TyNode::Never => TyNode::Never,
         TyNode::Empty => TyNode::Empty,
-        TyNode::Optional(part) => TyNode::Star(part),
-        TyNode::Star(part) => TyNode::Star(part),
-        TyNode::Plus(part) => TyNode::Plus(part),
-        node => TyNode::Plus(Rc::new(alloc, Ty { node })?),
+        TyNode::Optional(part) | TyNode::Star(part) => TyNode::Star(part.clone()?),
+        TyNode::Plus(part) => TyNode::Plus(part.clone()?),
+        _ => TyNode::Plus(t.as_part(alloc)?),
     };
     Ok(Ty { node })
 }
 
-fn join(alloc: Global, first: Ty, second: Ty) -> Result<Ty, AllocError>
-    ensures { IfOk result (λ t. t ≡ joined first second) }
+fn sequence_within_limit(alloc: Global, first: &Ty, second: &Ty) -> Result<Ty, AllocError>
+    ensures { IfOk result (λ t. t ≡ sequence_of first.now second.now) }
 {
-    match first.node {
-        TyNode::Never => Ok(Ty {
-            node: TyNode::Never,
-        }),
-        TyNode::Empty => Ok(second),
-        node => follow(alloc, Ty { node }, second),
+    limit(alloc, join(alloc, first, second)?)
+}
+
+fn choice_within_limit(alloc: Global, types: &[Ty]) -> Result<Ty, AllocError>
+    ensures { IfOk result (λ t. t ≡ limited (choice_among types.now)) }
+{
+    limit(alloc, choose(alloc, types)?)
+}
+
+fn follow(alloc: Global, first: &Ty, second: &Ty) -> Result<Ty, AllocError>
+    ensures { IfOk result (λ t. t ≡ followed_by first.now second.now) }
+{
+    match &second.node {
+        TyNode::Never => Ok(Ty::none()),
+        TyNode::Empty => first.clone(),
+        _ => both(alloc, first, second),
     }
 }
 
-fn follow(alloc: Global, first: Ty, second: Ty) -> Result<Ty, AllocError>
-    ensures { IfOk result (λ t. t ≡ followed_by first second) }
+fn both(alloc: Global, first: &Ty, second: &Ty) -> Result<Ty, AllocError>
+    ensures { IfOk result (λ t. t ≡ both_types first.now second.now) }
 {
-    match second.node {
-        TyNode::Never => Ok(Ty {
-            node: TyNode::Never,
-        }),
-        TyNode::Empty => Ok(first),
-        node => {
-            let first = Rc::new(alloc, first)?;
-            let second = Rc::new(alloc, Ty { node })?;
-            Ok(Ty {
-                node: TyNode::Seq(first, second),
-            })
-        }
-    }
+    let (first, second) = parts(alloc, first, second)?;
+    Ok(Ty {
+        node: TyNode::Seq(first, second),
+    })
 }
 
-// The choice of two types, however long it is.
-fn flat(alloc: Global, first: &Ty, second: &Ty) -> Result<Ty, AllocError>
-    ensures { IfOk result (λ t. t ≡ flat_choice first.now second.now) }
+fn either(alloc: Global, first: &Ty, second: &Ty) -> Result<Ty, AllocError>
+    ensures { IfOk result (λ t. t ≡ either_type first.now second.now) }
 {
-    let may_be_empty = holds_empty(first) || holds_empty(second);
-    let start = Ty {
-        node: TyNode::Never,
-    };
-    let members = add_members(alloc, add_members(alloc, start, first)?, second)?;
-    if may_be_empty {
-        optional(alloc, members)
-    } else {
-        Ok(members)
+    let (first, second) = parts(alloc, first, second)?;
+    Ok(Ty {
+        node: TyNode::Alt(first, second),
+    })
+}
+
+// Two types as parts.
+fn parts(alloc: Global, first: &Ty, second: &Ty) -> Result<(Rc<Ty>, Rc<Ty>), AllocError>
+    ensures first { IfOk result (λ parts. parts.0.value ≡ first.now) }
+    ensures second { IfOk result (λ parts. parts.1.value ≡ second.now) }
+{
+    let first = first.as_part(alloc)?;
+    Ok((first, second.as_part(alloc)?))
+}
+
+// The members of all types of a list, the empty sequence apart.
+fn gather(alloc: Global, types: &[Ty]) -> Result<Ty, AllocError>
+    ensures { IfOk result (λ t. t ≡ gathered types.now) }
+{
+    let mut choice = Ty::none();
+    for t in types {
+        choice = add_members(alloc, &choice, t)?;
     }
+    Ok(choice)
+}
+
+// Whether a type of a list has the empty sequence as a member.
+fn some_holds_empty(types: &[Ty]) -> bool
+    ensures { result ≡ list_any has_empty types.now }
+{
+    types.iter().any(holds_empty)
 }
 
 // Whether a member of a choice is the empty sequence.
@@ -209,41 +268,35 @@ fn holds_empty(t: &Ty) -> bool
 }
 
 // A choice with the members of a type behind its own.
-fn add_members(alloc: Global, choice: Ty, t: &Ty) -> Result<Ty, AllocError>
-    ensures { IfOk result (λ u. u ≡ with_members choice t.now) }
+fn add_members(alloc: Global, choice: &Ty, t: &Ty) -> Result<Ty, AllocError>
+    ensures { IfOk result (λ u. u ≡ with_members choice.now t.now) }
 {
     match &t.node {
-        TyNode::Never | TyNode::Empty => Ok(choice),
+        TyNode::Never | TyNode::Empty => choice.clone(),
         TyNode::Alt(first, second) => {
             let choice = add_members(alloc, choice, first)?;
-            add_members(alloc, choice, second)
+            add_members(alloc, &choice, second)
         }
-        _ => add_member(alloc, choice, t.clone()?),
+        _ => add_member(alloc, choice, t),
     }
 }
 
 // A choice with one more member, unless an equal one is there.
-fn add_member(alloc: Global, choice: Ty, member: Ty) -> Result<Ty, AllocError>
-    ensures { IfOk result (λ u. u ≡ with_member choice member) }
+fn add_member(alloc: Global, choice: &Ty, member: &Ty) -> Result<Ty, AllocError>
+    ensures { IfOk result (λ u. u ≡ with_member choice.now member.now) }
 {
-    if holds(&choice, &member) {
-        return Ok(choice);
+    if holds(choice, member) {
+        return choice.clone();
     }
-    match choice.node {
-        TyNode::Never => Ok(member),
-        node => {
-            let choice = Rc::new(alloc, Ty { node })?;
-            let member = Rc::new(alloc, member)?;
-            Ok(Ty {
-                node: TyNode::Alt(choice, member),
-            })
-        }
+    match &choice.node {
+        TyNode::Never => member.clone(),
+        _ => either(alloc, choice, member),
     }
 }
 
 // Whether a member of a choice is equal to a type.
 fn holds(choice: &Ty, member: &Ty) -> bool
-    ensures { result ≡ is_among member.now choice.now }
+    ensures { result ≡ is_member_of member.now choice.now }
 {
     match &choice.node {
         TyNode::Alt(first, second) => holds(first, member) || holds(second, member),
@@ -252,35 +305,19 @@ fn holds(choice: &Ty, member: &Ty) -> bool
 }
 
 // A choice with the item types of a type behind its own.
-fn add_items(alloc: Global, choice: Ty, t: &Ty) -> Result<Ty, AllocError>
-    ensures { IfOk result (λ u. u ≡ with_items choice t.now) }
+fn add_items(alloc: Global, choice: &Ty, t: &Ty) -> Result<Ty, AllocError>
+    ensures { IfOk result (λ u. u ≡ with_items choice.now t.now) }
 {
     match &t.node {
-        TyNode::Never | TyNode::Empty => Ok(choice),
-        TyNode::Item(item) => {
-            let node = TyNode::Item(item.clone()?);
-            add_member(alloc, choice, Ty { node })
-        }
-        TyNode::Seq(first, second) => {
+        TyNode::Never | TyNode::Empty => choice.clone(),
+        TyNode::Item(_) => add_member(alloc, choice, t),
+        TyNode::Seq(first, second) | TyNode::Alt(first, second) => {
             let choice = add_items(alloc, choice, first)?;
-            add_items(alloc, choice, second)
+            add_items(alloc, &choice, second)
         }
-        TyNode::Alt(first, second) => {
-            let choice = add_items(alloc, choice, first)?;
-            add_items(alloc, choice, second)
+        TyNode::Optional(part) | TyNode::Star(part) | TyNode::Plus(part) => {
+            add_items(alloc, choice, part)
         }
-        TyNode::Optional(part) => add_items(alloc, choice, part),
-        TyNode::Star(part) => add_items(alloc, choice, part),
-        TyNode::Plus(part) => add_items(alloc, choice, part),
-    }
-}
-
-fn limit(alloc: Global, t: Ty) -> Result<Ty, AllocError>
-    ensures { IfOk result (λ u. u ≡ limited t) }
-{
-    match room_after(&t, MOST_POSITIONS) {
-        Some(_) => Ok(t),
-        None => repeat(alloc, prime(alloc, &t)?, occurrence(&t)),
     }
 }
 
@@ -291,16 +328,10 @@ fn room_after(t: &Ty, room: usize) -> Option<usize>
     match &t.node {
         TyNode::Never | TyNode::Empty => Some(room),
         TyNode::Item(_) => room.checked_sub(1),
-        TyNode::Seq(first, second) => {
+        TyNode::Seq(first, second) | TyNode::Alt(first, second) => {
             let room = room_after(first, room)?;
             room_after(second, room)
         }
-        TyNode::Alt(first, second) => {
-            let room = room_after(first, room)?;
-            room_after(second, room)
-        }
-        TyNode::Optional(part) => room_after(part, room),
-        TyNode::Star(part) => room_after(part, room),
-        TyNode::Plus(part) => room_after(part, room),
+        TyNode::Optional(part) | TyNode::Star(part) | TyNode::Plus(part) => room_after(part, room),
     }
 }

@@ -5,5 +5,3 @@ mod builtin_name;
 mod context;
 mod item_text;
 pub mod print;
-#[cfg(test)]
-mod tests;

@@ -1,5 +1,5 @@
-use Rattle.gx_types.proofs.EqualTypes.{equal_takes}
+use Rattle.gx_types.proofs.PublicLaws.{equal_types_take_the_same}
 use Rattle.gx_types.proofs.laws.equal_types_take_the_same.Goals as goal
 
 pub returns : goal.returns
-returns c = equal_takes
+returns c = equal_types_take_the_same
