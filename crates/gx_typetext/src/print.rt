@@ -24,7 +24,12 @@ pub fn print_type(alloc: Global, t: &Ty) -> Result<Text, AllocError>
 
 // Adds a type at the end.
 #[tactic(auto, using(std::proofs::Common::append_assoc))]
-fn write_type(alloc: Global, text: &mut TextBuilder, context: Context, t: &Ty) -> Result<(), AllocError>
+fn write_type(
+    alloc: Global,
+    text: &mut TextBuilder,
+    context: Context,
+    t: &Ty,
+) -> Result<(), AllocError>
     ensures { OnOk result (text.new ≡ text.old ++ text_in context t.now) }
 {
     match &t.node {
