@@ -1,6 +1,5 @@
 -- What outcomes keep, in a forest that grows.
-use Rattle.std.proofs.Common.{◌≡◌, ℕ, Bool, true, false, List, [], ◌∷◌, Some, refl, ◌∙◌, ap, subst, nat_eq, if◌then◌else◌}
-use Rattle.gx_types.specs.SchemaSet.{SchemaSet}
+use Rattle.std.proofs.Common.{◌≡◌, Bool, true, false, [], ◌∷◌, Some, refl, subst, nat_eq, if◌then◌else◌}
 use Rattle.gx_types.specs.SequenceType.{SequenceType}
 use Rattle.gx_model.specs.Forest.{Forest, IsHonest}
 use Rattle.gx_model.specs.Item.{Value}
@@ -9,9 +8,9 @@ use Rattle.gx_model.specs.Growth.{Extends}
 use Rattle.gx_model.proofs.PublicLaws.{growth_is_an_order, values_stay}
 use Rattle.gx_core.specs.Bindings.{look_up, Types}
 use Rattle.gx_core.specs.Outcome.{Outcome, gives, raises, wrong, after}
-use Rattle.gx_core.specs.Meaning.{Bindings, Denotation, all_of}
-use Rattle.gx_core.specs.Soundness.{Setting, KeepsFact, IsOfType, AreOfTypes, Keeps, IsBoundTo, Fits, Standing}
-use Rattle.gx_core.specs.Laws.{AfterKeeps, BindingsFitStill, BindingFits, AllKeep, OperandsKeepTheirTypes}
+use Rattle.gx_core.specs.Meaning.{all_of}
+use Rattle.gx_core.specs.Soundness.{Setting, KeepsFact, IsOfType, AreOfTypes, Standing}
+use Rattle.gx_core.specs.Laws.{AfterKeeps, BindingsFitStill, BindingFits, OperandsKeepTheirTypes}
 
 -- what an outcome keeps in a forest, it keeps in each one that this one has grown from
 keeps_from : {R : Type 0} (setting : Setting) (before now : Forest) (Fact : Forest → R → Type 0) (o : Outcome R) → Extends before now → KeepsFact setting now Fact o → KeepsFact setting before Fact o

@@ -1,11 +1,9 @@
 -- What a query that is sound comes to.
-use Rattle.std.proofs.Common.{◌≡◌, [], None, Some, sym, subst}
-use Rattle.gx_types.specs.SchemaSet.{SchemaSet}
+use Rattle.std.proofs.Common.{[], sym, subst}
 use Rattle.gx_model.specs.Item.{Value}
 use Rattle.gx_core.specs.Expression.{At, annotation_of}
-use Rattle.gx_core.specs.Bindings.{look_up, Types}
+use Rattle.gx_core.specs.Bindings.{Types}
 use Rattle.gx_core.specs.Outcome.{Outcome}
-use Rattle.gx_core.specs.Meaning.{meaning}
 use Rattle.gx_core.specs.Soundness.{TypedExpression, Setting, typed_setting, context_of, Keeps, Standing, KeepsItsType, IsSound}
 use Rattle.gx_core.specs.QueryMeaning.{SoundQueriesKeepTheirTypes}
 use Rattle.gx_core.proofs.PlainMeaning.{meaning_looks_at_no_type}

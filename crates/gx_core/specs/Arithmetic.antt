@@ -1,5 +1,5 @@
 -- Arithmetic on values (XQuery 1.0, section 3.4; Functions and Operators, section 6.2).
-use Rattle.std.specs.Prelude.{List, [], ◌∷◌, Option, None, Some, Result, Ok, Err}
+use Rattle.std.specs.Prelude.{[], ◌∷◌, Option, None, Some, Result, Ok, Err}
 use Rattle.gx_base.specs.declared.code.Code.{Code}
 use Rattle.gx_base.specs.declared.code.Code.TheVariants.{FOAR0001, FOAR0002}
 use Rattle.gx_base.specs.declared.type_name.Builtin.{Builtin}
@@ -12,7 +12,7 @@ use Rattle.gx_num.specs.declared.NumFault.TheVariants.{Overflow, DivZero}
 use Rattle.gx_num.specs.Arithmetic.{sum_of}
 use Rattle.gx_facets.specs.declared.Atomic.{Atomic}
 use Rattle.gx_facets.specs.declared.AtomValue.{AtomValue}
-use Rattle.gx_facets.specs.declared.AtomValue.TheVariants.{Untyped, Str, Truth, Num}
+use Rattle.gx_facets.specs.declared.AtomValue.TheVariants.{Num}
 use Rattle.gx_model.specs.Forest.{Forest}
 use Rattle.gx_model.specs.Item.{Item, atom, node, Value}
 use Rattle.gx_core.specs.declared.expression.BinaryOp.{BinaryOp}

@@ -6,12 +6,11 @@ use Rattle.gx_model.specs.Item.{Value}
 use Rattle.gx_model.specs.Belongs.{Belongs}
 use Rattle.gx_model.specs.Growth.{Extends}
 use Rattle.gx_core.specs.declared.expression.Binder.{Binder}
-use Rattle.gx_core.specs.declared.operator.Operator.{Operator}
 use Rattle.gx_core.specs.Expression.{plain}
 use Rattle.gx_core.specs.Bindings.{Types}
 use Rattle.gx_core.specs.Outcome.{Outcome, after}
 use Rattle.gx_core.specs.Meaning.{Context, Bindings, Denotation, all_of, meaning}
-use Rattle.gx_core.specs.Soundness.{TypedExpression, Setting, KeepsFact, IsOfType, AreOfTypes, Keeps, Fits, Standing}
+use Rattle.gx_core.specs.Soundness.{TypedExpression, Setting, KeepsFact, AreOfTypes, Keeps, Fits, Standing}
 
 -- the meaning of a typed expression is that of the same expression without its types
 abbrev pub MeaningLooksAtNoType : Type 0

@@ -1,5 +1,5 @@
 -- What is left to do after a piece of work comes to the same as before it.
-use Rattle.std.proofs.Common.{◌≡◌, ℕ, Vec, Bool, true, false, nat_eq, if◌then◌else◌, append_assoc, List, [], ◌∷◌, ◌++◌, length, take, drop, map, Option, None, Some, Result, Ok, Err, IfErr, refl, sym, ◌∙◌, ap}
+use Rattle.std.proofs.Common.{◌≡◌, ℕ, Vec, Bool, true, false, nat_eq, if◌then◌else◌, append_assoc, List, [], ◌∷◌, ◌++◌, length, take, drop, Option, Some, Result, Ok, Err, IfErr, refl, sym, ◌∙◌, ap}
 use Rattle.std.specs.Option.{option_map}
 use Rattle.std.proofs.lemmas.List.{append-nil, take-append-drop, take-map, drop-map, map-append}
 use Rattle.std.proofs.Math.Seq.{take-append_seam, drop-append_seam}

@@ -5,7 +5,7 @@ use Rattle.gx_model.specs.Forest.{Forest}
 use Rattle.gx_model.specs.Item.{Value, atoms}
 use Rattle.gx_core.specs.declared.operator.Operator.{Operator}
 use Rattle.gx_core.specs.declared.operator.Operator.TheVariants as operators
-use Rattle.gx_core.specs.Outcome.{Outcome, gives, raises, wrong, after}
+use Rattle.gx_core.specs.Outcome.{Outcome, gives, wrong, after}
 use Rattle.gx_core.specs.Meaning.{Context, Bindings, acts, meaning}
 use Rattle.gx_eval.specs.declared.evaluation.Strict.{Strict}
 use Rattle.gx_eval.specs.declared.evaluation.Strict.TheVariants.{Data, Binary}

@@ -8,7 +8,7 @@ use Rattle.gx_tree.specs.PlainTree.{PlainTree}
 use Rattle.gx_model.specs.Forest.{Forest, PlainNode, then_found, tree_at, attribute_at, node_in}
 use Rattle.gx_model.specs.Item.{Item, atom, node, Value}
 use Rattle.gx_model.specs.Belongs.{shape_of, item_shape, HaveShapes, Belongs}
-use Rattle.gx_model.specs.Growth.{Extends, GrowthIsAnOrder, ValuesStay}
+use Rattle.gx_model.specs.Growth.{GrowthIsAnOrder, ValuesStay}
 
 nothing_added : (forest : Forest) → forest ≡ forest ++ []
 nothing_added [] = refl

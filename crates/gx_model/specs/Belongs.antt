@@ -6,7 +6,6 @@ use Rattle.gx_base.specs.declared.type_name.Builtin.TheVariants as types
 use Rattle.gx_base.specs.declared.type_name.TypeName.{TypeName}
 use Rattle.gx_base.specs.declared.type_name.TypeName.TheVariants.{Builtin}
 use Rattle.gx_num.specs.declared.Number.TheVariants.{Int, Dec}
-use Rattle.gx_facets.specs.declared.Atomic.{Atomic}
 use Rattle.gx_facets.specs.declared.AtomValue.{AtomValue}
 use Rattle.gx_facets.specs.declared.AtomValue.TheVariants.{Untyped, Str, Truth, Num}
 use Rattle.gx_types.specs.declared.shape.Shape.{Shape}

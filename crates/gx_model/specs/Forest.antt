@@ -4,7 +4,7 @@ use Rattle.std.specs.List.{slice_get}
 use Rattle.std.specs.Option.{option_map}
 use Rattle.gx_types.specs.SchemaSet.{SchemaSet}
 use Rattle.gx_tree.specs.declared.attribute.Attribute.{Attribute}
-use Rattle.gx_tree.specs.PlainTree.{PlainTree, PlainTrees, document, element, attribute, text, list_of, IsProper}
+use Rattle.gx_tree.specs.PlainTree.{PlainTree, document, element, attribute, text, list_of, IsProper}
 use Rattle.gx_tree.specs.Erasure.{IsUntyped}
 
 abbrev pub Forest : Type 0

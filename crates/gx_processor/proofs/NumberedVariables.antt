@@ -90,7 +90,7 @@ core_numbered (SumTree place left right) names free =
     (λ b next k. record {
       scoped = (tt, ((tt, (h.scoped, tt)), ((tt, (k.scoped, tt)), tt)));
       rising = rise_joined free middle next (numbers_bound a ++ []) (numbers_bound b ++ [] ++ []) (rise_alone free middle (numbers_bound a) h.rising)
-      (rise_alone middle next (numbers_bound b ++ []) (rise_alone middle next (numbers_bound b) k.rising));
+          (rise_alone middle next (numbers_bound b ++ []) (rise_alone middle next (numbers_bound b) k.rising));
     }))
 core_numbered (LetTree place dollar name bound body) names free =
     made_holds (core_of bound names free) (λ value number. then_made (core_of body ((name, number) ∷ names) (number + 1)) (λ result. made (core_at place place (operators.Let (record { variable = number; place = dollar })) (two_parts value result)))) (λ e next. IsNumbered (numbers_of names) free next e) (λ e next. IsNumbered (numbers_of names) free next e) (core_numbered bound names free)

@@ -191,7 +191,12 @@ fn sequence(
     ensures free { IfOk result (λ n. n.free ≡ second.free) }
 {
     let place = first.outer;
-    at(alloc, place, CoreForm::Seq(first, second.expression), second.free)
+    at(
+        alloc,
+        place,
+        CoreForm::Seq(first, second.expression),
+        second.free,
+    )
 }
 
 fn sum(
@@ -206,7 +211,12 @@ fn sum(
 {
     let left = atomized(alloc, left)?;
     let operand = atomized(alloc, right.expression)?;
-    at(alloc, place, CoreForm::Binary(BinaryOp::Add, left, operand), right.free)
+    at(
+        alloc,
+        place,
+        CoreForm::Binary(BinaryOp::Add, left, operand),
+        right.free,
+    )
 }
 
 fn atomized(alloc: Global, operand: E) -> Result<E, AllocFailed<CoreExpr>>

@@ -1,7 +1,6 @@
 -- Results of arithmetic belong to its type.
-use Rattle.std.proofs.Common.{◌≡◌, ℕ, ◌≤◌, min, ℤ, Bool, true, false, ◌&&◌, List, [], ◌∷◌, length, Option, None, Some, Result, Ok, Err, refl, sym, ◌∙◌, ap, subst, arith, nat_le, if◌then◌else◌}
+use Rattle.std.proofs.Common.{◌≡◌, ◌≤◌, min, ℤ, Bool, true, false, ◌&&◌, [], ◌∷◌, length, Option, Some, Result, Ok, Err, refl, sym, subst, arith, nat_le, if◌then◌else◌}
 use Rattle.std.proofs.lemmas.Bool.{and_parts}
-use Rattle.gx_base.specs.declared.code.Code.TheVariants.{XPTY0004}
 use Rattle.gx_base.specs.declared.type_name.Builtin.{Builtin}
 use Rattle.gx_base.specs.declared.type_name.Builtin.TheVariants.{Integer, Decimal}
 use Rattle.gx_base.specs.declared.type_name.TypeName.{TypeName}
@@ -9,9 +8,7 @@ use Rattle.gx_base.specs.declared.type_name.TypeName.TheVariants as names
 use Rattle.gx_num.specs.declared.Number.{Number}
 use Rattle.gx_num.specs.declared.Number.TheVariants.{Int, Dec}
 use Rattle.gx_num.specs.declared.NumFault.{NumFault}
-use Rattle.gx_num.specs.declared.NumFault.TheVariants.{Overflow}
 use Rattle.gx_num.specs.Arithmetic.{ranged}
-use Rattle.gx_facets.specs.declared.Atomic.{Atomic}
 use Rattle.gx_facets.specs.declared.AtomValue.{AtomValue}
 use Rattle.gx_facets.specs.declared.AtomValue.TheVariants as values
 use Rattle.gx_types.specs.declared.shape.Shape.TheVariants.{Atom}
@@ -29,12 +26,12 @@ use Rattle.gx_model.specs.Item.{Item, atom, Value}
 use Rattle.gx_model.specs.Belongs.{ValueFits, Belongs}
 use Rattle.gx_core.specs.declared.expression.BinaryOp.{BinaryOp}
 use Rattle.gx_core.specs.declared.expression.BinaryOp.TheVariants.{Add}
-use Rattle.gx_core.specs.Outcome.{Outcome, gives, raises, wrong, given}
+use Rattle.gx_core.specs.Outcome.{given}
 use Rattle.gx_core.specs.Arithmetic.{number_of_value, number_in, type_of_number, number_atom, computed, result_of, arithmetic}
 use Rattle.gx_core.specs.Soundness.{typed_setting, IsOfType, Keeps}
 use Rattle.gx_core.proofs.KeptFacts.{fact_at_once}
-use Rattle.gx_static.specs.Rule.{has_type, has_none, atomic, is_all_in, is_number_or_empty, number_type, arithmetic_type, binary_rule}
-use Rattle.gx_static.specs.Laws.{ActsKeepType, AddKeepsType}
+use Rattle.gx_static.specs.Rule.{atomic, is_all_in, is_number_or_empty, number_type, arithmetic_type}
+use Rattle.gx_static.specs.Laws.{AddKeepsType}
 use Rattle.gx_static.proofs.ItemLemmas.{EachItem, IsAtomIn, items_are_in, belongs_within, at_most_one}
 use Rattle.gx_static.proofs.LiteralLemmas.{string_is_no_number, boolean_is_no_number, untyped_is_no_number, number_fits}
 use Rattle.gx_static.proofs.Keeping.{tested}
@@ -145,9 +142,9 @@ arithmetic_keeps s forest operator t u xs ys honest few_t few_u b c =
     → Keeps (typed_setting s) forest (if none then never else times_of (atomic (number_type s t u)) o) (arithmetic operator xs ys forest)) [
       | true ↦ λ e. absurd (equal_types_take_the_same s never t b.seen e b.taken)
       | false ↦ λ _. result_keeps s forest operator (number_type s t u) o xs ys honest (omega (arith, l, g)) (omega (arith, m, h))
-        (each_number s xs (items_are_in s forest Decimal xs t p.1 b)) (each_number s ys (items_are_in s forest Decimal ys u q.1 c))
-        (results_derive s forest operator t u xs ys (is_all_in s Integer t && is_all_in s Integer u) b c refl)
-        (record { least = omega (arith, v.least, w.least); greatest = λ _. omega (arith, l, m) })
+          (each_number s xs (items_are_in s forest Decimal xs t p.1 b)) (each_number s ys (items_are_in s forest Decimal ys u q.1 c))
+          (results_derive s forest operator t u xs ys (is_all_in s Integer t && is_all_in s Integer u) b c refl)
+          (record { least = omega (arith, v.least, w.least); greatest = λ _. omega (arith, l, m) })
     ] refl
 
 pub sum_keeps : AddKeepsType

@@ -1,5 +1,5 @@
 -- What the item types of a type say of the items of its values.
-use Rattle.std.proofs.Common.{◌≡◌, ℕ, suc, ◌≤◌, Bool, true, false, ◌&&◌, List, [], ◌∷◌, ◌++◌, length, Option, None, Some, refl, sym, ◌∙◌, ap, subst, ◌⊎◌, inl, inr, nat_le}
+use Rattle.std.proofs.Common.{◌≡◌, ℕ, suc, ◌≤◌, Bool, true, List, [], ◌∷◌, ◌++◌, length, Option, None, Some, refl, sym, ◌∙◌, ap, subst, inl, inr, nat_le}
 use Rattle.std.specs.Option.{option_map}
 use Rattle.std.proofs.Math.Dec.{T, leb→le}
 use Rattle.std.proofs.lemmas.Bool.{and_parts}
@@ -12,7 +12,7 @@ use Rattle.gx_types.specs.declared.item_type.ItemType.TheVariants as items
 use Rattle.gx_types.specs.declared.shape.Shape.{Shape}
 use Rattle.gx_types.specs.declared.shape.Shape.TheVariants as shapes
 use Rattle.gx_types.specs.SchemaSet.{SchemaSet}
-use Rattle.gx_types.specs.Derivation.{DerivesFrom, is_derived}
+use Rattle.gx_types.specs.Derivation.{DerivesFrom}
 use Rattle.gx_types.specs.Occurrence.{occurrence_of}
 use Rattle.gx_types.specs.SequenceType.{SequenceType, never, nothing, item, both, either, optional, star, plus}
 use Rattle.gx_types.specs.Prime.{items_of}

@@ -2,10 +2,7 @@
 use Rattle.std.proofs.Common.{◌≡◌, ℕ, Bool, true, false, List, [], ◌∷◌, ◌++◌, Option, None, Some, refl, sym, ◌∙◌, ap, subst, if◌then◌else◌}
 use Rattle.std.specs.Option.{option_map}
 use Rattle.gx_base.specs.declared.code.Code.{Code}
-use Rattle.gx_base.specs.declared.type_name.Builtin.{Builtin}
-use Rattle.gx_base.specs.declared.type_name.TypeName.{TypeName}
 use Rattle.gx_base.specs.declared.type_name.TypeName.TheVariants as names
-use Rattle.gx_facets.specs.declared.Atomic.{Atomic}
 use Rattle.gx_types.specs.declared.item_type.ItemType.TheVariants as items
 use Rattle.gx_types.specs.declared.shape.Shape.{Shape}
 use Rattle.gx_types.specs.declared.shape.Shape.TheVariants as shapes
@@ -18,17 +15,15 @@ use Rattle.gx_types.proofs.PublicLaws.{sequence_takes_parts}
 use Rattle.gx_model.specs.Forest.{Forest, IsHonest}
 use Rattle.gx_model.specs.Item.{Item, atom, Value}
 use Rattle.gx_model.specs.Belongs.{HaveShapes, Belongs}
-use Rattle.gx_model.proofs.PublicLaws.{values_stay}
 use Rattle.gx_core.specs.declared.operator.Operator.{Operator}
-use Rattle.gx_core.specs.declared.operator.Operator.TheVariants as operators
-use Rattle.gx_core.specs.Expression.{At, Parts, no_parts, a_part, each_of, annotation_of}
+use Rattle.gx_core.specs.Expression.{Parts, no_parts, a_part, each_of, annotation_of}
 use Rattle.gx_core.specs.Bindings.{look_up, Types, types_bound}
-use Rattle.gx_core.specs.Outcome.{Outcome, gives, raises, wrong, after, given}
+use Rattle.gx_core.specs.Outcome.{Outcome, gives, after, given}
 use Rattle.gx_core.specs.Meaning.{Context, Bindings, Denotation, atomized, acts, all_of, denoted, meaning, meanings}
-use Rattle.gx_core.specs.Soundness.{Setting, typed_setting, context_of, KeepsFact, IsOfType, AreOfTypes, Keeps, IsBoundTo, Standing}
+use Rattle.gx_core.specs.Soundness.{Setting, typed_setting, context_of, IsOfType, AreOfTypes, Keeps, Standing}
 use Rattle.gx_core.specs.Laws.{AllKeep}
 use Rattle.gx_core.proofs.KeptFacts.{fact_after, fact_at_once, binding_fits, bindings_fit_still, operands_keep}
-use Rattle.gx_static.specs.Rule.{Ruling, has_type, has_none, literal_rule, data_rule, shown_type, all_items, is_atomic, rule, ruling, variable_ruling}
+use Rattle.gx_static.specs.Rule.{has_type, has_none, shown_type, all_items, is_atomic, rule, ruling, variable_ruling}
 use Rattle.gx_static.specs.Laws.{ActsKeepType, PartsKeepTypes, OperatorKeepsType, LiteralKeepsType, VariableKeepsType, EmptyKeepsType, SequenceKeepsType, LetKeepsType, DataKeepsType}
 use Rattle.gx_static.proofs.ItemLemmas.{EachItem, IsAtom, items_are_atoms}
 use Rattle.gx_static.proofs.LiteralLemmas.{literal_fits}
@@ -135,9 +130,10 @@ let_keeps s binder (a_part a (a_part b (a_part c others))) types place outer t e
 parts_all_keep : (s : SchemaSet) (operator : Operator) → ((before : List SequenceType) → types_bound operator before ≡ []) → (before : List SequenceType) (parts : Parts SequenceType) (types : Types)
     → PartsKeepTypes s operator before parts types → AllKeep (typed_setting s) types (meanings (context_of (typed_setting s)) parts) (each_of annotation_of parts)
 parts_all_keep s operator none before no_parts types h = tt
-parts_all_keep s operator none before (a_part a others) types h =
-    (subst (λ (bound : Types). (standing : Standing (typed_setting s) (bound ++ types)) → Keeps (typed_setting s) standing.forest (annotation_of a) (meaning (context_of (typed_setting s)) a standing.bindings standing.forest)) (none before) h.0,
-    parts_all_keep s operator none (before ++ annotation_of a ∷ []) others types h.1)
+parts_all_keep s operator none before (a_part a others) types h = (
+  subst (λ (bound : Types). (standing : Standing (typed_setting s) (bound ++ types)) → Keeps (typed_setting s) standing.forest (annotation_of a) (meaning (context_of (typed_setting s)) a standing.bindings standing.forest)) (none before) h.0,
+  parts_all_keep s operator none (before ++ annotation_of a ∷ []) others types h.1,
+)
 
 pub record IsStrict (operator : Operator) : Type 0 where
   pub denotes : (context : Context) (parts : List Denotation) (bindings : Bindings) (forest : Forest) → denoted context operator parts bindings forest ≡ after (all_of parts bindings forest) (acts context operator)
