@@ -3,7 +3,7 @@
 ghost use Rattle.std.specs.Prelude.{◌≡◌, ◌≢◌, [], ◌∷◌, IfOk, IfErr, OnOk, map};
 ghost use Rattle.gx_types.specs.SchemaSet.{SchemaSet};
 ghost use Rattle.gx_core.specs.QueryMeaning.{query_outcome, query_type, plain_query, IsSoundQuery};
-ghost use Rattle.gx_core.specs.Meaning.{meaning, gives, wrong, look_up, variable_meaning, operator_meaning, sum_of};
+ghost use Rattle.gx_core.specs.Meaning.{meaning, gives, wrong, look_up, variable_meaning, operator_meaning, fault_code};
 ghost use Rattle.gx_core.specs.Refusal.{Fails};
 ghost use Rattle.gx_core.specs.Values.{Belongs};
 ghost use Rattle.gx_eval.specs.Extended.{extended, items_of, FailsSo};
@@ -14,6 +14,7 @@ use gx_core::expression::BinaryOp;
 use gx_core::laws::meaning_looks_at_no_type;
 use gx_core::scope::Scope;
 use gx_core::typed::{TypedCore, TypedExpr, TypedForm};
+use gx_num::{NumFault, Number, add, to_int};
 use std::alloc::{AllocError, AllocFailed, Global};
 
 // Why an evaluation has no value.
@@ -144,12 +145,21 @@ fn append_result(
 {
     match operator {
         BinaryOp::Add => match (left, right) {
-            ([x], [y]) => match x.checked_add(*y) {
-                Some(sum) => Ok(items.push(sum)?),
-                None => Err(Failure::Raised(Code::FOAR0002)),
+            ([x], [y]) => match add(Number::Int(*x), Number::Int(*y)) {
+                Ok(sum) => Ok(items.push(to_int(sum))?),
+                Err(fault) => Err(Failure::Raised(fault_code(fault))),
             },
             ([], []) | ([], [_]) | ([_], []) => Ok(()),
             _ => Err(Failure::Wrong),
         },
+    }
+}
+
+fn fault_code(fault: NumFault) -> Code
+    ensures { result ≡ fault_code fault }
+{
+    match fault {
+        NumFault::DivZero => Code::FOAR0001,
+        NumFault::Overflow => Code::FOAR0002,
     }
 }

@@ -17,6 +17,7 @@ use Rattle.gx_processor.specs.Serialisation.{serialised}
 use Rattle.gx_processor.specs.TypeBytes.{type_bytes}
 use Rattle.gx_processor.specs.Command.{Command, run_file, check_file, query_file, command_of}
 use Rattle.gx_processor.specs.FaultLines.{usage_line, read_fault_line, code_line, placed_line}
+use Rattle.gx_base.specs.declared.limits.TheConstants.{FILE_BYTES}
 
 -- bytes for standard output, or a refusal with its fault line
 pub data Answer : Type 0 where
@@ -68,7 +69,7 @@ AnswersBytes command bytes answer = (tree : Option SyntaxTree) × HasTree bytes 
 abbrev pub AnswersFile : Command → Option (List ℕ) → Answer → Type 0
 AnswersFile command None answer = answer ≡ refuses status.ReadFault (read_fault_line (query_file command))
 AnswersFile command (Some bytes) answer =
-    MatchBool (nat_le (length bytes) 16777216) (AnswersBytes command bytes answer) (answer ≡ refuses status.Query (code_line GLXS0001))
+    MatchBool (nat_le (length bytes) FILE_BYTES) (AnswersBytes command bytes answer) (answer ≡ refuses status.Query (code_line GLXS0001))
 
 -- the words
 abbrev pub AnswersCommand : List (List ℕ × List ℕ) → Option Command → Answer → Type 0
