@@ -35,13 +35,14 @@ pub fn serialise<S: Sink>(alloc: Global, items: &[SerialItem], sink: &mut S) -> 
     ensures counted { S.faults sink.old ≤ S.faults sink.new }
     ensures failed { IsErrOf result PutError.Failed → Rose (S.faults sink.old) (S.faults sink.new) }
 {
-    match text_of(alloc, items) {
+    match answer_text(alloc, items) {
         Ok(text) => put_in_pieces(sink, text.as_str().as_bytes()),
         Err(_) => Err(PutError::Memory),
     }
 }
 
-fn text_of(alloc: Global, items: &[SerialItem]) -> Result<TextBuilder, AllocError>
+/// The text of the items, which `serialise` puts.
+pub fn answer_text(alloc: Global, items: &[SerialItem]) -> Result<TextBuilder, AllocError>
     ensures { IfOk result (λ text. text ≡ answer_text items.now) }
 {
     let none = Text::empty(alloc)?;

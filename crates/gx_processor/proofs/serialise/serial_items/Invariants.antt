@@ -1,0 +1,8 @@
+use Rattle.std.proofs.Common.{◌≡◌, take}
+use Rattle.std.specs.Prelude.{map}
+use Rattle.gx_processor.specs.Serialisation.{serial_item}
+use Rattle.gx_processor.proofs.serialise.serial_items.Given as goal
+
+-- the texts of the items so far
+abbrev pub invariant-loop-item : goal.invariant-loop-item
+invariant-loop-item l = l.texts.items ≡ map serial_item (take l.item-index l.items)
