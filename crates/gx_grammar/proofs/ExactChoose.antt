@@ -3,9 +3,10 @@ use Rattle.gx_grammar.specs.Grammar.{Guard, choose}
 use Rattle.gx_grammar.specs.Language.{Language, Part, Made}
 use Rattle.gx_grammar.specs.Derivation.{Derives, of_left, of_right}
 use Rattle.gx_grammar.specs.Opening.{Opens, open_end, open_left, open_right, OpensUpTo}
-use Rattle.gx_grammar.specs.Reading.{State, Unfit, TooDeep, Reading, notes}
+use Rattle.gx_grammar.specs.Halting.{Halts, halt_left, halt_right}
+use Rattle.gx_grammar.specs.Reading.{State, Unfit, Faulty, TooDeep, Reading, notes}
 use Rattle.gx_grammar.specs.Decision.{Texts, IsSeen, Chooses}
-use Rattle.gx_grammar.specs.Laws.{Within, Meets, Agrees, SeenUpTo, Reaches, IsExact}
+use Rattle.gx_grammar.specs.Laws.{Within, Meets, Agrees, Stops, SeenUpTo, Reaches, IsExact}
 use Rattle.gx_grammar.proofs.Readings.{by_test, min_is, meets_within}
 use Rattle.gx_grammar.proofs.Exact.{reaches_as}
 
@@ -21,7 +22,8 @@ module _ (L : Language) where
       go : (r : Reading (Made L)) → Reaches L A (notes s left) r → Reaches L A s r
       go (Ok p) h = seen p.1.far h
       go (Err (Unfit far)) h = seen far h
-      go (Err (TooDeep left)) h = h
+      go (Err (Faulty code left)) h = h
+      go (Err TooDeep) h = tt
 
   module _ (g : Guard) (A B : Part L) (K C : Texts) (first second : State → Reading (Made L))
       (decided : Chooses L g A B K C) (left : IsExact L A K C first) (right : IsExact L B K C second) where
@@ -52,6 +54,16 @@ module _ (L : Language) where
         let d' = subst (λ w. Derives L B v w y) (sym h) d in
         by_test (g.takes s.rest) (first (noted s)) (second (noted s)) (λ r. Agrees r v y)
         (λ f. let t : g.takes s.rest ≡ false = decided.right v s.rest y d' k in absurd (cc)) (λ _. right.complete (noted s) v y d' k)
+
+    choose_halts : (s : State) (code : ℕ) {x : List ℕ} (z : List ℕ) → Halts L (choose g A B) x code z → s.rest ≡ x → Stops (choice s) code (length z)
+    choose_halts s code z (halt_left h) e =
+        let h' = subst (λ w. Halts L A w code z) (sym e) h in
+        by_test (g.takes s.rest) (first (noted s)) (second (noted s)) (λ r. Stops r code (length z)) (λ _. left.halts (noted s) code z h')
+        (λ f. let t : g.takes s.rest ≡ true = decided.left_halts s.rest z code h' in absurd (cc))
+    choose_halts s code z (halt_right h) e =
+        let h' = subst (λ w. Halts L B w code z) (sym e) h in
+        by_test (g.takes s.rest) (first (noted s)) (second (noted s)) (λ r. Stops r code (length z))
+        (λ f. let t : g.takes s.rest ≡ false = decided.right_halts s.rest z code h' in absurd (cc)) (λ _. right.halts (noted s) code z h')
 
     choose_covers : (s : State) {x : List ℕ} (z : List ℕ) → s.rest ≡ x ++ z → s.far ≤ length s.rest → Opens L (choose g A B) x → Within (choice s) (length z)
     choose_covers s z e h open_end =
@@ -88,14 +100,15 @@ module _ (L : Language) where
 
     choose_reaches : (s : State) → Reaches L (choose g A B) s (choice s)
     choose_reaches s = by_test (g.takes s.rest) (first (noted s)) (second (noted s)) (λ r. Reaches L (choose g A B) s r)
-        (λ _. noted_reaches s (g.seen s.rest) (first (noted s)) (decided.sees s.rest) (reaches_as (noted s) (first (noted s)) (λ x o. open_left o) (left.reaches (noted s))))
-        (λ _. noted_reaches s (g.seen s.rest) (second (noted s)) (decided.sees s.rest) (reaches_as (noted s) (second (noted s)) (λ x o. open_right o) (right.reaches (noted s))))
+        (λ _. noted_reaches s (g.seen s.rest) (first (noted s)) (decided.sees s.rest) (reaches_as (noted s) (first (noted s)) (λ x o. open_left o) (λ x z code h. halt_left h) (left.reaches (noted s))))
+        (λ _. noted_reaches s (g.seen s.rest) (second (noted s)) (decided.sees s.rest) (reaches_as (noted s) (second (noted s)) (λ x o. open_right o) (λ x z code h. halt_right h) (right.reaches (noted s))))
 
     pub exact_choose : IsExact L (choose g A B) K C choice
     exact_choose = record {
       kept = λ s n h. by_test (g.takes s.rest) (first (noted s)) (second (noted s)) (λ r. Within r n) (λ _. left.kept (noted s) n (omega arith)) (λ _. right.kept (noted s) n (omega arith));
       sound = choose_sound;
       complete = λ s v y d k. choose_complete s v y d refl k;
+      halts = λ s code z h. choose_halts s code z h refl;
       covers = λ s x z e h o. choose_covers s z e h o;
       meets = λ s v x y z e h d n c. choose_meets s y z e h d n c;
       reaches = choose_reaches;

@@ -4,10 +4,11 @@ use Rattle.gx_grammar.specs.Grammar.{token, keyed}
 use Rattle.gx_grammar.specs.Language.{Language, Part, Made}
 use Rattle.gx_grammar.specs.Derivation.{Derives, of_token, of_keyed}
 use Rattle.gx_grammar.specs.Opening.{Opens, open_end, open_token, open_key, open_behind, OpensUpTo}
-use Rattle.gx_grammar.specs.Reading.{State, Unfit, TooDeep, Reading, go_on, read_token}
+use Rattle.gx_grammar.specs.Halting.{Halts, halt_token, halt_key, halt_behind}
+use Rattle.gx_grammar.specs.Reading.{State, Unfit, Faulty, TooDeep, Reading, go_on, read_token}
 use Rattle.gx_grammar.specs.Decision.{Texts}
-use Rattle.gx_grammar.specs.Laws.{LawfulTokens, Within, Meets, Agrees, SeenUpTo, Reaches, IsExact}
-use Rattle.gx_grammar.proofs.Readings.{within_go_on, sound_go_on, agrees_go_on, within_agrees, meets_agrees, meets_within, meets_map}
+use Rattle.gx_grammar.specs.Laws.{LawfulTokens, Within, Meets, Agrees, Stops, SeenUpTo, Reaches, IsExact}
+use Rattle.gx_grammar.proofs.Readings.{within_go_on, sound_go_on, agrees_go_on, within_agrees, meets_agrees, meets_within, meets_map, stops_agrees, stops_go_on}
 use Rattle.gx_grammar.proofs.Exact.{ahead, exact_token, token_derives}
 use Rattle.gx_grammar.proofs.ExactBoth.{reaches_go_on}
 
@@ -39,6 +40,13 @@ module _ (L : Language) (lawful : LawfulTokens L) (t : L.Token) (f : Made L → 
       (key.complete s a m (of_token (subst (λ w. L.derives t a w m) (sym h) d)) tt)
       (λ u g. agrees_go_on (next a u) (λ w r. Ok (pair a w, r)) b y (pair a b) y ((exact a).complete u b y (subst (λ w. Derives L (f a) b w y) (sym g) e) k) (λ r q. (refl, q)))
 
+  keyed_halts : (s : State) (code : ℕ) {x : List ℕ} (z : List ℕ) → Halts L (keyed t f) x code z → s.rest ≡ x → Stops (keying s) code (length z)
+  keyed_halts s code z (halt_key h) e = stops_go_on (read_token L t s) behind code (length z) (key.halts s code z (subst (λ w. Halts L (token t) w code z) (sym e) (halt_token h)))
+  keyed_halts s code z (halt_behind {v = v} {y = y} d h) e =
+      stops_agrees (read_token L t s) behind v y code (length z)
+      (key.complete s v y (of_token (subst (λ w. L.derives t v w y) (sym e) d)) tt)
+      (λ u g. stops_go_on (next v u) (λ w r. Ok (pair v w, r)) code (length z) ((exact v).halts u code z (subst (λ w. Halts L (f v) w code z) (sym g) h)))
+
   keyed_first : (s : State) (x z : List ℕ) → s.rest ≡ x ++ z → s.far ≤ length s.rest → Opens L (token t) x → Within (keying s) (length z)
   keyed_first s x z e h o = within_go_on (read_token L t s) behind (length z) (key.covers s x z e h o) (λ v u g. behind_kept v u (length z) g)
 
@@ -68,6 +76,9 @@ module _ (L : Language) (lawful : LawfulTokens L) (t : L.Token) (f : Made L → 
   key_opens open_end = open_end
   key_opens (open_token o) = open_key o
 
+  key_halting : {x z : List ℕ} {code : ℕ} → Halts L (token t) x code z → Halts L (keyed t f) x code z
+  key_halting (halt_token h) = halt_key h
+
   opens_behind_key : {v : Made L} {x y : List ℕ} {left : ℕ} → L.derives t v x y → OpensUpTo L (f v) y left → OpensUpTo L (keyed t f) x left
   opens_behind_key {v = v} {x = x} {y = y} d o =
       let a = lawful.ends t v x y d in
@@ -81,7 +92,7 @@ module _ (L : Language) (lawful : LawfulTokens L) (t : L.Token) (f : Made L → 
       }
 
   keyed_reaches : (s : State) → Reaches L (keyed t f) s (keying s)
-  keyed_reaches s = reaches_go_on L lawful s (read_token L t s) behind (λ x o. key_opens o) (key.reaches s) (key.sound s)
+  keyed_reaches s = reaches_go_on L lawful s (read_token L t s) behind (λ x o. key_opens o) (λ x z code h. key_halting h) (key.reaches s) (key.sound s)
       (λ v u d seen. step v u (token_derives L lawful t d) seen (next v u) ((exact v).reaches u))
     where
       on : (v : Made L) (u : State) (far : ℕ) → L.derives t v s.rest u.rest → SeenUpTo L (keyed t f) s u.far → SeenUpTo L (f v) u far → SeenUpTo L (keyed t f) s far
@@ -91,13 +102,15 @@ module _ (L : Language) (lawful : LawfulTokens L) (t : L.Token) (f : Made L → 
       step : (v : Made L) (u : State) → L.derives t v s.rest u.rest → SeenUpTo L (keyed t f) s u.far → (r : Reading (Made L)) → Reaches L (f v) u r → Reaches L (keyed t f) s (go_on r (λ w q. Ok (pair v w, q)))
       step v u d seen (Ok o) h = on v u o.1.far d seen h
       step v u d seen (Err (Unfit far)) h = on v u far d seen h
-      step v u d seen (Err (TooDeep left)) h = opens_behind_key d h
+      step v u d seen (Err (Faulty code left)) h = record { rest = h.rest; place = h.place; halts = halt_behind d h.halts }
+      step v u d seen (Err TooDeep) h = tt
 
   pub exact_keyed : IsExact L (keyed t f) K C keying
   exact_keyed = record {
     kept = λ s n h. within_go_on (read_token L t s) behind n (key.kept s n h) (λ v u g. behind_kept v u n g);
     sound = keyed_sound;
     complete = λ s v y d k. keyed_complete s v y d refl k;
+    halts = λ s code z h. keyed_halts s code z h refl;
     covers = λ s x z e h o. keyed_covers s z e h o;
     meets = λ s v x y z e h d n c. keyed_meets s y z e h d n c;
     reaches = keyed_reaches;

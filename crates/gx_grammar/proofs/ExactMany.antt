@@ -4,11 +4,12 @@ use Rattle.gx_grammar.specs.Grammar.{Guard, empty, many}
 use Rattle.gx_grammar.specs.Language.{Language, Part, Made}
 use Rattle.gx_grammar.specs.Derivation.{Derives, of_none, of_item}
 use Rattle.gx_grammar.specs.Opening.{Opens, open_end, open_item, open_later, OpensUpTo}
-use Rattle.gx_grammar.specs.Reading.{State, Unfit, TooDeep, Reading, go_on, notes, repeat}
-use Rattle.gx_grammar.specs.Decision.{Texts, Before, BeforeCut, IsSeen, Repeats, Shortens}
-use Rattle.gx_grammar.specs.Laws.{LawfulTokens, Within, Meets, Agrees, SeenUpTo, Reaches, IsExact}
+use Rattle.gx_grammar.specs.Halting.{Halts, halt_item, halt_later}
+use Rattle.gx_grammar.specs.Reading.{State, Unfit, Faulty, TooDeep, Reading, go_on, notes, repeat}
+use Rattle.gx_grammar.specs.Decision.{Texts, Until, BeforeCut, IsSeen, Repeats, Shortens}
+use Rattle.gx_grammar.specs.Laws.{LawfulTokens, Within, Meets, Agrees, Stops, SeenUpTo, Reaches, IsExact}
 use Rattle.gx_grammar.proofs.Derived.{suffix, whole, cut}
-use Rattle.gx_grammar.proofs.Readings.{is_empty, by_test, within_go_on, sound_go_on, agrees_go_on, within_meets, meets_meets, meets_within, meets_map}
+use Rattle.gx_grammar.proofs.Readings.{is_empty, by_test, within_go_on, sound_go_on, agrees_go_on, within_meets, meets_meets, meets_within, meets_map, stops_agrees, stops_go_on}
 use Rattle.gx_grammar.proofs.Exact.{ahead, opens_as, empty_opens}
 use Rattle.gx_grammar.proofs.ExactBoth.{reaches_go_on}
 use Rattle.gx_grammar.proofs.ExactChoose.{noted_reaches}
@@ -30,7 +31,7 @@ module _ (L : Language) (lawful : LawfulTokens L) where
       record { front = a.0 ++ o.front; rest = o.rest; whole = w; place = o.place; opens = open_later (cut L lawful d (a.0 ++ o.front) o.front o.rest w o.whole).1 o.opens }
 
   module _ (g : Guard) (A : Part L) (K C : Texts) (item : State → Reading (Made L)) (decided : Repeats L g A K C) (shortens : Shortens L A)
-      (exact : IsExact L A (Before L (many g A) K) (BeforeCut L (many g A) C) item) where
+      (exact : IsExact L A (Until L (many g A) K) (BeforeCut L (many g A) C) item) where
     abbrev noted : State → State
     noted s = notes s (g.seen s.rest)
 
@@ -67,12 +68,29 @@ module _ (L : Language) (lawful : LawfulTokens L) where
         (λ _. (refl, h))
     many_complete (suc count) s v y b (of_item {v = a} {w = w} {x = x} {y = m} d e) h k =
         let d' = subst (λ w. Derives L A a w m) (sym h) d in
-        let behind : Before L (many g A) K m = record { value = w; rest = y; derived = e; behind = k } in
+        let behind : Until L (many g A) K m = inl (record { value = w; rest = y; derived = e; behind = k }) in
         let short : length m < length s.rest = shorter d' (shortens a s.rest m d') in
         by_test (g.takes s.rest) (go_on (item (noted s)) (more count)) (stop s) (λ r. Agrees r (an_item a w) y)
         (λ _. agrees_go_on (item (noted s)) (more count) a m (an_item a w) y (exact.complete (noted s) a m d' behind)
         (λ t f. agrees_go_on (repeat g item count t) (λ w u. Ok (an_item a w, u)) w y (an_item a w) y
         (many_complete count t w y (let q : length t.rest ≡ length m = ap length f in omega arith) e f k) (λ u q. (refl, q))))
+        (λ f. let t : g.takes s.rest ≡ true = decided.item a s.rest m d' behind in absurd (cc))
+
+    many_halts : (count : ℕ) (s : State) (code : ℕ) {x : List ℕ} (z : List ℕ) → length s.rest < count → Halts L (many g A) x code z → s.rest ≡ x → Stops (repeat g item count s) code (length z)
+    many_halts zero s code z b h e = absurd (omega arith)
+    many_halts (suc count) s code z b (halt_item h) e =
+        let h' = subst (λ w. Halts L A w code z) (sym e) h in
+        by_test (g.takes s.rest) (go_on (item (noted s)) (more count)) (stop s) (λ r. Stops r code (length z))
+        (λ _. stops_go_on (item (noted s)) (more count) code (length z) (exact.halts (noted s) code z h'))
+        (λ f. let t : g.takes s.rest ≡ true = decided.item_halts s.rest z code h' in absurd (cc))
+    many_halts (suc count) s code z b (halt_later {v = a} {y = m} d h) e =
+        let d' = subst (λ w. Derives L A a w m) (sym e) d in
+        let behind : Until L (many g A) K m = inr (code, z, h) in
+        let short : length m < length s.rest = shorter d' (shortens a s.rest m d') in
+        by_test (g.takes s.rest) (go_on (item (noted s)) (more count)) (stop s) (λ r. Stops r code (length z))
+        (λ _. stops_agrees (item (noted s)) (more count) a m code (length z) (exact.complete (noted s) a m d' behind)
+        (λ t f. stops_go_on (repeat g item count t) (λ w u. Ok (an_item a w, u)) code (length z)
+        (many_halts count t code z (let q : length t.rest ≡ length m = ap length f in omega arith) h f)))
         (λ f. let t : g.takes s.rest ≡ true = decided.item a s.rest m d' behind in absurd (cc))
 
     -- the guard ended the items, and what was cut off was seen
@@ -136,7 +154,7 @@ module _ (L : Language) (lawful : LawfulTokens L) where
     many_reaches (suc count) s =
         by_test (g.takes s.rest) (go_on (item (noted s)) (more count)) (stop s) (λ r. Reaches L (many g A) s r)
         (λ _. noted_reaches L s (g.seen s.rest) (go_on (item (noted s)) (more count)) (opens_as (λ x o. open_item o) (decided.sees s.rest))
-        (reaches_go_on L lawful (noted s) (item (noted s)) (more count) (λ x o. open_item o) (exact.reaches (noted s)) (exact.sound (noted s))
+        (reaches_go_on L lawful (noted s) (item (noted s)) (more count) (λ x o. open_item o) (λ x z code h. halt_item h) (exact.reaches (noted s)) (exact.sound (noted s))
         (λ v t d seen. step v t d seen (repeat g item count t) (many_reaches count t))))
         (λ _. noted_reaches L s (g.seen s.rest) (stop s) (opens_as (λ x o. open_item o) (decided.sees s.rest)) (inl refl))
       where
@@ -147,13 +165,15 @@ module _ (L : Language) (lawful : LawfulTokens L) where
         step : (v : Made L) (t : State) → Derives L A v s.rest t.rest → SeenUpTo L (many g A) (noted s) t.far → (r : Reading (Made L)) → Reaches L (many g A) t r → Reaches L (many g A) (noted s) (go_on r (λ w u. Ok (an_item v w, u)))
         step v t d seen (Ok o) h = behind v t o.1.far d seen h
         step v t d seen (Err (Unfit far)) h = behind v t far d seen h
-        step v t d seen (Err (TooDeep left)) h = opens_later d h
+        step v t d seen (Err (Faulty code left)) h = record { rest = h.rest; place = h.place; halts = halt_later d h.halts }
+        step v t d seen (Err TooDeep) h = tt
 
     pub exact_many : IsExact L (many g A) K C (λ s. repeat g item (suc (length s.rest)) s)
     exact_many = record {
       kept = λ s n h. many_kept (suc (length s.rest)) s n h;
       sound = λ s. many_sound (suc (length s.rest)) s;
       complete = λ s v y d k. many_complete (suc (length s.rest)) s v y (omega arith) d refl k;
+      halts = λ s code z h. many_halts (suc (length s.rest)) s code z (omega arith) h refl;
       covers = λ s x z e h o. many_covers (suc (length s.rest)) s z (omega arith) e h o;
       meets = λ s v x y z e h d n c. many_meets (suc (length s.rest)) s y z (omega arith) e h d n c;
       reaches = λ s. many_reaches (suc (length s.rest)) s;

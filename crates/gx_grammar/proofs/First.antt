@@ -1,13 +1,14 @@
-use Rattle.std.proofs.Common.{◌≡◌, ℕ, Bool, true, false, if◌then◌else◌, ◌||◌, ◌&&◌, List, [], ◌∷◌, ◌++◌, ◌⊎◌, inl, inr, refl, sym, subst, ◌∙◌}
+use Rattle.std.proofs.Common.{◌≡◌, ℕ, Bool, true, false, if◌then◌else◌, ◌||◌, ◌&&◌, List, [], ◌∷◌, ◌++◌, ◌⊎◌, inl, inr, refl, sym, subst, ◌∙◌, Option}
 use Rattle.std.specs.List.{list_all}
 use Rattle.gx_grammar.specs.Value.{Value}
 use Rattle.gx_grammar.specs.Grammar.{◌&◌, choose}
 use Rattle.gx_grammar.specs.Language.{Language, Part, Made}
 use Rattle.gx_grammar.specs.Derivation.{Derives, of_token, of_empty, of_both, of_keyed, of_left, of_right, of_none, of_item, of_rule, of_made}
 use Rattle.gx_grammar.specs.Opening.{Opens, open_end, open_token, open_first, open_second, open_key, open_behind, open_left, open_right, open_item, open_later, open_rule, open_made}
-use Rattle.gx_grammar.specs.Decision.{Before, BeforeCut}
+use Rattle.gx_grammar.specs.Halting.{Halts, halt_token, halt_first, halt_second, halt_key, halt_behind, halt_left, halt_right, halt_item, halt_later, halt_rule, halt_made}
+use Rattle.gx_grammar.specs.Decision.{Before, Until, BeforeCut}
 use Rattle.gx_grammar.specs.Levels.{takes_some}
-use Rattle.gx_grammar.specs.First.{IsIn, AllOf, StartsWith, EndsOrStarts, BeginsWith, begins_empty, begins_opening, begins_token, Fronts, first_of, first_behind, AreFronts}
+use Rattle.gx_grammar.specs.First.{IsIn, AllOf, StandsFirst, StartsWith, EndsOrStarts, BeginsWith, begins_empty, begins_opening, begins_token, Fronts, first_of, first_behind, AreFronts}
 
 and_true : (a b : Bool) → (a && b) ≡ true → (a ≡ true) × (b ≡ true)
 and_true true b e = (refl, e)
@@ -44,6 +45,17 @@ and_false : (a b : Bool) → b ≡ false → (a && b) ≡ false
 and_false true b e = e
 and_false false b e = refl
 
+module _ {Token Node : Type 0} (derives : Token → Value Node → List ℕ → List ℕ → Type 0) (faults : Token → List ℕ → Option ℕ) where
+  pub first_in : (ts us : List Token) (x : List ℕ) → ((u : Token) → IsIn ts u → IsIn us u) → StandsFirst derives faults ts x → StandsFirst derives faults us x
+  first_in ts us x f s = record { token = s.token; among = f s.token s.among; stands = s.stands }
+
+  pub ends_in : (ts us : List Token) (x : List ℕ) → ((u : Token) → IsIn ts u → IsIn us u) → EndsOrStarts derives faults ts x → EndsOrStarts derives faults us x
+  ends_in ts us x f (inl e) = inl e
+  ends_in ts us x f (inr s) = inr (first_in ts us x f s)
+
+  pub first_stands : (ts : List Token) (x : List ℕ) → StartsWith derives ts x → StandsFirst derives faults ts x
+  first_stands ts x s = record { token = s.token; among = s.among; stands = inl (s.value, s.rest, s.derived) }
+
 module _ {Token Node : Type 0} (derives : Token → Value Node → List ℕ → List ℕ → Type 0) (opens : Token → List ℕ → Type 0) where
   pub starts_in : (ts us : List Token) (x : List ℕ) → ((u : Token) → IsIn ts u → IsIn us u) → StartsWith derives ts x → StartsWith derives us x
   starts_in ts us x f s = record { token = s.token; among = f s.token s.among; value = s.value; rest = s.rest; derived = s.derived }
@@ -53,13 +65,12 @@ module _ {Token Node : Type 0} (derives : Token → Value Node → List ℕ → 
   begins_in ts us x f (begins_opening u i o) = begins_opening u (f u i) o
   begins_in ts us x f (begins_token s) = begins_token (starts_in ts us x f s)
 
-  pub ends_in : (ts us : List Token) (x : List ℕ) → ((u : Token) → IsIn ts u → IsIn us u) → EndsOrStarts derives ts x → EndsOrStarts derives us x
-  ends_in ts us x f (inl e) = inl e
-  ends_in ts us x f (inr s) = inr (starts_in ts us x f s)
-
 module _ (L : Language) (f : Fronts L) (right : AreFronts L f) where
   abbrev Starts : List L.Token → List ℕ → Type 0
   Starts ts x = StartsWith L.derives ts x
+
+  abbrev First : List L.Token → List ℕ → Type 0
+  First ts x = StandsFirst L.derives L.faults ts x
 
   abbrev Begins : List L.Token → List ℕ → Type 0
   Begins ts x = BeginsWith L.derives L.opens ts x
@@ -105,6 +116,26 @@ module _ (L : Language) (f : Fronts L) (right : AreFronts L f) where
       not_taken false e q = refl
   starts (of_made d) = starts d
 
+  -- What halts in a grammar starts with a first token, or has its fault there.
+  pub halting : {A : Part L} {x z : List ℕ} {code : ℕ} → Halts L A x code z → First (first_of L f A) x
+  halting (halt_token {t = t} {code = code} e) = record { token = t; among = inl refl; stands = inr (code, e) }
+  halting (halt_first {A = A} {B = B} {x = x} h) = first_in L.derives L.faults (first_of L f A) (first_of L f (A & B)) x (λ u i. in_left (first_of L f A) _ u i) (halting h)
+  halting (halt_second {A = A} {B = B} {x = x} {y = y} d h) = elim (starts d) [
+    | inl s ↦ first_in L.derives L.faults (first_of L f A) (first_of L f (A & B)) x (λ u i. in_left (first_of L f A) _ u i) (first_stands L.derives L.faults (first_of L f A) x s)
+    | inr p ↦ subst (λ w. First (first_of L f (A & B)) w) (sym p.0) (first_in L.derives L.faults (first_of L f B) (first_of L f (A & B)) y (in_behind A (first_of L f B) p.1) (halting h))
+  ]
+  halting (halt_key {t = t} {code = code} e) = record { token = t; among = inl refl; stands = inr (code, e) }
+  halting (halt_behind {t = t} {v = v} {y = y} d h) = record { token = t; among = inl refl; stands = inl (v, y, d) }
+  halting (halt_left {g = g} {A = A} {B = B} {x = x} h) = first_in L.derives L.faults (first_of L f A) (first_of L f (choose g A B)) x (λ u i. in_left (first_of L f A) (first_of L f B) u i) (halting h)
+  halting (halt_right {g = g} {A = A} {B = B} {x = x} h) = first_in L.derives L.faults (first_of L f B) (first_of L f (choose g A B)) x (λ u i. in_right (first_of L f A) (first_of L f B) u i) (halting h)
+  halting (halt_item h) = halting h
+  halting (halt_later {A = A} {x = x} {y = y} d h) = elim (starts d) [
+    | inl s ↦ first_stands L.derives L.faults (first_of L f A) x s
+    | inr p ↦ subst (λ w. First (first_of L f A) w) (sym p.0) (halting h)
+  ]
+  halting (halt_rule {p = p} {x = x} h) = first_in L.derives L.faults (first_of L f (L.rules p)) (f.first p) x (λ u i. all_in (IsIn (f.first p)) (first_of L f (L.rules p)) (right.firsts p) u i) (halting h)
+  halting (halt_made h) = halting h
+
   -- What opens a grammar begins with a first token.
   pub begins : {A : Part L} {x : List ℕ} → Opens L A x → Begins (first_of L f A) x
   begins open_end = begins_empty
@@ -127,11 +158,15 @@ module _ (L : Language) (f : Fronts L) (right : AreFronts L f) where
   begins (open_made o) = begins o
 
   -- What stands in front of the end, or of one of the tokens, starts with a first token or one of these.
-  pub before_starts : (A : Part L) (ts : List L.Token) (x : List ℕ) → Before L A (EndsOrStarts L.derives ts) x → EndsOrStarts L.derives (first_behind L f A ts) x
+  pub before_starts : (A : Part L) (ts : List L.Token) (x : List ℕ) → Before L A (EndsOrStarts L.derives L.faults ts) x → EndsOrStarts L.derives L.faults (first_behind L f A ts) x
   before_starts A ts x b = elim (starts b.derived) [
-    | inl s ↦ inr (starts_in L.derives L.opens (first_of L f A) (first_behind L f A ts) x (λ u i. in_left (first_of L f A) _ u i) s)
-    | inr p ↦ subst (λ w. EndsOrStarts L.derives (first_behind L f A ts) w) (sym p.0) (ends_in L.derives L.opens ts (first_behind L f A ts) b.rest (in_behind A ts p.1) b.behind)
+    | inl s ↦ inr (first_in L.derives L.faults (first_of L f A) (first_behind L f A ts) x (λ u i. in_left (first_of L f A) _ u i) (first_stands L.derives L.faults (first_of L f A) x s))
+    | inr p ↦ subst (λ w. EndsOrStarts L.derives L.faults (first_behind L f A ts) w) (sym p.0) (ends_in L.derives L.faults ts (first_behind L f A ts) b.rest (in_behind A ts p.1) b.behind)
   ]
+
+  pub until_starts : (A : Part L) (ts : List L.Token) (x : List ℕ) → Until L A (EndsOrStarts L.derives L.faults ts) x → EndsOrStarts L.derives L.faults (first_behind L f A ts) x
+  until_starts A ts x (inl b) = before_starts A ts x b
+  until_starts A ts x (inr h) = inr (first_in L.derives L.faults (first_of L f A) (first_behind L f A ts) x (λ u i. in_left (first_of L f A) _ u i) (halting h.2))
 
   pub before_begins : (A : Part L) (ts : List L.Token) (x : List ℕ) → BeforeCut L A (Begins ts) x → Begins (first_behind L f A ts) x
   before_begins A ts x (inl o) = begins_in L.derives L.opens (first_of L f A) (first_behind L f A ts) x (λ u i. in_left (first_of L f A) _ u i) (begins o)

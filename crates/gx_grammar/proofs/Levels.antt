@@ -1,13 +1,13 @@
-use Rattle.std.proofs.Common.{◌≡◌, ◌≢◌, ℕ, zero, suc, ◌<◌, ◌≤◌, Bool, true, false, ◌&&◌, ◌||◌, List, [], ◌∷◌, ◌⊎◌, inl, inr, length, refl, ap, Ok, Err, IfOk, arith, length-append, Option, Some, None, min}
+use Rattle.std.proofs.Common.{◌≡◌, ℕ, zero, suc, ◌+◌, ◌<◌, ◌≤◌, Bool, true, false, ◌&&◌, ◌||◌, List, ◌⊎◌, inl, inr, length, refl, ap, Ok, Err, IfOk, arith, length-append, Option, Some, None, min}
 use Rattle.gx_grammar.specs.Value.{pair, no_item, an_item}
 use Rattle.gx_grammar.specs.Grammar.{Guard, token, empty, ◌&◌, keyed, choose, many, rule, made}
 use Rattle.gx_grammar.specs.Language.{Language, Part, Made}
 use Rattle.gx_grammar.specs.Derivation.{Derives, of_token, of_empty, of_both, of_keyed, of_left, of_right, of_none, of_item, of_rule, of_made}
-use Rattle.gx_grammar.specs.Reading.{State, Unfit, TooDeep, Reading, go_on, notes, taken, read_token, repeat, read_with, reads, start}
-use Rattle.gx_grammar.specs.Decision.{Texts, Before, BeforeCut, Decides}
+use Rattle.gx_grammar.specs.Reading.{State, Unfit, Faulty, TooDeep, Reading, go_on, notes, taken, unless_fault, read_token, repeat, read_with, reads, start}
+use Rattle.gx_grammar.specs.Decision.{Texts, Until, BeforeCut, Decides}
 use Rattle.gx_grammar.specs.Laws.{LawfulTokens}
-use Rattle.gx_grammar.specs.Levels.{Takings, takes_some, IsShielded, AreTakings, IsLevelled, IsNotTooDeep}
-use Rattle.gx_grammar.specs.Text.{AllDecide, AtEnd, Nowhere, IsReadable, with_rest, whole_only, read_text}
+use Rattle.gx_grammar.specs.Levels.{Takings, takes_some, HasRanksBelow, IsShielded, AreTakings, IsLevelled, IsNotTooDeep}
+use Rattle.gx_grammar.specs.Text.{AllDecide, AtEnd, Nowhere, IsReadable}
 use Rattle.gx_grammar.proofs.Derived.{suffix}
 use Rattle.gx_grammar.proofs.Readings.{by_test}
 use Rattle.gx_grammar.proofs.Exact.{exact_token, token_derives}
@@ -25,7 +25,8 @@ and_is false b e = absurd (cc)
 not_too_deep : {X Y : Type 0} (r : Reading X) (f : X → State → Reading Y) (P : X → State → Type 0) → IsNotTooDeep r → IfOk r (λ o. P o.0 o.1) → ((v : X) (t : State) → P v t → IsNotTooDeep (f v t)) → IsNotTooDeep (go_on r f)
 not_too_deep (Ok o) f P n h next = next o.0 o.1 h
 not_too_deep (Err (Unfit far)) f P n h next = tt
-not_too_deep (Err (TooDeep left)) f P n h next = absurd n
+not_too_deep (Err (Faulty code left)) f P n h next = tt
+not_too_deep (Err TooDeep) f P n h next = absurd n
 
 if_ok : {X : Type 0} (r : Reading X) (P Q : X × State → Type 0) → ((o : X × State) → P o → Q o) → IfOk r P → IfOk r Q
 if_ok (Ok o) P Q f h = f o h
@@ -35,14 +36,16 @@ if_ok (Err e) P Q f h = tt
 last : {X Y : Type 0} (r : Reading X) (f : X → Y) → IsNotTooDeep r → IsNotTooDeep (go_on r (λ v t. Ok (f v, t)))
 last (Ok o) f n = tt
 last (Err (Unfit far)) f n = tt
-last (Err (TooDeep left)) f n = absurd n
+last (Err (Faulty code left)) f n = tt
+last (Err TooDeep) f n = absurd n
 
 token_fine : (L : Language) (t : L.Token) (s : State) → IsNotTooDeep (read_token L t s)
-token_fine L t s = go (L.scan t s.rest)
+token_fine L t s = go (L.faults t s.rest) (L.scan t s.rest)
   where
-    go : (q : Option (Made L × List ℕ)) → IsNotTooDeep (taken q (min s.far (L.seen t s.rest)))
-    go (Some r) = tt
-    go None = tt
+    go : (fault : Option ℕ) (q : Option (Made L × List ℕ)) → IsNotTooDeep (unless_fault fault (length s.rest) (taken q (min s.far (L.seen t s.rest))))
+    go None (Some r) = tt
+    go None None = tt
+    go (Some code) q = tt
 
 module _ (L : Language) (lawful : LawfulTokens L) (k : Takings L) (taken : AreTakings L k) where
   shorter_or_same : {A : Part L} {v : Made L} {x y : List ℕ} → Derives L A v x y → length y ≤ length x
@@ -64,7 +67,7 @@ module _ (L : Language) (lawful : LawfulTokens L) (k : Takings L) (taken : AreTa
   takes_off (of_rule {p = p} d) e = takes_off d (taken.productions p e)
   takes_off (of_made d) e = takes_off d e
 
-  module _ (decided : AllDecide L) (levels : ℕ) (calls : (p : L.Production) (s : State) → length s.rest < levels → IsNotTooDeep (reads L levels p s)) where
+  module _ (rank : L.Production → ℕ) (decided : AllDecide L) (levels : ℕ) (calls : (p : L.Production) (s : State) → rank p + length s.rest < levels → IsNotTooDeep (reads L levels p s)) where
     abbrev reader : Part L → State → Reading (Made L)
     reader A = read_with L (reads L levels) A
 
@@ -84,8 +87,8 @@ module _ (L : Language) (lawful : LawfulTokens L) (k : Takings L) (taken : AreTa
     key_leaves_less t s q = if_ok (read_token L t s) _ _ (λ o e. taken.tokens t o.0 s.rest o.1.rest q (token_derives L lawful t e)) ((exact_token L lawful t AtEnd Nowhere).sound s)
 
     -- items that leave no more than stood there
-    items : (g : Guard) (item : State → Reading (Made L)) (n : ℕ) → ((s : State) → length s.rest < n → IsNotTooDeep (item s)) → ((s : State) → IfOk (item s) (λ o. length o.1.rest ≤ length s.rest))
-        → (count : ℕ) (s : State) → length s.rest < n → IsNotTooDeep (repeat g item count s)
+    items : (g : Guard) (item : State → Reading (Made L)) (n : ℕ) → ((s : State) → n + length s.rest ≤ levels → IsNotTooDeep (item s)) → ((s : State) → IfOk (item s) (λ o. length o.1.rest ≤ length s.rest))
+        → (count : ℕ) (s : State) → n + length s.rest ≤ levels → IsNotTooDeep (repeat g item count s)
     items g item n fine less zero s h = tt
     items g item n fine less (suc count) s h =
         by_test (g.takes s.rest) (go_on (item (notes s (g.seen s.rest))) (λ v t. go_on (repeat g item count t) (λ w u. Ok (an_item v w, u)))) (Ok (no_item, notes s (g.seen s.rest))) (λ r. IsNotTooDeep r)
@@ -93,62 +96,62 @@ module _ (L : Language) (lawful : LawfulTokens L) (k : Takings L) (taken : AreTa
         (λ v t e. last (repeat g item count t) (λ w. an_item v w) (items g item n fine less count t (omega arith))))
         (λ _. tt)
 
-    -- where the text is short enough, any grammar
-    short : (A : Part L) (K C : Texts) → Decides L A K C → (s : State) → length s.rest < levels → IsNotTooDeep (reader A s)
-    short (token t) K C d s h = token_fine L t s
-    short empty K C d s h = tt
-    short (A & B) K C d s h =
-        not_too_deep (reader A s) (λ v t. go_on (reader B t) (λ w u. Ok (pair v w, u))) (λ v t. length t.rest ≤ length s.rest) (short A (Before L B K) (BeforeCut L B C) d.0 s h) (leaves A (Before L B K) (BeforeCut L B C) d.0 s)
-        (λ v t e. last (reader B t) (λ w. pair v w) (short B K C d.1 t (omega arith)))
-    short (keyed t f) K C d s h =
+    -- where the ranks with the text are low enough, any grammar
+    short : (n : ℕ) (A : Part L) (K C : Texts) → Decides L A K C → HasRanksBelow L rank n A → (s : State) → n + length s.rest ≤ levels → IsNotTooDeep (reader A s)
+    short n (token t) K C d r s h = token_fine L t s
+    short n empty K C d r s h = tt
+    short n (A & B) K C d r s h =
+        not_too_deep (reader A s) (λ v t. go_on (reader B t) (λ w u. Ok (pair v w, u))) (λ v t. length t.rest ≤ length s.rest) (short n A (Until L B K) (BeforeCut L B C) d.0 r.0 s h) (leaves A (Until L B K) (BeforeCut L B C) d.0 s)
+        (λ v t e. last (reader B t) (λ w. pair v w) (short n B K C d.1 r.1 t (omega arith)))
+    short n (keyed t f) K C d r s h =
         not_too_deep (read_token L t s) (λ v u. go_on (reader (f v) u) (λ w r. Ok (pair v w, r))) (λ v u. length u.rest ≤ length s.rest) (token_fine L t s) (key_leaves t s)
-        (λ v u e. last (reader (f v) u) (λ w. pair v w) (short (f v) K C (d v) u (omega arith)))
-    short (choose g A B) K C d s h = by_test (g.takes s.rest) (reader A (notes s (g.seen s.rest))) (reader B (notes s (g.seen s.rest))) (λ r. IsNotTooDeep r)
-        (λ _. short A K C d.1 (notes s (g.seen s.rest)) h) (λ _. short B K C d.2 (notes s (g.seen s.rest)) h)
-    short (many g A) K C d s h = items g (reader A) levels (λ t e. short A (Before L (many g A) K) (BeforeCut L (many g A) C) d.2 t e) (leaves A (Before L (many g A) K) (BeforeCut L (many g A) C) d.2) (suc (length s.rest)) s h
-    short (rule p) K C d s h = calls p s h
-    short (made f A) K C d s h = last (reader A s) (f (length s.rest)) (short A K C d s h)
+        (λ v u e. last (reader (f v) u) (λ w. pair v w) (short n (f v) K C (d v) (r v) u (omega arith)))
+    short n (choose g A B) K C d r s h = by_test (g.takes s.rest) (reader A (notes s (g.seen s.rest))) (reader B (notes s (g.seen s.rest))) (λ r. IsNotTooDeep r)
+        (λ _. short n A K C d.1 r.0 (notes s (g.seen s.rest)) h) (λ _. short n B K C d.2 r.1 (notes s (g.seen s.rest)) h)
+    short n (many g A) K C d r s h = items g (reader A) n (λ t e. short n A (Until L (many g A) K) (BeforeCut L (many g A) C) d.2 r t e) (leaves A (Until L (many g A) K) (BeforeCut L (many g A) C) d.2) (suc (length s.rest)) s h
+    short n (rule p) K C d r s h = calls p s (omega (arith, r))
+    short n (made f A) K C d r s h = last (reader A s) (f (length s.rest)) (short n A K C d r s h)
 
-    -- where each production stands behind a character, also a text that is one character longer
-    shielded : (A : Part L) (K C : Texts) → Decides L A K C → IsShielded L k A → (s : State) → length s.rest ≤ levels → IsNotTooDeep (reader A s)
-    shielded (token t) K C d i s h = token_fine L t s
-    shielded empty K C d i s h = tt
-    shielded (A & B) K C d i s h = elim i.1 [
-      | inl e ↦ not_too_deep (reader A s) (λ v t. go_on (reader B t) (λ w u. Ok (pair v w, u))) (λ v t. length t.rest < length s.rest) (shielded A (Before L B K) (BeforeCut L B C) d.0 i.0 s h) (leaves_less A (Before L B K) (BeforeCut L B C) d.0 e s)
-          (λ v t e. last (reader B t) (λ w. pair v w) (short B K C d.1 t (omega arith)))
-      | inr j ↦ not_too_deep (reader A s) (λ v t. go_on (reader B t) (λ w u. Ok (pair v w, u))) (λ v t. length t.rest ≤ length s.rest) (shielded A (Before L B K) (BeforeCut L B C) d.0 i.0 s h) (leaves A (Before L B K) (BeforeCut L B C) d.0 s)
-          (λ v t e. last (reader B t) (λ w. pair v w) (shielded B K C d.1 j t (omega arith)))
+    -- behind a character a production may have one more rank
+    shielded : (n : ℕ) (A : Part L) (K C : Texts) → Decides L A K C → IsShielded L k rank n A → (s : State) → n + length s.rest ≤ levels → IsNotTooDeep (reader A s)
+    shielded n (token t) K C d i s h = token_fine L t s
+    shielded n empty K C d i s h = tt
+    shielded n (A & B) K C d i s h = elim i.1 [
+      | inl e ↦ not_too_deep (reader A s) (λ v t. go_on (reader B t) (λ w u. Ok (pair v w, u))) (λ v t. length t.rest < length s.rest) (shielded n A (Until L B K) (BeforeCut L B C) d.0 i.0 s h) (leaves_less A (Until L B K) (BeforeCut L B C) d.0 e.0 s)
+          (λ v t q. last (reader B t) (λ w. pair v w) (short (suc n) B K C d.1 e.1 t (omega arith)))
+      | inr j ↦ not_too_deep (reader A s) (λ v t. go_on (reader B t) (λ w u. Ok (pair v w, u))) (λ v t. length t.rest ≤ length s.rest) (shielded n A (Until L B K) (BeforeCut L B C) d.0 i.0 s h) (leaves A (Until L B K) (BeforeCut L B C) d.0 s)
+          (λ v t e. last (reader B t) (λ w. pair v w) (shielded n B K C d.1 j t (omega arith)))
     ]
-    shielded (keyed t f) K C d (inl q) s h =
-        not_too_deep (read_token L t s) (λ v u. go_on (reader (f v) u) (λ w r. Ok (pair v w, r))) (λ v u. length u.rest < length s.rest) (token_fine L t s) (key_leaves_less t s q)
-        (λ v u e. last (reader (f v) u) (λ w. pair v w) (short (f v) K C (d v) u (omega arith)))
-    shielded (keyed t f) K C d (inr q) s h =
+    shielded n (keyed t f) K C d (inl q) s h =
+        not_too_deep (read_token L t s) (λ v u. go_on (reader (f v) u) (λ w r. Ok (pair v w, r))) (λ v u. length u.rest < length s.rest) (token_fine L t s) (key_leaves_less t s q.0)
+        (λ v u e. last (reader (f v) u) (λ w. pair v w) (short (suc n) (f v) K C (d v) (q.1 v) u (omega arith)))
+    shielded n (keyed t f) K C d (inr q) s h =
         not_too_deep (read_token L t s) (λ v u. go_on (reader (f v) u) (λ w r. Ok (pair v w, r))) (λ v u. length u.rest ≤ length s.rest) (token_fine L t s) (key_leaves t s)
-        (λ v u e. last (reader (f v) u) (λ w. pair v w) (shielded (f v) K C (d v) (q v) u (omega arith)))
-    shielded (choose g A B) K C d i s h = by_test (g.takes s.rest) (reader A (notes s (g.seen s.rest))) (reader B (notes s (g.seen s.rest))) (λ r. IsNotTooDeep r)
-        (λ _. shielded A K C d.1 i.0 (notes s (g.seen s.rest)) h) (λ _. shielded B K C d.2 i.1 (notes s (g.seen s.rest)) h)
-    shielded (many g A) K C d i s h = items g (reader A) (suc levels) (λ t e. shielded A (Before L (many g A) K) (BeforeCut L (many g A) C) d.2 i.0 t (omega arith)) (leaves A (Before L (many g A) K) (BeforeCut L (many g A) C) d.2) (suc (length s.rest)) s (omega arith)
-    shielded (rule p) K C d i s h = absurd i
-    shielded (made f A) K C d i s h = last (reader A s) (f (length s.rest)) (shielded A K C d i s h)
+        (λ v u e. last (reader (f v) u) (λ w. pair v w) (shielded n (f v) K C (d v) (q v) u (omega arith)))
+    shielded n (choose g A B) K C d i s h = by_test (g.takes s.rest) (reader A (notes s (g.seen s.rest))) (reader B (notes s (g.seen s.rest))) (λ r. IsNotTooDeep r)
+        (λ _. shielded n A K C d.1 i.0 (notes s (g.seen s.rest)) h) (λ _. shielded n B K C d.2 i.1 (notes s (g.seen s.rest)) h)
+    shielded n (many g A) K C d i s h = items g (reader A) n (λ t e. shielded n A (Until L (many g A) K) (BeforeCut L (many g A) C) d.2 i t e) (leaves A (Until L (many g A) K) (BeforeCut L (many g A) C) d.2) (suc (length s.rest)) s h
+    shielded n (rule p) K C d i s h = calls p s (omega (arith, i))
+    shielded n (made f A) K C d i s h = last (reader A s) (f (length s.rest)) (shielded n A K C d i s h)
 
-  -- More levels than the text has characters suffice.
-  pub enough : AllDecide L → ((p : L.Production) → IsShielded L k (L.rules p)) → (levels : ℕ) (p : L.Production) (s : State) → length s.rest < levels → IsNotTooDeep (reads L levels p s)
-  enough decided shields zero p s h = absurd (omega arith)
-  enough decided shields (suc levels) p s h = shielded decided levels (enough decided shields levels) (L.rules p) (L.follows p) (L.follows_cut p) (decided p) (shields p) s (omega arith)
+  -- More levels than the rank with the length of the text suffice.
+  pub enough : (rank : L.Production → ℕ) → AllDecide L → ((p : L.Production) → IsShielded L k rank (rank p) (L.rules p)) → (levels : ℕ) (p : L.Production) (s : State) → rank p + length s.rest < levels → IsNotTooDeep (reads L levels p s)
+  enough rank decided shields zero p s h = absurd (omega arith)
+  enough rank decided shields (suc levels) p s h = shielded rank decided levels (enough rank decided shields levels) (rank p) (L.rules p) (L.follows p) (L.follows_cut p) (decided p) (shields p) s (omega arith)
 
-  pub enough_for : AllDecide L → ((p : L.Production) → IsShielded L k (L.rules p)) → (A : Part L) (K C : Texts) → Decides L A K C → (levels : ℕ) (s : State) → length s.rest < levels → IsNotTooDeep (read_with L (reads L levels) A s)
-  enough_for decided shields A K C d levels s h = short decided levels (enough decided shields levels) A K C d s h
+-- where all ranks are low, nothing needs to stand behind a character
+pub below_shields : (L : Language) (k : Takings L) (rank : L.Production → ℕ) (n : ℕ) (A : Part L) → HasRanksBelow L rank n A → IsShielded L k rank n A
+below_shields L k rank n (token t) h = tt
+below_shields L k rank n empty h = tt
+below_shields L k rank n (A & B) h = (below_shields L k rank n A h.0, inr (below_shields L k rank n B h.1))
+below_shields L k rank n (keyed t f) h = inr (λ v. below_shields L k rank n (f v) (h v))
+below_shields L k rank n (choose g A B) h = (below_shields L k rank n A h.0, below_shields L k rank n B h.1)
+below_shields L k rank n (many g A) h = below_shields L k rank n A h
+below_shields L k rank n (rule p) h = h
+below_shields L k rank n (made f A) h = below_shields L k rank n A h
 
-rest_not_too_deep : {A : Type 0} (v : A) (far left : ℕ) (rest : List ℕ) → with_rest v far rest ≢ Err (TooDeep left)
-rest_not_too_deep v far left [] = λ e. absurd (cc)
-rest_not_too_deep v far left (c ∷ x) = λ e. absurd (cc)
-
-not_deep : {A : Type 0} (r : Reading A) (left : ℕ) → IsNotTooDeep r → whole_only r ≢ Err (TooDeep left)
-not_deep (Ok o) left n = rest_not_too_deep o.0 o.1.far left o.1.rest
-not_deep (Err (Unfit far)) left n = λ e. absurd (cc)
-not_deep (Err (TooDeep here)) left n = absurd n
-
-pub never_too_deep : (L : Language) (A : Part L) → IsReadable L A → (k : Takings L) → IsLevelled L k → (levels left : ℕ) (text : List ℕ) → length text < levels → read_text L levels A text ≢ Err (TooDeep left)
-never_too_deep L A readable k levelled levels left text h =
-    not_deep (read_with L (reads L levels) A (start text)) left
-    (enough_for L readable.tokens k levelled.takings readable.productions levelled.shielded A AtEnd Nowhere readable.top levels (start text) h)
+pub never_too_deep : (L : Language) (A : Part L) → IsReadable L A → (k : Takings L) (levelled : IsLevelled L k) (bound : ℕ) → HasRanksBelow L levelled.rank bound A
+    → (levels : ℕ) (text : List ℕ) → bound + length text ≤ levels → IsNotTooDeep (read_with L (reads L levels) A (start text))
+never_too_deep L A readable k levelled bound ranks levels text h =
+    short L readable.tokens k levelled.takings levelled.rank readable.productions levels
+    (enough L readable.tokens k levelled.takings levelled.rank readable.productions levelled.shielded levels) bound A AtEnd Nowhere readable.top ranks (start text) h

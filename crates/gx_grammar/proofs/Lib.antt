@@ -1,4 +1,5 @@
 pub mod Derived
+pub mod Halted
 pub mod Readings
 pub mod Exact
 pub mod ExactBoth
@@ -13,9 +14,14 @@ pub mod ByTokens
 pub mod ByCharacter
 pub mod Sorted
 pub mod Tokens
+pub mod Apart
+pub mod Fitting
+pub mod Joined
 pub mod Gaps
 pub mod Sums
+pub mod Limited
 pub mod Text
 pub mod Places
 pub mod Decoding
 pub mod Steps
+pub mod Ran

@@ -1,26 +1,28 @@
-use Rattle.std.proofs.Common.{◌≡◌, ◌≢◌, ℕ, ◌<◌, ◌==◌, Bool, true, false, List, [], ◌∷◌, inl, inr, length, length-append, refl, ap, ◌∙◌, arith}
+use Rattle.std.proofs.Common.{◌≡◌, ◌≢◌, ℕ, ◌<◌, Bool, true, false, List, [], ◌∷◌, ◌++◌, inl, inr, length, length-append, refl, sym, ap, ◌∙◌, arith}
 use Rattle.gx_grammar.specs.Value.{Value, nothing, characters}
 use Rattle.gx_grammar.specs.Grammar.{◌&◌}
 use Rattle.gx_grammar.specs.Opening.{open_token, open_first, open_left, open_right}
 use Rattle.gx_grammar.specs.Laws.{LawfulTokens}
 use Rattle.gx_grammar.specs.Levels.{takes_some, AreTakings, IsShielded, IsLevelled}
 use Rattle.gx_grammar.specs.Text.{IsReadable}
-use Rattle.gx_grammar.specs.First.{IsIn, AllOf, first_of, HasHead, AreApart, AreFronts, IsSorted, head_passes}
-use Rattle.gx_grammar.specs.Tokens.{LawfulToken, IsWord}
-use Rattle.gx_grammar.specs.Sums.{Sign, plus, modulo, opening, closing, digits, gap, Rule, sum, is_digit, is_letter, no_character, lexeme, number, parenthesised, term, operator, sum_text, sums, sign_takes, sum_fronts}
-use Rattle.gx_grammar.proofs.Tokens.{lawful_word, lawful_name, lawful_tokens, apart_heads, word_head, front_head}
+use Rattle.gx_grammar.specs.First.{IsIn, AllOf, first_of, HasHead, AreFronts, IsSorted, head_passes, Stands}
+use Rattle.gx_grammar.specs.Tokens.{LawfulToken, IsWord, IsFrontOf}
+use Rattle.gx_grammar.specs.Sums.{Sign, plus, modulo, opening, closing, digits, gap, Rule, sum, is_digit, is_letter, no_character, any_character, lexeme, number, parenthesised, term, operator, sum_text, sums, sign_takes, sum_rank, sign_shape, sum_fronts}
+use Rattle.gx_grammar.proofs.Tokens.{lawful_word, lawful_name, lawful_tokens}
+use Rattle.gx_grammar.specs.Apart.{HasShape}
+use Rattle.gx_grammar.proofs.Apart.{computed_apart}
 use Rattle.gx_grammar.proofs.Gaps.{lawful_gap}
 use Rattle.gx_grammar.proofs.ByTokens.{tokens_choose, tokens_repeat}
 use Rattle.gx_grammar.proofs.ByCharacter.{character_chooses}
 use Rattle.gx_grammar.proofs.Sorted.{sorted_readable}
 
-sign_lawful : (t : Sign) → LawfulToken (sums.derives t) (sums.opens t) (sums.scan t) (sums.seen t)
+sign_lawful : (t : Sign) → LawfulToken (sums.derives t) (sums.opens t) (sums.scan t) (sums.seen t) (sums.faults t)
 sign_lawful plus = lawful_word nothing (43 ∷ []) no_character
 sign_lawful modulo = lawful_word nothing (109 ∷ 111 ∷ 100 ∷ []) is_letter
 sign_lawful opening = lawful_word nothing (40 ∷ []) no_character
 sign_lawful closing = lawful_word nothing (41 ∷ []) no_character
 sign_lawful digits = lawful_name characters is_digit is_digit is_letter
-sign_lawful gap = lawful_gap nothing
+sign_lawful gap = lawful_gap any_character (refl, refl) nothing
 
 lawful : LawfulTokens sums
 lawful = lawful_tokens sums sign_lawful
@@ -39,7 +41,7 @@ signs_taken gap v x y e d = absurd (cc)
 rule_taken : (p : Rule) → sum_fronts.takings.production_takes p ≡ true → takes_some sums sum_fronts.takings (sums.rules p) ≡ true
 rule_taken sum e = refl
 
-taken : AreTakings sums sum_fronts.takings
+pub taken : AreTakings sums sum_fronts.takings
 taken = record { tokens = signs_taken; productions = rule_taken }
 
 rule_firsts : (p : Rule) → AllOf (IsIn (sum_fronts.first p)) (first_of sums sum_fronts (sums.rules p))
@@ -48,42 +50,48 @@ rule_firsts sum = (inl refl, (inr (inl refl), tt))
 fronts : AreFronts sums sum_fronts
 fronts = record { taken = taken; firsts = rule_firsts; follows = λ p y. ((λ h. h), (λ h. h)); follows_cut = λ p y. ((λ h. h), (λ h. h)) }
 
--- the first characters of the signs
+-- how the signs look
 
-plus_has : (test : ℕ → Bool) → HasHead sums test (test 43) plus
-plus_has test = record { derived = λ v x y d. word_head nothing 43 [] no_character test d; opened = λ x o n. front_head test 43 [] x o n }
+word_shaped : (t : Sign) (word : List ℕ) (test : ℕ → Bool) → ((v : Value ℕ) (x y : List ℕ) → sums.derives t v x y → IsWord nothing word test v x y)
+    → (x : List ℕ) → Stands sums.derives sums.faults t x → (y : List ℕ) × (x ≡ word ++ y) × (head_passes test y ≡ false)
+word_shaped t word test d x (inl s) = let w = d s.0 x s.1 s.2 in (s.1, w.spelled, w.ended)
+word_shaped t word test d x (inr s) = absurd (let e = s.1 in cc e)
 
-modulo_has : (test : ℕ → Bool) → HasHead sums test (test 109) modulo
-modulo_has test = record { derived = λ v x y d. word_head nothing 109 (111 ∷ 100 ∷ []) is_letter test d; opened = λ x o n. front_head test 109 (111 ∷ 100 ∷ []) x o n }
-
-opening_has : (test : ℕ → Bool) → HasHead sums test (test 40) opening
-opening_has test = record { derived = λ v x y d. word_head nothing 40 [] no_character test d; opened = λ x o n. front_head test 40 [] x o n }
-
-closing_has : (test : ℕ → Bool) → HasHead sums test (test 41) closing
-closing_has test = record { derived = λ v x y d. word_head nothing 41 [] no_character test d; opened = λ x o n. front_head test 41 [] x o n }
-
-digits_have : HasHead sums is_digit true digits
-digits_have = record { derived = λ v x y d. ((λ e. let g = d.whole in absurd (cc (e, g))), ap (head_passes is_digit) d.whole ∙ d.begins); opened = opened }
+shaped : (t : Sign) → HasShape sums t (sign_shape t)
+shaped plus = (word_shaped plus (43 ∷ []) no_character (λ v x y d. d), (λ x o. o), (λ x o. o))
+shaped modulo = (word_shaped modulo (109 ∷ 111 ∷ 100 ∷ []) is_letter (λ v x y d. d), (λ x o. o), (λ x o. o))
+shaped opening = (word_shaped opening (40 ∷ []) no_character (λ v x y d. d), (λ x o. o), (λ x o. o))
+shaped closing = (word_shaped closing (41 ∷ []) no_character (λ v x y d. d), (λ x o. o), (λ x o. o))
+shaped digits = (stands, opened)
   where
+    stands : (x : List ℕ) → Stands sums.derives sums.faults digits x → (x ≢ []) × (head_passes is_digit x ≡ true)
+    stands x (inl s) = let d = s.2 in ((λ e. let g = d.whole in absurd (cc (e, g))), ap (head_passes is_digit) d.whole ∙ d.begins)
+    stands x (inr s) = absurd (let e = s.1 in cc e)
+
     opened : (x : List ℕ) → sums.opens digits x → x ≢ [] → head_passes is_digit x ≡ true
     opened [] o n = absurd (n refl)
     opened (c ∷ x) o n = o.0
+shaped gap = tt
 
-plus_closing : AreApart sums plus closing
-plus_closing = apart_heads sums lawful (λ c. c == 43) true false plus closing (λ e. absurd (cc)) (plus_has (λ c. c == 43)) (closing_has (λ c. c == 43))
+opening_fails : HasHead sums is_digit false opening
+opening_fails = record {
+  stands = λ x s. (let r = (shaped opening).0 x s in ((λ e. let g = r.1 in absurd (cc (e, g))), ap (head_passes is_digit) r.1));
+  opened = λ x o n. opened x o n;
+}
+  where
+    opened : (x : List ℕ) → IsFrontOf x (40 ∷ []) → x ≢ [] → head_passes is_digit x ≡ false
+    opened [] o n = absurd (n refl)
+    opened (c ∷ x) o n = let g = o.1 in let k : 40 ≡ c = cc g in sym (ap is_digit k)
 
-modulo_closing : AreApart sums modulo closing
-modulo_closing = apart_heads sums lawful (λ c. c == 109) true false modulo closing (λ e. absurd (cc)) (modulo_has (λ c. c == 109)) (closing_has (λ c. c == 109))
-
-plus_modulo : AreApart sums plus modulo
-plus_modulo = apart_heads sums lawful (λ c. c == 43) true false plus modulo (λ e. absurd (cc)) (plus_has (λ c. c == 43)) (modulo_has (λ c. c == 43))
+digits_pass : HasHead sums is_digit true digits
+digits_pass = record { stands = (shaped digits).0; opened = (shaped digits).1 }
 
 -- the guards
 
 term_sorted : (us : List Sign) → IsSorted sums sum_fronts term us
 term_sorted us = (
   character_chooses sums is_digit sum_fronts fronts number parenthesised us
-      (record { takes = refl; passes = (digits_have, tt); fails = (opening_has is_digit, tt) }),
+      (record { takes = refl; passes = (digits_pass, tt); fails = (opening_fails, tt) }),
   (tt, tt),
   ((tt, tt), ((inl refl, tt), (tt, tt))),
 )
@@ -91,7 +99,7 @@ term_sorted us = (
 operator_sorted : (us : List Sign) → IsSorted sums sum_fronts operator us
 operator_sorted us = (
   tokens_choose sums lawful sum_fronts fronts (plus ∷ []) (lexeme plus) (lexeme modulo) us
-      (record { takes = refl; first = (inl refl, tt); full = (refl, tt); opening = ((λ x o. open_first (open_token o)), tt); apart = ((plus_modulo, tt), tt) }),
+      (record { takes = refl; first = (inl refl, tt); full = (refl, tt); opening = ((λ x o. open_first (open_token o)), tt); apart = computed_apart sums sign_shape shaped (plus ∷ []) (modulo ∷ []) refl }),
   (tt, tt),
   (tt, tt),
 )
@@ -106,7 +114,7 @@ rule_sorted sum = (
           first = (inl refl, (inr (inl refl), tt));
           full = (refl, (refl, tt));
           opening = ((λ x o. open_first (open_left (open_first (open_token o)))), ((λ x o. open_first (open_right (open_first (open_token o)))), tt));
-          apart = ((plus_closing, (modulo_closing, tt)), tt);
+          apart = computed_apart sums sign_shape shaped (plus ∷ modulo ∷ []) (closing ∷ []) refl;
         }),
     refl,
     (operator_sorted (digits ∷ opening ∷ []), term_sorted (plus ∷ modulo ∷ closing ∷ [])),
@@ -117,8 +125,14 @@ rule_sorted sum = (
 pub sums_readable : IsReadable sums sum_text
 sums_readable = sorted_readable sums lawful sum_fronts fronts sum_text rule_sorted (tt, tt)
 
-rule_shielded : (p : Rule) → IsShielded sums sum_fronts.takings (sums.rules p)
-rule_shielded sum = (((tt, inl refl), ((tt, inl refl), inl refl)), inl refl)
+below : 0 < 1
+below = omega arith
 
-pub sums_levelled : IsLevelled sums sum_fronts.takings
-sums_levelled = record { takings = taken; shielded = rule_shielded }
+pub rule_shielded : (p : Rule) → IsShielded sums sum_fronts.takings sum_rank 0 (sums.rules p)
+rule_shielded sum = (
+  ((tt, inl (refl, tt)), ((tt, inl (refl, tt)), inl (refl, (below, (tt, tt))))),
+  inl (refl, (((tt, tt), (tt, tt)), ((tt, tt), ((tt, tt), (below, (tt, tt)))))),
+)
+
+abbrev pub sums_levelled : IsLevelled sums sum_fronts.takings
+sums_levelled = record { takings = taken; rank = sum_rank; shielded = rule_shielded }

@@ -2,11 +2,11 @@ use Rattle.std.proofs.Common.{◌≡◌, ◌≢◌, ℕ, ◌≤◌, ◌==◌, Bo
 use Rattle.std.proofs.lemmas.List.{append_cancel_right}
 use Rattle.gx_grammar.specs.First.{head_passes, HasHead, AreApart}
 use Rattle.gx_grammar.specs.Grammar.{token}
-use Rattle.gx_grammar.specs.Language.{Language, Made}
+use Rattle.gx_grammar.specs.Language.{Language}
 use Rattle.gx_grammar.specs.Laws.{LawfulTokens}
 use Rattle.gx_grammar.specs.Opening.{Opens, open_end, open_token}
 use Rattle.gx_grammar.proofs.ByCharacter.{head_front}
-use Rattle.gx_grammar.specs.Tokens.{SeesUpTo, LawfulToken, IsFrontOf, strip, behind_common, unless_passes, IsWord, scan_word, seen_word, all_pass, run_of, behind_run, IsRun, scan_run, opens_run, seen_run, IsNamed, scan_name, opens_name, seen_name}
+use Rattle.gx_grammar.specs.Tokens.{SeesUpTo, LawfulToken, no_fault, IsFrontOf, strip, behind_common, unless_passes, IsWord, scan_word, seen_word, all_pass, run_of, behind_run, IsRun, scan_run, opens_run, seen_run, IsNamed, scan_name, opens_name, seen_name}
 use Rattle.gx_grammar.proofs.Readings.{by_test, is_empty}
 use Rattle.gx_grammar.proofs.Unique.{same_some}
 
@@ -97,7 +97,7 @@ module _ {V : Type 0} (value : V) (word : List ℕ) (test : ℕ → Bool) where
   word_sees : (x : List ℕ) → SeesUpTo (λ p. IsFrontOf p word) x (seen_word word x)
   word_sees x = let r = behind_is word x in record { front = r.0; rest = behind_common word x; whole = r.1; place = refl; opened = inr r.2 }
 
-  pub lawful_word : LawfulToken (IsWord value word test) (λ p. IsFrontOf p word) (scan_word value word test) (seen_word word)
+  pub lawful_word : LawfulToken (IsWord value word test) (λ p. IsFrontOf p word) (scan_word value word test) (seen_word word) no_fault
   lawful_word = record {
     sound = word_sound;
     complete = λ v x y d. ap (λ q. unless_passes value test (strip word q)) d.spelled ∙ ap (unless_passes value test) (strip_of word y) ∙ unless_of value test y d.ended ∙ ap (λ u. Some (u, y)) (sym d.same);
@@ -107,6 +107,8 @@ module _ {V : Type 0} (value : V) (word : List ℕ) (test : ℕ → Bool) where
     fronts = λ v x y z d h. longer_front x z word y d.spelled h;
     sees = word_sees;
     longest = λ x z o. longest_word x word z o;
+    firm = λ v x y d. refl;
+    faultless = refl;
   }
 
 -- runs
@@ -176,7 +178,7 @@ module _ {V : Type 0} (value : List ℕ → V) (test stop : ℕ → Bool) where
   run_fronts : (v : V) (x y z : List ℕ) → IsRun value test stop v (x ++ z) y → length y ≤ length z → opens_run test x
   run_fronts v x y z d h = let f = longer_front x z d.run y d.spelled h in pass_front test x f.0 (sym (ap (all_pass test) f.1) ∙ d.passes)
 
-  pub lawful_run : LawfulToken (IsRun value test stop) (opens_run test) (scan_run value test stop) (seen_run test)
+  pub lawful_run : LawfulToken (IsRun value test stop) (opens_run test) (scan_run value test stop) (seen_run test) no_fault
   lawful_run = record {
     sound = run_sound;
     complete = run_complete;
@@ -186,6 +188,8 @@ module _ {V : Type 0} (value : List ℕ → V) (test stop : ℕ → Bool) where
     fronts = run_fronts;
     sees = λ x. record { front = run_of test x; rest = behind_run test x; whole = run_whole test x; place = refl; opened = inr (run_passes test x) };
     longest = λ x z o. longest_run test x z o;
+    firm = λ v x y d. refl;
+    faultless = refl;
   }
 
 module _ {V : Type 0} (value : List ℕ → V) (first test stop : ℕ → Bool) where
@@ -235,7 +239,7 @@ module _ {V : Type 0} (value : List ℕ → V) (first test stop : ℕ → Bool) 
   named_longest [] z o = named_short z
   named_longest (c ∷ x) z o = subst (λ b. (if b then (seen_run test (x ++ z)) else (length (c ∷ (x ++ z)))) ≤ length z) (sym o.0) (longest_run test x z o.1)
 
-  pub lawful_name : LawfulToken (IsNamed value first test stop) (opens_name first test) (scan_name value first test stop) (seen_name first test)
+  pub lawful_name : LawfulToken (IsNamed value first test stop) (opens_name first test) (scan_name value first test stop) (seen_name first test) no_fault
   lawful_name = record {
     sound = named_sound;
     complete = named_complete;
@@ -251,12 +255,14 @@ module _ {V : Type 0} (value : List ℕ → V) (first test stop : ℕ → Bool) 
     fronts = named_fronts;
     sees = named_sees;
     longest = named_longest;
+    firm = λ v x y d. refl;
+    faultless = refl;
   }
 
 -- the laws of all tokens, from those of each
 
 module _ (L : Language) where
-  pub lawful_tokens : ((t : L.Token) → LawfulToken (L.derives t) (L.opens t) (L.scan t) (L.seen t)) → LawfulTokens L
+  pub lawful_tokens : ((t : L.Token) → LawfulToken (L.derives t) (L.opens t) (L.scan t) (L.seen t) (L.faults t)) → LawfulTokens L
   lawful_tokens each = record {
     sound = λ t. (each t).sound;
     complete = λ t. (each t).complete;
@@ -266,6 +272,8 @@ module _ (L : Language) where
     fronts = λ t. (each t).fronts;
     sees = λ t x. (let s = (each t).sees x in record { front = s.front; rest = s.rest; whole = s.whole; place = s.place; opens = opened t s.front s.opened });
     longest = λ t. (each t).longest;
+    firm = λ t. (each t).firm;
+    faultless = λ t. (each t).faultless;
   }
     where
       opened : (t : L.Token) (x : List ℕ) → (x ≡ []) ⊎ L.opens t x → Opens L (token t) x
@@ -273,17 +281,14 @@ module _ (L : Language) where
       opened t x (inr o) = open_token o
 
   -- tokens with different first characters are apart
-  pub apart_heads : LawfulTokens L → (test : ℕ → Bool) (b c : Bool) (t u : L.Token) → (b ≡ c → ⊥) → HasHead L test b t → HasHead L test c u → AreApart L t u
-  apart_heads lawful test b c t u n ht hu = record {
-    never = λ v w x y z d e. n (sym (ht.derived v x y d).1 ∙ (hu.derived w x z e).1);
-    opening = λ v x y z o d. elim (is_empty x) [
-      | inl e ↦ subst (λ w. L.opens t w) (sym e) (at_front v y z (subst (λ w. L.derives t v (w ++ z) y) e d))
-      | inr k ↦ absurd (n (sym (ht.derived v (x ++ z) y d).1 ∙ head_front test x z k ∙ hu.opened x o k))
+  pub apart_heads : (test : ℕ → Bool) (b c : Bool) (t u : L.Token) → (b ≡ c → ⊥) → HasHead L test b t → HasHead L test c u → AreApart L t u
+  apart_heads test b c t u n ht hu = record {
+    never = λ x d e. n (sym (ht.stands x d).1 ∙ (hu.stands x e).1);
+    opening = λ x z o d. elim (is_empty x) [
+      | inl e ↦ inl e
+      | inr k ↦ absurd (n (sym (ht.stands (x ++ z) d).1 ∙ head_front test x z k ∙ hu.opened x o k))
     ];
   }
-    where
-      at_front : (v : Made L) (y z : List ℕ) → L.derives t v z y → L.opens t []
-      at_front v y z d = let a = lawful.ends t v z y d in lawful.fronts t v [] y z d (omega (arith, ap length a.1, length-append a.0 y))
 
 -- two different words that are made of the same characters are apart
 

@@ -1,9 +1,9 @@
-use Rattle.std.proofs.Common.{◌≡◌, ℕ, List, length, refl, sym, ap, ap₂, subst, ◌∙◌, Some}
+use Rattle.std.proofs.Common.{◌≡◌, ℕ, List, length, inl, refl, sym, ap, ap₂, subst, ◌∙◌, Some}
 use Rattle.gx_grammar.specs.Value.{pair, an_item}
 use Rattle.gx_grammar.specs.Grammar.{many}
 use Rattle.gx_grammar.specs.Language.{Language, Part, Made}
 use Rattle.gx_grammar.specs.Derivation.{Derives, of_token, of_empty, of_both, of_keyed, of_left, of_right, of_none, of_item, of_rule, of_made}
-use Rattle.gx_grammar.specs.Decision.{Texts, Before, BeforeCut, Decides}
+use Rattle.gx_grammar.specs.Decision.{Texts, Until, BeforeCut, Decides}
 use Rattle.gx_grammar.specs.Text.{AllDecide}
 use Rattle.gx_grammar.specs.Laws.{LawfulTokens}
 
@@ -19,7 +19,7 @@ module _ (L : Language) (lawful : LawfulTokens L) (decided : AllDecide L) where
   unique (of_token {t = t} {v = v} {x = x} {y = y} d) (of_token {v = w} {y = z} e) K C s k l = one_token t v w x y z d e
   unique of_empty of_empty K C s k l = (refl, refl)
   unique (of_both {A = A} {B = B} {v = a} {w = b} {y = m} d f) (of_both {v = a'} {w = b'} {x = x} {y = m'} {z = z} e g) K C s k l =
-      let first = unique d e (Before L B K) (BeforeCut L B C) s.0 (record { value = b; rest = _; derived = f; behind = k }) (record { value = b'; rest = z; derived = g; behind = l }) in
+      let first = unique d e (Until L B K) (BeforeCut L B C) s.0 (inl (record { value = b; rest = _; derived = f; behind = k })) (inl (record { value = b'; rest = z; derived = g; behind = l })) in
       let second = unique f (subst (λ q. Derives L B b' q z) (sym first.1) g) K C s.1 k l in
       (ap₂ pair first.0 second.0, second.1)
   unique (of_keyed {t = t} {f = h} {v = a} {y = m} d f) (of_keyed {v = a'} {w = b'} {x = x} {y = m'} {z = z} e g) K C s k l =
@@ -32,10 +32,10 @@ module _ (L : Language) (lawful : LawfulTokens L) (decided : AllDecide L) where
   unique (of_right {g = g} {v = v} {x = x} {y = y} d) (of_left {v = w} {y = z} e) K C s k l = let t = s.0.left w x z e l in let f = s.0.right v x y d k in absurd (cc (t, f))
   unique (of_right d) (of_right e) K C s k l = unique d e K C s.2 k l
   unique of_none of_none K C s k l = (refl, refl)
-  unique (of_none {x = x}) (of_item {v = v} {w = w} {y = m} {z = z} d e) K C s k l = let f = s.0.stop x k in let t = s.0.item v x m d (record { value = w; rest = z; derived = e; behind = l }) in absurd (cc (t, f))
-  unique (of_item {v = v} {w = w} {y = m} {z = z} d e) (of_none {x = x}) K C s k l = let f = s.0.stop x l in let t = s.0.item v x m d (record { value = w; rest = z; derived = e; behind = k }) in absurd (cc (t, f))
+  unique (of_none {x = x}) (of_item {v = v} {w = w} {y = m} {z = z} d e) K C s k l = let f = s.0.stop x k in let t = s.0.item v x m d (inl (record { value = w; rest = z; derived = e; behind = l })) in absurd (cc (t, f))
+  unique (of_item {v = v} {w = w} {y = m} {z = z} d e) (of_none {x = x}) K C s k l = let f = s.0.stop x l in let t = s.0.item v x m d (inl (record { value = w; rest = z; derived = e; behind = k })) in absurd (cc (t, f))
   unique (of_item {g = h} {A = A} {v = a} {w = b} {y = m} d f) (of_item {v = a'} {w = b'} {x = x} {y = m'} {z = z} e g) K C s k l =
-      let first = unique d e (Before L (many h A) K) (BeforeCut L (many h A) C) s.2 (record { value = b; rest = _; derived = f; behind = k }) (record { value = b'; rest = z; derived = g; behind = l }) in
+      let first = unique d e (Until L (many h A) K) (BeforeCut L (many h A) C) s.2 (inl (record { value = b; rest = _; derived = f; behind = k })) (inl (record { value = b'; rest = z; derived = g; behind = l })) in
       let second = unique f (subst (λ q. Derives L (many h A) b' q z) (sym first.1) g) K C s k l in
       (ap₂ an_item first.0 second.0, second.1)
   unique (of_rule {p = p} {y = y} d) (of_rule {y = z} e) K C s k l = unique d e (L.follows p) (L.follows_cut p) (decided p) (s.0 y k) (s.0 z l)

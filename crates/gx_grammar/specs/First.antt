@@ -1,4 +1,4 @@
-use Rattle.std.specs.Prelude.{ℕ, List, [], ◌∷◌, ◌++◌, ◌≡◌, ◌≢◌, ◌⊎◌, ◌↔◌, Bool, true, false, if◌then◌else◌, is_some, min, length, Option, ◌||◌}
+use Rattle.std.specs.Prelude.{ℕ, List, [], ◌∷◌, ◌++◌, ◌≡◌, ◌≢◌, ◌⊎◌, ◌↔◌, Bool, true, false, if◌then◌else◌, is_some, min, length, Option, Some, ◌||◌}
 use Rattle.gx_grammar.specs.Value.{Value}
 use Rattle.gx_grammar.specs.Grammar.{Guard, token, empty, ◌&◌, keyed, choose, many, rule, made}
 use Rattle.gx_grammar.specs.Language.{Language, Part, Made}
@@ -16,6 +16,16 @@ abbrev pub AllOf : {X : Type 0} → (X → Type 0) → List X → Type 0
 AllOf P [] = Unit {0}
 AllOf P (t ∷ ts) = P t × AllOf P ts
 
+-- The token stands at the front of the text, or has a fault there.
+abbrev pub Stands : {Token Node : Type 0} → (Token → Value Node → List ℕ → List ℕ → Type 0) → (Token → List ℕ → Option ℕ) → Token → List ℕ → Type 0
+Stands {Node = Node} derives faults t x = ((v : Value Node) × (y : List ℕ) × derives t v x y) ⊎ ((code : ℕ) × (faults t x ≡ Some code))
+
+-- One of the tokens stands at the front of the text, or has a fault there.
+pub record StandsFirst {Token Node : Type 0} (derives : Token → Value Node → List ℕ → List ℕ → Type 0) (faults : Token → List ℕ → Option ℕ) (ts : List Token) (x : List ℕ) : Type 0 where
+  pub token : Token
+  pub among : IsIn ts token
+  pub stands : Stands derives faults token x
+
 -- One of the tokens stands at the front of the text.
 pub record StartsWith {Token Node : Type 0} (derives : Token → Value Node → List ℕ → List ℕ → Type 0) (ts : List Token) (x : List ℕ) : Type 0 where
   pub token : Token
@@ -24,9 +34,9 @@ pub record StartsWith {Token Node : Type 0} (derives : Token → Value Node → 
   pub rest : List ℕ
   pub derived : derives token value x rest
 
--- the text is empty, or one of the tokens stands at its front
-abbrev pub EndsOrStarts : {Token Node : Type 0} → (Token → Value Node → List ℕ → List ℕ → Type 0) → List Token → Texts
-EndsOrStarts derives ts x = (x ≡ []) ⊎ StartsWith derives ts x
+-- the text is empty, or one of the tokens stands at its front, or has a fault there
+abbrev pub EndsOrStarts : {Token Node : Type 0} → (Token → Value Node → List ℕ → List ℕ → Type 0) → (Token → List ℕ → Option ℕ) → List Token → Texts
+EndsOrStarts derives faults ts x = (x ≡ []) ⊎ StandsFirst derives faults ts x
 
 -- the beginning of such a text: it is empty, or opens one of the tokens, or goes on behind one
 pub data BeginsWith {Token Node : Type 0} (derives : Token → Value Node → List ℕ → List ℕ → Type 0) (opens : Token → List ℕ → Type 0) (ts : List Token) : List ℕ → Type 0 where
@@ -55,17 +65,18 @@ first_of L f (made h A) = first_of L f A
 abbrev pub first_behind : (L : Language) → Fronts L → Part L → List L.Token → List L.Token
 first_behind L f A ts = first_of L f A ++ (if takes_some L f.takings A then [] else ts)
 
--- A guard that takes a text with one of the tokens at its front, and has seen as far as one is opened.
-abbrev pub scans_any : {Token Node : Type 0} → (Token → List ℕ → Option (Value Node × List ℕ)) → List Token → List ℕ → Bool
-scans_any scan [] x = false
-scans_any scan (t ∷ ts) x = is_some (scan t x) || scans_any scan ts x
+-- A guard that takes a text with one of the tokens at its front, with a fault or without, and has seen as
+-- far as one is opened.
+abbrev pub scans_any : {Token Node : Type 0} → (Token → List ℕ → Option (Value Node × List ℕ)) → (Token → List ℕ → Option ℕ) → List Token → List ℕ → Bool
+scans_any scan faults [] x = false
+scans_any scan faults (t ∷ ts) x = is_some (scan t x) || (is_some (faults t x) || scans_any scan faults ts x)
 
 abbrev pub seen_any : {Token : Type 0} → (Token → List ℕ → ℕ) → List Token → List ℕ → ℕ
 seen_any seen [] x = length x
 seen_any seen (t ∷ ts) x = min (seen t x) (seen_any seen ts x)
 
-abbrev pub by_tokens : {Token Node : Type 0} → (Token → List ℕ → Option (Value Node × List ℕ)) → (Token → List ℕ → ℕ) → List Token → Guard
-by_tokens scan seen ts = record { takes = scans_any scan ts; seen = seen_any seen ts }
+abbrev pub by_tokens : {Token Node : Type 0} → (Token → List ℕ → Option (Value Node × List ℕ)) → (Token → List ℕ → Option ℕ) → (Token → List ℕ → ℕ) → List Token → Guard
+by_tokens scan faults seen ts = record { takes = scans_any scan faults ts; seen = seen_any seen ts }
 
 -- A guard that takes a text whose first character passes the test.
 abbrev pub head_passes : (ℕ → Bool) → List ℕ → Bool
@@ -75,21 +86,21 @@ head_passes test (c ∷ x) = test c
 abbrev pub by_character : (ℕ → Bool) → Guard
 by_character test = record { takes = head_passes test; seen = λ x. length x }
 
--- Two tokens never stand at one place, and where a text that u opens goes on with t, it opens t as well.
+-- Two tokens never stand at one place, with a fault or without, and where a text that u opens goes on with t, it is empty or opens t as well.
 pub record AreApart (L : Language) (t u : L.Token) : Type 0 where
-  pub never : (v w : Made L) (x y z : List ℕ) → L.derives t v x y → L.derives u w x z → ⊥
-  pub opening : (v : Made L) (x y z : List ℕ) → L.opens u x → L.derives t v (x ++ z) y → L.opens t x
+  pub never : (x : List ℕ) → Stands L.derives L.faults t x → Stands L.derives L.faults u x → ⊥
+  pub opening : (x z : List ℕ) → L.opens u x → Stands L.derives L.faults t (x ++ z) → (x ≡ []) ⊎ L.opens t x
 
 -- The first character of a token passes the test, or fails it.
 pub record HasHead (L : Language) (test : ℕ → Bool) (passes : Bool) (u : L.Token) : Type 0 where
-  pub derived : (v : Made L) (x y : List ℕ) → L.derives u v x y → (x ≢ []) × (head_passes test x ≡ passes)
+  pub stands : (x : List ℕ) → Stands L.derives L.faults u x → (x ≢ []) × (head_passes test x ≡ passes)
   pub opened : (x : List ℕ) → L.opens u x → x ≢ [] → head_passes test x ≡ passes
 
 -- The fronts are right.
 pub record AreFronts (L : Language) (f : Fronts L) : Type 0 where
   pub taken : AreTakings L f.takings
   pub firsts : (p : L.Production) → AllOf (IsIn (f.first p)) (first_of L f (L.rules p))
-  pub follows : (p : L.Production) (y : List ℕ) → L.follows p y ↔ EndsOrStarts L.derives (f.next p) y
+  pub follows : (p : L.Production) (y : List ℕ) → L.follows p y ↔ EndsOrStarts L.derives L.faults (f.next p) y
   pub follows_cut : (p : L.Production) (y : List ℕ) → L.follows_cut p y ↔ BeginsWith L.derives L.opens (f.next p) y
 
 -- Each guard of a grammar decides by the first tokens, where `ts` may follow the grammar.
@@ -98,8 +109,8 @@ IsSorted L f (token t) ts = Unit {0}
 IsSorted L f empty ts = Unit {0}
 IsSorted L f (A & B) ts = IsSorted L f A (first_behind L f B ts) × IsSorted L f B ts
 IsSorted L f (keyed t g) ts = (v : Made L) → IsSorted L f (g v) ts
-IsSorted L f (choose g A B) ts = Chooses L g A B (EndsOrStarts L.derives ts) (BeginsWith L.derives L.opens ts) × IsSorted L f A ts × IsSorted L f B ts
-IsSorted L f (many g A) ts = Repeats L g A (EndsOrStarts L.derives ts) (BeginsWith L.derives L.opens ts) × (takes_some L f.takings A ≡ true) × IsSorted L f A (first_of L f A ++ ts)
+IsSorted L f (choose g A B) ts = Chooses L g A B (EndsOrStarts L.derives L.faults ts) (BeginsWith L.derives L.opens ts) × IsSorted L f A ts × IsSorted L f B ts
+IsSorted L f (many g A) ts = Repeats L g A (EndsOrStarts L.derives L.faults ts) (BeginsWith L.derives L.opens ts) × (takes_some L f.takings A ≡ true) × IsSorted L f A (first_of L f A ++ ts)
 IsSorted L f (rule p) ts = AllOf (IsIn (f.next p)) ts
 IsSorted L f (made h A) ts = IsSorted L f A ts
 

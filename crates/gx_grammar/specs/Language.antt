@@ -15,6 +15,9 @@ pub record Language : Type 1 where
   pub scan : Token → List ℕ → Option (Value Node × List ℕ)
   -- what is left of the text behind its longest front that opens the token
   pub seen : Token → List ℕ → ℕ
+  -- the code of the fault that the token has at the front of the text: it stands there, or would, but against
+  -- a limit of its own
+  pub faults : Token → List ℕ → Option ℕ
   -- the grammar of a production
   pub rules : Production → Grammar Token Production Node
   -- what may follow a production, to the end of the text

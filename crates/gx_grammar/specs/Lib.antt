@@ -3,6 +3,7 @@ pub mod Grammar
 pub mod Language
 pub mod Derivation
 pub mod Opening
+pub mod Halting
 pub mod Reading
 pub mod Decision
 pub mod Laws
@@ -10,9 +11,12 @@ pub mod Levels
 pub mod Text
 pub mod First
 pub mod Tokens
+pub mod Apart
+pub mod Fitting
+pub mod Joined
 pub mod Gaps
 pub mod Sums
+pub mod Limited
 pub mod Places
 pub mod Decoding
-pub mod ReaderState
-pub mod Gives
+pub mod Ran

@@ -9,12 +9,13 @@ pub record State : Type 0 where
   pub rest : List ℕ
   pub far : ℕ
 
--- Why a reader gives up: nothing fits behind the furthest character, of which `far` are left; or the
--- productions stand in one another deeper than the levels, and the innermost would begin where `left`
--- characters are left.
+-- Why a reader gives up: nothing fits behind the furthest character, of which `far` are left; or a token
+-- has the fault with that code where `left` characters are left; or the productions stand in one another
+-- deeper than the levels.
 pub data Refusal : Type 0 where
   Unfit : (far : ℕ) → Refusal
-  TooDeep : (left : ℕ) → Refusal
+  Faulty : (code left : ℕ) → Refusal
+  TooDeep : Refusal
 
 abbrev pub Reading : Type 0 → Type 0
 Reading A = Result (A × State) Refusal
@@ -32,9 +33,14 @@ abbrev pub taken : {A : Type 0} → Option (A × List ℕ) → ℕ → Reading A
 taken (Some r) far = Ok (r.0, record { rest = r.1; far = far })
 taken None far = Err (Unfit far)
 
+-- a fault goes before what would be read
+abbrev pub unless_fault : {A : Type 0} → Option ℕ → ℕ → Reading A → Reading A
+unless_fault (Some code) left read = Err (Faulty code left)
+unless_fault None left read = read
+
 -- a token
 abbrev pub read_token : (L : Language) → L.Token → State → Reading (Made L)
-read_token L t s = taken (L.scan t s.rest) (min s.far (L.seen t s.rest))
+read_token L t s = unless_fault (L.faults t s.rest) (length s.rest) (taken (L.scan t s.rest) (min s.far (L.seen t s.rest)))
 
 -- items while the guard takes them, at most `count`
 abbrev pub repeat : {Node : Type 0} → Guard → (State → Reading (Value Node)) → ℕ → State → Reading (Value Node)
@@ -60,7 +66,7 @@ read_with L call (made f A) s = go_on (read_with L call A s) (λ v t. Ok (f (len
 
 -- A production, where at most `levels` productions stand in one another.
 abbrev pub reads : (L : Language) → ℕ → L.Production → State → Reading (Made L)
-reads L zero p s = Err (TooDeep (length s.rest))
+reads L zero p s = Err TooDeep
 reads L (suc levels) p s = read_with L (reads L levels) (L.rules p) s
 
 -- A reader at the front of a text.

@@ -2,7 +2,8 @@ use Rattle.std.specs.Prelude.{ℕ, List, [], ◌∷◌, ◌++◌, ◌≡◌, ◌
 use Rattle.gx_grammar.specs.Language.{Language, Part, Made}
 use Rattle.gx_grammar.specs.Derivation.{Derives}
 use Rattle.gx_grammar.specs.Opening.{Opens, OpensUpTo}
-use Rattle.gx_grammar.specs.Reading.{Refusal, Unfit, TooDeep, Reading, start, read_with, reads}
+use Rattle.gx_grammar.specs.Halting.{Halts}
+use Rattle.gx_grammar.specs.Reading.{Refusal, Unfit, Faulty, TooDeep, Reading, start, read_with, reads}
 use Rattle.gx_grammar.specs.Decision.{Texts, Decides}
 use Rattle.gx_grammar.specs.Laws.{LawfulTokens}
 
@@ -42,9 +43,32 @@ pub record IsLongestOpening (L : Language) (A : Part L) (text : List ℕ) (far :
   pub opens : OpensUpTo L A text far
   pub longest : (x z : List ℕ) → text ≡ x ++ z → Opens L A x → far ≤ length z
 
--- What an answer says of a text: its one value; or that it has none, and where its longest opening ends;
--- or that the levels do not suffice, and where they ended.
+-- The text has this one value, and no fault stands in it.
+pub record HasValue (L : Language) (A : Part L) (text : List ℕ) (v : Made L) : Type 0 where
+  pub derived : Derives L A v text []
+  pub only : (w : Made L) → Derives L A w text [] → w ≡ v
+  pub sound : (code : ℕ) (z : List ℕ) → Halts L A text code z → ⊥
+
+-- The text has no value, and no fault stands in it. In front of the last `far` characters its longest opening
+-- ends.
+pub record IsUnfit (L : Language) (A : Part L) (text : List ℕ) (far : ℕ) : Type 0 where
+  pub none : (w : Made L) → Derives L A w text [] → ⊥
+  pub sound : (code : ℕ) (z : List ℕ) → Halts L A text code z → ⊥
+  pub longest : IsLongestOpening L A text far
+
+-- The text has no value, and one fault, with this code, where `left` characters are left. All in front of it
+-- opens the grammar.
+pub record IsFaulty (L : Language) (A : Part L) (text : List ℕ) (code left : ℕ) : Type 0 where
+  pub none : (w : Made L) → Derives L A w text [] → ⊥
+  pub rest : List ℕ
+  pub place : length rest ≡ left
+  pub halts : Halts L A text code rest
+  pub only : (other : ℕ) (z : List ℕ) → Halts L A text other z → (other ≡ code) × (z ≡ rest)
+  pub opens : OpensUpTo L A text left
+
+-- What an answer says of a text. That the levels do not suffice is no answer.
 abbrev pub IsVerdict : (L : Language) → Part L → List ℕ → Result (Made L) Refusal → Type 0
-IsVerdict L A text (Ok v) = Derives L A v text [] × ((w : Made L) → Derives L A w text [] → w ≡ v)
-IsVerdict L A text (Err (Unfit far)) = ((w : Made L) → Derives L A w text [] → ⊥) × IsLongestOpening L A text far
-IsVerdict L A text (Err (TooDeep left)) = OpensUpTo L A text left
+IsVerdict L A text (Ok v) = HasValue L A text v
+IsVerdict L A text (Err (Unfit far)) = IsUnfit L A text far
+IsVerdict L A text (Err (Faulty code left)) = IsFaulty L A text code left
+IsVerdict L A text (Err TooDeep) = ⊥

@@ -10,7 +10,7 @@ pub record SeesUpTo (opens : List ℕ → Type 0) (text : List ℕ) (left : ℕ)
   pub opened : (front ≡ []) ⊎ opens front
 
 -- What one token owes; the laws of all tokens of a language are made of these.
-pub record LawfulToken {V : Type 0} (derives : V → List ℕ → List ℕ → Type 0) (opens : List ℕ → Type 0) (scan : List ℕ → Option (V × List ℕ)) (seen : List ℕ → ℕ) : Type 0 where
+pub record LawfulToken {V : Type 0} (derives : V → List ℕ → List ℕ → Type 0) (opens : List ℕ → Type 0) (scan : List ℕ → Option (V × List ℕ)) (seen : List ℕ → ℕ) (faults : List ℕ → Option ℕ) : Type 0 where
   pub sound : (v : V) (x y : List ℕ) → scan x ≡ Some (v, y) → derives v x y
   pub complete : (v : V) (x y : List ℕ) → derives v x y → scan x ≡ Some (v, y)
   pub ends : (v : V) (x y : List ℕ) → derives v x y → (a : List ℕ) × (x ≡ a ++ y)
@@ -19,6 +19,12 @@ pub record LawfulToken {V : Type 0} (derives : V → List ℕ → List ℕ → T
   pub fronts : (v : V) (x y z : List ℕ) → derives v (x ++ z) y → length y ≤ length z → opens x
   pub sees : (x : List ℕ) → SeesUpTo opens x (seen x)
   pub longest : (x z : List ℕ) → opens x → seen (x ++ z) ≤ length z
+  pub firm : (v : V) (x y : List ℕ) → derives v x y → faults x ≡ None
+  pub faultless : faults [] ≡ None
+
+-- a token without a limit
+abbrev pub no_fault : List ℕ → Option ℕ
+no_fault x = None
 
 -- the text is a front of the other
 abbrev pub IsFrontOf : List ℕ → List ℕ → Type 0

@@ -42,13 +42,8 @@ fn unreadable(alloc: Global, bytes: &[u8], readable: usize) -> Result<Place, All
     requires longest { IsValidUpTo bytes.now readable }
     ensures { IfOk result (IsUnreadableAt bytes.now) }
 {
-    match from_utf8(&bytes[..readable]) {
-        Ok(front) => {
-            let front = characters(alloc, front)?;
-            Ok(place_of(&front, front.len()))
-        }
-        Err(_) => Ok(Place { line: 1, column: 1 }),
-    }
+    let front = characters(alloc, from_utf8(&bytes[..readable]).unwrap())?;
+    Ok(place_of(&front, front.len()))
 }
 
 /// The characters that the bytes spell in UTF-8.

@@ -1,17 +1,23 @@
-ghost use Rattle.gx_grammar.specs.Derivation.{Derives};
+ghost use Rattle.gx_grammar.specs.Apart.{HasShape, Shape, all_apart, is, shape_begins};
 ghost use Rattle.gx_grammar.specs.Decision.{Chooses, Repeats};
-ghost use Rattle.gx_grammar.specs.First.{AreFronts, BeginsWith, CharacterChooses, EndsOrStarts, Fronts, IsSorted, TokensChoose, by_character, by_tokens};
-ghost use Rattle.gx_grammar.specs.Grammar.{Guard, empty};
-ghost use Rattle.gx_grammar.specs.Language.{Language, Made, Part};
+ghost use Rattle.gx_grammar.specs.Derivation.{Derives};
+ghost use Rattle.gx_grammar.specs.First.{AllOf, AreApart, AreFronts, BeginsWith, CharacterChooses, EndsOrStarts, Fronts, HasHead, IsSorted, TokensChoose, by_character, by_tokens};
+ghost use Rattle.gx_grammar.specs.Fitting.{IsFitting, Never, scan_fitting, scan_never};
 ghost use Rattle.gx_grammar.specs.Gaps.{IsGap, OpensGap, scan_gap, seen_gap};
+ghost use Rattle.gx_grammar.specs.Grammar.{Guard, ◌&◌, choose, empty, keyed, made};
+ghost use Rattle.gx_grammar.specs.Halting.{Halts};
+ghost use Rattle.gx_grammar.specs.Joined.{AreJoined, OpensJoined, scan_joined, seen_joined};
+ghost use Rattle.gx_grammar.specs.Language.{Language, Made, Part};
 ghost use Rattle.gx_grammar.specs.Laws.{IsExact, LawfulTokens};
-ghost use Rattle.gx_grammar.specs.Levels.{IsLevelled, Takings};
-ghost use Rattle.gx_grammar.specs.Opening.{Opens};
-ghost use Rattle.gx_grammar.specs.Reading.{Reading, Refusal, State, TooDeep, go_on, notes, reads, repeat};
+ghost use Rattle.gx_grammar.specs.Levels.{HasRanksBelow, IsLevelled, IsNotTooDeep, Takings};
+ghost use Rattle.gx_grammar.specs.Opening.{Opens, OpensUpTo};
+ghost use Rattle.gx_grammar.specs.Ran.{Looked, Ran, Standing, left_of};
+ghost use Rattle.gx_grammar.specs.Reading.{Reading, Refusal, State, go_on, notes, read_token, read_with, reads, repeat, start};
 ghost use Rattle.gx_grammar.specs.Text.{AllDecide, IsReadable, IsVerdict, read_text};
-ghost use Rattle.gx_grammar.specs.Tokens.{IsFrontOf, IsNamed, IsRun, IsWord, LawfulToken, opens_name, opens_run, scan_name, scan_run, scan_word, seen_name, seen_run, seen_word};
-ghost use Rattle.gx_grammar.specs.Value.{Value, an_item, no_item};
-ghost use Rattle.std.specs.Prelude.{◌≡◌, ◌≢◌, ◌<◌, ◌++◌, [], Bool, Err, IfOk, List, Ok, Result, if◌then◌else◌, length, suc, ℕ};
+ghost use Rattle.gx_grammar.specs.Tokens.{IsFrontOf, IsNamed, IsRun, IsWord, LawfulToken, no_fault, opens_name, opens_run, scan_name, scan_run, scan_word, seen_name, seen_run, seen_word};
+ghost use Rattle.gx_grammar.specs.Value.{Value, an_item, no_item, pair};
+ghost use Rattle.std.specs.List.{list_all};
+ghost use Rattle.std.specs.Prelude.{◌≡◌, ◌<◌, ◌≤◌, ◌+◌, ◌++◌, [], Bool, true, false, IfOk, List, None, Ok, Option, Result, if◌then◌else◌, length, suc, ℕ};
 
 /// A language, for contracts alone.
 pub trait HasLanguage {
@@ -19,10 +25,11 @@ pub trait HasLanguage {
     ghost language: { Language };
 }
 
-/// What a whole text reads as is its value exactly where it has one. Where it has none, the place of the
-/// refusal is the end of the longest front of the text that opens the grammar.
+/// Where the levels suffice, what a whole text reads as says all of it: its one value, exactly where it has one; or its
+/// one fault, exactly where a token has one behind what was read; or else the end of its longest opening.
 pub fn read_is_exact<G: HasLanguage>()
-    ensures { (A : Part G.language) → IsReadable G.language A → (levels : ℕ) (text : List ℕ)
+    ensures { (A : Part G.language) → IsReadable G.language A → (k : Takings G.language) (levelled : IsLevelled G.language k) (bound : ℕ)
+        → HasRanksBelow G.language levelled.rank bound A → (levels : ℕ) (text : List ℕ) → bound + length text ≤ levels
         → IsVerdict G.language A text (read_text G.language levels A text) }
 {}
 
@@ -33,11 +40,10 @@ pub fn productions_are_exact<G: HasLanguage>()
         → IsExact G.language (G.language.rules p) (G.language.follows p) (G.language.follows_cut p) (reads G.language levels p) }
 {}
 
-/// Whatever the levels, a text has at most one answer in which they suffice.
+/// A text has at most one answer.
 pub fn one_verdict<G: HasLanguage>()
     ensures { (A : Part G.language) (text : List ℕ) (r q : Result (Made G.language) Refusal)
-        → IsVerdict G.language A text r → IsVerdict G.language A text q
-        → ((left : ℕ) → r ≢ Err (TooDeep left)) → ((left : ℕ) → q ≢ Err (TooDeep left)) → r ≡ q }
+        → IsVerdict G.language A text r → IsVerdict G.language A text q → r ≡ q }
 {}
 
 /// A text has at most one value.
@@ -52,11 +58,18 @@ pub fn front_opens<G: HasLanguage>()
         → Derives G.language A v (x ++ y) [] → Opens G.language A x }
 {}
 
-/// Where no production begins with a production, more levels than the text has characters suffice.
+/// All in front of a fault opens the grammar.
+pub fn fault_is_reached<G: HasLanguage>()
+    ensures { (A : Part G.language) → IsReadable G.language A → (text z : List ℕ) (code : ℕ) → Halts G.language A text code z
+        → OpensUpTo G.language A text (length z) }
+{}
+
+/// Where a production begins with productions of lower rank alone, more levels than the rank with the length of the text
+/// suffice.
 pub fn levels_suffice<G: HasLanguage>()
-    ensures { (A : Part G.language) → IsReadable G.language A → (k : Takings G.language) → IsLevelled G.language k
-        → (levels left : ℕ) (text : List ℕ) → length text < levels
-        → read_text G.language levels A text ≢ Err (TooDeep left) }
+    ensures { (A : Part G.language) → IsReadable G.language A → (k : Takings G.language) (levelled : IsLevelled G.language k) (bound : ℕ)
+        → HasRanksBelow G.language levelled.rank bound A → (levels : ℕ) (text : List ℕ) → bound + length text ≤ levels
+        → IsNotTooDeep (read_with G.language (reads G.language levels) A (start text)) }
 {}
 
 /// A grammar whose guards decide by first tokens, or by first characters, is read exactly.
@@ -71,11 +84,11 @@ pub fn tokens_decide<G: HasLanguage>()
     ensures choice { (f : Fronts G.language) → LawfulTokens G.language → AreFronts G.language f
         → (ts : List G.language.Token) (A B : Part G.language) (us : List G.language.Token)
         → TokensChoose G.language f ts A B us
-        → Chooses G.language (by_tokens G.language.scan G.language.seen ts) A B (EndsOrStarts G.language.derives us) (BeginsWith G.language.derives G.language.opens us) }
+        → Chooses G.language (by_tokens G.language.scan G.language.faults G.language.seen ts) A B (EndsOrStarts G.language.derives G.language.faults us) (BeginsWith G.language.derives G.language.opens us) }
     ensures repetition { (f : Fronts G.language) → LawfulTokens G.language → AreFronts G.language f
         → (ts : List G.language.Token) (A : Part G.language) (us : List G.language.Token)
         → TokensChoose G.language f ts A empty us
-        → Repeats G.language (by_tokens G.language.scan G.language.seen ts) A (EndsOrStarts G.language.derives us) (BeginsWith G.language.derives G.language.opens us) }
+        → Repeats G.language (by_tokens G.language.scan G.language.faults G.language.seen ts) A (EndsOrStarts G.language.derives G.language.faults us) (BeginsWith G.language.derives G.language.opens us) }
 {}
 
 /// A guard by the first character decides where what stands otherwise begins with other characters.
@@ -83,11 +96,11 @@ pub fn characters_decide<G: HasLanguage>()
     ensures choice { (f : Fronts G.language) → AreFronts G.language f
         → (test : ℕ → Bool) (A B : Part G.language) (us : List G.language.Token)
         → CharacterChooses G.language f test A B us
-        → Chooses G.language (by_character test) A B (EndsOrStarts G.language.derives us) (BeginsWith G.language.derives G.language.opens us) }
+        → Chooses G.language (by_character test) A B (EndsOrStarts G.language.derives G.language.faults us) (BeginsWith G.language.derives G.language.opens us) }
     ensures repetition { (f : Fronts G.language) → AreFronts G.language f
         → (test : ℕ → Bool) (A : Part G.language) (us : List G.language.Token)
         → CharacterChooses G.language f test A empty us
-        → Repeats G.language (by_character test) A (EndsOrStarts G.language.derives us) (BeginsWith G.language.derives G.language.opens us) }
+        → Repeats G.language (by_character test) A (EndsOrStarts G.language.derives G.language.faults us) (BeginsWith G.language.derives G.language.opens us) }
 {}
 
 /// A repetition is one item and then a repetition: what a loop over the items does.
@@ -103,10 +116,78 @@ pub fn repetition_goes_by_items<G: HasLanguage>()
 /// Words and symbols, runs, names, and white space with nested comments keep the laws of tokens.
 pub fn tokens_are_lawful<G: HasLanguage>()
     ensures words { (value : Made G.language) (word : List ℕ) (test : ℕ → Bool)
-        → LawfulToken (IsWord value word test) (λ x. IsFrontOf x word) (scan_word value word test) (seen_word word) }
+        → LawfulToken (IsWord value word test) (λ x. IsFrontOf x word) (scan_word value word test) (seen_word word) no_fault }
     ensures runs { (value : List ℕ → Made G.language) (test stop : ℕ → Bool)
-        → LawfulToken (IsRun value test stop) (opens_run test) (scan_run value test stop) (seen_run test) }
+        → LawfulToken (IsRun value test stop) (opens_run test) (scan_run value test stop) (seen_run test) no_fault }
     ensures names { (value : List ℕ → Made G.language) (first test stop : ℕ → Bool)
-        → LawfulToken (IsNamed value first test stop) (opens_name first test) (scan_name value first test stop) (seen_name first test) }
-    ensures gaps { (value : Made G.language) → LawfulToken (IsGap value) (OpensGap 0) (scan_gap value) (seen_gap 0) }
+        → LawfulToken (IsNamed value first test stop) (opens_name first test) (scan_name value first test stop) (seen_name first test) no_fault }
+    ensures gaps { (value : Made G.language) (allowed : ℕ → Bool) → (allowed 40 ≡ true) × (allowed 58 ≡ true)
+        → LawfulToken (IsGap allowed value) (OpensGap allowed 0) (scan_gap allowed value) (seen_gap allowed 0) no_fault }
+{}
+
+/// Tokens that others are made of, for contracts alone.
+pub trait HasTokens {
+    /// What they are worth.
+    ghost Worth: { Type 0 };
+    /// The token with this value stands at the front of the first text and leaves the second.
+    ghost derives: { Worth → List ℕ → List ℕ → Type 0 };
+    /// What opens it.
+    ghost opens: { List ℕ → Type 0 };
+    /// The token at the front of the text, and what it leaves.
+    ghost scan: { List ℕ → Option (Worth × List ℕ) };
+    /// What is left behind the longest front that opens it.
+    ghost seen: { List ℕ → ℕ };
+    /// The same of a token that may stand right behind it.
+    ghost derives_behind: { Worth → List ℕ → List ℕ → Type 0 };
+
+    ghost opens_behind: { List ℕ → Type 0 };
+
+    ghost scan_behind: { List ℕ → Option (Worth × List ℕ) };
+
+    ghost seen_behind: { List ℕ → ℕ };
+}
+
+/// A token with a test on its value, a token that may not stand, and a token with another right behind it keep the laws of
+/// tokens where their parts do.
+pub fn made_tokens_are_lawful<T: HasTokens>()
+    ensures fitting { LawfulToken T.derives T.opens T.scan T.seen no_fault → (test : T.Worth → Bool) (faults : List ℕ → Option ℕ)
+        → ((v : T.Worth) (x y : List ℕ) → T.derives v x y → test v ≡ true → faults x ≡ None) → faults [] ≡ None
+        → LawfulToken (IsFitting T.derives test) T.opens (scan_fitting T.scan test) T.seen faults }
+    ensures stop { LawfulToken T.derives T.opens T.scan T.seen no_fault → (faults : List ℕ → Option ℕ) → faults [] ≡ None
+        → LawfulToken (Never {V = T.Worth}) T.opens scan_never T.seen faults }
+    ensures joined { LawfulToken T.derives T.opens T.scan T.seen no_fault → LawfulToken T.derives_behind T.opens_behind T.scan_behind T.seen_behind no_fault
+        → (value : T.Worth → T.Worth → T.Worth)
+        → LawfulToken (AreJoined T.derives T.derives_behind value) (OpensJoined T.derives T.opens T.opens_behind)
+        (scan_joined T.scan T.scan_behind value) (seen_joined T.scan T.seen T.seen_behind) no_fault }
+{}
+
+/// Tokens whose shapes are apart by computation are apart, and those whose shapes begin with a character, or with other
+/// ones, do so.
+pub fn spellings_are_apart<G: HasLanguage>()
+    ensures apart { (shape : G.language.Token → Shape) → ((t : G.language.Token) → HasShape G.language t (shape t))
+        → (ts us : List G.language.Token) → all_apart shape ts us ≡ true → AllOf (λ u. AllOf (λ t. AreApart G.language t u) ts) us }
+    ensures heads { (shape : G.language.Token → Shape) → ((t : G.language.Token) → HasShape G.language t (shape t))
+        → (k : ℕ) (b : Bool) (ts : List G.language.Token) → list_all (λ t. shape_begins k b (shape t)) ts ≡ true → AllOf (HasHead G.language (is k) b) ts }
+{}
+
+/// What the steps of a hand-written reader do together.
+pub fn steps_compose<G: HasLanguage>()
+    ensures both { (call : G.language.Production → State → Reading (Made G.language)) (A B : Part G.language) (v w : Made G.language) (a b c : Standing)
+        → Ran v a b (read_with G.language call A) → Ran w b c (read_with G.language call B) → Ran (pair v w) a c (read_with G.language call (A & B)) }
+    ensures keyed { (call : G.language.Production → State → Reading (Made G.language)) (t : G.language.Token) (f : Made G.language → Part G.language) (v w : Made G.language) (a b c : Standing)
+        → Ran v a b (read_token G.language t) → Ran w b c (read_with G.language call (f v)) → Ran (pair v w) a c (read_with G.language call (keyed t f)) }
+    ensures made { (call : G.language.Production → State → Reading (Made G.language)) (f : ℕ → Made G.language → Made G.language) (A : Part G.language) (v : Made G.language) (a b : Standing)
+        → Ran v a b (read_with G.language call A) → Ran (f (left_of a) v) a b (read_with G.language call (made f A)) }
+{}
+
+/// What a hand-written reader does behind a look by a guard.
+pub fn looks_decide<G: HasLanguage>()
+    ensures left { (call : G.language.Production → State → Reading (Made G.language)) (g : Guard) (A B : Part G.language) (v : Made G.language) (taken : Bool) (a b c : Standing)
+        → taken ≡ true → Looked taken a b g → Ran v b c (read_with G.language call A) → Ran v a c (read_with G.language call (choose g A B)) }
+    ensures right { (call : G.language.Production → State → Reading (Made G.language)) (g : Guard) (A B : Part G.language) (v : Made G.language) (taken : Bool) (a b c : Standing)
+        → taken ≡ false → Looked taken a b g → Ran v b c (read_with G.language call B) → Ran v a c (read_with G.language call (choose g A B)) }
+    ensures stop { (g : Guard) (item : State → Reading (Made G.language)) (count : ℕ) (taken : Bool) (a b : Standing)
+        → taken ≡ false → Looked taken a b g → Ran no_item a b (repeat g item (suc count)) }
+    ensures item { (g : Guard) (item : State → Reading (Made G.language)) (count : ℕ) (v w : Made G.language) (taken : Bool) (a b c d : Standing)
+        → taken ≡ true → Looked taken a b g → Ran v b c item → Ran w c d (repeat g item count) → Ran (an_item v w) a d (repeat g item (suc count)) }
 {}

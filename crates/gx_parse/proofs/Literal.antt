@@ -3,7 +3,7 @@ use Rattle.std.proofs.Common.{◌≡◌, ℕ, ◌+◌, ◌-◌, ◌*◌, ◌^◌
 use Rattle.std.proofs.Math.Nat.{pow-suc, one-le-pow, le-mul_of_pos_right}
 use Rattle.std.proofs.lemmas.Bool.{lt-ltb, ltb-true}
 use Rattle.gx_grammar.specs.Value.{Value, nothing, characters, node, pair, no_item, an_item}
-use Rattle.gx_grammar.specs.Tokens.{SeesUpTo, LawfulToken, IsNamed, IsFrontOf, all_pass, scan_name, opens_name, seen_name}
+use Rattle.gx_grammar.specs.Tokens.{SeesUpTo, LawfulToken, no_fault, IsNamed, IsFrontOf, all_pass, scan_name, opens_name, seen_name}
 use Rattle.gx_grammar.proofs.Tokens.{lawful_name, and_parts}
 use Rattle.gx_grammar.proofs.Readings.{by_test}
 use Rattle.gx_grammar.proofs.Unique.{same_some}
@@ -94,7 +94,7 @@ module _ (Node : Type 0) where
   abbrev Named : Made → List ℕ → List ℕ → Type 0
   Named = IsNamed characters is_digit is_digit is_name_start
 
-  named : LawfulToken Named (opens_name is_digit is_digit) (scan_name characters is_digit is_digit is_name_start) (seen_name is_digit is_digit)
+  named : LawfulToken Named (opens_name is_digit is_digit) (scan_name characters is_digit is_digit is_name_start) (seen_name is_digit is_digit) no_fault
   named = lawful_name characters is_digit is_digit is_name_start
 
   abbrev some : Made → List ℕ → Option (Made × List ℕ)
@@ -176,7 +176,7 @@ module _ (Node : Type 0) where
       let f = front_fits 0 x (omega arith) in
       record { front = f.0; rest = behind_fitting 0 x; whole = f.1; place = refl; opened = inr (record { digits = f.2; fits = subst (λ n. n < 2 ^ 127) (total-zero f.0) f.3 }) }
 
-  pub lawful_literal : LawfulToken (IsLiteral {Node = Node}) OpensLiteral scan_literal seen_literal
+  pub lawful_literal : LawfulToken (IsLiteral {Node = Node}) OpensLiteral scan_literal seen_literal no_fault
   lawful_literal = record {
     sound = literal_sound;
     complete = literal_complete;
@@ -186,4 +186,6 @@ module _ (Node : Type 0) where
     fronts = literal_fronts;
     sees = literal_sees;
     longest = λ x z o. longest_fits 0 x z o.digits (subst (λ n. n < 2 ^ 127) (sym (total-zero x)) o.fits);
+    firm = λ v x y d. refl;
+    faultless = refl;
   }

@@ -12,7 +12,7 @@ use Rattle.gx_parse.specs.Characters.{is_name_character, no_character}
 use Rattle.gx_parse.specs.Tokens.{name, literal}
 use Rattle.gx_parse.specs.Nodes.{Made, number_in}
 use Rattle.gx_parse.specs.Grammar.{first_language, query, place_in, single, integer, variable, expression, parenthesised, primary, addition, let_single}
-use Rattle.gx_parse.specs.Reading.{Fails, call, read_in, read_word, read_lexeme, read_gap, read_integer, tree_value}
+use Rattle.gx_parse.specs.Reading.{Fails, more_than, call, read_in, read_word, read_lexeme, read_gap, read_integer, tree_value}
 
 pub let_fails-1 : (e : Fault) (text : List ℕ) (levels : ℕ) (s0 : State) → Fails e (read_word (108 ∷ 101 ∷ 116 ∷ []) is_name_character s0) → Fails e (read_in text levels (let_single (place_in text) levels) s0)
 unfolding let_single read_word read_gap
@@ -166,21 +166,21 @@ something_left v far [] h = absurd (omega arith)
 something_left v far (c ∷ x) h = refl
 
 pub query_reads : (text : List ℕ) (t : SyntaxTree) (s1 s2 : State) → read_gap (start text) ≡ Ok (nothing, s1) → read_in text 40 (expression (place_in text) 40) s1 ≡ Ok (tree_value t, s2) → length s2.rest ≡ 0
-    → read_text (first_language (place_in text)) 41 (query (place_in text)) text ≡ Ok (tree_value t)
+    → read_text (first_language (place_in text)) (more_than (length text) 41) (query (place_in text)) text ≡ Ok (tree_value t)
 unfolding call read_gap
 query_reads text t s1 s2 gap read ended = rw (gap, read) (nothing_left (tree_value t) s2.far s2.rest ended)
 
 pub query_goes_on : (text : List ℕ) (t : SyntaxTree) (far : ℕ) (s1 s2 : State) → read_gap (start text) ≡ Ok (nothing, s1) → read_in text 40 (expression (place_in text) 40) s1 ≡ Ok (tree_value t, s2) → 0 < length s2.rest → far ≡ s2.far
-    → read_text (first_language (place_in text)) 41 (query (place_in text)) text ≡ Err (Unfit far)
+    → read_text (first_language (place_in text)) (more_than (length text) 41) (query (place_in text)) text ≡ Err (Unfit far)
 unfolding call read_gap
 query_goes_on text t far s1 s2 gap read more same = rw (gap, read, same) (something_left (tree_value t) s2.far s2.rest more)
 
-pub query_fails-1 : (e : Fault) (text : List ℕ) → Fails e (read_gap (start text)) → Fails e (read_text (first_language (place_in text)) 41 (query (place_in text)) text)
+pub query_fails-1 : (e : Fault) (text : List ℕ) → Fails e (read_gap (start text)) → Fails e (read_text (first_language (place_in text)) (more_than (length text) 41) (query (place_in text)) text)
 unfolding call read_gap
 query_fails-1 Memory text fails = tt
 query_fails-1 (Unread far) text fails = rw fails refl
 
-pub query_fails-2 : (e : Fault) (text : List ℕ) (s1 : State) → read_gap (start text) ≡ Ok (nothing, s1) → Fails e (read_in text 40 (expression (place_in text) 40) s1) → Fails e (read_text (first_language (place_in text)) 41 (query (place_in text)) text)
+pub query_fails-2 : (e : Fault) (text : List ℕ) (s1 : State) → read_gap (start text) ≡ Ok (nothing, s1) → Fails e (read_in text 40 (expression (place_in text) 40) s1) → Fails e (read_text (first_language (place_in text)) (more_than (length text) 41) (query (place_in text)) text)
 unfolding call read_gap
 query_fails-2 Memory text s1 gap fails = tt
 query_fails-2 (Unread far) text s1 gap fails = rw (gap, fails) refl

@@ -4,22 +4,23 @@ use Rattle.gx_base.specs.declared.place.Place.{Place}
 use Rattle.gx_grammar.specs.Value.{nothing, characters}
 use Rattle.gx_grammar.specs.Grammar.{empty, choose, rule}
 use Rattle.gx_grammar.specs.Laws.{LawfulTokens}
-use Rattle.gx_grammar.specs.Levels.{takes_some, AreTakings}
+use Rattle.gx_grammar.specs.Levels.{takes_some, HasRanksBelow, IsShielded, AreTakings, IsLevelled}
 use Rattle.gx_grammar.specs.Text.{IsReadable}
-use Rattle.gx_grammar.specs.First.{IsIn, AllOf, first_of, HasHead, AreFronts, IsSorted, CharacterChooses, first_behind, head_passes}
+use Rattle.gx_grammar.specs.First.{IsIn, AllOf, first_of, HasHead, AreFronts, IsSorted, CharacterChooses, first_behind, head_passes, Stands}
 use Rattle.gx_grammar.specs.Tokens.{LawfulToken, IsWord}
 use Rattle.gx_grammar.proofs.Tokens.{lawful_word, lawful_name, lawful_tokens, word_head, front_head, and_parts}
 use Rattle.gx_grammar.proofs.Gaps.{lawful_gap}
 use Rattle.gx_grammar.proofs.ByCharacter.{character_chooses}
+use Rattle.gx_grammar.proofs.Levels.{below_shields}
 use Rattle.gx_grammar.proofs.Sorted.{sorted_readable}
-use Rattle.gx_parse.specs.Characters.{is_digit, is_name_start, is_name_character, no_character}
-use Rattle.gx_parse.specs.Tokens.{Token, comma, plus, opening, closing, dollar, assign, let_word, return_word, name, literal, gap, nowhere, derives, opens, scan, seen, takes}
+use Rattle.gx_parse.specs.Characters.{is_digit, is_name_start, is_name_character, any_character, no_character}
+use Rattle.gx_parse.specs.Tokens.{Token, comma, plus, opening, closing, dollar, assign, let_word, return_word, name, literal, gap, nowhere, derives, opens, scan, seen, faults, takes}
 use Rattle.gx_parse.specs.Nodes.{Node, Made}
-use Rattle.gx_parse.specs.Grammar.{Production, single, begins_with, integer, variable, more, expression, parenthesised, primary, addition, let_single, rules, query, behind_single, first_language}
+use Rattle.gx_parse.specs.Grammar.{Production, Phrase, single, begins_with, integer, variable, more, expression, parenthesised, primary, addition, let_single, rules, query, behind_single, first_language}
 use Rattle.gx_parse.specs.Fronts.{fronts}
 use Rattle.gx_parse.proofs.Literal.{lawful_literal}
 
-token_lawful : (t : Token) → LawfulToken {V = Made} (derives t) (opens t) (scan t) (seen t)
+token_lawful : (t : Token) → LawfulToken {V = Made} (derives t) (opens t) (scan t) (seen t) (faults t)
 token_lawful comma = lawful_word nothing (codes ",") no_character
 token_lawful plus = lawful_word nothing (codes "+") no_character
 token_lawful opening = lawful_word nothing (codes "(") no_character
@@ -30,7 +31,7 @@ token_lawful let_word = lawful_word nothing (codes "let") is_name_character
 token_lawful return_word = lawful_word nothing (codes "return") is_name_character
 token_lawful name = lawful_name characters is_name_start is_name_character no_character
 token_lawful literal = lawful_literal Node
-token_lawful gap = lawful_gap nothing
+token_lawful gap = lawful_gap any_character (refl, refl) nothing
 token_lawful nowhere = record {
   sound = λ v x y e. absurd (cc);
   complete = λ v x y d. absurd d;
@@ -40,6 +41,8 @@ token_lawful nowhere = record {
   fronts = λ v x y z d h. absurd d;
   sees = λ x. record { front = []; rest = x; whole = refl; place = refl; opened = inl refl };
   longest = λ x z o. omega (arith, ap length o, length-append x z);
+  firm = λ v x y d. absurd d;
+  faultless = refl;
 }
 
 shorter_word : {v value : Made} {c : ℕ} {w : List ℕ} {test : ℕ → Bool} {x y : List ℕ} → IsWord value (c ∷ w) test v x y → length y < length x
@@ -73,39 +76,43 @@ module _ (at : ℕ → Place) where
 
   -- the first characters of the tokens
 
+  word_stands : {test : ℕ → Bool} {b : Bool} (t : Token) → ((v : Made) (x y : List ℕ) → derives t v x y → (x ≢ []) × (head_passes test x ≡ b)) → ((x : List ℕ) → opens t x → x ≢ [] → head_passes test x ≡ b) → HasHead (first_language at) test b t
+  word_stands {test = test} {b = b} t derived opened = record { stands = stands; opened = opened }
+    where
+      stands : (x : List ℕ) → Stands {Node = Node} derives faults t x → (x ≢ []) × (head_passes test x ≡ b)
+      stands x (inl d) = derived d.0 x d.1 d.2
+      stands x (inr h) = absurd (let e = h.1 in cc e)
+
   comma_has : (test : ℕ → Bool) → HasHead (first_language at) test (test 44) comma
-  comma_has test = record { derived = λ v x y d. word_head nothing 44 [] no_character test d; opened = λ x o n. front_head test 44 [] x o n }
+  comma_has test = word_stands _ (λ v x y d. word_head nothing 44 [] no_character test d) (λ x o n. front_head test 44 [] x o n)
 
   plus_has : (test : ℕ → Bool) → HasHead (first_language at) test (test 43) plus
-  plus_has test = record { derived = λ v x y d. word_head nothing 43 [] no_character test d; opened = λ x o n. front_head test 43 [] x o n }
+  plus_has test = word_stands _ (λ v x y d. word_head nothing 43 [] no_character test d) (λ x o n. front_head test 43 [] x o n)
 
   opening_has : (test : ℕ → Bool) → HasHead (first_language at) test (test 40) opening
-  opening_has test = record { derived = λ v x y d. word_head nothing 40 [] no_character test d; opened = λ x o n. front_head test 40 [] x o n }
+  opening_has test = word_stands _ (λ v x y d. word_head nothing 40 [] no_character test d) (λ x o n. front_head test 40 [] x o n)
 
   closing_has : (test : ℕ → Bool) → HasHead (first_language at) test (test 41) closing
-  closing_has test = record { derived = λ v x y d. word_head nothing 41 [] no_character test d; opened = λ x o n. front_head test 41 [] x o n }
+  closing_has test = word_stands _ (λ v x y d. word_head nothing 41 [] no_character test d) (λ x o n. front_head test 41 [] x o n)
 
   dollar_has : (test : ℕ → Bool) → HasHead (first_language at) test (test 36) dollar
-  dollar_has test = record { derived = λ v x y d. word_head nothing 36 [] no_character test d; opened = λ x o n. front_head test 36 [] x o n }
+  dollar_has test = word_stands _ (λ v x y d. word_head nothing 36 [] no_character test d) (λ x o n. front_head test 36 [] x o n)
 
   let_has : (test : ℕ → Bool) → HasHead (first_language at) test (test 108) let_word
-  let_has test = record { derived = λ v x y d. word_head nothing 108 (101 ∷ 116 ∷ []) is_name_character test d; opened = λ x o n. front_head test 108 (101 ∷ 116 ∷ []) x o n }
+  let_has test = word_stands _ (λ v x y d. word_head nothing 108 (101 ∷ 116 ∷ []) is_name_character test d) (λ x o n. front_head test 108 (101 ∷ 116 ∷ []) x o n)
 
   return_has : (test : ℕ → Bool) → HasHead (first_language at) test (test 114) return_word
-  return_has test = record { derived = λ v x y d. word_head nothing 114 (101 ∷ 116 ∷ 117 ∷ 114 ∷ 110 ∷ []) is_name_character test d; opened = λ x o n. front_head test 114 (101 ∷ 116 ∷ 117 ∷ 114 ∷ 110 ∷ []) x o n }
+  return_has test = word_stands _ (λ v x y d. word_head nothing 114 (101 ∷ 116 ∷ 117 ∷ 114 ∷ 110 ∷ []) is_name_character test d) (λ x o n. front_head test 114 (101 ∷ 116 ∷ 117 ∷ 114 ∷ 110 ∷ []) x o n)
 
   literal_has : (k : ℕ) → is_digit k ≡ false → HasHead (first_language at) (λ c. c == k) false literal
-  literal_has k other = record {
-    derived = λ v x y d. ((λ e. let g = d.digits.whole in absurd (cc (e, g))), ap (head_passes (λ c. c == k)) d.digits.whole ∙ digit_differs d.digits.head k other d.digits.begins);
-    opened = opened;
-  }
+  literal_has k other = word_stands literal (λ v x y d. ((λ e. let g = d.digits.whole in absurd (cc (e, g))), ap (head_passes (λ c. c == k)) d.digits.whole ∙ digit_differs d.digits.head k other d.digits.begins)) opened
     where
       opened : (x : List ℕ) → opens literal x → x ≢ [] → head_passes (λ c. c == k) x ≡ false
       opened [] o n = absurd (n refl)
       opened (c ∷ x) o n = digit_differs c k other (and_parts (is_digit c) _ o.digits).0
 
   nowhere_has : (test : ℕ → Bool) (b : Bool) → HasHead (first_language at) test b nowhere
-  nowhere_has test b = record { derived = λ v x y d. absurd d; opened = λ x o n. absurd (n o) }
+  nowhere_has test b = word_stands nowhere (λ v x y d. absurd d) (λ x o n. absurd (n o))
 
   production_takes : (p : Production) → (fronts at).takings.production_takes p ≡ true → takes_some (first_language at) (fronts at).takings (rules at p) ≡ true
   unfolding let_single addition primary parenthesised variable integer
@@ -228,3 +235,58 @@ module _ (at : ℕ → Place) where
   -- What the language owes is met.
   pub readable : IsReadable (first_language at) (query at)
   readable = sorted_readable (first_language at) lawful (fronts at) right (query at) production_sorted (tt, expression_sorted 40 [] tt tt)
+
+  -- each Single holds Singles of one level less
+
+  abbrev rank : Production → ℕ
+  rank (single levels) = levels
+
+  abbrev Low : ℕ → Phrase → Type 0
+  Low n A = HasRanksBelow (first_language at) rank n A
+
+  variable_low : (n : ℕ) → Low n (variable at)
+  unfolding variable
+  variable_low n = ((tt, tt), (tt, tt))
+
+  integer_low : (n : ℕ) → Low n (integer at)
+  unfolding integer
+  integer_low n = (tt, tt)
+
+  more_low : (n : ℕ) (separator : Token) (character : ℕ) (member : Phrase) → Low n member → (count : ℕ) → Low n (more at separator character member count)
+  unfolding more
+  more_low n separator character member low zero = tt
+  more_low n separator character member low (suc count) = (((tt, tt), (low, more_low n separator character member low count)), tt)
+
+  expression_low : (levels : ℕ) → Low (suc levels) (expression at levels)
+  unfolding expression
+  expression_low levels = (below levels, more_low (suc levels) comma 44 (rule (single levels)) (below levels) 63)
+    where
+      below : (k : ℕ) → k < suc k
+      below k = omega arith
+
+  primary_low : (levels : ℕ) → Low (suc levels) (primary at levels)
+  unfolding primary parenthesised
+  primary_low levels = (((tt, tt), ((tt, (tt, tt)), (expression_low levels, (tt, tt)))), (variable_low (suc levels), integer_low (suc levels)))
+
+  addition_low : (levels : ℕ) → Low (suc levels) (addition at levels)
+  unfolding addition
+  addition_low levels = (primary_low levels, more_low (suc levels) plus 43 (primary at levels) (primary_low levels) 63)
+
+  let_low : (levels : ℕ) → Low (suc levels) (let_single at levels)
+  unfolding let_single
+  let_low levels = ((tt, tt), (variable_low (suc levels), ((tt, tt), (below, ((tt, tt), below)))))
+    where
+      below : levels < suc levels
+      below = omega arith
+
+  production_shielded : (p : Production) → IsShielded (first_language at) (fronts at).takings rank (rank p) (rules at p)
+  production_shielded (single zero) = tt
+  production_shielded (single (suc levels)) =
+      (below_shields (first_language at) (fronts at).takings rank (suc levels) (let_single at levels) (let_low levels), below_shields (first_language at) (fronts at).takings rank (suc levels) (addition at levels) (addition_low levels))
+
+  pub levelled : IsLevelled (first_language at) (fronts at).takings
+  levelled = record { takings = taken; rank = rank; shielded = production_shielded }
+
+  pub query_ranks : HasRanksBelow (first_language at) levelled.rank 41 (query at)
+  unfolding levelled
+  query_ranks = (tt, expression_low 40)

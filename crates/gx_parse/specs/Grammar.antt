@@ -12,7 +12,7 @@ use Rattle.gx_grammar.specs.Language.{Language}
 use Rattle.gx_grammar.specs.First.{EndsOrStarts, BeginsWith, by_character}
 use Rattle.gx_grammar.specs.Places.{place_at}
 use Rattle.gx_parse.specs.SyntaxTree.{SyntaxTree, SequenceTree, SumTree}
-use Rattle.gx_parse.specs.Tokens.{Token, comma, plus, opening, closing, dollar, assign, let_word, return_word, name, literal, gap, nowhere, derives, opens, scan, seen}
+use Rattle.gx_parse.specs.Tokens.{Token, comma, plus, opening, closing, dollar, assign, let_word, return_word, name, literal, gap, nowhere, derives, opens, scan, seen, faults}
 use Rattle.gx_parse.specs.Nodes.{Node, At, chained, integer_value, variable_value, parenthesised_value, let_value, query_value}
 
 pub data Production : Type 0 where
@@ -86,8 +86,9 @@ module _ (at : ℕ → Place) where
     opens = opens;
     scan = scan;
     seen = seen;
+    faults = faults;
     rules = rules;
-    follows = λ p y. EndsOrStarts {Node = Node} derives behind_single y;
+    follows = λ p y. EndsOrStarts {Node = Node} derives faults behind_single y;
     follows_cut = λ p y. BeginsWith {Node = Node} derives opens behind_single y;
   }
 

@@ -1,5 +1,5 @@
 -- What the reader's functions answer, by the reading of the grammar.
-use Rattle.std.specs.Prelude.{◌≡◌, ℕ, ℤ, pos, suc, ◌^◌, min, nat_lt, Bool, if◌then◌else◌, List, Result, Ok, Err}
+use Rattle.std.specs.Prelude.{◌≡◌, ℕ, ℤ, pos, zero, suc, length, ◌^◌, min, nat_lt, Bool, if◌then◌else◌, List, Result, Ok, Err}
 use Rattle.gx_base.specs.declared.place.Place.{Place}
 use Rattle.gx_grammar.specs.Value.{nothing, node, pair}
 use Rattle.gx_grammar.specs.Gaps.{scan_gap, seen_gap, with_value}
@@ -8,7 +8,7 @@ use Rattle.gx_grammar.specs.Reading.{State, Refusal, Unfit, Reading, go_on, take
 use Rattle.gx_parse.specs.declared.reader.Fault.{Fault}
 use Rattle.gx_parse.specs.declared.reader.Fault.TheVariants.{Unread, Memory}
 use Rattle.gx_parse.specs.SyntaxTree.{SyntaxTree}
-use Rattle.gx_parse.specs.Characters.{is_digit}
+use Rattle.gx_parse.specs.Characters.{any_character, is_digit}
 use Rattle.gx_parse.specs.Literal.{decimal_value, seen_literal}
 use Rattle.gx_parse.specs.Tokens.{Token, literal, scan, seen}
 use Rattle.gx_parse.specs.Nodes.{Made, Tree, number_in, joined}
@@ -34,7 +34,7 @@ Answers (Err e) read = Fails e read
 
 -- white space and comments
 unfoldable pub read_gap : State → Reading Made
-read_gap s = taken (scan_gap nothing s.rest) (min s.far (seen_gap 0 s.rest))
+read_gap s = taken (scan_gap any_character nothing s.rest) (min s.far (seen_gap any_character 0 s.rest))
 
 -- a token, with the white space and comments behind it
 unfoldable pub read_lexeme : Token → State → Reading Made
@@ -59,9 +59,14 @@ read_digits s =
 abbrev pub read_integer : State → Reading ℤ
 read_integer s = go_on (read_lexeme literal s) (λ v t. Ok (pos (number_in v), t))
 
--- a Single, where that many productions may stand in one another
+-- so many more
+abbrev pub more_than : (n k : ℕ) → ℕ
+more_than n zero = n
+more_than n (suc k) = suc (more_than n k)
+
+-- a Single, where that many productions and as many as the text has characters may stand in one another
 unfoldable pub call : List ℕ → ℕ → Production → State → Reading Made
-call text levels p s = reads (first_language (place_in text)) levels p s
+call text levels p s = reads (first_language (place_in text)) (more_than (length text) levels) p s
 
 -- a part of the grammar, in which Singles may have so many levels
 abbrev pub read_in : List ℕ → ℕ → Phrase → State → Reading Made

@@ -3,7 +3,7 @@ use Rattle.std.specs.Prelude.{ℕ, List, [], ◌≡◌, Bool, true, false, Optio
 use Rattle.gx_grammar.specs.Value.{Value, nothing, characters}
 use Rattle.gx_grammar.specs.Tokens.{IsWord, IsNamed, IsFrontOf, scan_word, seen_word, scan_name, opens_name, seen_name}
 use Rattle.gx_grammar.specs.Gaps.{IsGap, OpensGap, scan_gap, seen_gap}
-use Rattle.gx_parse.specs.Characters.{is_name_start, is_name_character, no_character}
+use Rattle.gx_parse.specs.Characters.{any_character, is_name_start, is_name_character, no_character}
 use Rattle.gx_parse.specs.Literal.{IsLiteral, OpensLiteral, scan_literal, seen_literal}
 
 pub data Token : Type 0 where
@@ -40,7 +40,7 @@ derives let_word = IsKeyword (codes "let")
 derives return_word = IsKeyword (codes "return")
 derives name = IsNamed characters is_name_start is_name_character no_character
 derives literal = IsLiteral
-derives gap = IsGap nothing
+derives gap = IsGap any_character nothing
 derives nowhere = λ v x y. ⊥
 
 abbrev pub opens : Token → List ℕ → Type 0
@@ -54,7 +54,7 @@ opens let_word = λ x. IsFrontOf x (codes "let")
 opens return_word = λ x. IsFrontOf x (codes "return")
 opens name = opens_name is_name_start is_name_character
 opens literal = OpensLiteral
-opens gap = OpensGap 0
+opens gap = OpensGap any_character 0
 opens nowhere = λ x. x ≡ []
 
 abbrev pub scan_symbol : {Node : Type 0} → List ℕ → List ℕ → Option (Value Node × List ℕ)
@@ -74,7 +74,7 @@ scan let_word = scan_keyword (codes "let")
 scan return_word = scan_keyword (codes "return")
 scan name = scan_name characters is_name_start is_name_character no_character
 scan literal = scan_literal
-scan gap = scan_gap nothing
+scan gap = scan_gap any_character nothing
 scan nowhere = λ x. None
 
 abbrev pub seen : Token → List ℕ → ℕ
@@ -88,8 +88,12 @@ seen let_word = seen_word (codes "let")
 seen return_word = seen_word (codes "return")
 seen name = seen_name is_name_start is_name_character
 seen literal = seen_literal
-seen gap = seen_gap 0
+seen gap = seen_gap any_character 0
 seen nowhere = λ x. length x
+
+-- no token has a limit
+abbrev pub faults : Token → List ℕ → Option ℕ
+faults t x = None
 
 -- a token that never stands for the empty text
 abbrev pub takes : Token → Bool

@@ -6,7 +6,7 @@ ghost use Rattle.gx_parse.specs.SyntaxTree.{SyntaxTree, VariableTree, SequenceTr
 ghost use Rattle.gx_parse.specs.Tokens.{comma, plus};
 ghost use Rattle.gx_grammar.specs.Grammar.{rule};
 ghost use Rattle.gx_parse.specs.Grammar.{first_language, query, place_in, single, integer, variable, expression, parenthesised, primary, addition, let_single};
-ghost use Rattle.gx_parse.specs.Reading.{Answers, Gives, call, read_in, read_more, tree_value};
+ghost use Rattle.gx_parse.specs.Reading.{Answers, Gives, call, more_than, read_in, read_more, tree_value};
 ghost use Rattle.gx_parse.specs.Query.{IsQuery, Refuses};
 
 use crate::places::Places;
@@ -15,9 +15,6 @@ use crate::syntax::{LetHead, Syntax, SyntaxNode};
 use gx_base::place::Place;
 use gx_base::text::Text;
 use std::alloc::{AllocError, Global};
-
-#[cfg(test)]
-mod tests;
 
 /// Why a text has no syntax tree.
 #[derive(Clone, Copy, Debug, PartialEq, Eq)]
@@ -80,7 +77,7 @@ pub fn one_tree()
 // Reads a whole text.
 fn read(places: &Places<'_>, alloc: Global, text: &[char]) -> Result<Syntax, Fault>
     requires { places.now ≡ text.now }
-    ensures { Answers result (read_text (first_language (place_in text.now)) 41 (query (place_in text.now)) text.now) }
+    ensures { Answers result (read_text (first_language (place_in text.now)) (more_than (length text.now) 41) (query (place_in text.now)) text.now) }
 {
     let mut reader = Reader::new(text);
     reader.gap()?;

@@ -12,4 +12,4 @@ pub returns-clause-names : goal.returns-clause-names
 returns-clause-names g c = λ value first test stop. lawful_name value first test stop
 
 pub returns-clause-gaps : goal.returns-clause-gaps
-returns-clause-gaps g c = λ value. lawful_gap value
+returns-clause-gaps g c = λ value allowed delimiters. lawful_gap allowed delimiters value

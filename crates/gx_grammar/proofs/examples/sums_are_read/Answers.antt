@@ -1,18 +1,13 @@
-use Rattle.std.proofs.Common.{refl}
+use Rattle.std.proofs.Common.{refl, arith}
 use Rattle.gx_grammar.specs.Sums.{sums, sum_text, sum_fronts}
 use Rattle.gx_grammar.proofs.Text.{exact_text}
 use Rattle.gx_grammar.proofs.Levels.{never_too_deep}
 use Rattle.gx_grammar.proofs.Sums.{sums_readable, sums_levelled}
-use Rattle.gx_grammar.proofs.tests.sums_are_read_exactly.Goals as goal
+use Rattle.gx_grammar.proofs.examples.sums_are_read.Goals as goal
 
 pub returns-clause-verdict : goal.returns-clause-verdict
-returns-clause-verdict c = λ levels text. exact_text sums sums_readable.tokens sums_readable.productions sum_text sums_readable.top levels text
-
-pub returns-clause-levels : goal.returns-clause-levels
-returns-clause-levels c = λ levels left text h. never_too_deep sums sum_text sums_readable sum_fronts.takings sums_levelled levels left text h
-
-pub returns-clause-whole : goal.returns-clause-whole
-returns-clause-whole c = refl
+returns-clause-verdict c = λ levels text h. exact_text sums sums_readable.tokens sums_readable.productions sum_text sums_readable.top levels text
+    (never_too_deep sums sum_text sums_readable sum_fronts.takings sums_levelled 1 (tt, omega arith) levels text h)
 
 pub returns-clause-cut_word : goal.returns-clause-cut_word
 returns-clause-cut_word c = refl
@@ -31,6 +26,3 @@ returns-clause-open_comment c = refl
 
 pub returns-clause-parenthesis : goal.returns-clause-parenthesis
 returns-clause-parenthesis c = refl
-
-pub returns-clause-deep : goal.returns-clause-deep
-returns-clause-deep c = refl

@@ -1,0 +1,13 @@
+use Rattle.gx_grammar.specs.Tokens.{no_fault}
+use Rattle.gx_grammar.proofs.Fitting.{lawful_fitting, lawful_stop}
+use Rattle.gx_grammar.proofs.Joined.{lawful_joined}
+use Rattle.gx_grammar.proofs.laws.made_tokens_are_lawful.Goals as goal
+
+pub returns-clause-fitting : goal.returns-clause-fitting
+returns-clause-fitting g c = λ base test faults firm faultless. (let t = g.T.HasTokens in lawful_fitting t.derives t.opens t.scan t.seen no_fault base test faults firm faultless)
+
+pub returns-clause-stop : goal.returns-clause-stop
+returns-clause-stop g c = λ base faults faultless. (let t = g.T.HasTokens in lawful_stop t.derives t.opens t.scan t.seen no_fault base faults faultless)
+
+pub returns-clause-joined : goal.returns-clause-joined
+returns-clause-joined g c = λ first second value. (let t = g.T.HasTokens in lawful_joined t.derives t.opens t.scan t.seen first t.derives_behind t.opens_behind t.scan_behind t.seen_behind second value)

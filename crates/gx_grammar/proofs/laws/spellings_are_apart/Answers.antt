@@ -1,0 +1,8 @@
+use Rattle.gx_grammar.proofs.Apart.{computed_apart, computed_heads}
+use Rattle.gx_grammar.proofs.laws.spellings_are_apart.Goals as goal
+
+pub returns-clause-apart : goal.returns-clause-apart
+returns-clause-apart g c = λ shape shaped ts us e. computed_apart g.G.HasLanguage.language shape shaped ts us e
+
+pub returns-clause-heads : goal.returns-clause-heads
+returns-clause-heads g c = λ shape shaped k b ts e. computed_heads g.G.HasLanguage.language shape shaped k b ts e
