@@ -73,6 +73,3 @@ impl From<AllocError> for ValueRead {
         ValueRead::Memory
     }
 }
-
-#[cfg(test)]
-mod tests;

@@ -62,6 +62,3 @@ pub enum NumRead {
     /// More than 6 decimal places remain after trailing zeros are dropped.
     TooPrecise,
 }
-
-#[cfg(test)]
-mod tests;

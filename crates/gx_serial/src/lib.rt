@@ -8,6 +8,4 @@ mod prefix;
 mod put;
 pub mod reading;
 mod tag;
-#[cfg(test)]
-mod tests;
 mod write;

@@ -5,5 +5,3 @@ pub mod error;
 pub mod infer;
 pub mod laws;
 pub mod rules;
-#[cfg(test)]
-mod tests;

@@ -5,6 +5,4 @@ pub mod attribute;
 pub mod erase;
 pub mod same;
 pub mod string_value;
-#[cfg(test)]
-mod tests;
 pub mod tree;

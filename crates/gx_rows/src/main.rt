@@ -1,0 +1,69 @@
+//! Worked values of the lower crates: each line of standard input is a call with its arguments, and is written again with
+//! its answer.
+#![tactic(auto)]
+
+mod builtins;
+mod names;
+mod numbers;
+mod row;
+mod type_rows;
+mod types;
+mod values;
+
+use gx_row::words;
+use names::{code_row, names_row, texts_row, type_names_row};
+use numbers::{number, one_number, two_numbers};
+use row::not_a_row;
+use std::alloc::{AllocError, Global};
+use std::io;
+use type_rows::{derives_row, item_takes_row, type_row};
+use values::{admission_row, order_row, value, value_row};
+
+fn main(rt: HostRuntime) -> io::Result<()> {
+    for line in rt.lines(rt.alloc()) {
+        let line = line?;
+        match row_answer(rt.alloc(), line.as_str()) {
+            Ok(answer) => println!(rt; "{line} = {answer}")?,
+            Err(_) => println!(rt; "{line} = no memory")?,
+        }
+    }
+    Ok(())
+}
+
+fn row_answer(alloc: Global, row: &str) -> Result<String, AllocError> {
+    let words = words(alloc, row)?;
+    let mut parts = Vec::new(alloc);
+    for word in &words {
+        parts.push(word.as_str())?;
+    }
+    answer(alloc, parts.as_slice())
+}
+
+fn answer(alloc: Global, words: &[&str]) -> Result<String, AllocError> {
+    match words {
+        ["texts", a, b] => texts_row(alloc, a, b),
+        ["names", a, b] => names_row(alloc, a, b),
+        ["type_names", a, b] => type_names_row(alloc, a, b),
+        ["code", name] => code_row(alloc, name),
+        ["read_value", kind, text] => value_row(alloc, kind, text),
+        ["compare_values", t, a, u, b] => {
+            order_row(alloc, value(alloc, t, a), value(alloc, u, b))
+        }
+        [
+            call @ ("admits" | "admits_list"),
+            facets @ ..,
+            "of",
+            kind,
+            text,
+        ] => { admission_row(alloc, call, facets, kind, text) }
+        ["derives", t, u] => derives_row(alloc, t, u),
+        ["item_takes", item, shape] => item_takes_row(alloc, item, shape),
+        [
+            call @ ("print_type" | "prime" | "occurrence" | "same" | "sum"),
+            parts @ ..,
+        ] => { type_row(alloc, call, parts) }
+        [call, a] => one_number(alloc, call, a),
+        [call, a, b] => two_numbers(alloc, call, number(a), number(b)),
+        _ => not_a_row(alloc),
+    }
+}

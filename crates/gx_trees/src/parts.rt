@@ -1,0 +1,181 @@
+// Trees and items of an answer, made of their parts.
+
+use gx_base::name::Name;
+use gx_base::text::Text;
+use gx_base::type_name::{Builtin, TypeName};
+use gx_serial::item::SerialItem;
+use gx_tree::attribute::Attribute;
+use gx_tree::tree::{Tree, TreeNode};
+use std::alloc::{AllocError, Global};
+use std::mem;
+
+/// What a row has made so far: attributes for the next element, trees that no element holds yet, and the items before
+/// them.
+#[derive(Drop)]
+pub struct Parts {
+    attributes: Vec<Attribute>,
+    trees: Vec<Tree>,
+    items: Vec<SerialItem>,
+}
+
+impl Parts {
+    pub fn new(alloc: Global) -> Parts {
+        Parts {
+            attributes: Vec::new(alloc),
+            trees: Vec::new(alloc),
+            items: Vec::new(alloc),
+        }
+    }
+
+    /// The trees that no element or document holds.
+    pub fn trees(&self) -> &[Tree] {
+        self.trees.as_slice()
+    }
+
+    /// Takes what the words say, each part behind its own parts.
+    pub fn take_words(&mut self, alloc: Global, words: &[&str]) -> Result<(), AllocError> {
+        match words {
+            ["value", text, rest @ ..] => {
+                self.value(alloc, text)?;
+                self.take_words(alloc, rest)
+            }
+            ["text", text, "copied", count, rest @ ..] => {
+                self.text(alloc, copies(alloc, text, count)?.as_str())?;
+                self.take_words(alloc, rest)
+            }
+            ["text", text, rest @ ..] => {
+                self.text(alloc, text)?;
+                self.take_words(alloc, rest)
+            }
+            ["attribute", name, kind, value, rest @ ..] => {
+                self.attribute(alloc, name, kind, value)?;
+                self.take_words(alloc, rest)
+            }
+            ["element", name, kind, children, rest @ ..] => {
+                self.element(alloc, name, kind, children)?;
+                self.take_words(alloc, rest)
+            }
+            ["document", children, rest @ ..] => {
+                self.document(children)?;
+                self.take_words(alloc, rest)
+            }
+            ["lone", rest @ ..] => {
+                self.lone_attributes(alloc)?;
+                self.take_words(alloc, rest)
+            }
+            _ => Ok(()),
+        }
+    }
+
+    /// The items of the answer.
+    pub fn into_items(mut self, alloc: Global) -> Result<Vec<SerialItem>, AllocError> {
+        self.finish_trees(alloc)?;
+        Ok(self.items)
+    }
+
+    fn value(&mut self, alloc: Global, text: &str) -> Result<(), AllocError> {
+        self.finish_trees(alloc)?;
+        let item = SerialItem::Text(Text::from_str(alloc, text)?);
+        Ok(self.items.push(item)?)
+    }
+
+    fn text(&mut self, alloc: Global, text: &str) -> Result<(), AllocError> {
+        let node = TreeNode::Text(Text::from_str(alloc, text)?);
+        Ok(self.trees.push(Tree { node })?)
+    }
+
+    fn attribute(
+        &mut self,
+        alloc: Global,
+        named: &str,
+        kind: &str,
+        value: &str,
+    ) -> Result<(), AllocError> {
+        let attribute = Attribute {
+            name: name(alloc, named)?,
+            kind: type_name(kind),
+            value: Text::from_str(alloc, value)?,
+        };
+        Ok(self.attributes.push(attribute)?)
+    }
+
+    // An element of the attributes so far and the last trees.
+    fn element(
+        &mut self,
+        alloc: Global,
+        named: &str,
+        kind: &str,
+        children: &str,
+    ) -> Result<(), AllocError> {
+        let name = name(alloc, named)?;
+        let children = self.take_trees(children)?;
+        let node = TreeNode::Element {
+            name,
+            kind: type_name(kind),
+            attributes: mem::replace(&mut self.attributes, Vec::new(alloc)),
+            children,
+        };
+        Ok(self.trees.push(Tree { node })?)
+    }
+
+    fn document(&mut self, children: &str) -> Result<(), AllocError> {
+        let node = TreeNode::Document(self.take_trees(children)?);
+        Ok(self.trees.push(Tree { node })?)
+    }
+
+    // The attributes so far, each as a tree of its own.
+    fn lone_attributes(&mut self, alloc: Global) -> Result<(), AllocError> {
+        for attribute in mem::replace(&mut self.attributes, Vec::new(alloc)) {
+            let node = TreeNode::Attribute(attribute);
+            self.trees.push(Tree { node })?;
+        }
+        Ok(())
+    }
+
+    // So many of the last trees.
+    fn take_trees(&mut self, count: &str) -> Result<Vec<Tree>, AllocError> {
+        let count = count.parse::<usize>().unwrap_or(0);
+        let kept = self.trees.len().saturating_sub(count);
+        self.trees.split_off(kept)
+    }
+
+    // Makes each tree that nothing holds an item.
+    fn finish_trees(&mut self, alloc: Global) -> Result<(), AllocError> {
+        for tree in mem::replace(&mut self.trees, Vec::new(alloc)) {
+            self.items.push(SerialItem::Tree(tree))?;
+        }
+        Ok(())
+    }
+}
+
+// So many copies of a text.
+fn copies(alloc: Global, text: &str, count: &str) -> Result<String, AllocError> {
+    let mut copies = String::new(alloc);
+    for _ in 0..count.parse::<u32>().unwrap_or(0) {
+        copies.push_str(text)?;
+    }
+    Ok(copies)
+}
+
+// A name as `{uri}prefix:local`, where the URI with its braces and the prefix with its colon may be left out.
+fn name(alloc: Global, word: &str) -> Result<Name, AllocError> {
+    let (uri, rest) = word
+        .strip_prefix('{')
+        .and_then(|rest| rest.split_once('}'))
+        .unwrap_or(("", word));
+    let (prefix, local) = rest.split_once(':').unwrap_or(("", rest));
+    Ok(Name {
+        uri: Text::from_str(alloc, uri)?,
+        prefix: Text::from_str(alloc, prefix)?,
+        local: Text::from_str(alloc, local)?,
+    })
+}
+
+fn type_name(word: &str) -> TypeName {
+    match word {
+        "untyped" => TypeName::Builtin(Builtin::Untyped),
+        "untypedAtomic" => TypeName::Builtin(Builtin::UntypedAtomic),
+        "anyType" => TypeName::Builtin(Builtin::AnyType),
+        _ => TypeName::Builtin(Builtin::Integer),
+    }
+}
