@@ -3,3 +3,4 @@ pub mod Texts
 pub mod IntegerTypes
 pub mod SameValues
 pub mod Words
+pub mod PrintedForms

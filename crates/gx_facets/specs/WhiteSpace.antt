@@ -20,17 +20,17 @@ parts_of [] = [] ∷ []
 parts_of (c ∷ cs) = if is_white_space c then [] ∷ parts_of cs else before_part c (parts_of cs)
 
 -- the parts that are not empty, each behind a space
-abbrev pub spaced : List (List ℕ) → List ℕ
-spaced [] = []
-spaced ([] ∷ parts) = spaced parts
-spaced ((c ∷ cs) ∷ parts) = 32 ∷ ((c ∷ cs) ++ spaced parts)
+abbrev pub parts_behind_spaces : List (List ℕ) → List ℕ
+parts_behind_spaces [] = []
+parts_behind_spaces ([] ∷ parts) = parts_behind_spaces parts
+parts_behind_spaces ((c ∷ cs) ∷ parts) = 32 ∷ ((c ∷ cs) ++ parts_behind_spaces parts)
 
 -- the parts that are not empty, with one space between
-abbrev pub joined : List (List ℕ) → List ℕ
-joined [] = []
-joined ([] ∷ parts) = joined parts
-joined ((c ∷ cs) ∷ parts) = (c ∷ cs) ++ spaced parts
+abbrev pub joined_by_spaces : List (List ℕ) → List ℕ
+joined_by_spaces [] = []
+joined_by_spaces ([] ∷ parts) = joined_by_spaces parts
+joined_by_spaces ((c ∷ cs) ∷ parts) = (c ∷ cs) ++ parts_behind_spaces parts
 
 -- white space goes from both ends, and each run of it becomes one space
 abbrev pub collapsed : List ℕ → List ℕ
-collapsed text = joined (parts_of text)
+collapsed text = joined_by_spaces (parts_of text)

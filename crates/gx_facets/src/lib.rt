@@ -4,6 +4,7 @@
 ghost use Rattle.std.specs.Prelude.{◌≡◌};
 
 mod admission;
+pub mod laws;
 mod reading;
 pub mod restriction;
 mod values;

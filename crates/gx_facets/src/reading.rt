@@ -1,7 +1,7 @@
 // Values from their lexical forms.
 ghost use Rattle.std.specs.Prelude.{◌≡◌};
 ghost use Rattle.gx_num.specs.Lexical.{integer_of, decimal_of};
-ghost use Rattle.gx_facets.specs.Value.{Reads, value_of, form_of, boolean_value, decimal_value, integer_within, least_of, greatest_of, fault_of};
+ghost use Rattle.gx_facets.specs.Value.{Reads, value_of, lexical_form, boolean_value, value_of_decimal, integer_within, least_of, greatest_of, fault_of};
 
 use crate::white_space::{collapse, replace};
 use crate::{AtomValue, ValueRead};
@@ -44,7 +44,7 @@ pub fn read_value(alloc: Global, kind: Builtin, text: &Text) -> Result<AtomValue
 }
 
 fn integer_of_type(alloc: Global, kind: Builtin, text: &Text) -> Result<AtomValue, ValueRead>
-    ensures { Reads result (integer_within (least_of kind) (greatest_of kind) (integer_of (form_of text.now))) }
+    ensures { Reads result (integer_within (least_of kind) (greatest_of kind) (integer_of (lexical_form text.now))) }
 {
     let form = collapse(alloc, text)?;
     integer(form.as_str(), least(kind), greatest(kind))
@@ -63,7 +63,7 @@ fn boolean(text: &str) -> Result<AtomValue, ValueRead>
 }
 
 fn decimal(text: &str) -> Result<AtomValue, ValueRead>
-    ensures { result ≡ decimal_value (decimal_of text.now) }
+    ensures { result ≡ value_of_decimal (decimal_of text.now) }
 {
     match read_dec(text) {
         Ok(d) => Ok(AtomValue::Num(Number::Dec(d))),

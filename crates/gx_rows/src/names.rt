@@ -2,8 +2,9 @@
 
 use crate::builtins::builtin;
 use gx_base::code::Code;
-use gx_base::name::Name;
+use gx_base::name::{Name, SharedName};
 use gx_base::text::Text;
+use gx_base::text_builder::TextBuilder;
 use gx_base::type_name::TypeName;
 use std::alloc::{AllocError, Global};
 
@@ -85,29 +86,46 @@ pub fn type_name(alloc: Global, word: &str) -> Result<TypeName, AllocError> {
     }
     match word.strip_prefix('#') {
         Some(number) => Ok(TypeName::Anonymous(number.parse::<u32>().unwrap_or(0))),
-        None => Ok(TypeName::Named(name(alloc, word)?)),
+        None => Ok(TypeName::Named(SharedName::new(alloc, name(alloc, word)?)?)),
     }
+}
+
+/// The text of a text, a string slice and a mark, one behind the other.
+pub fn build_row(alloc: Global, first: &str, second: &str) -> Result<String, AllocError> {
+    let mut builder = TextBuilder::new(alloc);
+    builder.push_text(&Text::from_str(alloc, first)?)?;
+    builder.push_str(second)?;
+    builder.push('!')?;
+    format!(in alloc; "{:?}", builder.finish()?)
 }
 
 /// The order of two texts, and whether they are equal.
 pub fn texts_row(alloc: Global, a: &str, b: &str) -> Result<String, AllocError> {
     let a = Text::from_str(alloc, a)?;
     let b = Text::from_str(alloc, b)?;
-    format!(in alloc; "{:?} {}", a.cmp(&b), a == b)
+    compared(alloc, &a, &b)
 }
 
 /// The order of two names, and whether they are equal.
 pub fn names_row(alloc: Global, a: &str, b: &str) -> Result<String, AllocError> {
     let a = name(alloc, a)?;
     let b = name(alloc, b)?;
-    format!(in alloc; "{:?} {}", a.cmp(&b), a == b)
+    compared(alloc, &a, &b)
 }
 
 /// The order of two names of types, and whether they are equal.
 pub fn type_names_row(alloc: Global, a: &str, b: &str) -> Result<String, AllocError> {
     let a = type_name(alloc, a)?;
+    with_type_name(alloc, &a, b)
+}
+
+fn with_type_name(alloc: Global, a: &TypeName, b: &str) -> Result<String, AllocError> {
     let b = type_name(alloc, b)?;
-    format!(in alloc; "{:?} {}", a.cmp(&b), a == b)
+    compared(alloc, a, &b)
+}
+
+fn compared<T: Ord>(alloc: Global, a: &T, b: &T) -> Result<String, AllocError> {
+    format!(in alloc; "{:?} {}", a.cmp(b), a == b)
 }
 
 /// The spelling of the code that has this name in the program.

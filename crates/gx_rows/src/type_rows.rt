@@ -3,12 +3,15 @@
 use crate::names::type_name;
 use crate::row::not_a_row;
 use crate::types::{item_type, shape, types};
+use gx_base::type_name::TypeName;
 use gx_core::expression::BinaryOp;
 use gx_core::operator::Operator;
 use gx_static::rules::operator_type;
 use gx_types::derivation::{derives, item_takes};
+use gx_types::item_type::ItemType;
 use gx_types::schemas::Schemas;
 use gx_types::sequence_type::Ty;
+use gx_types::shape::Shape;
 use gx_types::type_rules::{occurrence, prime};
 use gx_typetext::print::print_type;
 use std::alloc::{AllocError, Global};
@@ -49,16 +52,28 @@ fn sum_row(alloc: Global, parts: &[Ty]) -> Result<String, AllocError> {
 
 /// Whether a type is derived from another one.
 pub fn derives_row(alloc: Global, t: &str, u: &str) -> Result<String, AllocError> {
-    let schemas = Schemas::empty(alloc)?;
     let t = type_name(alloc, t)?;
+    derives_from(alloc, &t, u)
+}
+
+fn derives_from(alloc: Global, t: &TypeName, u: &str) -> Result<String, AllocError> {
     let u = type_name(alloc, u)?;
-    format!(in alloc; "{}", derives(&schemas, &t, &u))
+    let schemas = Schemas::empty(alloc)?;
+    format!(in alloc; "{}", derives(&schemas, t, &u))
 }
 
 /// Whether an item type takes a shape.
 pub fn item_takes_row(alloc: Global, item: &str, shaped: &str) -> Result<String, AllocError> {
-    let schemas = Schemas::empty(alloc)?;
     let item = item_type(alloc, item)?;
+    takes_shaped(alloc, &item, shaped)
+}
+
+fn takes_shaped(alloc: Global, item: &ItemType, shaped: &str) -> Result<String, AllocError> {
     let shape = shape(alloc, shaped)?;
-    format!(in alloc; "{}", item_takes(&schemas, &item, &shape))
+    takes_shape(alloc, item, &shape)
+}
+
+fn takes_shape(alloc: Global, item: &ItemType, shape: &Shape) -> Result<String, AllocError> {
+    let schemas = Schemas::empty(alloc)?;
+    format!(in alloc; "{}", item_takes(&schemas, item, shape))
 }

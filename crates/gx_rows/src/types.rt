@@ -1,9 +1,7 @@
 // Types from their parts, each word behind its parts.
 
-use crate::builtins::builtin;
 use crate::names::{name, type_name};
 use gx_base::name::Name;
-use gx_base::type_name::TypeName;
 use gx_types::item_type::ItemType;
 use gx_types::occurrence::Occurrence;
 use gx_types::sequence_type::{Ty, TyNode};
@@ -88,13 +86,12 @@ fn repeat(alloc: Global, stack: &mut Vec<Ty>, often: Occurrence) -> Result<(), A
     Ok(())
 }
 
-// What stands in the parentheses of an item: a name or `*`, and a type.
-fn parts(word: &str) -> (&str, &str) {
-    let (_, inside) = word.split_once('(').unwrap_or(("", word));
-    inside
-        .strip_suffix(')')
-        .and_then(|inside| inside.split_once(','))
-        .unwrap_or(("*", "anyType"))
+// The kind of node, and what stands in its parentheses: a name or `*`, and a type.
+fn parts(word: &str) -> (&str, &str, &str) {
+    let (node, inside) = word.split_once('(').unwrap_or((word, ""));
+    let inside = inside.strip_suffix(')').unwrap_or(inside);
+    let (named, typed) = inside.split_once(',').unwrap_or(("*", "anyType"));
+    (node, named, typed)
 }
 
 fn name_or_any(alloc: Global, word: &str) -> Result<Option<Name>, AllocError> {
@@ -107,48 +104,45 @@ fn name_or_any(alloc: Global, word: &str) -> Result<Option<Name>, AllocError> {
 /// An item type as `element(NAME,TYPE)`, `attribute(NAME,TYPE)`, `document(NAME,TYPE)`, `document`, `text`, or the name of
 /// an atomic type.
 pub fn item_type(alloc: Global, word: &str) -> Result<ItemType, AllocError> {
-    let (node, _) = word.split_once('(').unwrap_or((word, ""));
-    let (named, typed) = parts(word);
-    let named = name_or_any(alloc, named)?;
-    let typed = type_name(alloc, typed)?;
-    let atomic = type_name(alloc, word)?;
-    Ok(item_of(node, word, named, typed, atomic))
-}
-
-fn item_of(
-    node: &str,
-    word: &str,
-    name: Option<Name>,
-    kind: TypeName,
-    atomic: TypeName,
-) -> ItemType {
-    match (node, word) {
-        (_, "text") => ItemType::Text,
-        (_, "document") => ItemType::Document(None),
-        ("element", _) => ItemType::Element { name, kind },
-        ("attribute", _) => ItemType::Attribute { name, kind },
-        ("document", _) => ItemType::Document(Some((name, kind))),
-        _ => ItemType::Atom(atomic),
+    match (word, parts(word)) {
+        ("text", _) => Ok(ItemType::Text),
+        ("document", _) => Ok(ItemType::Document(None)),
+        (_, ("element", named, typed)) => {
+            let name = name_or_any(alloc, named)?;
+            let kind = type_name(alloc, typed)?;
+            Ok(ItemType::Element { name, kind })
+        }
+        (_, ("attribute", named, typed)) => {
+            let name = name_or_any(alloc, named)?;
+            let kind = type_name(alloc, typed)?;
+            Ok(ItemType::Attribute { name, kind })
+        }
+        (_, ("document", named, typed)) => {
+            let name = name_or_any(alloc, named)?;
+            let kind = type_name(alloc, typed)?;
+            Ok(ItemType::Document(Some((name, kind))))
+        }
+        _ => Ok(ItemType::Atom(type_name(alloc, word)?)),
     }
 }
 
 /// The shape of an item, written as an item type.
 pub fn shape(alloc: Global, word: &str) -> Result<Shape, AllocError> {
-    let (node, _) = word.split_once('(').unwrap_or((word, ""));
-    let (named, typed) = parts(word);
-    let named = name(alloc, named)?;
-    let typed = type_name(alloc, typed)?;
-    let atomic = type_name(alloc, word)?;
-    Ok(shape_of(node, word, named, typed, atomic))
-}
-
-fn shape_of(node: &str, word: &str, name: Name, kind: TypeName, atomic: TypeName) -> Shape {
-    match (node, word) {
-        (_, "text") => Shape::Text,
-        (_, "document") => Shape::Doc(None),
-        ("element", _) => Shape::Elem(name, kind),
-        ("attribute", _) => Shape::Attr(name, kind),
-        ("document", _) => Shape::Doc(Some((name, kind))),
-        _ => Shape::Atom(atomic),
+    match (word, parts(word)) {
+        ("text", _) => Ok(Shape::Text),
+        ("document", _) => Ok(Shape::Doc(None)),
+        (_, ("element", named, typed)) => {
+            let name = name(alloc, named)?;
+            Ok(Shape::Elem(name, type_name(alloc, typed)?))
+        }
+        (_, ("attribute", named, typed)) => {
+            let name = name(alloc, named)?;
+            Ok(Shape::Attr(name, type_name(alloc, typed)?))
+        }
+        (_, ("document", named, typed)) => {
+            let name = name(alloc, named)?;
+            Ok(Shape::Doc(Some((name, type_name(alloc, typed)?))))
+        }
+        _ => Ok(Shape::Atom(type_name(alloc, word)?)),
     }
 }

@@ -5,7 +5,7 @@ ghost use Rattle.gx_io.specs.Faults.{Rose};
 ghost use Rattle.gx_io.specs.Put.{GrowsBy, GrowsByPrefix};
 ghost use Rattle.gx_serial.specs.declared.item.SerialItem.{SerialItem};
 ghost use Rattle.gx_serial.specs.Answer.{answer_text, left_after};
-ghost use Rattle.gx_serial.specs.Binding.{no_declarations};
+ghost use Rattle.gx_serial.specs.Binding.{outermost_scope};
 
 use crate::binding::Bindings;
 use crate::escape::push_text;
@@ -59,7 +59,7 @@ fn push_items<'a>(
     scope: &mut Bindings<'a>,
     items: &'a [SerialItem],
 ) -> Result<(), AllocError>
-    requires { scope.old ≡ no_declarations }
+    requires { scope.old ≡ outermost_scope }
     ensures { OnOk result (out.new ≡ out.old ++ answer_text items.now) }
 {
     let mut follows_value = false;
@@ -77,10 +77,10 @@ fn push_item<'a>(
     follows_value: bool,
     item: &'a SerialItem,
 ) -> Result<bool, AllocError>
-    requires { scope.old ≡ no_declarations }
+    requires { scope.old ≡ outermost_scope }
     ensures text { IfOk result (λ is_value. (rest : List SerialItem)
         → out.new ++ left_after is_value rest ≡ out.old ++ left_after follows_value (item.now ∷ rest)) }
-    ensures scope { OnOk result (scope.new ≡ no_declarations) }
+    ensures scope { OnOk result (scope.new ≡ outermost_scope) }
 {
     match item {
         SerialItem::Text(text) => {

@@ -34,36 +34,49 @@ impl Parts {
 
     /// Takes what the words say, each part behind its own parts.
     pub fn take_words(&mut self, alloc: Global, words: &[&str]) -> Result<(), AllocError> {
+        let mut rest = words;
+        for _ in words {
+            rest = self.take_part(alloc, rest)?;
+        }
+        Ok(())
+    }
+
+    // Takes the part that the first words say, and gives the words behind them.
+    fn take_part<'a, 'b>(
+        &mut self,
+        alloc: Global,
+        words: &'a [&'b str],
+    ) -> Result<&'a [&'b str], AllocError> {
         match words {
             ["value", text, rest @ ..] => {
                 self.value(alloc, text)?;
-                self.take_words(alloc, rest)
+                Ok(rest)
             }
             ["text", text, "copied", count, rest @ ..] => {
                 self.text(alloc, copies(alloc, text, count)?.as_str())?;
-                self.take_words(alloc, rest)
+                Ok(rest)
             }
             ["text", text, rest @ ..] => {
                 self.text(alloc, text)?;
-                self.take_words(alloc, rest)
+                Ok(rest)
             }
             ["attribute", name, kind, value, rest @ ..] => {
                 self.attribute(alloc, name, kind, value)?;
-                self.take_words(alloc, rest)
+                Ok(rest)
             }
             ["element", name, kind, children, rest @ ..] => {
                 self.element(alloc, name, kind, children)?;
-                self.take_words(alloc, rest)
+                Ok(rest)
             }
             ["document", children, rest @ ..] => {
                 self.document(children)?;
-                self.take_words(alloc, rest)
+                Ok(rest)
             }
             ["lone", rest @ ..] => {
                 self.lone_attributes(alloc)?;
-                self.take_words(alloc, rest)
+                Ok(rest)
             }
-            _ => Ok(()),
+            _ => Ok(words),
         }
     }
 

@@ -1,6 +1,6 @@
 use Rattle.std.proofs.Common.{refl}
 use Rattle.gx_tree.proofs.StringValueLemmas.{string_values-joined}
-use Rattle.gx_tree.proofs.string_value.law_of_string_values.Goals as goal
+use Rattle.gx_tree.proofs.laws.string_values_join_texts.Goals as goal
 
 pub returns : goal.returns
 returns c = record {
