@@ -67,7 +67,7 @@ parts_of-token ([] ∷ words) p = absurd (p.0.0 refl)
 parts_of-token ((c ∷ cs) ∷ words) p = ap joined_by_spaces (parts_of-word_and_others (c ∷ cs) words p.0.1 (parts_of-behind words p.1))
 
 pub collapsed-token : (text : List ℕ) → IsToken text → collapsed text ≡ text
-collapsed-token text (words, (are, e)) = ap collapsed e ∙ parts_of-token words are ∙ sym e
+collapsed-token text (words, are, e) = ap collapsed e ∙ parts_of-token words are ∙ sym e
 
 -- ---- texts with spaces alone
 
@@ -76,7 +76,7 @@ space_for-kept c p q r = grind (arith, nat_tests)
 
 pub replaced-spaces_alone : (text : List ℕ) → HasSpacesAlone text → replaced text ≡ text
 replaced-spaces_alone [] p = refl
-replaced-spaces_alone (c ∷ cs) (p, (q, (r, rest))) = ap (λ d. d ∷ replaced cs) (space_for-kept c p q r) ∙ ap (λ ds. c ∷ ds) (replaced-spaces_alone cs rest)
+replaced-spaces_alone (c ∷ cs) (p, q, r, rest) = ap (λ d. d ∷ replaced cs) (space_for-kept c p q r) ∙ ap (λ ds. c ∷ ds) (replaced-spaces_alone cs rest)
 
 -- ---- numbers
 
@@ -135,10 +135,10 @@ sign_plain sign = record { no_space = sign_no_space sign; ascii = sign_ascii sig
 
 decimal_form_plain : (text : List ℕ) (sign : NumeralSign) (whole fraction : List ℕ) → DecimalForm text sign whole fraction → IsPlain text
 decimal_form_plain text sign whole fraction form = elim form.written [
-    inl e ↦ subst IsPlain (sym e) (plain-append (sign_text sign) (whole ++ 46 ∷ fraction) (sign_plain sign)
-        (plain-append whole (46 ∷ fraction) (digits_plain whole form.whole_digits) (point_plain fraction form.fraction_digits)))
+  | inl e ↦ subst IsPlain (sym e) (plain-append (sign_text sign) (whole ++ 46 ∷ fraction) (sign_plain sign)
+      (plain-append whole (46 ∷ fraction) (digits_plain whole form.whole_digits) (point_plain fraction form.fraction_digits)))
   | inr e ↦ subst IsPlain (sym e.0) (plain-append (sign_text sign) whole (sign_plain sign) (digits_plain whole form.whole_digits))
-  ]
+]
 
 pub plain_form : (text : List ℕ) → IsPlain text → lexical_form text ≡ text
 plain_form text p = ap encode_utf8_all (collapsed-no_space text p.no_space) ∙ encodes-IsAscii text p.ascii

@@ -1,22 +1,17 @@
-//! Worked values of the lower crates: each line of standard input is a call with its arguments, and is written again with
+//! Worked values of texts, names, numbers and atomic values: each line of standard input is a call with its arguments, and is written again with
 //! its answer.
 #![tactic(auto)]
 
-mod builtins;
 mod names;
 mod numbers;
-mod row;
-mod type_rows;
-mod types;
 mod values;
 
-use gx_row::words;
+use gx_row::not_a_row;
+use gx_row::words::words;
 use names::{build_row, code_row, names_row, texts_row, type_names_row};
 use numbers::{number, one_number, two_numbers};
-use row::not_a_row;
 use std::alloc::{AllocError, Global};
 use std::io;
-use type_rows::{derives_row, item_takes_row, type_row};
 use values::{admits_list_row, admits_row, order_row, value_row};
 
 fn main(rt: HostRuntime) -> io::Result<()> {
@@ -52,12 +47,6 @@ fn answer(alloc: Global, words: &[&str]) -> Result<String, AllocError> {
         ["admits_list", facets @ .., "of", kind, text] => {
             admits_list_row(alloc, facets, kind, text)
         }
-        ["derives", t, u] => derives_row(alloc, t, u),
-        ["item_takes", item, shape] => item_takes_row(alloc, item, shape),
-        [
-            call @ ("print_type" | "prime" | "occurrence" | "same" | "sum"),
-            parts @ ..,
-        ] => { type_row(alloc, call, parts) }
         [call, a] => one_number(alloc, call, a),
         [call, a, b] => two_numbers(alloc, call, number(a), number(b)),
         _ => not_a_row(alloc),

@@ -1,6 +1,5 @@
 // Rows of atomic values and facets.
 
-use crate::builtins::builtin;
 use gx_base::text::Text;
 use gx_base::type_name::{Builtin, TypeName};
 use gx_facets::restriction::{AtomValues, Enumeration};
@@ -9,6 +8,7 @@ use gx_facets::{
     read_value,
 };
 use gx_num::Number;
+use gx_row::builtins::builtin;
 use std::alloc::{AllocError, Global};
 
 /// The value of a text at a built-in type.

@@ -11,7 +11,6 @@ use Rattle.gx_serial.specs.Marked.{Begun, begun, prefixes_of, with_prefix, unles
 use Rattle.gx_serial.specs.Reading.{uri_read, IsWritableName, IsWritableAttribute, AreWritableAttributes, IsWritable, AreWritable}
 use Rattle.gx_serial.specs.Declarations.{IsAllowedDeclaration, AreAllowedDeclarations, DeclareOnce, IsSoundTag, HasSoundTags, HaveSoundTags}
 use Rattle.gx_serial.proofs.FreeLemmas.{by_bool, bytes_same, bytes_self, bound_to-snoc, or_left, or_right}
-use Rattle.gx_serial.proofs.PrefixLemmas.{is_prefix_among-append}
 use Rattle.gx_serial.proofs.ReadingLemmas.{Holds, IsGood, some_same, holds_with, none_some, chosen_is_good, length_with, bare_state, full_state}
 
 abbrev prefixes : List Binding → List (List ℕ)
@@ -82,18 +81,24 @@ declared_with : (outer : List Binding) (s : Begun) (added : List Binding) (prefi
     → ((v : List ℕ) → bound_to s.taken_bindings prefix ≡ Some v → v ≡ uri) → IsAllowedDeclaration (prefix, uri)
     → (more : List Binding) × HasDeclared outer (with_prefix s prefix uri) more
 declared_with outer s added prefix uri h holds alike allowed = by_bool (needs_declaration s.scope prefix uri)
-    (λ needed. (added ++ ((prefix, uri) ∷ []), record {
-      grown = rw needed (ap (λ x. x ++ ((prefix, uri) ∷ [])) h.grown ∙ append_assoc outer added ((prefix, uri) ∷ []));
-      allowed = allowed-snoc added (prefix, uri) h.allowed allowed;
-      once = once-snoc added (prefix, uri) h.once (is_new outer s added prefix uri h holds alike needed (bound_to s.taken_bindings prefix) refl);
-      known = λ p e. let before = not_bound_before s prefix uri p e in among-snoc added (prefix, uri) p (h.known p before.1) before.0;
-    }))
-    (λ enough. (added, record {
-      grown = rw enough h.grown;
-      allowed = h.allowed;
-      once = h.once;
-      known = λ p e. h.known p (not_bound_before s prefix uri p e).1;
-    }))
+    (λ needed. (
+      added ++ ((prefix, uri) ∷ []),
+      record {
+        grown = rw needed (ap (λ x. x ++ ((prefix, uri) ∷ [])) h.grown ∙ append_assoc outer added ((prefix, uri) ∷ []));
+        allowed = allowed-snoc added (prefix, uri) h.allowed allowed;
+        once = once-snoc added (prefix, uri) h.once (is_new outer s added prefix uri h holds alike needed (bound_to s.taken_bindings prefix) refl);
+        known = λ p e. let before = not_bound_before s prefix uri p e in among-snoc added (prefix, uri) p (h.known p before.1) before.0;
+      },
+    ))
+    (λ enough. (
+      added,
+      record {
+        grown = rw enough h.grown;
+        allowed = h.allowed;
+        once = h.once;
+        known = λ p e. h.known p (not_bound_before s prefix uri p e).1;
+      },
+    ))
 
 -- ---- the prefixes that attributes take
 
@@ -106,8 +111,8 @@ name_is_allowed name w = record {
   prefix_has_uri = w.prefix_has_uri;
 }
 
-numbered_is_not : (k c : ℕ) (text : List ℕ) → c ≢ 110 → numbered_prefix k ≡ c ∷ text → ⊥
-numbered_is_not k c text d e = d (sym (ap (λ l. get_or l 0 0) e))
+numbered_is_not : (k c : ℕ) (cs : List ℕ) → c ≢ 110 → numbered_prefix k ≡ c ∷ cs → ⊥
+numbered_is_not k c cs d e = d (sym (ap (λ l. get_or l 0 0) e))
 
 not_empty : (prefix : List ℕ) → bytes_eq prefix [] ≡ false → prefix ≢ []
 not_empty prefix e f = let clash : true ≡ false = sym (ap (λ x. bytes_eq x []) f) ∙ e in absurd (cc)

@@ -1,8 +1,7 @@
 // Trees and items of an answer, made of their parts.
 
-use gx_base::name::Name;
 use gx_base::text::Text;
-use gx_base::type_name::{Builtin, TypeName};
+use gx_row::names::{name, type_name};
 use gx_serial::item::SerialItem;
 use gx_tree::attribute::Attribute;
 use gx_tree::tree::{Tree, TreeNode};
@@ -106,7 +105,7 @@ impl Parts {
     ) -> Result<(), AllocError> {
         let attribute = Attribute {
             name: name(alloc, named)?,
-            kind: type_name(kind),
+            kind: type_name(alloc, kind)?,
             value: Text::from_str(alloc, value)?,
         };
         Ok(self.attributes.push(attribute)?)
@@ -121,10 +120,11 @@ impl Parts {
         children: &str,
     ) -> Result<(), AllocError> {
         let name = name(alloc, named)?;
+        let kind = type_name(alloc, kind)?;
         let children = self.take_trees(children)?;
         let node = TreeNode::Element {
             name,
-            kind: type_name(kind),
+            kind,
             attributes: mem::replace(&mut self.attributes, Vec::new(alloc)),
             children,
         };
@@ -168,27 +168,4 @@ fn copies(alloc: Global, text: &str, count: &str) -> Result<String, AllocError> 
         copies.push_str(text)?;
     }
     Ok(copies)
-}
-
-// A name as `{uri}prefix:local`, where the URI with its braces and the prefix with its colon may be left out.
-fn name(alloc: Global, word: &str) -> Result<Name, AllocError> {
-    let (uri, rest) = word
-        .strip_prefix('{')
-        .and_then(|rest| rest.split_once('}'))
-        .unwrap_or(("", word));
-    let (prefix, local) = rest.split_once(':').unwrap_or(("", rest));
-    Ok(Name {
-        uri: Text::from_str(alloc, uri)?,
-        prefix: Text::from_str(alloc, prefix)?,
-        local: Text::from_str(alloc, local)?,
-    })
-}
-
-fn type_name(word: &str) -> TypeName {
-    match word {
-        "untyped" => TypeName::Builtin(Builtin::Untyped),
-        "untypedAtomic" => TypeName::Builtin(Builtin::UntypedAtomic),
-        "anyType" => TypeName::Builtin(Builtin::AnyType),
-        _ => TypeName::Builtin(Builtin::Integer),
-    }
 }

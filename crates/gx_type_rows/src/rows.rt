@@ -1,11 +1,11 @@
 // Rows of types.
 
-use crate::names::type_name;
-use crate::row::not_a_row;
 use crate::types::{item_type, shape, types};
 use gx_base::type_name::TypeName;
 use gx_core::expression::BinaryOp;
 use gx_core::operator::Operator;
+use gx_row::names::type_name;
+use gx_row::not_a_row;
 use gx_static::rules::operator_type;
 use gx_types::derivation::{derives, item_takes};
 use gx_types::item_type::ItemType;
@@ -20,7 +20,7 @@ use std::alloc::{AllocError, Global};
 pub fn type_row(alloc: Global, call: &str, words: &[&str]) -> Result<String, AllocError> {
     let types = types(alloc, words)?;
     match (call, types.as_slice()) {
-        ("print_type", [t]) => shown(alloc, t),
+        ("type", [t]) => shown(alloc, t),
         ("prime", [t]) => shown(alloc, &prime(alloc, t)?),
         ("occurrence", [t]) => occurrence_row(alloc, t),
         ("same", [t, u]) => format!(in alloc; "{}", t.same(u)),
