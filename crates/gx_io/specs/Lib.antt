@@ -1,5 +1,10 @@
 pub mod Faults
 pub mod Load
 pub mod Put
+pub mod Calls
+pub mod LibraryUse
+pub mod SinkUse
 pub mod LibraryState
 pub mod SinkState
+pub mod Reader
+pub mod WriterState

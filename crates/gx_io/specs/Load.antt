@@ -1,5 +1,5 @@
 -- What a load owes.
-use Rattle.std.specs.Prelude.{◌≡◌, ℕ, ◌<◌, ◌≤◌, List, [], ◌∷◌, length, Option, None, Some, Result, Ok, Err, if◌then◌else◌, bytes_eq}
+use Rattle.std.specs.Prelude.{◌≡◌, ℕ, ◌<◌, ◌≤◌, List, [], ◌∷◌, length, Option, None, Some, Result, Ok, Err, if◌then◌else◌, bytes_eq, Bool, true, false}
 use Rattle.gx_io.specs.declared.errors.LoadError.{LoadError}
 use Rattle.gx_io.specs.declared.errors.LoadError.TheVariants.{Failed, TooLong, Memory}
 
@@ -20,6 +20,17 @@ abbrev pub TellsLengthAbove : ℕ → LoadError → Type 0
 TellsLengthAbove limit (TooLong count) = limit < count
 TellsLengthAbove limit Failed = Unit {0}
 TellsLengthAbove limit Memory = Unit {0}
+
+-- a length that is told is this one
+abbrev pub TellsLength : ℕ → LoadError → Type 0
+TellsLength length (TooLong count) = count ≡ length
+TellsLength length Failed = Unit {0}
+TellsLength length Memory = Unit {0}
+
+-- the load failed
+abbrev pub is_failed : {T : Type 0} → Result T LoadError → Bool
+is_failed (Err Failed) = true
+is_failed _ = false
 
 -- a length that is told is that of the file
 abbrev pub TellsLengthOf : {T : Type 0} → Option (List ℕ) → Result T LoadError → Type 0

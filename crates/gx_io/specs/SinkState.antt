@@ -1,5 +1,5 @@
 -- A sink in memory.
-use Rattle.std.specs.Prelude.{ℕ, List, ◌++◌, length, Bool, ◌&&◌, ◌==◌, nat_lt, if◌then◌else◌}
+use Rattle.std.specs.Prelude.{◌≡◌, ◌⊎◌, [], ℕ, List, ◌++◌, length, Bool, ◌&&◌, ◌==◌, nat_lt, if◌then◌else◌}
 use Rattle.std.specs.List.{list_any}
 use Rattle.gx_io.specs.Faults.{one_more}
 
@@ -21,3 +21,7 @@ after_put sink piece bytes = record sink {
   calls = one_more sink.calls;
   faults = if put_fails sink piece then one_more sink.faults else sink.faults;
 }
+
+-- the sink after a put, which writes the whole piece or nothing
+abbrev pub IsAfterPut : SinkState → List ℕ → SinkState → Type 0
+IsAfterPut before piece after = (after ≡ after_put before piece piece) ⊎ (after ≡ after_put before piece [])

@@ -1,7 +1,8 @@
 // A library of files, over std.
-ghost use Rattle.std.specs.Prelude.{◌≡◌, ℕ, ◌<◌, ◌≤◌, List, Option, None, IfOk, IfErr, IfSome, OnOk, IsErrOf, vec_len};
-ghost use Rattle.gx_io.specs.Faults.{Rose};
-ghost use Rattle.gx_io.specs.Load.{TellsLengthAbove};
+ghost use Rattle.std.specs.Prelude.{◌≡◌, ℕ, ◌+◌, ◌<◌, ◌≤◌, List, Option, None, IfOk, IfErr, IfSome, OnOk, IsErrOf, vec_len, if◌then◌else◌, ◌⊎◌};
+ghost use Rattle.gx_io.specs.Faults.{Rose, one_more};
+ghost use Rattle.gx_io.specs.Load.{TellsLengthAbove, TellsLength, is_failed};
+ghost use Rattle.gx_io.specs.Reader.{ConsumesAtMost};
 
 use crate::errors::LoadError;
 use crate::library::Library;
@@ -44,7 +45,19 @@ impl<R: Files> Library for FileLibrary<R> {
 
     ghost faults = { λ library. library };
 
-    fn load(&mut self, alloc: Global, name: &str, limit: usize) -> Result<Vec<u8>, LoadError> {
+    ghost was_loaded = { λ before _ after. (after ≡ before) ⊎ (after ≡ one_more before) };
+
+    fn load(&mut self, alloc: Global, name: &str, limit: usize) -> Result<Vec<u8>, LoadError>
+        ensures call { (self.new ≡ self.old) ⊎ (self.new ≡ one_more self.old) }
+        ensures counted { self.old ≤ self.new }
+        ensures within { IfOk result (λ bytes. vec_len bytes ≤ limit) }
+        ensures failed { IsErrOf result LoadError.Failed → Rose self.old self.new }
+        ensures above { IfErr result (TellsLengthAbove limit) }
+
+        // The count rises at a failure alone, and a length that is told is that of the bytes read.
+        ensures rises { self.new ≡ (if is_failed result then one_more self.old else self.old) }
+        ensures length { IfErr result (TellsLength (limit + 1)) }
+    {
         let result = match fs::open(&self.runtime, name) {
             Ok(mut file) => read_within(alloc, &mut file, limit),
             Err(_) => Err(LoadError::Failed),
@@ -56,11 +69,12 @@ impl<R: Files> Library for FileLibrary<R> {
     }
 }
 
-// All that the reader has left, or how many bytes were read where these are more than the limit, by one at most.
+// All that the reader has left. Where this is more than the limit, one byte more than the limit is read, and counted.
 fn read_within<F: Read>(alloc: Global, reader: &mut F, limit: usize) -> Result<Vec<u8>, LoadError>
     ensures within { IfOk result (λ bytes. vec_len bytes ≤ limit) }
     ensures whole { IfOk result (λ bytes. IfSome (F.remaining reader.old) (λ rest. bytes.items ≡ rest)) }
-    ensures above { IfErr result (TellsLengthAbove limit) }
+    ensures length { IfErr result (TellsLength (limit + 1)) }
+    ensures most { ConsumesAtMost (limit + 1) (F.remaining reader.old) (F.remaining reader.new) }
 {
     let mut bytes = Vec::new(alloc);
     let mut block = [0u8; BLOCK];

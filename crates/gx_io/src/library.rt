@@ -14,8 +14,13 @@ pub trait Library {
     /// How many loads failed. A count at the greatest `u64` stays there.
     ghost faults: { Self → ℕ };
 
+    /// What one call of `load` with that name makes of a library.
+    ghost was_loaded: { Self → List ℕ → Self → Type 0 };
+
     /// Loads the whole file of that name, if it has at most `limit` bytes.
     fn load(&mut self, alloc: Global, name: &str, limit: usize) -> Result<Vec<u8>, LoadError>
+        ensures call { was_loaded self.old name.now self.new }
+
         // A load changes no file, and its count of faults never falls.
         ensures told { files self.new ≡ files self.old }
         ensures counted { faults self.old ≤ faults self.new }

@@ -162,7 +162,10 @@ impl Library for MemoryLibrary {
 
     ghost faults = { λ library. library.faults };
 
+    ghost was_loaded = { λ before name after. after ≡ after_load before name };
+
     fn load(&mut self, alloc: Global, name: &str, limit: usize) -> Result<Vec<u8>, LoadError>
+        ensures call { self.new ≡ after_load self.old name.now }
         ensures told { self.new.files ≡ self.old.files }
         ensures counted { self.old.faults ≤ self.new.faults }
         ensures within { IfOk result (λ bytes. vec_len bytes ≤ limit) }
@@ -175,9 +178,8 @@ impl Library for MemoryLibrary {
         ensures too_long { IfSome (Some self.old.files)
             (λ held. TooLongExactlyAbove limit (file_of held name.now) result) }
 
-        // Which loads fail, and what each load leaves.
+        // Which loads fail; `call` says what each load leaves.
         ensures fails { IsErrOf result LoadError.Failed ↔ IsTrue (load_fails self.old name.now) }
-        ensures after { self.new ≡ after_load self.old name.now }
         ensures length { TellsLengthOf (file_of self.old.files name.now) result }
     {
         if self.count_load(name) {

@@ -2,7 +2,7 @@
 ghost use Rattle.std.specs.Prelude.{◌≡◌, ℕ, ◌≤◌, ◌↔◌, List, [], ◌∷◌, ◌++◌, Option, Some, OnOk, OnErr, IsOk, IsSome, IsErrOf, IsTrue, if◌then◌else◌, is_ok};
 ghost use Rattle.gx_io.specs.Faults.{Rose};
 ghost use Rattle.gx_io.specs.Put.{GrowsBy, GrowsByPrefix};
-ghost use Rattle.gx_io.specs.SinkState.{SinkState, put_fails, after_put};
+ghost use Rattle.gx_io.specs.SinkState.{SinkState, put_fails, after_put, IsAfterPut};
 
 use crate::errors::PutError;
 use crate::sink::Sink;
@@ -76,7 +76,10 @@ impl Sink for MemorySink {
 
     ghost faults = { λ sink. sink.faults };
 
+    ghost was_put = { IsAfterPut };
+
     fn put(&mut self, bytes: &[u8]) -> Result<(), PutError>
+        ensures call { IsAfterPut self.old bytes.now self.new }
         ensures told { IsSome (Some self.old.bytes) ↔ IsSome (Some self.new.bytes) }
         ensures ok { OnOk result (GrowsBy (Some self.old.bytes) (Some self.new.bytes) bytes.now) }
         ensures err { OnErr result

@@ -1,0 +1,32 @@
+-- A sink before and after a run, with what its trait tells of it.
+use Rattle.std.specs.Prelude.{◌≡◌, ℕ, List, Option}
+use Rattle.gx_io.specs.Faults.{Rose}
+use Rattle.gx_io.specs.Put.{GrowsBy, GrowsByPrefix}
+
+pub record SinkUse : Type 1 where
+  pub Sink : Type 0
+  pub before : Sink
+  pub after : Sink
+  pub written : Sink → Option (List ℕ)
+  pub faults : Sink → ℕ
+  pub was_put : Sink → List ℕ → Sink → Type 0
+
+-- nothing was put to it
+abbrev pub IsUntouched : SinkUse → Type 0
+IsUntouched sink = sink.after ≡ sink.before
+
+-- one put was made, of this whole piece
+abbrev pub PutOnce : SinkUse → List ℕ → Type 0
+PutOnce sink piece = sink.was_put sink.before piece sink.after
+
+-- it has grown by these bytes
+abbrev pub Grew : SinkUse → List ℕ → Type 0
+Grew sink bytes = GrowsBy (sink.written sink.before) (sink.written sink.after) bytes
+
+-- it has grown by a prefix of these bytes
+abbrev pub GrewByPrefix : SinkUse → List ℕ → Type 0
+GrewByPrefix sink bytes = GrowsByPrefix (sink.written sink.before) (sink.written sink.after) bytes
+
+-- its count of faults rose
+abbrev pub SinkFailed : SinkUse → Type 0
+SinkFailed sink = Rose (sink.faults sink.before) (sink.faults sink.after)
