@@ -8,4 +8,5 @@ pub mod Values
 pub mod Meaning
 pub mod Invariant
 pub mod Soundness
+pub mod QueryMeaning
 pub mod Refusal

@@ -2,8 +2,7 @@
 
 ghost use Rattle.std.specs.Prelude.{◌≡◌, ◌≢◌, [], ◌∷◌, IfOk, IfErr, OnOk, map};
 ghost use Rattle.gx_types.specs.SchemaSet.{SchemaSet};
-ghost use Rattle.gx_core.specs.Expression.{annotation_of};
-ghost use Rattle.gx_core.specs.Soundness.{IsSound};
+ghost use Rattle.gx_core.specs.QueryMeaning.{query_outcome, query_type, plain_query, IsSoundQuery};
 ghost use Rattle.gx_core.specs.Meaning.{meaning, gives, wrong, look_up, variable_meaning, operator_meaning, sum_of};
 ghost use Rattle.gx_core.specs.Refusal.{Fails};
 ghost use Rattle.gx_core.specs.Values.{Belongs};
@@ -12,6 +11,7 @@ ghost use Rattle.gx_eval.specs.Extended.{extended, items_of, FailsSo};
 use gx_base::code::Code;
 use gx_core::dyn_error::DynError;
 use gx_core::expression::BinaryOp;
+use gx_core::laws::meaning_looks_at_no_type;
 use gx_core::scope::Scope;
 use gx_core::typed::{TypedCore, TypedExpr, TypedForm};
 use std::alloc::{AllocError, AllocFailed, Global};
@@ -49,12 +49,13 @@ impl<T: Drop> From<AllocFailed<T>> for Failure {
 /// The value of a query that does not go wrong, or the dynamic error that it raises (XQuery 1.0, section 2.2.3.2). Where the
 /// typing is sound, the value belongs to the type.
 pub fn evaluate(alloc: Global, core: &TypedCore) -> Result<Vec<i128>, DynError>
-    requires { meaning core.now.body [] ≢ wrong }
-    ensures value { IfOk result (λ v. meaning core.now.body [] ≡ gives v.items) }
-    ensures raised { IfErr result (λ e. Fails e (meaning core.now.body [])) }
-    ensures belongs { (schemas : SchemaSet) → IsSound schemas core.now.body []
-        → IfOk result (λ v. Belongs schemas v.items (annotation_of core.now.body)) }
+    requires { query_outcome (plain_query core.now) ≢ wrong }
+    ensures value { IfOk result (λ v. query_outcome (plain_query core.now) ≡ gives v.items) }
+    ensures raised { IfErr result (λ e. Fails e (query_outcome (plain_query core.now))) }
+    ensures belongs { (schemas : SchemaSet) → IsSoundQuery schemas core.now
+        → IfOk result (λ v. Belongs schemas v.items (query_type core.now)) }
 {
+    meaning_looks_at_no_type();
     let mut scope = Scope::new(alloc);
     match value_of(alloc, &core.body, &mut scope) {
         Ok(items) => Ok(items),

@@ -3,3 +3,4 @@ pub mod Arithmetic
 pub mod SoundTyping
 pub mod Failing
 pub mod ScopedVariables
+pub mod QueryLaws

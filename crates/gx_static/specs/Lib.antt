@@ -3,3 +3,4 @@ pub mod Judgement
 pub mod Refusal
 pub mod Failure
 pub mod Laws
+pub mod QueryJudgement

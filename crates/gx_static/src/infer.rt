@@ -2,13 +2,13 @@
 
 ghost use Rattle.std.specs.Prelude.{◌≡◌, [], ◌∷◌, IfOk, IfErr, OnOk, get_or};
 ghost use Rattle.gx_core.specs.declared.operator.Operator.TheVariants as operators;
-ghost use Rattle.gx_core.specs.Expression.{At, plain, annotation_of, outer_of, empty as empty_form, sequence as sequence_form, let_in, data_of, binary as binary_form};
+ghost use Rattle.gx_core.specs.Expression.{At, annotation_of, outer_of, empty as empty_form, sequence as sequence_form, let_in, data_of, binary as binary_form};
 ghost use Rattle.gx_core.specs.Meaning.{look_up};
-ghost use Rattle.gx_core.specs.Soundness.{IsSound};
+ghost use Rattle.gx_core.specs.QueryMeaning.{plain_query, IsSoundQuery};
 ghost use Rattle.gx_core.specs.TypedView.{typed_form_of};
 ghost use Rattle.gx_types.specs.SequenceType.{nothing};
 ghost use Rattle.gx_static.specs.Judgement.{judged, typed, concluded, code_place, variable_judged};
-ghost use Rattle.gx_static.specs.Failure.{FailsFirst};
+ghost use Rattle.gx_static.specs.QueryJudgement.{query_judged, query_typed, RejectsQuery, QueryFailsFirst};
 ghost use Rattle.gx_static.specs.Refusal.{Rejects, NamesFailure};
 ghost use Rattle.gx_static.specs.Rule.{binary_rule, atomic};
 ghost use Rattle.gx_base.specs.declared.type_name.Builtin.TheVariants as builtins;
@@ -34,11 +34,11 @@ use std::alloc::{AllocError, AllocFailed, Global};
 /// type. Or the place and the code of the first expression to which the static rules give no type: parts come before the
 /// expression, and left parts before right parts (XQuery 1.0 and XPath 2.0 Formal Semantics, section 4).
 pub fn infer(alloc: Global, schemas: &Schemas, core: Core) -> Result<TypedCore, InferError>
-    ensures typed { IfOk result (λ t. judged schemas.now core.body [] ≡ typed t.body) }
-    ensures rejected { IfErr result (λ e. Rejects e (judged schemas.now core.body [])) }
-    ensures fails { IfErr result (λ e. NamesFailure e (FailsFirst schemas.now core.body [])) }
-    ensures same { IfOk result (λ t. plain t.body ≡ core.body) }
-    ensures sound { IfOk result (λ t. IsSound schemas.now t.body []) }
+    ensures typed { IfOk result (λ t. query_judged schemas.now core ≡ query_typed t) }
+    ensures rejected { IfErr result (λ e. RejectsQuery e (query_judged schemas.now core)) }
+    ensures fails { IfErr result (λ e. NamesFailure e (QueryFailsFirst schemas.now core)) }
+    ensures same { IfOk result (λ t. plain_query t ≡ core) }
+    ensures sound { IfOk result (λ t. IsSoundQuery schemas.now t) }
 {
     typing_is_sound();
     rejection_names_a_failure();

@@ -1,6 +1,7 @@
 // Laws of typing: one for each operator, and the one that is joined of them.
 
 ghost use Rattle.gx_static.specs.Laws.{LiteralKeepsType, VariableKeepsType, EmptyKeepsType, SequenceKeepsType, LetKeepsType, DataKeepsType, AddKeepsType, TypingIsSound, RejectionNamesFailure, ScopedVariablesHaveTypes};
+ghost use Rattle.gx_static.specs.QueryJudgement.{QueryTypingIsSound, QueryRejectionNamesFailure};
 
 /// A literal has the type of its value.
 pub fn literal_keeps_its_type()
@@ -54,4 +55,14 @@ pub fn rejection_names_a_failure()
 /// the names of the query.
 pub fn scoped_variables_have_types()
     ensures { ScopedVariablesHaveTypes }
+{}
+
+/// A query that is judged to have a type is the same query with its types, and it is sound.
+pub fn query_typing_is_sound()
+    ensures { QueryTypingIsSound }
+{}
+
+/// Where a query is rejected, the place and the code are those of the first expression in it that fails.
+pub fn query_rejection_names_a_failure()
+    ensures { QueryRejectionNamesFailure }
 {}
