@@ -1,23 +1,9 @@
 //! Galax: a statically typed XQuery 1.0 processor.
 #![tactic(auto)]
 
-mod command;
-mod laws;
-mod names;
-mod normalise;
-mod output;
-mod processor;
-mod query;
-mod refusal;
-mod reply;
-mod serialise;
-mod status;
-#[cfg(test)]
-mod tests;
-
 use gx_io::{FileLibrary, WriterSink};
-use processor::galax;
-use status::Status;
+use gx_processor::processor::galax;
+use gx_processor::status::Status;
 use std::env;
 use std::io::ErrorKind;
 use std::process::ExitCode;

@@ -30,3 +30,11 @@ GrewByPrefix sink bytes = GrowsByPrefix (sink.written sink.before) (sink.written
 -- its count of faults rose
 abbrev pub SinkFailed : SinkUse → Type 0
 SinkFailed sink = Rose (sink.faults sink.before) (sink.faults sink.after)
+
+-- one put was made, of this whole piece, and the piece is there
+abbrev pub Took : SinkUse → List ℕ → Type 0
+Took sink piece = PutOnce sink piece × Grew sink piece
+
+-- one put was made, of this whole piece, and a prefix of the piece is there
+abbrev pub TookPart : SinkUse → List ℕ → Type 0
+TookPart sink piece = PutOnce sink piece × GrewByPrefix sink piece

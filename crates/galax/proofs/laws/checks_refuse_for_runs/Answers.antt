@@ -1,5 +1,0 @@
-use Rattle.galax.proofs.AnswerLemmas.{check_refused}
-use Rattle.galax.proofs.laws.checks_refuse_for_runs.Goals as goal
-
-pub returns : goal.returns
-returns c = check_refused

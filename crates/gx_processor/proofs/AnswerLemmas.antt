@@ -1,0 +1,109 @@
+-- The words and the files have one answer.
+use Rattle.std.proofs.Common.{◌≡◌, ℕ, arith, Bool, true, false, List, [], length, Option, Some, None, refl, sym, ◌∙◌, ap, subst, nat_le}
+use Rattle.std.specs.Prelude.{All}
+use Rattle.std.specs.Bool.{MatchBool}
+use Rattle.gx_base.specs.declared.code.Code.TheVariants.{GLXS0001}
+use Rattle.gx_types.specs.SchemaSet.{no_declarations}
+use Rattle.gx_core.specs.declared.expression.Core.{Core}
+use Rattle.gx_core.specs.declared.typed.TypedCore.{TypedCore}
+use Rattle.gx_core.specs.Meaning.{Outcome, gives, raises, wrong}
+use Rattle.gx_core.specs.QueryMeaning.{query_outcome}
+use Rattle.gx_static.specs.QueryJudgement.{QueryJudgement, query_typed, query_rejected, query_judged}
+use Rattle.gx_io.specs.Load.{file_of}
+use Rattle.gx_processor.specs.declared.status.Status.{Status}
+use Rattle.gx_processor.specs.declared.status.Status.TheVariants.{Query}
+use Rattle.gx_parse.specs.SyntaxTree.{SyntaxTree}
+use Rattle.gx_processor.specs.Normalisation.{NamedQuery, named_query, unknown_name, query_named}
+use Rattle.gx_processor.specs.Command.{Command, run_file, check_file, query_file, command_of}
+use Rattle.gx_processor.specs.FaultLines.{code_line}
+use Rattle.gx_processor.specs.Answer.{Answer, refuses, AnswersOutcome, AnswersTyped, AnswersJudged, AnswersNamed, AnswersTree, AnswersBytes, AnswersFile, AnswersCommand, Answers, loads_asked, AnswersLookAtTheirLoads, ChecksRefuseForRuns}
+use Rattle.gx_parse.specs.Query.{IsQuery}
+use Rattle.gx_parse.proofs.Verdict.{one_tree}
+use Rattle.gx_processor.specs.Query.{HasTree}
+use Rattle.gx_processor.proofs.TextLemmas.{one_text}
+
+outcome_unique : (o : Outcome) (a b : Answer) → AnswersOutcome o a → AnswersOutcome o b → a ≡ b
+outcome_unique (gives items) a b h k = h ∙ sym k
+outcome_unique (raises code) a b h k = h ∙ sym k
+outcome_unique wrong a b h k = absurd h
+
+typed_unique : (command : Command) (core : Core) (t : TypedCore) (a b : Answer) → AnswersTyped command core t a → AnswersTyped command core t b → a ≡ b
+typed_unique (run_file name) core t a b h k = outcome_unique (query_outcome core) a b h k
+typed_unique (check_file name) core t a b h k = h ∙ sym k
+
+judged_unique : (command : Command) (core : Core) (j : QueryJudgement) (a b : Answer) → AnswersJudged command core j a → AnswersJudged command core j b → a ≡ b
+judged_unique command core (query_typed t) a b h k = typed_unique command core t a b h k
+judged_unique command core (query_rejected place code) a b h k = h ∙ sym k
+
+named_unique : (command : Command) (n : NamedQuery) (a b : Answer) → AnswersNamed command n a → AnswersNamed command n b → a ≡ b
+named_unique command (named_query core) a b h k = judged_unique command core (query_judged no_declarations core) a b h k
+named_unique command (unknown_name place code) a b h k = h ∙ sym k
+
+tree_unique : (command : Command) (t : Option SyntaxTree) (a b : Answer) → AnswersTree command t a → AnswersTree command t b → a ≡ b
+tree_unique command None a b h k = h ∙ sym k
+tree_unique command (Some t) a b h k = named_unique command (query_named t) a b h k
+
+-- bytes have one tree, or none
+pub one_tree_of : (bytes : List ℕ) (t u : Option SyntaxTree) → HasTree bytes t → HasTree bytes u → t ≡ u
+one_tree_of bytes None None h k = refl
+one_tree_of bytes None (Some u) h k = absurd (h k.0 u k.1 k.2)
+one_tree_of bytes (Some t) None h k = absurd (k h.0 t h.1 h.2)
+one_tree_of bytes (Some t) (Some u) h k =
+    let same = one_text bytes k.0 h.0 k.1 h.1 in
+    ap Some (one_tree h.0 t u h.2.parsed (subst (λ (text : List ℕ). IsQuery text u) same k.2.parsed))
+
+bytes_unique : (command : Command) (bytes : List ℕ) (a b : Answer) → AnswersBytes command bytes a → AnswersBytes command bytes b → a ≡ b
+bytes_unique command bytes a b h k =
+    tree_unique command h.0 a b h.2 (subst (λ (t : Option SyntaxTree). AnswersTree command t b) (one_tree_of bytes k.0 h.0 k.1 h.1) k.2)
+
+match_unique : (command : Command) (short : Bool) (bytes : List ℕ) (c a b : Answer) → MatchBool short (AnswersBytes command bytes a) (a ≡ c) → MatchBool short (AnswersBytes command bytes b) (b ≡ c) → a ≡ b
+match_unique command true bytes c a b h k = bytes_unique command bytes a b h k
+match_unique command false bytes c a b h k = h ∙ sym k
+
+file_unique : (command : Command) (file : Option (List ℕ)) (a b : Answer) → AnswersFile command file a → AnswersFile command file b → a ≡ b
+file_unique command None a b h k = h ∙ sym k
+file_unique command (Some bytes) a b h k = match_unique command (nat_le (length bytes) 16777216) bytes (refuses Query (code_line GLXS0001)) a b h k
+
+command_unique : (files : List (List ℕ × List ℕ)) (asked : Option Command) (a b : Answer) → AnswersCommand files asked a → AnswersCommand files asked b → a ≡ b
+command_unique files None a b h k = h ∙ sym k
+command_unique files (Some command) a b h k = file_unique command (file_of files (query_file command)) a b h k
+
+pub answer_unique : (words : List (List ℕ)) (files : List (List ℕ × List ℕ)) (a b : Answer) → Answers words files a → Answers words files b → a ≡ b
+answer_unique words files a b h k = command_unique files (command_of words) a b h k
+
+-- the answer where the words name a file that is held
+pub answer_at : (words : List (List ℕ)) (files : List (List ℕ × List ℕ)) (command : Command) (bytes : List ℕ) (a : Answer) → command_of words ≡ Some command → file_of files (query_file command) ≡ Some bytes → Answers words files a → AnswersFile command (Some bytes) a
+answer_at words files command bytes a e f h =
+    subst (λ (o : Option (List ℕ)). AnswersFile command o a) f (subst (λ (o : Option Command). AnswersCommand files o a) e h)
+
+-- what a check refuses, a run refuses
+judged_refused : (name : List ℕ) (core : Core) (j : QueryJudgement) (status : Status) (line : List ℕ) → AnswersJudged (check_file name) core j (refuses status line) → AnswersJudged (run_file name) core j (refuses status line)
+judged_refused name core (query_typed t) status line h = cc
+judged_refused name core (query_rejected place code) status line h = h
+
+named_refused : (name : List ℕ) (n : NamedQuery) (status : Status) (line : List ℕ) → AnswersNamed (check_file name) n (refuses status line) → AnswersNamed (run_file name) n (refuses status line)
+named_refused name (named_query core) status line h = judged_refused name core (query_judged no_declarations core) status line h
+named_refused name (unknown_name place code) status line h = h
+
+tree_refused : (name : List ℕ) (t : Option SyntaxTree) (status : Status) (line : List ℕ) → AnswersTree (check_file name) t (refuses status line) → AnswersTree (run_file name) t (refuses status line)
+tree_refused name None status line h = h
+tree_refused name (Some t) status line h = named_refused name (query_named t) status line h
+
+short_refused : (name : List ℕ) (short : Bool) (bytes : List ℕ) (status : Status) (line : List ℕ) (a : Answer) → MatchBool short (AnswersBytes (check_file name) bytes (refuses status line)) (refuses status line ≡ a) → MatchBool short (AnswersBytes (run_file name) bytes (refuses status line)) (refuses status line ≡ a)
+short_refused name true bytes status line a h = (h.0, h.1, tree_refused name h.0 status line h.2)
+short_refused name false bytes status line a h = h
+
+file_refused : (name : List ℕ) (file : Option (List ℕ)) (status : Status) (line : List ℕ) → AnswersFile (check_file name) file (refuses status line) → AnswersFile (run_file name) file (refuses status line)
+file_refused name None status line h = h
+file_refused name (Some bytes) status line h = short_refused name (nat_le (length bytes) 16777216) bytes status line (refuses Query (code_line GLXS0001)) h
+
+pub check_refused : ChecksRefuseForRuns
+check_refused files name status line h = file_refused name (file_of files name) status line h
+
+-- an answer looks at the file of the query alone
+command_elsewhere : (files others : List (List ℕ × List ℕ)) (asked : Option Command) (a : Answer) → All (λ name. file_of files name ≡ file_of others name) (loads_asked asked) → AnswersCommand files asked a → AnswersCommand others asked a
+command_elsewhere files others None a same h = h
+command_elsewhere files others (Some command) a same h = subst (λ (o : Option (List ℕ)). AnswersFile command o a) (same 0 (query_file command) (omega arith)) h
+
+pub answer_elsewhere : AnswersLookAtTheirLoads
+answer_elsewhere words files others a same h = command_elsewhere files others (command_of words) a same h

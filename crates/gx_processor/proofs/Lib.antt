@@ -1,0 +1,8 @@
+pub mod TextLemmas
+pub mod QueryLemmas
+pub mod AnswerLemmas
+pub mod Course
+pub mod PromiseLemmas
+pub mod HeadlineLemmas
+pub mod Promised
+pub mod NumberedVariables

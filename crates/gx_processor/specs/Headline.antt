@@ -1,0 +1,92 @@
+-- The headline. Where a query has a type, a check writes exactly the text of the type and a line feed, and a run writes
+-- exactly the serialisation of the value that the query has, and that value belongs to the type, or it reports the one
+-- dynamic error that the query raises. Where typing rejects a query, both report the code and the place of the first
+-- expression to which the static rules give no type.
+use Rattle.std.specs.Prelude.{◌≡◌, ℕ, ℤ, List, Some, ◌⊎◌}
+use Rattle.gx_base.specs.declared.place.Place.{Place}
+use Rattle.gx_base.specs.declared.code.Code.{Code}
+use Rattle.gx_types.specs.SchemaSet.{no_declarations}
+use Rattle.gx_core.specs.declared.expression.Core.{Core}
+use Rattle.gx_core.specs.declared.typed.TypedCore.{TypedCore}
+use Rattle.gx_core.specs.Meaning.{gives, raises}
+use Rattle.gx_core.specs.QueryMeaning.{query_outcome, query_type}
+use Rattle.gx_core.specs.Values.{Belongs}
+use Rattle.gx_static.specs.QueryJudgement.{query_typed, query_rejected, query_judged, QueryFailsFirst}
+use Rattle.gx_io.specs.SinkUse.{IsUntouched, Took}
+use Rattle.gx_processor.specs.declared.status.Status.TheVariants.{Done, Query, Dynamic, Memory}
+use Rattle.gx_processor.specs.Query.{HoldsQuery}
+use Rattle.gx_processor.specs.Command.{Command, run_file, check_file, query_file, command_of}
+use Rattle.gx_processor.specs.FaultLines.{code_line, placed_line}
+use Rattle.gx_processor.specs.Serialisation.{serialised}
+use Rattle.gx_processor.specs.TypeBytes.{type_bytes}
+use Rattle.gx_processor.specs.Answer.{Answers, writes}
+use Rattle.gx_processor.specs.Run.{Run}
+
+-- the value that the query has, of the type, is written, and nothing else
+pub record WritesValue (core : Core) (typing : TypedCore) (run : Run) : Type 0 where
+  pub items : List ℤ
+  pub value : query_outcome core ≡ gives items
+  pub belongs : Belongs no_declarations items (query_type typing)
+  pub status : run.status ≡ Done
+  pub output : Took run.out (serialised items)
+  pub line : IsUntouched run.err
+
+-- the dynamic error that the query raises is reported, and nothing else
+pub record ReportsError (core : Core) (run : Run) : Type 0 where
+  pub code : Code
+  pub raised : query_outcome core ≡ raises code
+  pub status : run.status ≡ Dynamic
+  pub output : IsUntouched run.out
+  pub line : Took run.err (code_line code)
+
+-- a run ends with the value that belongs to the type, with the one dynamic error, or without memory
+abbrev pub RunEnds : Core → TypedCore → Run → Type 0
+RunEnds core typing run = WritesValue core typing run ⊎ (ReportsError core run ⊎ (run.status ≡ Memory))
+
+-- a run of a query that has a type
+abbrev pub RunsTyped : Run → List (List ℕ × List ℕ) → Type 0
+RunsTyped run files =
+    (name : List ℕ) (core : Core) (typing : TypedCore) → command_of run.words ≡ Some (run_file name)
+    → HoldsQuery files name core → query_judged no_declarations core ≡ query_typed typing → RunEnds core typing run
+
+-- the text of the type is written, and nothing else
+pub record WritesType (typing : TypedCore) (run : Run) : Type 0 where
+  pub status : run.status ≡ Done
+  pub output : Took run.out (type_bytes (query_type typing))
+  pub line : IsUntouched run.err
+
+-- a check of a query that has a type
+abbrev pub ChecksTyped : Run → List (List ℕ × List ℕ) → Type 0
+ChecksTyped run files =
+    (name : List ℕ) (core : Core) (typing : TypedCore) → command_of run.words ≡ Some (check_file name)
+    → HoldsQuery files name core → query_judged no_declarations core ≡ query_typed typing → WritesType typing run ⊎ (run.status ≡ Memory)
+
+-- the file of that name holds a query that has a type, and this is the type's text
+pub record HoldsTyped (files : List (List ℕ × List ℕ)) (name printed : List ℕ) : Type 0 where
+  pub core : Core
+  pub typing : TypedCore
+  pub query : HoldsQuery files name core
+  pub judgement : query_judged no_declarations core ≡ query_typed typing
+  pub text : type_bytes (query_type typing) ≡ printed
+
+-- where a check of a file prints a type, a run of the same file ends as one of that type
+abbrev pub RunsAsChecked : Run → List (List ℕ × List ℕ) → Type 0
+RunsAsChecked run files =
+    (checking : List (List ℕ)) (name printed : List ℕ) → command_of run.words ≡ Some (run_file name)
+    → command_of checking ≡ Some (check_file name) → Answers checking files (writes printed)
+    → (query : HoldsTyped files name printed) × RunEnds query.core query.typing run
+
+-- the code and the place of the first expression that fails, to which the static rules give no type, are reported, and
+-- nothing else
+pub record ReportsRejection (core : Core) (code : Code) (place : Place) (run : Run) : Type 0 where
+  pub fails : QueryFailsFirst no_declarations core place code
+  pub status : run.status ≡ Query
+  pub output : IsUntouched run.out
+  pub line : Took run.err (placed_line code place)
+
+-- a run or a check of a query that typing rejects
+abbrev pub RejectsUntyped : Run → List (List ℕ × List ℕ) → Type 0
+RejectsUntyped run files =
+    (command : Command) (core : Core) (place : Place) (code : Code) → command_of run.words ≡ Some command
+    → HoldsQuery files (query_file command) core → query_judged no_declarations core ≡ query_rejected place code
+    → ReportsRejection core code place run ⊎ (run.status ≡ Memory)

@@ -1,0 +1,15 @@
+pub mod Query
+pub mod Normalisation
+pub mod NameRefusal
+pub mod Serialisation
+pub mod TypeBytes
+pub mod Command
+pub mod CommandView
+pub mod FaultLines
+pub mod Status
+pub mod Answer
+pub mod Run
+pub mod Ending
+pub mod Replies
+pub mod Headline
+pub mod Promises

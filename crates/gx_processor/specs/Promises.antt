@@ -1,0 +1,131 @@
+-- What the public call promises of each run.
+use Rattle.std.specs.Prelude.{◌≡◌, ℕ, ◌<◌, List, length, None, Some, ◌⊎◌}
+use Rattle.gx_base.specs.declared.code.Code.{Code}
+use Rattle.gx_base.specs.declared.code.Code.TheVariants.{GLXS0001}
+use Rattle.gx_io.specs.Load.{file_of}
+use Rattle.gx_io.specs.LibraryUse.{LoadsOnly}
+use Rattle.gx_io.specs.SinkUse.{IsUntouched, GrewByPrefix, Took, TookPart, SinkFailed}
+use Rattle.gx_processor.specs.declared.status.Status.{Status}
+use Rattle.gx_processor.specs.declared.status.Status.TheVariants.{Done, Usage, Query, Schema, Document, Dynamic, ReadFault, WriteFault, Memory}
+use Rattle.gx_processor.specs.Answer.{Answer, writes, refuses, Answers, status_of, output_of, loads_of}
+use Rattle.gx_processor.specs.Command.{Command, query_file, command_of, AskToRun}
+use Rattle.gx_processor.specs.FaultLines.{usage_line, read_fault_line, code_line, IsQueryLine, write_fault_line}
+use Rattle.gx_processor.specs.Headline.{RunsTyped, ChecksTyped, RunsAsChecked, RejectsUntyped}
+use Rattle.gx_processor.specs.Replies.{HasForm}
+use Rattle.gx_processor.specs.Run.{Run, WhereTold, IsFaultless, FailsToLoad}
+
+-- neither a fault outside nor want of memory ended the run
+abbrev pub IsCertain : Status → Type 0
+IsCertain Done = Unit {0}
+IsCertain Usage = Unit {0}
+IsCertain Query = Unit {0}
+IsCertain Schema = Unit {0}
+IsCertain Document = Unit {0}
+IsCertain Dynamic = Unit {0}
+IsCertain ReadFault = ⊥
+IsCertain WriteFault = ⊥
+IsCertain Memory = ⊥
+
+-- a write fault or want of memory ended the run
+abbrev pub IsCutShort : Status → Type 0
+IsCutShort status = (status ≡ WriteFault) ⊎ (status ≡ Memory)
+
+-- the sinks with an answer: the one that it is for took it whole, by one put, and nothing was put to the other
+abbrev pub LeavesAnswer : Answer → Run → Type 0
+LeavesAnswer (writes bytes) run = Took run.out bytes × IsUntouched run.err
+LeavesAnswer (refuses status line) run = IsUntouched run.out × Took run.err line
+
+-- the status and the sinks are those of the answer
+pub record IsAnswered (run : Run) (files : List (List ℕ × List ℕ)) : Type 0 where
+  pub answer : Answer
+  pub answers : Answers run.words files answer
+  pub status : run.status ≡ status_of answer
+  pub sinks : LeavesAnswer answer run
+
+-- the statuses that can follow a put of the output
+abbrev pub MayFollowOutput : Status → Type 0
+MayFollowOutput status = (status ≡ Done) ⊎ IsCutShort status
+
+-- the whole output of the complete answer was put to `out` by one put, and all or a part of it is there
+pub record PutsOutput (run : Run) : Type 0 where
+  pub bytes : List ℕ
+  pub complete : WhereTold run (λ files. Answers run.words files (writes bytes))
+  pub put : TookPart run.out bytes
+  pub status : MayFollowOutput run.status
+
+-- the line of a refusal, and what calls for it: a put of the output that failed, a load that failed, or the answer
+pub data IsLineOf (run : Run) (line : List ℕ) : Type 0 where
+  of_write_fault : SinkFailed run.out → line ≡ write_fault_line → IsLineOf run line
+  of_read_fault : (file : List ℕ) → FailsToLoad run file → line ≡ read_fault_line file → IsLineOf run line
+  of_refusal : (status : Status) → HasForm run.words status line → WhereTold run (λ files. Answers run.words files (refuses status line)) → IsLineOf run line
+
+-- one such line was put to `err` by one put, and all or a part of it is there
+pub record PutsLine (run : Run) : Type 0 where
+  pub line : List ℕ
+  pub cause : IsLineOf run line
+  pub put : TookPart run.err line
+
+-- the output after each status
+abbrev pub OutputAfter : Status → Run → Type 0
+OutputAfter Done run = (bytes : List ℕ) × Took run.out bytes
+OutputAfter WriteFault run = IsUntouched run.out ⊎ SinkFailed run.out
+OutputAfter Memory run = Unit {0}
+OutputAfter Usage run = IsUntouched run.out
+OutputAfter Query run = IsUntouched run.out
+OutputAfter Schema run = IsUntouched run.out
+OutputAfter Document run = IsUntouched run.out
+OutputAfter Dynamic run = IsUntouched run.out
+OutputAfter ReadFault run = IsUntouched run.out
+
+-- the fault line after each status: one line, of the form that the status has
+abbrev pub LineAfter : Status → Run → Type 0
+LineAfter Done run = IsUntouched run.err
+LineAfter Usage run = Took run.err usage_line
+LineAfter Query run = (line : List ℕ) × IsQueryLine line × Took run.err line
+LineAfter Dynamic run = (code : Code) × Took run.err (code_line code)
+LineAfter ReadFault run = (file : List ℕ) × Took run.err (read_fault_line file)
+LineAfter WriteFault run = Took run.err write_fault_line ⊎ SinkFailed run.err
+LineAfter Memory run = Unit {0}
+LineAfter Schema run = ⊥
+LineAfter Document run = ⊥
+
+-- a put failed: that of the output, or that of a line
+abbrev pub FailsToWrite : Run → Type 0
+FailsToWrite run = (PutsOutput run × SinkFailed run.out) ⊎ (PutsLine run × SinkFailed run.err)
+
+-- the load of a file failed, and its line was put
+abbrev pub FailsToRead : Run → Type 0
+FailsToRead run = (file : List ℕ) × FailsToLoad run file × Took run.err (read_fault_line file)
+
+-- the file of the query is longer than the limit
+pub record IsTooLong (words : List (List ℕ)) (files : List (List ℕ × List ℕ)) : Type 0 where
+  pub command : Command
+  pub bytes : List ℕ
+  pub asked : command_of words ≡ Some command
+  pub held : file_of files (query_file command) ≡ Some bytes
+  pub long : 16777216 < length bytes
+
+pub record Promises (run : Run) : Type 0 where
+  -- Unless a fault outside or want of memory ends the run, it ends with the answer.
+  pub answer : WhereTold run (λ files. IsCertain run.status → IsAnswered run files)
+  -- The calls: the loads of the answer's steps, each once and in their order, and no other; at most one put to each sink.
+  pub loads : LoadsOnly run.library (loads_of run.words)
+  pub output_put : IsUntouched run.out ⊎ PutsOutput run
+  pub line_put : IsUntouched run.err ⊎ PutsLine run
+  -- What the sinks hold after each status.
+  pub output : OutputAfter run.status run
+  pub line : LineAfter run.status run
+  pub part : WhereTold run (λ files. (answer : Answer) → Answers run.words files answer → IsCutShort run.status → GrewByPrefix run.out (output_of answer))
+  -- When each status comes.
+  pub usage : run.status ≡ Usage → command_of run.words ≡ None
+  pub usage_always : command_of run.words ≡ None → (run.status ≡ Usage) ⊎ IsCutShort run.status
+  pub dynamic : run.status ≡ Dynamic → AskToRun run.words
+  pub read_fault : run.status ≡ ReadFault → FailsToRead run
+  pub write_fault : run.status ≡ WriteFault → FailsToWrite run
+  pub too_long : WhereTold run (λ files. IsTooLong run.words files → IsCertain run.status → (run.status ≡ Query) × Took run.err (code_line GLXS0001))
+  pub complete : WhereTold run (λ files. (bytes : List ℕ) → Answers run.words files (writes bytes) → IsFaultless run → ((run.status ≡ Done) × Took run.out bytes) ⊎ (run.status ≡ Memory))
+  -- The headline: a query that has a type, run and checked, and one that typing rejects.
+  pub headline : WhereTold run (λ files. IsFaultless run → RunsTyped run files)
+  pub checked : WhereTold run (λ files. IsFaultless run → ChecksTyped run files)
+  pub as_checked : WhereTold run (λ files. IsFaultless run → RunsAsChecked run files)
+  pub rejected : WhereTold run (λ files. IsFaultless run → RejectsUntyped run files)

@@ -1,0 +1,70 @@
+-- What a reply says of the answer.
+use Rattle.std.specs.Prelude.{◌≡◌, ℕ, List, None, Some}
+use Rattle.std.specs.String.{string_bytes}
+use Rattle.gx_base.specs.declared.code.Code.{Code}
+use Rattle.gx_processor.specs.declared.status.Status.{Status}
+use Rattle.gx_processor.specs.declared.status.Status.TheVariants as status
+use Rattle.gx_processor.specs.declared.reply.Reply.{Reply}
+use Rattle.gx_processor.specs.declared.reply.Reply.TheVariants.{Output, Fault, Starved}
+use Rattle.gx_processor.specs.declared.refusal.Refusal.{Refusal}
+use Rattle.gx_processor.specs.declared.refusal.Refusal.TheVariants as refusal
+use Rattle.gx_processor.specs.Answer.{Answer, writes, refuses}
+use Rattle.gx_processor.specs.Command.{Command, query_file, command_of, AskToRun}
+use Rattle.gx_processor.specs.FaultLines.{usage_line, read_fault_line, code_line, placed_line, IsQueryLine}
+
+-- a refusal of the query or a dynamic error is the answer; a read fault and want of memory say nothing of it
+abbrev pub RefusesSo : Refusal → (Answer → Type 0) → Type 0
+RefusesSo (refusal.Query code) Answered = Answered (refuses status.Query (code_line code))
+RefusesSo (refusal.NoType place code) Answered = Answered (refuses status.Query (placed_line code place))
+RefusesSo (refusal.Dynamic code) Answered = Answered (refuses status.Dynamic (code_line code))
+RefusesSo refusal.ReadFault Answered = Unit {0}
+RefusesSo refusal.Memory Answered = Unit {0}
+
+-- why a refusal comes: a read fault where a count of faults rose, and a dynamic error where a query is run
+abbrev pub HasCause : (Rose Runs : Type 0) → Refusal → Type 0
+HasCause Rose Runs refusal.ReadFault = Rose
+HasCause Rose Runs (refusal.Dynamic code) = Runs
+HasCause Rose Runs (refusal.Query code) = Unit {0}
+HasCause Rose Runs (refusal.NoType place code) = Unit {0}
+HasCause Rose Runs refusal.Memory = Unit {0}
+
+-- likewise of a reply
+abbrev pub RepliesSo : Reply → (Answer → Type 0) → Type 0
+RepliesSo (Output text) Answered = Answered (writes (string_bytes text))
+RepliesSo (Fault status.ReadFault line) Answered = Unit {0}
+RepliesSo (Fault status line) Answered = Answered (refuses status (string_bytes line))
+RepliesSo Starved Answered = Unit {0}
+
+-- the form of the line of a refusal, and when it can be given: only the words make it Usage, and only a run is Dynamic
+abbrev pub HasForm : List (List ℕ) → Status → List ℕ → Type 0
+HasForm words status.Usage line = (command_of words ≡ None) × (line ≡ usage_line)
+HasForm words status.Query line = IsQueryLine line
+HasForm words status.Dynamic line = AskToRun words × ((code : Code) × (line ≡ code_line code))
+HasForm words status.Done line = ⊥
+HasForm words status.Schema line = ⊥
+HasForm words status.Document line = ⊥
+HasForm words status.ReadFault line = ⊥
+HasForm words status.WriteFault line = ⊥
+HasForm words status.Memory line = ⊥
+
+-- likewise of a reply, where a read fault comes only where a count of faults rose
+abbrev pub HasLine : List (List ℕ) → Type 0 → Status → List ℕ → Type 0
+HasLine words Rose status.ReadFault line = (command : Command) × (command_of words ≡ Some command) × (line ≡ read_fault_line (query_file command)) × Rose
+HasLine words Rose status line = HasForm words status line
+
+abbrev pub IsWellFormed : List (List ℕ) → Type 0 → Reply → Type 0
+IsWellFormed words Rose (Output text) = (command : Command) × (command_of words ≡ Some command)
+IsWellFormed words Rose (Fault status line) = HasLine words Rose status (string_bytes line)
+IsWellFormed words Rose Starved = Unit {0}
+
+-- words that name no command are Usage, or no memory is found
+abbrev pub IsUsageOrStarved : Reply → Type 0
+IsUsageOrStarved (Fault status.Usage line) = Unit {0}
+IsUsageOrStarved Starved = Unit {0}
+IsUsageOrStarved _ = ⊥
+
+-- a refusal with this line, or no memory was found
+abbrev pub IsFaultOrStarved : Status → List ℕ → Reply → Type 0
+IsFaultOrStarved status line (Output text) = ⊥
+IsFaultOrStarved status line (Fault other text) = (other ≡ status) × (string_bytes text ≡ line)
+IsFaultOrStarved status line Starved = Unit {0}

@@ -1,0 +1,32 @@
+-- A run of the program.
+use Rattle.std.specs.Prelude.{◌≡◌, ℕ, List, ◌∷◌, ◌++◌, IfSome}
+use Rattle.gx_io.specs.LibraryUse.{LibraryUse, LibraryFailed, LastLoadFailed}
+use Rattle.gx_io.specs.SinkUse.{SinkUse, SinkFailed}
+use Rattle.gx_processor.specs.declared.status.Status.{Status}
+use Rattle.gx_processor.specs.Answer.{loads_of}
+
+-- the words of the command line, the library and the two sinks before and after, and the status
+pub record Run : Type 1 where
+  pub words : List (List ℕ)
+  pub library : LibraryUse
+  pub status : Status
+  pub out : SinkUse
+  pub err : SinkUse
+
+-- a fact about the files that the library holds, where it tells them
+abbrev pub WhereTold : Run → (List (List ℕ × List ℕ) → Type 0) → Type 0
+WhereTold run Fact = IfSome (run.library.files run.library.before) Fact
+
+-- no count of faults rose
+pub record IsFaultless (run : Run) : Type 0 where
+  pub library : LibraryFailed run.library → ⊥
+  pub out : SinkFailed run.out → ⊥
+  pub err : SinkFailed run.err → ⊥
+
+-- a count of faults rose in the load of this file. It is the next of those that the steps load; the loads of the steps
+-- before it were made, and no load was made after it.
+pub record FailsToLoad (run : Run) (file : List ℕ) : Type 0 where
+  pub earlier : List (List ℕ)
+  pub later : List (List ℕ)
+  pub in_order : loads_of run.words ≡ earlier ++ (file ∷ later)
+  pub failed : LastLoadFailed run.library earlier file

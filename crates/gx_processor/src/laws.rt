@@ -1,0 +1,19 @@
+// Laws over the definitions.
+
+ghost use Rattle.std.specs.Prelude.{◌≡◌, ℕ, List};
+ghost use Rattle.gx_processor.specs.Answer.{Answer, Answers, AnswersLookAtTheirLoads, ChecksRefuseForRuns};
+
+/// The words and the files have at most one answer.
+pub fn one_answer()
+    ensures { (words : List (List ℕ)) (files : List (List ℕ × List ℕ)) (a b : Answer) → Answers words files a → Answers words files b → a ≡ b }
+{}
+
+/// What a check of a file refuses, a run of it refuses with the same line.
+pub fn checks_refuse_for_runs()
+    ensures { ChecksRefuseForRuns }
+{}
+
+/// An answer looks at no other files than those that its steps load.
+pub fn answers_look_at_their_loads()
+    ensures { AnswersLookAtTheirLoads }
+{}

@@ -1,0 +1,14 @@
+//! The public call of the program: the answer to the words of a command line, over a library of files and two sinks.
+#![tactic(auto)]
+
+mod command;
+pub mod laws;
+mod names;
+mod normalise;
+mod output;
+pub mod processor;
+mod query;
+mod refusal;
+mod reply;
+mod serialise;
+pub mod status;

@@ -1,0 +1,137 @@
+// The call that answers the words of the command line.
+
+ghost use Rattle.std.specs.Prelude.{◌≡◌, ◌≤◌, ◌++◌, string_bytes, IfOk, IfSome, None};
+ghost use Rattle.gx_io.specs.Calls.{Loads};
+ghost use Rattle.gx_io.specs.Faults.{Rose};
+ghost use Rattle.gx_processor.specs.Answer.{Answers, loads_of};
+ghost use Rattle.gx_processor.specs.Command.{bytes_of, command_of};
+ghost use Rattle.gx_processor.specs.Ending.{Ends, Put, PutOutput};
+ghost use Rattle.gx_processor.specs.FaultLines.{line, placed_line};
+ghost use Rattle.gx_processor.specs.Promises.{Promises};
+ghost use Rattle.gx_processor.specs.Replies.{RepliesSo, IsWellFormed, IsUsageOrStarved, IsFaultOrStarved};
+
+use crate::command::command_of_words;
+use crate::output::output;
+use crate::refusal::Refusal;
+use crate::reply::Reply;
+use crate::status::Status;
+use gx_base::code::Code;
+use gx_base::place::Place;
+use gx_core::laws::sound_queries_keep_their_types;
+use gx_io::{Library, PutError, Sink};
+use gx_static::laws::{query_rejection_names_a_failure, query_typing_is_sound};
+use std::alloc::{AllocError, Global};
+
+/// Answers the words of the command line over the files of a library: puts the output to `out`, or a fault line to
+/// `err`, and says how the run ended.
+///
+/// `run FILE` writes the value of the query in the file (XQuery 1.0, section 2.2; Serialization, section 2), and
+/// `check FILE` writes the text of the type that the static rules give the query (XQuery 1.0, section 2.2.3.1).
+pub fn galax<L: Library, O: Sink, E: Sink>(
+    alloc: Global,
+    words: &[String],
+    library: &mut L,
+    out: &mut O,
+    err: &mut E,
+) -> Status
+    ensures { Promises (record {
+      words = bytes_of words.now;
+      library = record { Library = L; before = library.old; after = library.new; files = L.files; faults = L.faults; was_loaded = L.was_loaded };
+      status = result;
+      out = record { Sink = O; before = out.old; after = out.new; written = O.written; faults = O.faults; was_put = O.was_put };
+      err = record { Sink = E; before = err.old; after = err.new; written = E.written; faults = E.faults; was_put = E.was_put };
+    }) }
+{
+    query_typing_is_sound();
+    sound_queries_keep_their_types();
+    query_rejection_names_a_failure();
+    let reply = reply_to(alloc, words, library);
+    finish(reply, out, err)
+}
+
+// What the program replies to its words.
+fn reply_to<L: Library>(alloc: Global, words: &[String], library: &mut L) -> Reply
+    ensures loads { Loads L.was_loaded (loads_of (bytes_of words.now)) library.old library.new }
+    ensures counted { L.faults library.old ≤ L.faults library.new }
+    ensures answer { IfSome (L.files library.old) (λ files. RepliesSo result (Answers (bytes_of words.now) files)) }
+    ensures cause { IsWellFormed (bytes_of words.now) (Rose (L.faults library.old) (L.faults library.new)) result }
+    ensures usage { command_of (bytes_of words.now) ≡ None → IsUsageOrStarved result }
+{
+    let Some(command) = command_of_words(words) else {
+        return fault(alloc, Status::Usage, "Usage: words", "");
+    };
+    match output(alloc, command, library) {
+        Ok(text) => Reply::Output(text),
+        Err(Refusal::ReadFault) => fault(alloc, Status::ReadFault, "ReadFault ", command.file()),
+        Err(Refusal::Query(code)) => fault(alloc, Status::Query, code.text(), ""),
+        Err(Refusal::NoType { place, code }) => placed_fault(alloc, code, place),
+        Err(Refusal::Dynamic(code)) => fault(alloc, Status::Dynamic, code.text(), ""),
+        Err(Refusal::Memory) => Reply::Starved,
+    }
+}
+
+// A refusal of the query with its code and its place.
+fn placed_fault(alloc: Global, code: Code, place: Place) -> Reply
+    ensures { IsFaultOrStarved Status.Query (placed_line code place) result }
+{
+    let Place { line, column } = place;
+    match format!(in alloc; "{} at {line}:{column}\n", code.text()) {
+        Ok(text) => Reply::Fault(Status::Query, text),
+        Err(AllocError) => Reply::Starved,
+    }
+}
+
+// A refusal with its line, which has two parts.
+fn fault(alloc: Global, status: Status, start: &str, end: &str) -> Reply
+    ensures { IsFaultOrStarved status (line (start.now ++ end.now)) result }
+{
+    match fault_line(alloc, start, end) {
+        Ok(text) => Reply::Fault(status, text),
+        Err(AllocError) => Reply::Starved,
+    }
+}
+
+fn fault_line(alloc: Global, start: &str, end: &str) -> Result<String, AllocError>
+    ensures { IfOk result (λ text. string_bytes text ≡ line (start.now ++ end.now)) }
+{
+    let mut text = String::from_str(alloc, start)?;
+    text.push_str(end)?;
+    text.push('\n')?;
+    Ok(text)
+}
+
+fn finish<O: Sink, E: Sink>(reply: Reply, out: &mut O, err: &mut E) -> Status
+    ensures { Ends reply result
+        (record { Sink = O; before = out.old; after = out.new; written = O.written; faults = O.faults; was_put = O.was_put })
+        (record { Sink = E; before = err.old; after = err.new; written = E.written; faults = E.faults; was_put = E.was_put }) }
+{
+    match reply {
+        Reply::Output(text) => write_output(text.as_str(), out, err),
+        Reply::Fault(status, line) => report(status, line.as_str(), err),
+        Reply::Starved => Status::Memory,
+    }
+}
+
+fn write_output<O: Sink, E: Sink>(text: &str, out: &mut O, err: &mut E) -> Status
+    ensures { PutOutput text.now result
+        (record { Sink = O; before = out.old; after = out.new; written = O.written; faults = O.faults; was_put = O.was_put })
+        (record { Sink = E; before = err.old; after = err.new; written = E.written; faults = E.faults; was_put = E.was_put }) }
+{
+    match out.put(text.as_bytes()) {
+        Ok(()) => Status::Done,
+        Err(PutError::Failed) => report(Status::WriteFault, "WriteFault\n", err),
+        Err(PutError::Memory) => Status::Memory,
+    }
+}
+
+// Puts a line in one piece.
+fn report<E: Sink>(status: Status, line: &str, err: &mut E) -> Status
+    ensures { Put status line.now result
+        (record { Sink = E; before = err.old; after = err.new; written = E.written; faults = E.faults; was_put = E.was_put }) }
+{
+    match err.put(line.as_bytes()) {
+        Ok(()) => status,
+        Err(PutError::Failed) => Status::WriteFault,
+        Err(PutError::Memory) => Status::Memory,
+    }
+}
