@@ -80,6 +80,10 @@ AnswersCommand files (Some command) answer = AnswersFile command (file_of files 
 abbrev pub Answers : List (List ℕ) → List (List ℕ × List ℕ) → Answer → Type 0
 Answers words files answer = AnswersCommand files (command_of words) answer
 
+-- there is an answer
+abbrev pub AnAnswerExists : Type 0
+AnAnswerExists = (words : List (List ℕ)) (files : List (List ℕ × List ℕ)) → (answer : Answer) × Answers words files answer
+
 -- what a check of a file refuses, a run of it refuses with the same line
 abbrev pub ChecksRefuseForRuns : Type 0
 ChecksRefuseForRuns =
