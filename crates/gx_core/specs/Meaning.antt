@@ -1,7 +1,12 @@
 -- What a Core expression means (Formal Semantics, section 4; XQuery 1.0, section 3).
-use Rattle.std.specs.Prelude.{ℕ, ◌^◌, nat_lt, ℤ, pos, negsuc, ◌+ℤ◌, Bool, List, [], ◌∷◌, ◌++◌, Option, Some, None, nat_eq, if◌then◌else◌}
+use Rattle.std.specs.Prelude.{ℕ, ℤ, List, [], ◌∷◌, ◌++◌, Option, Some, None, Result, Ok, Err, nat_eq, if◌then◌else◌}
 use Rattle.gx_base.specs.declared.code.Code.{Code}
-use Rattle.gx_base.specs.declared.code.Code.TheVariants.{FOAR0002}
+use Rattle.gx_base.specs.declared.code.Code.TheVariants.{FOAR0001, FOAR0002}
+use Rattle.gx_num.specs.declared.Number.{Number}
+use Rattle.gx_num.specs.declared.Number.TheVariants.{Int, Dec}
+use Rattle.gx_num.specs.declared.NumFault.{NumFault}
+use Rattle.gx_num.specs.declared.NumFault.TheVariants.{Overflow, DivZero}
+use Rattle.gx_num.specs.Arithmetic.{sum_of}
 use Rattle.gx_core.specs.declared.expression.BinaryOp.{BinaryOp}
 use Rattle.gx_core.specs.declared.expression.BinaryOp.TheVariants.{Add}
 use Rattle.gx_core.specs.Expression.{Expression, At, Form, literal, variable, empty, sequence, let_in, data_of, binary}
@@ -26,24 +31,23 @@ look_up (binding ∷ bindings) number = if nat_eq binding.0 number then Some bin
 abbrev pub Bindings : Type 0
 Bindings = List (ℕ × List ℤ)
 
--- an xs:integer lies in -2^127 to 2^127 - 1
-abbrev pub is_in_range : ℤ → Bool
-is_in_range (pos n) = nat_lt n (2 ^ 127)
-is_in_range (negsuc n) = nat_lt n (2 ^ 127)
-
-abbrev pub added : ℤ → Outcome
-added sum = if is_in_range sum then gives (sum ∷ []) else raises FOAR0002
+-- the integer of an operation on integers, or the error of one that has none
+abbrev pub integer_outcome : Result Number NumFault → Outcome
+integer_outcome (Ok (Int i)) = gives (i ∷ [])
+integer_outcome (Ok (Dec u)) = wrong
+integer_outcome (Err Overflow) = raises FOAR0002
+integer_outcome (Err DivZero) = raises FOAR0001
 
 -- a sum is empty where an operand is; an operand of more than one item is a type error
-abbrev pub sum_of : List ℤ → List ℤ → Outcome
-sum_of [] [] = gives []
-sum_of [] (y ∷ []) = gives []
-sum_of (x ∷ []) [] = gives []
-sum_of (x ∷ []) (y ∷ []) = added (x +ℤ y)
-sum_of _ _ = wrong
+abbrev pub sum_outcome : List ℤ → List ℤ → Outcome
+sum_outcome [] [] = gives []
+sum_outcome [] (y ∷ []) = gives []
+sum_outcome (x ∷ []) [] = gives []
+sum_outcome (x ∷ []) (y ∷ []) = integer_outcome (sum_of (Int x) (Int y))
+sum_outcome _ _ = wrong
 
 abbrev pub operator_meaning : BinaryOp → List ℤ → List ℤ → Outcome
-operator_meaning Add left right = sum_of left right
+operator_meaning Add left right = sum_outcome left right
 
 abbrev pub variable_meaning : Option (List ℤ) → Outcome
 variable_meaning None = wrong

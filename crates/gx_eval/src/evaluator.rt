@@ -4,7 +4,7 @@ ghost use Rattle.std.specs.Prelude.{◌≡◌, ◌≢◌, [], ◌∷◌, IfOk, I
 ghost use Rattle.gx_types.specs.SchemaSet.{SchemaSet};
 ghost use Rattle.gx_core.specs.Expression.{annotation_of};
 ghost use Rattle.gx_core.specs.Soundness.{IsSound};
-ghost use Rattle.gx_core.specs.Meaning.{meaning, gives, wrong, look_up, variable_meaning, operator_meaning, sum_of};
+ghost use Rattle.gx_core.specs.Meaning.{meaning, gives, wrong, look_up, variable_meaning, operator_meaning, integer_outcome};
 ghost use Rattle.gx_core.specs.Refusal.{Fails};
 ghost use Rattle.gx_core.specs.Values.{Belongs};
 ghost use Rattle.gx_eval.specs.Extended.{extended, items_of, FailsSo};
@@ -14,6 +14,7 @@ use gx_core::dyn_error::DynError;
 use gx_core::expression::BinaryOp;
 use gx_core::scope::Scope;
 use gx_core::typed::{TypedCore, TypedExpr, TypedForm};
+use gx_num::{NumFault, Number, add};
 use std::alloc::{AllocError, AllocFailed, Global};
 
 // Why an evaluation has no value.
@@ -143,12 +144,22 @@ fn append_result(
 {
     match operator {
         BinaryOp::Add => match (left, right) {
-            ([x], [y]) => match x.checked_add(*y) {
-                Some(sum) => Ok(items.push(sum)?),
-                None => Err(Failure::Raised(Code::FOAR0002)),
-            },
+            ([x], [y]) => append_integer(add(Number::Int(*x), Number::Int(*y)), items),
             ([], []) | ([], [_]) | ([_], []) => Ok(()),
             _ => Err(Failure::Wrong),
         },
+    }
+}
+
+// Adds the integer of an operation on integers.
+fn append_integer(outcome: Result<Number, NumFault>, items: &mut Vec<i128>) -> Result<(), Failure>
+    ensures value { OnOk result (extended items.old.items (integer_outcome outcome) ≡ gives items.new.items) }
+    ensures failed { IfErr result (λ e. FailsSo e (integer_outcome outcome)) }
+{
+    match outcome {
+        Ok(Number::Int(integer)) => Ok(items.push(integer)?),
+        Ok(Number::Dec(_)) => Err(Failure::Wrong),
+        Err(NumFault::Overflow) => Err(Failure::Raised(Code::FOAR0002)),
+        Err(NumFault::DivZero) => Err(Failure::Raised(Code::FOAR0001)),
     }
 }

@@ -2,7 +2,7 @@
 use Rattle.std.proofs.Common.{◌≡◌, ℕ, suc, ◌≤◌, min, ℤ, ◌+ℤ◌, Bool, true, false, ◌&&◌, List, [], ◌∷◌, length, None, refl, sym, ap, subst, arith, nat_le, if◌then◌else◌}
 use Rattle.std.proofs.Math.Dec.{T, leb→le}
 use Rattle.std.proofs.lemmas.Bool.{and_parts}
-use Rattle.gx_base.specs.declared.code.Code.TheVariants.{XPTY0004, FOAR0002}
+use Rattle.gx_base.specs.declared.code.Code.TheVariants.{XPTY0004}
 use Rattle.gx_base.specs.declared.type_name.Builtin.{Builtin}
 use Rattle.gx_base.specs.declared.type_name.Builtin.TheVariants.{Integer, Decimal}
 use Rattle.gx_base.specs.declared.type_name.TypeName.TheVariants as names
@@ -19,7 +19,10 @@ use Rattle.gx_types.proofs.PublicLaws.{occurrence_bounds_length, times_takes_joi
 use Rattle.gx_core.specs.declared.expression.BinaryOp.TheVariants.{Add}
 use Rattle.gx_core.specs.Expression.{annotation_of}
 use Rattle.gx_core.specs.Values.{shapes_of, Belongs}
-use Rattle.gx_core.specs.Meaning.{gives, raises, after, is_in_range, added, sum_of, meaning}
+use Rattle.gx_num.specs.declared.Number.TheVariants.{Int}
+use Rattle.gx_num.specs.Number.{fits_integer}
+use Rattle.gx_num.specs.Arithmetic.{sum_of, ranged}
+use Rattle.gx_core.specs.Meaning.{after, integer_outcome, sum_outcome, meaning}
 use Rattle.gx_core.specs.Soundness.{Keeps}
 use Rattle.gx_static.specs.Rule.{has_type, has_none, atomic, is_all_in, is_number_or_empty, number_type, arithmetic_type, binary_rule}
 use Rattle.gx_static.specs.Laws.{AddKeepsType}
@@ -46,21 +49,21 @@ few_belong s n o [] d h w = times_takes_joined s (atomic n) o [] tt w
 few_belong s n o (z ∷ []) d h w = times_takes_joined s (atomic n) o ((Atom (names.Builtin Integer) ∷ []) ∷ []) ((Atom (names.Builtin Integer), refl, d), tt) w
 few_belong s n o (z ∷ y ∷ zs) d h w = absurd (omega arith)
 
-added_keeps : (s : SchemaSet) (z : ℤ) (t : SequenceType) → Belongs s (z ∷ []) t → Keeps s t (added z)
-added_keeps s z t h = elim (is_in_range z) as (λ (b : Bool). Keeps s t (if b then gives (z ∷ []) else raises FOAR0002)) [ true ↦ h | false ↦ tt ]
+integer_sum_keeps : (s : SchemaSet) (x y : ℤ) (t : SequenceType) → Belongs s ((x +ℤ y) ∷ []) t → Keeps s t (integer_outcome (sum_of (Int x) (Int y)))
+integer_sum_keeps s x y t h = elim (fits_integer (x +ℤ y)) as (λ (b : Bool). Keeps s t (integer_outcome (ranged b (Int (x +ℤ y))))) [ true ↦ h | false ↦ tt ]
 
 -- a sum has as many items as the shorter operand
-sum_value_keeps : (s : SchemaSet) (t : SequenceType) (xs ys : List ℤ) → length xs ≤ 1 → length ys ≤ 1 → ((zs : List ℤ) → (length zs ≡ min (length xs) (length ys)) → Belongs s zs t) → Keeps s t (sum_of xs ys)
+sum_value_keeps : (s : SchemaSet) (t : SequenceType) (xs ys : List ℤ) → length xs ≤ 1 → length ys ≤ 1 → ((zs : List ℤ) → (length zs ≡ min (length xs) (length ys)) → Belongs s zs t) → Keeps s t (sum_outcome xs ys)
 sum_value_keeps s t [] [] a b h = h [] (omega arith)
 sum_value_keeps s t [] (y ∷ []) a b h = h [] (omega arith)
 sum_value_keeps s t (x ∷ []) [] a b h = h [] (omega arith)
-sum_value_keeps s t (x ∷ []) (y ∷ []) a b h = added_keeps s (x +ℤ y) t (h ((x +ℤ y) ∷ []) (omega arith))
+sum_value_keeps s t (x ∷ []) (y ∷ []) a b h = integer_sum_keeps s x y t (h ((x +ℤ y) ∷ []) (omega arith))
 sum_value_keeps s t [] (y ∷ z ∷ ys) a b h = absurd (omega arith)
 sum_value_keeps s t (x ∷ []) (y ∷ z ∷ ys) a b h = absurd (omega arith)
 sum_value_keeps s t (x ∷ z ∷ xs) ys a b h = absurd (omega arith)
 
 counted_keeps : (s : SchemaSet) (n : Builtin) (o p : Occurs) (xs ys : List ℤ) → DerivesFrom s (names.Builtin Integer) (names.Builtin n) → o.greatest ≤ 1 → p.greatest ≤ 1 → Allows o (length xs) → Allows p (length ys)
-    → Keeps s (times_of (atomic n) (occurs (min o.least p.least) (min o.greatest p.greatest))) (sum_of xs ys)
+    → Keeps s (times_of (atomic n) (occurs (min o.least p.least) (min o.greatest p.greatest))) (sum_outcome xs ys)
 counted_keeps s n o p xs ys d a b v w =
     let l = v.greatest (omega arith) in
     let m = w.greatest (omega arith) in
@@ -68,10 +71,10 @@ counted_keeps s n o p xs ys d a b v w =
     (λ zs e. few_belong s n (occurs (min o.least p.least) (min o.greatest p.greatest)) zs d (omega (arith, e, l, m))
     (record { least = omega (arith, e, v.least, w.least); greatest = λ _. omega (arith, e, l, m) }))
 
-arithmetic_keeps : (s : SchemaSet) (t u : SequenceType) (xs ys : List ℤ) → (occurrence_of t).greatest ≤ 1 → (occurrence_of u).greatest ≤ 1 → Belongs s xs t → Belongs s ys u → Keeps s (arithmetic_type s t u) (sum_of xs ys)
+arithmetic_keeps : (s : SchemaSet) (t u : SequenceType) (xs ys : List ℤ) → (occurrence_of t).greatest ≤ 1 → (occurrence_of u).greatest ≤ 1 → Belongs s xs t → Belongs s ys u → Keeps s (arithmetic_type s t u) (sum_outcome xs ys)
 arithmetic_keeps s t u xs ys a b h k =
     elim (same_type never t) as (λ (none : Bool). same_type never t ≡ none
-    → Keeps s (if none then never else times_of (atomic (number_type s t u)) (occurs (min (occurrence_of t).least (occurrence_of u).least) (min (occurrence_of t).greatest (occurrence_of u).greatest))) (sum_of xs ys)) [
+    → Keeps s (if none then never else times_of (atomic (number_type s t u)) (occurs (min (occurrence_of t).least (occurrence_of u).least) (min (occurrence_of t).greatest (occurrence_of u).greatest))) (sum_outcome xs ys)) [
       | true ↦ λ e. absurd (equal_types_take_the_same s never t (shapes_of xs) e h)
       | false ↦ λ _. counted_keeps s (number_type s t u) (occurrence_of t) (occurrence_of u) xs ys (integer_is_number s (is_all_in s Integer t && is_all_in s Integer u)) a b (belongs_within s t xs h) (belongs_within s u ys k)
     ] refl
@@ -83,15 +86,15 @@ allowed true false t u e = absurd (cc)
 allowed false true t u e = absurd (cc)
 allowed false false t u e = absurd (cc)
 
-sum_has_type : (s : SchemaSet) (t u v : SequenceType) (xs ys : List ℤ) → Belongs s xs t → Belongs s ys u → binary_rule s Add t u ≡ has_type v → Keeps s v (sum_of xs ys)
+sum_has_type : (s : SchemaSet) (t u v : SequenceType) (xs ys : List ℤ) → Belongs s xs t → Belongs s ys u → binary_rule s Add t u ≡ has_type v → Keeps s v (sum_outcome xs ys)
 sum_has_type s t u v xs ys h k e =
     let q = allowed (is_number_or_empty s t) (is_number_or_empty s u) (arithmetic_type s t u) v e in
-    keeps_ruled s (arithmetic_type s t u) v (sum_of xs ys) q.2
+    keeps_ruled s (arithmetic_type s t u) v (sum_outcome xs ys) q.2
     (arithmetic_keeps s t u xs ys (at_most_one (occurrence_of t).greatest ((and_parts (nat_le (occurrence_of t).greatest 1) (is_all_in s Decimal t) q.0).0))
     (at_most_one (occurrence_of u).greatest ((and_parts (nat_le (occurrence_of u).greatest 1) (is_all_in s Decimal u) q.1).0)) h k)
 
 pub sum_keeps : AddKeepsType
 sum_keeps s a b types ka kb place outer t e bindings fits =
-    after_keeps s (annotation_of a) t (meaning a bindings) (λ xs. after (meaning b bindings) (λ ys. sum_of xs ys)) (ka bindings fits)
-    (λ xs h. after_keeps s (annotation_of b) t (meaning b bindings) (λ ys. sum_of xs ys) (kb bindings fits)
+    after_keeps s (annotation_of a) t (meaning a bindings) (λ xs. after (meaning b bindings) (λ ys. sum_outcome xs ys)) (ka bindings fits)
+    (λ xs h. after_keeps s (annotation_of b) t (meaning b bindings) (λ ys. sum_outcome xs ys) (kb bindings fits)
     (λ ys k. sum_has_type s (annotation_of a) (annotation_of b) t xs ys h k e))
