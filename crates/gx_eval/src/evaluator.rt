@@ -1,6 +1,6 @@
 // The evaluation of Core expressions.
 
-ghost use Rattle.std.specs.Prelude.{◌≡◌, ◌≢◌, [], ◌∷◌, IfOk, IfErr, OnOk, map};
+ghost use Rattle.std.specs.Prelude.{◌≡◌, ◌≢◌, [], IfOk, IfErr, OnOk};
 ghost use Rattle.gx_types.specs.SchemaSet.{SchemaSet};
 ghost use Rattle.gx_core.specs.Expression.{annotation_of};
 ghost use Rattle.gx_core.specs.Soundness.{IsSound};

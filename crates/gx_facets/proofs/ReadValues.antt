@@ -1,6 +1,6 @@
 -- What reading gives is a value of the type.
-use Rattle.std.proofs.Common.{◌≡◌, ◌≢◌, ℕ, Bool, true, false, cond, T, List, [], ◌∷◌, ◌++◌, ℤ, ◌≤ℤ◌, refl, ap, sym, ◌∙◌, subst, arith}
-use Rattle.std.specs.Prelude.{int_le, Result, Ok, Err, ◌&&◌}
+use Rattle.std.proofs.Common.{◌≡◌, ◌≢◌, ℕ, Bool, true, false, cond, T, List, [], ◌∷◌, ◌++◌, ℤ, refl, ap, subst, arith}
+use Rattle.std.specs.Prelude.{int_le, Result, Ok, Err}
 use Rattle.std.proofs.lemmas.Bool.Decides.{nat_tests}
 use Rattle.gx_base.specs.WhiteSpace.{is_white_space}
 use Rattle.gx_base.specs.declared.type_name.Builtin.{Builtin}
@@ -13,8 +13,8 @@ use Rattle.gx_facets.specs.declared.AtomValue.{AtomValue}
 use Rattle.gx_facets.specs.declared.AtomValue.TheVariants.{Untyped, Str, Truth, Num}
 use Rattle.gx_facets.specs.declared.ValueRead.{ValueRead}
 use Rattle.gx_facets.specs.declared.ValueRead.TheVariants.{NotLexical}
-use Rattle.gx_facets.specs.Value.{value_of, lexical_form, value_of_decimal, boolean_value, integer_within, least_of, greatest_of}
-use Rattle.gx_facets.specs.ValueSpace.{HasNoSpace, HasSpacesAlone, IsTokenWord, AreTokenWords, IsToken, IsStringWith, IsUntypedValue, IsBooleanValue, IsDecimalValue, IsIntegerWithin, FitsType}
+use Rattle.gx_facets.specs.Value.{value_of, lexical_form, value_of_decimal, integer_within, least_of, greatest_of}
+use Rattle.gx_facets.specs.ValueSpace.{HasNoSpace, HasSpacesAlone, AreTokenWords, IsToken, IsStringWith, IsUntypedValue, IsBooleanValue, IsDecimalValue, IsIntegerWithin, FitsType}
 
 by_bool : {P : Type 0} (b : Bool) → (b ≡ true → P) → (b ≡ false → P) → P
 by_bool true f g = f refl
