@@ -4,3 +4,4 @@ pub mod IntegerTypes
 pub mod SameValues
 pub mod Words
 pub mod PrintedForms
+pub mod ReadValues

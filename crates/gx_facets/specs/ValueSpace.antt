@@ -1,5 +1,5 @@
 -- Which values each built-in type has (XML Schema Part 2, section 3), and what reading a number's text comes to.
-use Rattle.std.specs.Prelude.{◌≡◌, ◌≢◌, ℕ, List, [], ◌∷◌, ℤ, ◌≤ℤ◌, Bool, false, Result}
+use Rattle.std.specs.Prelude.{◌≡◌, ◌≢◌, ℕ, List, [], ◌∷◌, ℤ, ◌≤ℤ◌, false, Result}
 use Rattle.gx_base.specs.declared.type_name.Builtin.{Builtin}
 use Rattle.gx_base.specs.declared.type_name.Builtin.TheVariants as types
 use Rattle.gx_num.specs.declared.Number.TheVariants.{Int, Dec}

@@ -15,6 +15,13 @@ pub fn printed_values_read_back()
     forms_are_read();
 }
 
+/// What a text is read as at a type is a value of that type.
+pub fn read_values_fit()
+    ensures { (kind : BuiltinType) (text : List ℕ) (value : AtomValue) → value_of kind text ≡ Ok value → FitsType kind value }
+{
+    forms_are_read();
+}
+
 /// A text without its outer and doubled white space is read at a number's type by its lexical form: as the number of that
 /// form, or with the fault that the form has (XML Schema Part 2, sections 3.2.3.1 and 3.3.13.1).
 pub fn numbers_are_read_by_their_forms()

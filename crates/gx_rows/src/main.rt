@@ -1,5 +1,5 @@
-//! Worked values of texts, names, numbers and atomic values: each line of standard input is a call with its arguments, and is written again with
-//! its answer.
+//! Worked values of texts, names, numbers and atomic values: each line of standard input is a call with its arguments, and
+//! is written again with its answer.
 #![tactic(auto)]
 
 mod names;

@@ -2,16 +2,16 @@
 use Rattle.std.proofs.Common.{◌≡◌, ◌≢◌, ℕ, ◌+◌, ◌^◌, ◌<◌, List, [], ◌∷◌, ◌++◌, length, get_or, drop, map, Bool, true, false, not, cond, refl, sym, ap, ◌∙◌, subst, arith, append_assoc, append-nil}
 use Rattle.std.specs.Prelude.{Option, Some, None, bytes_eq, ◌&&◌, ◌||◌}
 use Rattle.std.proofs.Math.Seq.{drop-append_seam}
-use Rattle.std.proofs.lemmas.List.{map-append, length-map}
+use Rattle.std.proofs.lemmas.List.{length-map}
 use Rattle.gx_base.specs.declared.name.Name.{Name}
 use Rattle.gx_tree.specs.declared.attribute.Attribute.{Attribute}
 use Rattle.gx_tree.specs.PlainTree.{PlainTree, PlainTrees, document, element, attribute, text, no_trees, a_tree}
-use Rattle.gx_serial.specs.Binding.{Binding, bound_to, gives, needs_declaration, xml, xml_uri, xmlns, xmlns_uri, numbered_prefix, free_prefix, is_prefix_among}
-use Rattle.gx_serial.specs.Marked.{Begun, begun, prefixes_of, with_prefix, unless_taken, after_attribute, after_attributes, scope_within, tag_of, marked, all_marked}
-use Rattle.gx_serial.specs.Reading.{uri_read, IsWritableName, IsWritableAttribute, AreWritableAttributes, IsWritable, AreWritable}
+use Rattle.gx_serial.specs.Binding.{Binding, bound_to, gives, needs_declaration, xml, xml_uri, numbered_prefix, is_prefix_among}
+use Rattle.gx_serial.specs.Marked.{Begun, begun, prefixes_of, with_prefix, unless_taken, after_attributes, scope_within, tag_of, marked, all_marked}
+use Rattle.gx_serial.specs.Reading.{uri_read, IsWritableName, AreWritableAttributes, IsWritable, AreWritable}
 use Rattle.gx_serial.specs.Declarations.{IsAllowedDeclaration, AreAllowedDeclarations, DeclareOnce, IsSoundTag, HasSoundTags, HaveSoundTags}
 use Rattle.gx_serial.proofs.FreeLemmas.{by_bool, bytes_same, bytes_self, bound_to-snoc, or_left, or_right}
-use Rattle.gx_serial.proofs.ReadingLemmas.{Holds, IsGood, some_same, holds_with, none_some, chosen_is_good, length_with, bare_state, full_state}
+use Rattle.gx_serial.proofs.ReadingLemmas.{Holds, some_same, holds_with, none_some, chosen_is_good, length_with, bare_state, full_state}
 
 abbrev prefixes : List Binding → List (List ℕ)
 prefixes bs = map (λ (b : Binding). b.0) bs

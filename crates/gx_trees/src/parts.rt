@@ -33,49 +33,46 @@ impl Parts {
 
     /// Takes what the words say, each part behind its own parts.
     pub fn take_words(&mut self, alloc: Global, words: &[&str]) -> Result<(), AllocError> {
-        let mut rest = words;
+        let mut taken = 0usize;
         for _ in words {
-            rest = self.take_part(alloc, rest)?;
+            let rest = words.get(taken..).unwrap_or(&[]);
+            taken = taken.saturating_add(self.take_part(alloc, rest)?);
         }
         Ok(())
     }
 
-    // Takes the part that the first words say, and gives the words behind them.
-    fn take_part<'a, 'b>(
-        &mut self,
-        alloc: Global,
-        words: &'a [&'b str],
-    ) -> Result<&'a [&'b str], AllocError> {
+    // Takes the part that the first words say, and gives the number of these words.
+    fn take_part(&mut self, alloc: Global, words: &[&str]) -> Result<usize, AllocError> {
         match words {
-            ["value", text, rest @ ..] => {
+            ["value", text, ..] => {
                 self.value(alloc, text)?;
-                Ok(rest)
+                Ok(2)
             }
-            ["text", text, "copied", count, rest @ ..] => {
+            ["text", text, "copied", count, ..] => {
                 self.text(alloc, copies(alloc, text, count)?.as_str())?;
-                Ok(rest)
+                Ok(4)
             }
-            ["text", text, rest @ ..] => {
+            ["text", text, ..] => {
                 self.text(alloc, text)?;
-                Ok(rest)
+                Ok(2)
             }
-            ["attribute", name, kind, value, rest @ ..] => {
+            ["attribute", name, kind, value, ..] => {
                 self.attribute(alloc, name, kind, value)?;
-                Ok(rest)
+                Ok(4)
             }
-            ["element", name, kind, children, rest @ ..] => {
+            ["element", name, kind, children, ..] => {
                 self.element(alloc, name, kind, children)?;
-                Ok(rest)
+                Ok(4)
             }
-            ["document", children, rest @ ..] => {
+            ["document", children, ..] => {
                 self.document(children)?;
-                Ok(rest)
+                Ok(2)
             }
-            ["lone", rest @ ..] => {
+            ["lone", ..] => {
                 self.lone_attributes(alloc)?;
-                Ok(rest)
+                Ok(1)
             }
-            _ => Ok(words),
+            _ => Ok(0),
         }
     }
 
