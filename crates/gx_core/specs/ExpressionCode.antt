@@ -1,6 +1,6 @@
 -- The code of an expression as stored data, which tells expressions apart.
-use Rattle.std.specs.Prelude.{◌≡◌, zero, suc, ℤ, pos, negsuc, refl}
-use Rattle.std.proofs.Common.{sym, ◌∙◌, ap}
+use Rattle.std.specs.Prelude.{◌≡◌, refl}
+use Rattle.std.proofs.Common.{◌∙◌, ap}
 use base.Stored.{Gv, gnil, gnum, gcons, Coded}
 use Rattle.gx_base.specs.Stored.{stored_place, place_back, place_once, stored_integer, integer_once}
 use Rattle.gx_types.specs.SequenceType.{SequenceType}

@@ -1,5 +1,5 @@
 -- Whole queries: what one means, and when one with its types is sound.
-use Rattle.std.specs.Prelude.{◌≡◌, []}
+use Rattle.std.specs.Prelude.{[]}
 use Rattle.gx_types.specs.SchemaSet.{SchemaSet}
 use Rattle.gx_types.specs.SequenceType.{SequenceType}
 use Rattle.gx_core.specs.declared.expression.Core.{Core}

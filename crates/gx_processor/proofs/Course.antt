@@ -1,5 +1,5 @@
 -- The courses that a run can take, from its reply and from what it leaves in its sinks.
-use Rattle.std.proofs.Common.{◌≡◌, List, ℕ, [], ◌∷◌, refl, sym, ap, subst, None, Some, string_bytes}
+use Rattle.std.proofs.Common.{◌≡◌, List, ℕ, [], refl, sym, ap, subst, None, Some, string_bytes}
 use Rattle.gx_io.specs.LibraryUse.{LoadsOnly, LibraryFailed}
 use Rattle.gx_io.specs.SinkUse.{IsUntouched}
 use Rattle.gx_processor.specs.declared.status.Status.{Status}

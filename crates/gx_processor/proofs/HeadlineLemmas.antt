@@ -1,5 +1,5 @@
 -- The headline, from the answer that a run ends with.
-use Rattle.std.proofs.Common.{◌≡◌, ℕ, ◌≤◌, Bool, true, false, List, ◌⊎◌, inl, inr, length, Option, Some, None, refl, sym, ◌∙◌, ap, subst, nat_le}
+use Rattle.std.proofs.Common.{◌≡◌, ℕ, ◌≤◌, Bool, true, false, List, inl, inr, length, Option, Some, None, refl, sym, ◌∙◌, ap, subst, nat_le}
 use Rattle.std.specs.Bool.{MatchBool}
 use Rattle.std.proofs.lemmas.Bool.{leb-true, le-leb}
 use Rattle.gx_base.specs.declared.code.Code.TheVariants.{GLXS0001}
@@ -11,7 +11,7 @@ use Rattle.gx_core.specs.QueryMeaning.{query_outcome, query_type, SoundQueriesKe
 use Rattle.gx_core.specs.Soundness.{Keeps}
 use Rattle.gx_static.specs.QueryJudgement.{QueryJudgement, query_typed, query_rejected, query_judged, QueryTypingIsSound, QueryRejectionNamesFailure}
 use Rattle.gx_io.specs.Load.{file_of}
-use Rattle.gx_processor.specs.declared.status.Status.TheVariants.{Query, Memory}
+use Rattle.gx_processor.specs.declared.status.Status.TheVariants.{Query}
 use Rattle.gx_parse.specs.SyntaxTree.{SyntaxTree}
 use Rattle.gx_processor.specs.Command.{Command, run_file, check_file, query_file, command_of}
 use Rattle.gx_processor.specs.Query.{HasTree, HoldsQuery}

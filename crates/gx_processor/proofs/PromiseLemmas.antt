@@ -1,19 +1,18 @@
 -- The promises of the program, from the course that a run takes.
-use Rattle.std.proofs.Common.{◌≡◌, ℕ, ◌≤◌, Bool, true, false, List, [], ◌⊎◌, inl, inr, length, take, Option, Some, None, IfSome, refl, sym, ◌∙◌, ap, subst, arith, nat_le}
+use Rattle.std.proofs.Common.{◌≡◌, ℕ, Bool, true, false, List, [], ◌⊎◌, inl, inr, length, Option, Some, None, IfSome, refl, sym, ◌∙◌, ap, subst, arith, nat_le}
 use Rattle.std.specs.Bool.{MatchBool}
 use Rattle.std.proofs.lemmas.List.{append-nil, take_all}
 use Rattle.std.proofs.lemmas.Bool.{leb-true}
 use Rattle.gx_base.specs.declared.code.Code.TheVariants.{GLXS0001}
 use Rattle.gx_io.specs.Put.{GrowsBy}
-use Rattle.gx_io.specs.LibraryUse.{LibraryFailed}
-use Rattle.gx_io.specs.SinkUse.{SinkUse, IsUntouched, PutOnce, Grew, GrewByPrefix, SinkFailed, Took, TookPart}
+use Rattle.gx_io.specs.SinkUse.{SinkUse, IsUntouched, Grew, GrewByPrefix, SinkFailed, Took, TookPart}
 use Rattle.gx_processor.specs.declared.status.Status.{Status}
 use Rattle.gx_processor.specs.declared.status.Status.TheVariants.{Done, Usage, Query, Schema, Document, Dynamic, ReadFault, WriteFault, Memory}
 use Rattle.gx_processor.specs.declared.reply.Reply.{Reply}
 use Rattle.gx_processor.specs.declared.reply.Reply.TheVariants.{Output, Fault, Starved}
-use Rattle.gx_processor.specs.Command.{Command, query_file, command_of, AskToRun}
-use Rattle.gx_processor.specs.FaultLines.{usage_line, read_fault_line, write_fault_line, code_line}
-use Rattle.gx_processor.specs.Answer.{Answer, writes, refuses, status_of, output_of, AnswersBytes, AnswersFile, Answers}
+use Rattle.gx_processor.specs.Command.{Command, command_of, AskToRun}
+use Rattle.gx_processor.specs.FaultLines.{read_fault_line, write_fault_line, code_line}
+use Rattle.gx_processor.specs.Answer.{Answer, writes, refuses, status_of, output_of, AnswersBytes, Answers}
 use Rattle.gx_processor.specs.Ending.{Put, PutOutput, Ends}
 use Rattle.gx_processor.specs.Replies.{HasForm, IsUsageOrStarved}
 use Rattle.gx_processor.specs.Run.{Run, WhereTold, IsFaultless}

@@ -1,9 +1,8 @@
 -- All promises of a run, from what the parts of the public call show of it.
-use Rattle.std.proofs.Common.{ℕ, List, subst, ◌≡◌, None}
+use Rattle.std.proofs.Common.{subst}
 use Rattle.gx_core.specs.QueryMeaning.{SoundQueriesKeepTheirTypes}
 use Rattle.gx_static.specs.QueryJudgement.{QueryTypingIsSound, QueryRejectionNamesFailure}
 use Rattle.gx_processor.specs.declared.reply.Reply.{Reply}
-use Rattle.gx_processor.specs.Answer.{writes, Answers}
 use Rattle.gx_processor.specs.Run.{Run, WhereTold, IsFaultless}
 use Rattle.gx_processor.specs.Promises.{IsCertain, IsAnswered, Promises}
 use Rattle.gx_processor.proofs.Course.{Shows, course_of}

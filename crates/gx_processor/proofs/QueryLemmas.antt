@@ -1,5 +1,5 @@
 -- The steps of an answer, one behind another.
-use Rattle.std.proofs.Common.{◌≡◌, ℕ, ◌≤◌, Bool, true, List, [], length, Option, Some, None, IfSome, Result, Ok, Err, IfOk, IfErr, String, string_bytes, sym, subst, nat_le}
+use Rattle.std.proofs.Common.{◌≡◌, ℕ, ◌≤◌, Bool, true, List, length, Option, Some, None, IfSome, Result, Ok, Err, IfOk, IfErr, String, string_bytes, sym, subst, nat_le}
 use Rattle.std.specs.Bool.{MatchBool}
 use Rattle.std.proofs.lemmas.Bool.{le-leb}
 use Rattle.gx_base.specs.declared.code.Code.TheVariants.{GLXS0001}

@@ -37,11 +37,11 @@ pub fn galax<L: Library, O: Sink, E: Sink>(
     err: &mut E,
 ) -> Status
     ensures { Promises (record {
-        words = bytes_of words.now;
-        library = library_use L.files L.faults L.was_loaded library.old library.new;
-        status = result;
-        out = sink_use O.written O.faults O.was_put out.old out.new;
-        err = sink_use E.written E.faults E.was_put err.old err.new;
+      words = bytes_of words.now;
+      library = library_use L.files L.faults L.was_loaded library.old library.new;
+      status = result;
+      out = sink_use O.written O.faults O.was_put out.old out.new;
+      err = sink_use E.written E.faults E.was_put err.old err.new;
     }) }
 {
     query_typing_is_sound();
