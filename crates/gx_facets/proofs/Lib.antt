@@ -5,3 +5,4 @@ pub mod SameValues
 pub mod Words
 pub mod PrintedForms
 pub mod ReadValues
+pub mod CollapsedForms

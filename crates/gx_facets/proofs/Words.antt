@@ -1,7 +1,7 @@
 -- One pass over a text finds the words.
-use Rattle.std.proofs.Common.{◌≡◌, ℕ, Bool, true, false, cond, List, [], ◌∷◌, ◌++◌, refl, ap, sym, ◌∙◌}
-use Rattle.gx_facets.specs.WhiteSpace.{collapsed, before_part, parts_of, parts_behind_spaces, joined_by_spaces}
-use Rattle.gx_facets.proofs.Collapsing.{collapsed_behind, in_one_pass}
+use Rattle.std.proofs.Common.{◌≡◌, ℕ, Bool, true, false, cond, ◌&&◌, List, [], ◌∷◌, ◌++◌, refl, ap, sym, ◌∙◌}
+use Rattle.gx_facets.specs.WhiteSpace.{collapsed, before_part, parts_of, parts_behind_spaces, joined_by_spaces, behind_space}
+use Rattle.gx_facets.proofs.Collapsing.{collapsed_behind, in_one_pass, left_to_collapse}
 use Rattle.gx_base.specs.WhiteSpace.{is_white_space}
 
 -- what follows a character that stays: the rest of its part, and then the other parts
@@ -9,7 +9,7 @@ continued : List (List ℕ) → List ℕ
 continued [] = []
 continued (part ∷ parts) = part ++ parts_behind_spaces parts
 
-by_test : (P : Bool → Type 0) (b : Bool) → P true → P false → P b
+pub by_test : (P : Bool → Type 0) (b : Bool) → P true → P false → P b
 by_test P true yes' no' = yes'
 by_test P false yes' no' = no'
 
@@ -46,3 +46,10 @@ one_pass (c ∷ cs) =
     by_test (λ b. cond b (in_one_pass cs) (c ∷ collapsed_behind false cs) ≡ joined_by_spaces (cond b ([] ∷ parts_of cs) (before_part c (parts_of cs)))) (is_white_space c)
     (one_pass cs)
     (ap (λ t. c ∷ t) (behind cs).1 ∙ sym (joined_before c (parts_of cs)))
+
+-- a character that stays, before what it leaves to collapse
+pub left_before : (begun gap : Bool) (c : ℕ) (cs : List ℕ) → is_white_space c ≡ false
+    → left_to_collapse begun gap (c ∷ cs) ≡ behind_space (begun && gap) c (collapsed_behind false cs)
+left_before true true c cs e = rw e refl
+left_before true false c cs e = rw e refl
+left_before false gap c cs e = rw e refl

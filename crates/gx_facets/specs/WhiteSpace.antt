@@ -1,5 +1,5 @@
 -- White space of a lexical form (XML Schema Part 2, 4.3.6).
-use Rattle.std.specs.Prelude.{ℕ, ◌++◌, if◌then◌else◌, List, [], ◌∷◌, map}
+use Rattle.std.specs.Prelude.{ℕ, Bool, true, false, ◌++◌, if◌then◌else◌, List, [], ◌∷◌, map}
 use Rattle.gx_base.specs.WhiteSpace.{is_white_space}
 
 abbrev pub space_for : ℕ → ℕ
@@ -34,3 +34,8 @@ joined_by_spaces ((c ∷ cs) ∷ parts) = (c ∷ cs) ++ parts_behind_spaces part
 -- white space goes from both ends, and each run of it becomes one space
 abbrev pub collapsed : List ℕ → List ℕ
 collapsed text = joined_by_spaces (parts_of text)
+
+-- the character before the others, behind a space where there is a gap
+abbrev pub behind_space : Bool → ℕ → List ℕ → List ℕ
+behind_space true c cs = 32 ∷ c ∷ cs
+behind_space false c cs = c ∷ cs
