@@ -1,6 +1,6 @@
 // A text that grows.
 
-ghost use Rattle.std.specs.Prelude.{◌≡◌, [], ◌∷◌, ◌++◌, IfOk, OnOk, OnErr, IsTrue, ◌↔◌};
+ghost use Rattle.std.specs.Prelude.{◌≡◌, [], ◌∷◌, ◌++◌, IfOk, OnOk, OnErr, IsTrue, ◌↔◌, string_bytes};
 ghost use Rattle.std.specs.Str.{chars, encode_utf8_all};
 
 use crate::text::{Text, has_no_character};
@@ -79,6 +79,14 @@ impl TextBuilder {
         ensures err { OnErr result (self.new ≡ self.old) }
     {
         Ok(self.text.push_str(other)?)
+    }
+
+    /// The characters in UTF-8, as a string that keeps their memory.
+    pub fn into_string(self) -> String
+        ensures { string_bytes result ≡ encode_utf8_all self }
+    {
+        let TextBuilder { alloc: _, text } = self;
+        text
     }
 
     /// The text of these characters, which keeps their memory.

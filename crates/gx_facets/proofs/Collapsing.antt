@@ -19,3 +19,8 @@ in_one_pass (c ∷ cs) = if is_white_space c then in_one_pass cs else c ∷ coll
 abbrev pub resumed : List ℕ → Bool → List ℕ → List ℕ
 resumed [] gap rest = in_one_pass rest
 resumed (d ∷ ds) gap rest = (d ∷ ds) ++ collapsed_behind gap rest
+
+-- what is left where a character has stayed, and where none has
+abbrev pub left_to_collapse : Bool → Bool → List ℕ → List ℕ
+left_to_collapse true gap rest = collapsed_behind gap rest
+left_to_collapse false gap rest = in_one_pass rest

@@ -1,3 +1,4 @@
 pub mod WhiteSpace
 pub mod Value
 pub mod Admission
+pub mod ValueSpace

@@ -20,7 +20,6 @@ use Rattle.gx_facets.specs.declared.ValueRead.TheVariants.{NotLexical, TooLarge,
 
 -- the least and the greatest number of a type that is or derives from xs:integer
 abbrev pub least_of : Builtin → ℤ
-least_of types.Negative = negsuc (2 ^ 127 - 1)
 least_of types.Long = negsuc 9223372036854775807
 least_of types.Int = negsuc 2147483647
 least_of types.Short = negsuc 32767
@@ -55,9 +54,9 @@ abbrev pub integer_within : ℤ → ℤ → Result ℤ NumRead → Result AtomVa
 integer_within least greatest (Ok i) = if int_le least i && int_le i greatest then Ok (Num (Int i)) else Err NotLexical
 integer_within least greatest (Err e) = Err (fault_of e)
 
-abbrev pub decimal_value : Result ℤ NumRead → Result AtomValue ValueRead
-decimal_value (Ok u) = Ok (Num (Dec u))
-decimal_value (Err e) = Err (fault_of e)
+abbrev pub value_of_decimal : Result ℤ NumRead → Result AtomValue ValueRead
+value_of_decimal (Ok u) = Ok (Num (Dec u))
+value_of_decimal (Err e) = Err (fault_of e)
 
 abbrev pub boolean_value : List ℕ → Result AtomValue ValueRead
 boolean_value text =
@@ -65,8 +64,8 @@ boolean_value text =
     else (if same_text text (codes "false") || same_text text (codes "0") then Ok (Truth false) else Err NotLexical)
 
 -- the text of a number or a boolean, in UTF-8
-abbrev pub form_of : List ℕ → List ℕ
-form_of text = encode_utf8_all (collapsed text)
+abbrev pub lexical_form : List ℕ → List ℕ
+lexical_form text = encode_utf8_all (collapsed text)
 
 abbrev pub value_of : Builtin → List ℕ → Result AtomValue ValueRead
 value_of types.AnyType text = Err NotLexical
@@ -77,21 +76,21 @@ value_of types.UntypedAtomic text = Ok (Untyped text)
 value_of types.Str text = Ok (Str text)
 value_of types.NormalizedStr text = Ok (Str (replaced text))
 value_of types.Token text = Ok (Str (collapsed text))
-value_of types.Boolean text = boolean_value (form_of text)
-value_of types.Decimal text = decimal_value (decimal_of (form_of text))
-value_of types.Integer text = integer_within (least_of types.Integer) (greatest_of types.Integer) (integer_of (form_of text))
-value_of types.NonPositive text = integer_within (least_of types.NonPositive) (greatest_of types.NonPositive) (integer_of (form_of text))
-value_of types.Negative text = integer_within (least_of types.Negative) (greatest_of types.Negative) (integer_of (form_of text))
-value_of types.Long text = integer_within (least_of types.Long) (greatest_of types.Long) (integer_of (form_of text))
-value_of types.Int text = integer_within (least_of types.Int) (greatest_of types.Int) (integer_of (form_of text))
-value_of types.Short text = integer_within (least_of types.Short) (greatest_of types.Short) (integer_of (form_of text))
-value_of types.Byte text = integer_within (least_of types.Byte) (greatest_of types.Byte) (integer_of (form_of text))
-value_of types.NonNegative text = integer_within (least_of types.NonNegative) (greatest_of types.NonNegative) (integer_of (form_of text))
-value_of types.UnsignedLong text = integer_within (least_of types.UnsignedLong) (greatest_of types.UnsignedLong) (integer_of (form_of text))
-value_of types.UnsignedInt text = integer_within (least_of types.UnsignedInt) (greatest_of types.UnsignedInt) (integer_of (form_of text))
-value_of types.UnsignedShort text = integer_within (least_of types.UnsignedShort) (greatest_of types.UnsignedShort) (integer_of (form_of text))
-value_of types.UnsignedByte text = integer_within (least_of types.UnsignedByte) (greatest_of types.UnsignedByte) (integer_of (form_of text))
-value_of types.Positive text = integer_within (least_of types.Positive) (greatest_of types.Positive) (integer_of (form_of text))
+value_of types.Boolean text = boolean_value (lexical_form text)
+value_of types.Decimal text = value_of_decimal (decimal_of (lexical_form text))
+value_of types.Integer text = integer_within (least_of types.Integer) (greatest_of types.Integer) (integer_of (lexical_form text))
+value_of types.NonPositive text = integer_within (least_of types.NonPositive) (greatest_of types.NonPositive) (integer_of (lexical_form text))
+value_of types.Negative text = integer_within (least_of types.Negative) (greatest_of types.Negative) (integer_of (lexical_form text))
+value_of types.Long text = integer_within (least_of types.Long) (greatest_of types.Long) (integer_of (lexical_form text))
+value_of types.Int text = integer_within (least_of types.Int) (greatest_of types.Int) (integer_of (lexical_form text))
+value_of types.Short text = integer_within (least_of types.Short) (greatest_of types.Short) (integer_of (lexical_form text))
+value_of types.Byte text = integer_within (least_of types.Byte) (greatest_of types.Byte) (integer_of (lexical_form text))
+value_of types.NonNegative text = integer_within (least_of types.NonNegative) (greatest_of types.NonNegative) (integer_of (lexical_form text))
+value_of types.UnsignedLong text = integer_within (least_of types.UnsignedLong) (greatest_of types.UnsignedLong) (integer_of (lexical_form text))
+value_of types.UnsignedInt text = integer_within (least_of types.UnsignedInt) (greatest_of types.UnsignedInt) (integer_of (lexical_form text))
+value_of types.UnsignedShort text = integer_within (least_of types.UnsignedShort) (greatest_of types.UnsignedShort) (integer_of (lexical_form text))
+value_of types.UnsignedByte text = integer_within (least_of types.UnsignedByte) (greatest_of types.UnsignedByte) (integer_of (lexical_form text))
+value_of types.Positive text = integer_within (least_of types.Positive) (greatest_of types.Positive) (integer_of (lexical_form text))
 
 -- the call answers this, unless memory runs out
 abbrev pub Reads : Result AtomValue ValueRead → Result AtomValue ValueRead → Type 0

@@ -1,5 +1,5 @@
 -- White space of a lexical form (XML Schema Part 2, 4.3.6).
-use Rattle.std.specs.Prelude.{ℕ, ◌++◌, if◌then◌else◌, List, [], ◌∷◌, map}
+use Rattle.std.specs.Prelude.{ℕ, Bool, true, false, ◌++◌, if◌then◌else◌, List, [], ◌∷◌, map}
 use Rattle.gx_base.specs.WhiteSpace.{is_white_space}
 
 abbrev pub space_for : ℕ → ℕ
@@ -20,17 +20,22 @@ parts_of [] = [] ∷ []
 parts_of (c ∷ cs) = if is_white_space c then [] ∷ parts_of cs else before_part c (parts_of cs)
 
 -- the parts that are not empty, each behind a space
-abbrev pub spaced : List (List ℕ) → List ℕ
-spaced [] = []
-spaced ([] ∷ parts) = spaced parts
-spaced ((c ∷ cs) ∷ parts) = 32 ∷ ((c ∷ cs) ++ spaced parts)
+abbrev pub parts_behind_spaces : List (List ℕ) → List ℕ
+parts_behind_spaces [] = []
+parts_behind_spaces ([] ∷ parts) = parts_behind_spaces parts
+parts_behind_spaces ((c ∷ cs) ∷ parts) = 32 ∷ ((c ∷ cs) ++ parts_behind_spaces parts)
 
 -- the parts that are not empty, with one space between
-abbrev pub joined : List (List ℕ) → List ℕ
-joined [] = []
-joined ([] ∷ parts) = joined parts
-joined ((c ∷ cs) ∷ parts) = (c ∷ cs) ++ spaced parts
+abbrev pub joined_by_spaces : List (List ℕ) → List ℕ
+joined_by_spaces [] = []
+joined_by_spaces ([] ∷ parts) = joined_by_spaces parts
+joined_by_spaces ((c ∷ cs) ∷ parts) = (c ∷ cs) ++ parts_behind_spaces parts
 
 -- white space goes from both ends, and each run of it becomes one space
 abbrev pub collapsed : List ℕ → List ℕ
-collapsed text = joined (parts_of text)
+collapsed text = joined_by_spaces (parts_of text)
+
+-- the character before the others, behind a space where there is a gap
+abbrev pub behind_space : Bool → ℕ → List ℕ → List ℕ
+behind_space true c cs = 32 ∷ c ∷ cs
+behind_space false c cs = c ∷ cs

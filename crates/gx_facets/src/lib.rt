@@ -4,6 +4,7 @@
 ghost use Rattle.std.specs.Prelude.{◌≡◌};
 
 mod admission;
+pub mod laws;
 mod reading;
 pub mod restriction;
 mod values;
@@ -13,7 +14,7 @@ pub use admission::{admits, admits_list};
 use gx_base::text::Text;
 use gx_base::type_name::TypeName;
 use gx_num::Number;
-pub use reading::read_value;
+pub use reading::{greatest_integer, least_integer, read_boolean, read_value};
 pub use restriction::Facets;
 use std::alloc::AllocError;
 pub use values::{compare_values, print_value};

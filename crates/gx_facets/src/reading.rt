@@ -1,9 +1,10 @@
 // Values from their lexical forms.
-ghost use Rattle.std.specs.Prelude.{◌≡◌};
+ghost use Rattle.std.specs.Prelude.{◌≡◌, ◌||◌, MatchResult};
+ghost use Rattle.gx_base.specs.Text.{same_text};
 ghost use Rattle.gx_num.specs.Lexical.{integer_of, decimal_of};
-ghost use Rattle.gx_facets.specs.Value.{Reads, value_of, form_of, boolean_value, decimal_value, integer_within, least_of, greatest_of, fault_of};
+ghost use Rattle.gx_facets.specs.Value.{Reads, value_of, lexical_form, boolean_value, value_of_decimal, integer_within, least_of, greatest_of, fault_of};
 
-use crate::white_space::{collapse, replace};
+use crate::white_space::{collapse, collapses_to, replace};
 use crate::{AtomValue, ValueRead};
 use gx_base::text::Text;
 use gx_base::type_name::Builtin;
@@ -25,7 +26,7 @@ pub fn read_value(alloc: Global, kind: Builtin, text: &Text) -> Result<AtomValue
         Builtin::Str => Ok(AtomValue::Str(text.clone()?)),
         Builtin::NormalizedStr => Ok(AtomValue::Str(replace(alloc, text)?)),
         Builtin::Token => Ok(AtomValue::Str(collapse(alloc, text)?)),
-        Builtin::Boolean => boolean(collapse(alloc, text)?.as_str()),
+        Builtin::Boolean => Ok(AtomValue::Truth(read_boolean(text)?)),
         Builtin::Decimal => decimal(collapse(alloc, text)?.as_str()),
         Builtin::Integer
         | Builtin::NonPositive
@@ -44,26 +45,34 @@ pub fn read_value(alloc: Global, kind: Builtin, text: &Text) -> Result<AtomValue
 }
 
 fn integer_of_type(alloc: Global, kind: Builtin, text: &Text) -> Result<AtomValue, ValueRead>
-    ensures { Reads result (integer_within (least_of kind) (greatest_of kind) (integer_of (form_of text.now))) }
+    ensures { Reads result (integer_within (least_of kind) (greatest_of kind) (integer_of (lexical_form text.now))) }
 {
     let form = collapse(alloc, text)?;
-    integer(form.as_str(), least(kind), greatest(kind))
+    integer(form.as_str(), least_integer(kind), greatest_integer(kind))
 }
 
-fn boolean(text: &str) -> Result<AtomValue, ValueRead>
-    ensures { result ≡ boolean_value text.now }
+/// The xs:boolean of the text, read without memory: true of `true` and `1`, false of `false` and `0`, with white space
+/// round them. NotLexical exactly where the text is none of these.
+pub fn read_boolean(text: &Text) -> Result<bool, ValueRead>
+    ensures { MatchResult result (λ truth. boolean_value (lexical_form text.now) ≡ Ok (AtomValue.Truth truth)) (λ fault. boolean_value (lexical_form text.now) ≡ Err fault) }
 {
-    if text == "true" || text == "1" {
-        Ok(AtomValue::Truth(true))
-    } else if text == "false" || text == "0" {
-        Ok(AtomValue::Truth(false))
+    if is_either(text, "true", "1") {
+        Ok(true)
+    } else if is_either(text, "false", "0") {
+        Ok(false)
     } else {
         Err(ValueRead::NotLexical)
     }
 }
 
+fn is_either(text: &Text, word: &str, other: &str) -> bool
+    ensures { result ≡ same_text (lexical_form text.now) word.now || same_text (lexical_form text.now) other.now }
+{
+    collapses_to(text, word) || collapses_to(text, other)
+}
+
 fn decimal(text: &str) -> Result<AtomValue, ValueRead>
-    ensures { result ≡ decimal_value (decimal_of text.now) }
+    ensures { result ≡ value_of_decimal (decimal_of text.now) }
 {
     match read_dec(text) {
         Ok(d) => Ok(AtomValue::Num(Number::Dec(d))),
@@ -91,7 +100,9 @@ fn fault(error: NumRead) -> ValueRead
     }
 }
 
-fn least(kind: Builtin) -> i128
+/// The least number of a type that is xs:integer or derived from it (XML Schema Part 2, section 3.3); of another type
+/// that of xs:integer.
+pub fn least_integer(kind: Builtin) -> i128
     ensures { result ≡ least_of kind }
 {
     match kind {
@@ -109,7 +120,8 @@ fn least(kind: Builtin) -> i128
     }
 }
 
-fn greatest(kind: Builtin) -> i128
+/// The greatest number of a type that is xs:integer or derived from it; of another type that of xs:integer.
+pub fn greatest_integer(kind: Builtin) -> i128
     ensures { result ≡ greatest_of kind }
 {
     match kind {

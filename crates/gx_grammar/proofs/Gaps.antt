@@ -1,7 +1,8 @@
 use Rattle.std.proofs.Common.{◌≡◌, ◌≢◌, ℕ, zero, suc, ◌≤◌, ◌==◌, Bool, true, false, not, if◌then◌else◌, ◌&&◌, ◌||◌, List, [], ◌∷◌, ◌++◌, ◌⊎◌, inl, inr, length, length-append, refl, sym, ap, ap₂, subst, ◌∙◌, append_assoc, Option, Some, None, eqb-true, arith}
 use Rattle.std.proofs.lemmas.List.{append_cancel_right}
 use Rattle.gx_grammar.specs.Tokens.{LawfulToken, no_fault}
-use Rattle.gx_grammar.specs.Gaps.{is_white, begins_comment, ends_comment, ends_gap, goes_on_inside, Gap, gap_ends, gap_white, comment_begins, comment_ends, comment_goes_on, OpensGap, opens_end, opens_paren, opens_white, opens_begin, opens_close, opens_on, behind_gap, seen_gap, IsGap, with_value, scan_gap}
+use Rattle.gx_base.specs.WhiteSpace.{is_white_space}
+use Rattle.gx_grammar.specs.Gaps.{begins_comment, ends_comment, ends_gap, goes_on_inside, Gap, gap_ends, gap_white, comment_begins, comment_ends, comment_goes_on, OpensGap, opens_end, opens_paren, opens_white, opens_begin, opens_close, opens_on, behind_gap, seen_gap, IsGap, with_value, scan_gap}
 use Rattle.gx_grammar.proofs.Readings.{by_test}
 use Rattle.gx_grammar.proofs.Tokens.{and_parts}
 use Rattle.gx_grammar.proofs.Unique.{same_some}
@@ -36,19 +37,19 @@ module _ (allowed : ℕ → Bool) (delimiters : (allowed 40 ≡ true) × (allowe
   gap_sound : (depth : ℕ) (x y : List ℕ) → behind_gap allowed depth x ≡ Some y → Gap allowed depth x y
   gap_sound zero [] y h = subst (λ w. Gap allowed 0 [] w) (cc) (gap_ends refl)
   gap_sound (suc depth) [] y h = absurd (cc)
-  gap_sound zero (c ∷ []) y h = go (is_white c) refl h
+  gap_sound zero (c ∷ []) y h = go (is_white_space c) refl h
     where
-      go : (b : Bool) → is_white c ≡ b → (if b then (Some []) else (Some (c ∷ []))) ≡ Some y → Gap allowed 0 (c ∷ []) y
+      go : (b : Bool) → is_white_space c ≡ b → (if b then (Some []) else (Some (c ∷ []))) ≡ Some y → Gap allowed 0 (c ∷ []) y
       go true f g = gap_white f (subst (λ w. Gap allowed 0 [] w) (cc) (gap_ends refl))
-      go false f g = subst (λ w. Gap allowed 0 (c ∷ []) w) (cc) (gap_ends (not_is (is_white c) f))
+      go false f g = subst (λ w. Gap allowed 0 (c ∷ []) w) (cc) (gap_ends (not_is (is_white_space c) f))
   gap_sound (suc depth) (c ∷ []) y h = absurd (cc)
-  gap_sound zero (c ∷ e ∷ x) y h = go (is_white c) refl h (λ g. gap_sound zero (e ∷ x) y g) (λ g. gap_sound 1 x y g)
+  gap_sound zero (c ∷ e ∷ x) y h = go (is_white_space c) refl h (λ g. gap_sound zero (e ∷ x) y g) (λ g. gap_sound 1 x y g)
     where
-      inner : (b : Bool) → is_white c ≡ false → begins_comment c e ≡ b → (if b then (behind_gap allowed 1 x) else (Some (c ∷ e ∷ x))) ≡ Some y → (behind_gap allowed 1 x ≡ Some y → Gap allowed 1 x y) → Gap allowed 0 (c ∷ e ∷ x) y
+      inner : (b : Bool) → is_white_space c ≡ false → begins_comment c e ≡ b → (if b then (behind_gap allowed 1 x) else (Some (c ∷ e ∷ x))) ≡ Some y → (behind_gap allowed 1 x ≡ Some y → Gap allowed 1 x y) → Gap allowed 0 (c ∷ e ∷ x) y
       inner true w f g comment = begun (λ t. Gap allowed 0 t y) c e x f (comment_begins (comment g))
-      inner false w f g comment = subst (λ t. Gap allowed 0 (c ∷ e ∷ x) t) (cc) (gap_ends (both_true (not (is_white c)) (not (begins_comment c e)) (not_is (is_white c) w) (not_is (begins_comment c e) f)))
+      inner false w f g comment = subst (λ t. Gap allowed 0 (c ∷ e ∷ x) t) (cc) (gap_ends (both_true (not (is_white_space c)) (not (begins_comment c e)) (not_is (is_white_space c) w) (not_is (begins_comment c e) f)))
 
-      go : (b : Bool) → is_white c ≡ b → (if b then (behind_gap allowed zero (e ∷ x)) else (if begins_comment c e then (behind_gap allowed 1 x) else (Some (c ∷ e ∷ x)))) ≡ Some y
+      go : (b : Bool) → is_white_space c ≡ b → (if b then (behind_gap allowed zero (e ∷ x)) else (if begins_comment c e then (behind_gap allowed 1 x) else (Some (c ∷ e ∷ x)))) ≡ Some y
           → (behind_gap allowed zero (e ∷ x) ≡ Some y → Gap allowed 0 (e ∷ x) y) → (behind_gap allowed 1 x ≡ Some y → Gap allowed 1 x y) → Gap allowed 0 (c ∷ e ∷ x) y
       go true f g white comment = gap_white f (white g)
       go false f g white comment = inner (begins_comment c e) f refl g comment
@@ -71,13 +72,13 @@ module _ (allowed : ℕ → Bool) (delimiters : (allowed 40 ≡ true) × (allowe
 
   ends_behind : (y : List ℕ) → ends_gap y ≡ true → behind_gap allowed 0 y ≡ Some y
   ends_behind [] h = refl
-  ends_behind (c ∷ []) h = ap (λ b. if b then (Some []) else (Some (c ∷ []))) (not_false (is_white c) h)
+  ends_behind (c ∷ []) h = ap (λ b. if b then (Some []) else (Some (c ∷ []))) (not_false (is_white_space c) h)
   ends_behind (c ∷ e ∷ x) h =
-      let p = and_parts (not (is_white c)) (not (begins_comment c e)) h in
-      ap (λ b. if b then (behind_gap allowed zero (e ∷ x)) else (if begins_comment c e then (behind_gap allowed 1 x) else (Some (c ∷ e ∷ x)))) (not_false (is_white c) p.0)
+      let p = and_parts (not (is_white_space c)) (not (begins_comment c e)) h in
+      ap (λ b. if b then (behind_gap allowed zero (e ∷ x)) else (if begins_comment c e then (behind_gap allowed 1 x) else (Some (c ∷ e ∷ x)))) (not_false (is_white_space c) p.0)
       ∙ ap (λ b. if b then (behind_gap allowed 1 x) else (Some (c ∷ e ∷ x))) (not_false (begins_comment c e) p.1)
 
-  behind_white : (c : ℕ) (x : List ℕ) → is_white c ≡ true → behind_gap allowed 0 (c ∷ x) ≡ behind_gap allowed 0 x
+  behind_white : (c : ℕ) (x : List ℕ) → is_white_space c ≡ true → behind_gap allowed 0 (c ∷ x) ≡ behind_gap allowed 0 x
   behind_white c [] h = ap (λ b. if b then (Some []) else (Some (c ∷ []))) h
   behind_white c (e ∷ x) h = ap (λ b. if b then (behind_gap allowed zero (e ∷ x)) else (if begins_comment c e then (behind_gap allowed 1 x) else (Some (c ∷ e ∷ x)))) h
 
@@ -117,7 +118,7 @@ module _ (allowed : ℕ → Bool) (delimiters : (allowed 40 ≡ true) × (allowe
   ends_cut : (y z : List ℕ) → ends_gap (y ++ z) ≡ true → ends_gap y ≡ true
   ends_cut [] z h = refl
   ends_cut (c ∷ []) [] h = h
-  ends_cut (c ∷ []) (e ∷ z) h = (and_parts (not (is_white c)) (not (begins_comment c e)) h).0
+  ends_cut (c ∷ []) (e ∷ z) h = (and_parts (not (is_white_space c)) (not (begins_comment c e)) h).0
   ends_cut (c ∷ e ∷ y) z h = h
 
   inside_cut : (c : ℕ) (y z : List ℕ) → goes_on_inside c (y ++ z) ≡ true → goes_on_inside c y ≡ true
@@ -160,7 +161,7 @@ module _ (allowed : ℕ → Bool) (delimiters : (allowed 40 ≡ true) × (allowe
     where
       go : (b : Bool) → (c == 40) ≡ b → (ends_gap (c ∷ e ∷ z) ≡ true) ⊎ OpensGap allowed 0 (c ∷ [])
       go true f = inr (subst (λ a. OpensGap allowed 0 (a ∷ [])) (sym (eqb-true c 40 f)) opens_paren)
-      go false f = inl (both_true (not (is_white c)) (not (begins_comment c e)) h (ap (λ b. not (b && (e == 58))) f))
+      go false f = inl (both_true (not (is_white_space c)) (not (begins_comment c e)) h (ap (λ b. not (b && (e == 58))) f))
   ends_more (c ∷ e ∷ y) z h = inl h
 
   gap_goes_on : {depth : ℕ} {x y : List ℕ} → Gap allowed depth x y → (z : List ℕ) → Gap allowed depth (x ++ z) (y ++ z) ⊎ OpensGap allowed depth x
@@ -213,13 +214,13 @@ module _ (allowed : ℕ → Bool) (delimiters : (allowed 40 ≡ true) × (allowe
   gap_sees : (depth : ℕ) (x : List ℕ) → SeesGap depth x (seen_gap allowed depth x)
   gap_sees zero [] = none_seen zero []
   gap_sees (suc depth) [] = none_seen (suc depth) []
-  gap_sees zero (c ∷ []) = by_test (is_white c || (c == 40)) 0 1 (λ n. SeesGap 0 (c ∷ []) n)
+  gap_sees zero (c ∷ []) = by_test (is_white_space c || (c == 40)) 0 1 (λ n. SeesGap 0 (c ∷ []) n)
       (λ f. record {
         front = c ∷ [];
         rest = [];
         whole = refl;
         place = refl;
-        opened = elim (or_parts (is_white c) (c == 40) f) [
+        opened = elim (or_parts (is_white_space c) (c == 40) f) [
           | inl w ↦ opens_white w opens_end
           | inr p ↦ subst (λ a. OpensGap allowed 0 (a ∷ [])) (sym (eqb-true c 40 p)) opens_paren
         ];
@@ -235,7 +236,7 @@ module _ (allowed : ℕ → Bool) (delimiters : (allowed 40 ≡ true) × (allowe
   gap_sees zero (c ∷ e ∷ x) =
       let white = gap_sees zero (e ∷ x) in
       let comment = gap_sees 1 x in
-      by_test (is_white c) (seen_gap allowed zero (e ∷ x)) (if begins_comment c e then (seen_gap allowed 1 x) else (if c == 40 then (length (e ∷ x)) else (length (c ∷ e ∷ x)))) (λ n. SeesGap 0 (c ∷ e ∷ x) n)
+      by_test (is_white_space c) (seen_gap allowed zero (e ∷ x)) (if begins_comment c e then (seen_gap allowed 1 x) else (if c == 40 then (length (e ∷ x)) else (length (c ∷ e ∷ x)))) (λ n. SeesGap 0 (c ∷ e ∷ x) n)
       (λ f. record { front = c ∷ white.front; rest = white.rest; whole = ap (λ w. c ∷ w) white.whole; place = white.place; opened = opens_white f white.opened })
       (λ _. by_test (begins_comment c e) (seen_gap allowed 1 x) (if c == 40 then (length (e ∷ x)) else (length (c ∷ e ∷ x))) (λ n. SeesGap 0 (c ∷ e ∷ x) n)
       (λ f. begun (λ t. SeesGap 0 t (seen_gap allowed 1 x)) c e x f (record { front = 40 ∷ 58 ∷ comment.front; rest = comment.rest; whole = ap (λ w. 40 ∷ 58 ∷ w) comment.whole; place = comment.place; opened = opens_begin comment.opened }))
@@ -279,7 +280,7 @@ module _ (allowed : ℕ → Bool) (delimiters : (allowed 40 ≡ true) × (allowe
   seen_paren (e ∷ x) = let comment = seen_short 1 x in
       by_test (begins_comment 40 e) (seen_gap allowed 1 x) (length (e ∷ x)) (λ n. n ≤ length (e ∷ x)) (λ _. omega (arith, comment)) (λ _. omega arith)
 
-  seen_white : (c : ℕ) (x : List ℕ) → is_white c ≡ true → seen_gap allowed 0 (c ∷ x) ≡ seen_gap allowed 0 x
+  seen_white : (c : ℕ) (x : List ℕ) → is_white_space c ≡ true → seen_gap allowed 0 (c ∷ x) ≡ seen_gap allowed 0 x
   seen_white c [] h = ap (λ b. if b || (c == 40) then 0 else 1) h
   seen_white c (e ∷ x) h = ap (λ b. if b then (seen_gap allowed zero (e ∷ x)) else (if begins_comment c e then (seen_gap allowed 1 x) else (if c == 40 then (length (e ∷ x)) else (length (c ∷ e ∷ x))))) h
 

@@ -11,6 +11,10 @@ pub record LibraryUse : Type 1 where
   pub faults : Library → ℕ
   pub was_loaded : Library → List ℕ → Library → Type 0
 
+abbrev pub library_use : {Library : Type 0} → (Library → Option (List (List ℕ × List ℕ))) → (Library → ℕ) → (Library → List ℕ → Library → Type 0) → Library → Library → LibraryUse
+library_use {Library} files faults was_loaded before after =
+    record { Library = Library; before = before; after = after; files = files; faults = faults; was_loaded = was_loaded }
+
 -- the files of these names were loaded, each once and in this order, and no other was
 abbrev pub LoadsOnly : LibraryUse → List (List ℕ) → Type 0
 LoadsOnly library names = Loads library.was_loaded names library.before library.after

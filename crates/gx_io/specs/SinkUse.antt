@@ -11,6 +11,10 @@ pub record SinkUse : Type 1 where
   pub faults : Sink → ℕ
   pub was_put : Sink → List ℕ → Sink → Type 0
 
+abbrev pub sink_use : {Sink : Type 0} → (Sink → Option (List ℕ)) → (Sink → ℕ) → (Sink → List ℕ → Sink → Type 0) → Sink → Sink → SinkUse
+sink_use {Sink} written faults was_put before after =
+    record { Sink = Sink; before = before; after = after; written = written; faults = faults; was_put = was_put }
+
 -- nothing was put to it
 abbrev pub IsUntouched : SinkUse → Type 0
 IsUntouched sink = sink.after ≡ sink.before

@@ -7,8 +7,6 @@ mod library;
 mod memory_library;
 mod memory_sink;
 mod sink;
-#[cfg(test)]
-mod tests;
 mod writer_sink;
 
 pub use errors::{LoadError, PutError};

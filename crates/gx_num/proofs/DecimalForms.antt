@@ -12,7 +12,7 @@ use Rattle.std.proofs.lemmas.Int.Digits.{digits_value-lt}
 use Rattle.std.proofs.Math.Nat.{mul-le-mul_right, pow-suc}
 use Rattle.gx_num.specs.declared.NumRead.TheVariants.{NotANumber, TooLarge, TooPrecise}
 use Rattle.gx_num.specs.Number.{FitsDecimal}
-use Rattle.gx_num.specs.Lexical.{Sign, unsigned, plus, minus, sign_text, DecimalForm, IsMagnitude, IsBelowLimit, ReadsDecimal, decimal_of, decimal_of_digits, signed, all_digits, before_point, behind_point, without_trailing_zeros, before_kept, units_in_places}
+use Rattle.gx_num.specs.Lexical.{NumeralSign, unsigned, plus, minus, sign_text, DecimalForm, IsMagnitude, IsBelowLimit, ReadsDecimal, decimal_of, decimal_of_digits, signed, all_digits, before_point, behind_point, without_trailing_zeros, before_kept, units_in_places}
 use Rattle.gx_num.proofs.Digits.{own, units_below_one, digits_value_below, pow_split}
 use Rattle.gx_num.proofs.Places.{digits_kept}
 use Rattle.gx_num.proofs.Forms.{by_cond, both_true, not_both, sign_in, sign_split, sign_value, first_digit, some_length, some_length_test, spelled_sign}
@@ -139,21 +139,21 @@ decimal_form text whole fraction some = record {
   whole_digits = whole;
   fraction_digits = fraction;
   some_digit = some;
-  spelled = elim (point_split (without_leading_sign text)) [
+  written = elim (point_split (without_leading_sign text)) [
     | inl e ↦ inl (sign_split text ∙ ap (λ ds. sign_text (sign_in text) ++ ds) e)
     | inr e ↦ inr (sign_split text ∙ ap (λ ds. sign_text (sign_in text) ++ ds) e.0, e.1)
   ];
 }
 
-pub spelled_body : (sign : Sign) (whole fraction : List ℕ) → AllDigits 10 whole → without_leading_sign (sign_text sign ++ (whole ++ 46 ∷ fraction)) ≡ whole ++ 46 ∷ fraction
+pub spelled_body : (sign : NumeralSign) (whole fraction : List ℕ) → AllDigits 10 whole → without_leading_sign (sign_text sign ++ (whole ++ 46 ∷ fraction)) ≡ whole ++ 46 ∷ fraction
 spelled_body unsigned whole fraction all = (unsigned_body whole fraction all).0
 spelled_body plus whole fraction all = refl
 spelled_body minus whole fraction all = refl
 
 -- the parts of a form are those that are computed
-pub form_parts : (text : List ℕ) (sign : Sign) (whole fraction : List ℕ) → DecimalForm text sign whole fraction
+pub form_parts : (text : List ℕ) (sign : NumeralSign) (whole fraction : List ℕ) → DecimalForm text sign whole fraction
     → (before_point (without_leading_sign text) ≡ whole) × (behind_point (without_leading_sign text) ≡ fraction)
-form_parts text sign whole fraction form = elim form.spelled [
+form_parts text sign whole fraction form = elim form.written [
   | inl e ↦
       let body = ap without_leading_sign e ∙ spelled_body sign whole fraction form.whole_digits in
       let parts = point_found whole fraction form.whole_digits in
@@ -164,7 +164,7 @@ form_parts text sign whole fraction form = elim form.spelled [
       (ap before_point body ∙ parts.0, ap behind_point body ∙ parts.1 ∙ sym e.1)
 ]
 
-no_decimal_form : (text : List ℕ) (sign : Sign) (whole fraction : List ℕ) → DecimalForm text sign whole fraction
+no_decimal_form : (text : List ℕ) (sign : NumeralSign) (whole fraction : List ℕ) → DecimalForm text sign whole fraction
     → let ds = without_leading_sign text in (nat_lt 0 (length (before_point ds) + length (behind_point ds)) && (all_digits (before_point ds) && all_digits (behind_point ds))) ≡ false → ⊥
 no_decimal_form text sign whole fraction form none =
     let parts = form_parts text sign whole fraction form in

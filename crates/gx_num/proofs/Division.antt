@@ -15,7 +15,7 @@ rem_not_positive (negsuc a) d h = omega (arith, ints)
 
 pub division : (a d : ℤ) → 0 < unsigned_abs d → IsTruncatedDivision a d (int_div a d) (int_rem a d)
 division a d some = record {
-  whole = quot-rem a d;
+  adds_up = quot-rem a d;
   smaller = rem_below a d some;
   not_negative = rem_not_negative a d;
   not_positive = rem_not_positive a d;

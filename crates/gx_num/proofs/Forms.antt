@@ -6,7 +6,7 @@ use Rattle.std.proofs.lemmas.Bool.Decides.{nat_tests}
 use Rattle.std.proofs.lemmas.Str.Parse.{digit_from_value}
 use Rattle.gx_num.specs.declared.NumRead.TheVariants.{NotANumber, TooLarge}
 use Rattle.gx_num.specs.Number.{FitsInteger, fits_integer}
-use Rattle.gx_num.specs.Lexical.{Sign, unsigned, plus, minus, sign_text, with_sign, IntegerForm, ReadsInteger, integer_of, signed, all_digits}
+use Rattle.gx_num.specs.Lexical.{NumeralSign, unsigned, plus, minus, sign_text, with_sign, IntegerForm, ReadsInteger, integer_of, signed, all_digits}
 use Rattle.gx_num.proofs.Digits.{own}
 
 pub by_cond : {A : Type 0} (P : A → Type 0) (b : Bool) (x y : A) → (b ≡ true → P x) → (b ≡ false → P y) → P (cond b x y)
@@ -22,7 +22,7 @@ not_both a b e p q = let clash : true ≡ false = sym (rw (p, q) refl) ∙ e in 
 
 -- ---- signs
 
-pub sign_in : List ℕ → Sign
+pub sign_in : List ℕ → NumeralSign
 sign_in [] = unsigned
 sign_in (c ∷ cs) = cond (eqb c 45) minus (cond (eqb c 43) plus unsigned)
 
@@ -44,12 +44,12 @@ digits_unsigned [] all = (refl, refl)
 digits_unsigned (c ∷ cs) all = let other = first_digit c all.0 in grind (arith, nat_tests)
 
 -- a sign and digits are read as that sign and those digits
-pub spelled_sign : (sign : Sign) (ds : List ℕ) → AllDigits 10 ds → (without_leading_sign (sign_text sign ++ ds) ≡ ds)
+pub spelled_sign : (sign : NumeralSign) (ds : List ℕ) → AllDigits 10 ds → (without_leading_sign (sign_text sign ++ ds) ≡ ds)
 spelled_sign unsigned ds all = (digits_unsigned ds all).0
 spelled_sign plus ds all = refl
 spelled_sign minus ds all = refl
 
-pub spelled_value : (sign : Sign) (ds : List ℕ) (n : ℕ) → AllDigits 10 ds → with_sign sign n ≡ signed (starts_with_minus (sign_text sign ++ ds)) n
+pub spelled_value : (sign : NumeralSign) (ds : List ℕ) (n : ℕ) → AllDigits 10 ds → with_sign sign n ≡ signed (starts_with_minus (sign_text sign ++ ds)) n
 spelled_value unsigned ds n all = rw (digits_unsigned ds all).1 refl
 spelled_value plus ds n all = refl
 spelled_value minus ds n all = refl
@@ -74,18 +74,18 @@ some_length_test n h = grind (arith, nat_tests)
 integer_form : (text : List ℕ) → IsNumeral 10 (without_leading_sign text) → IntegerForm text (signed (starts_with_minus text) (digits_value 10 (without_leading_sign text)))
 integer_form text numeral = record {
   sign = sign_in text;
-  digits = without_leading_sign text;
+  magnitude = without_leading_sign text;
   numeral = numeral;
-  spelled = sign_split text;
-  value = sign_value text (digits_value 10 (without_leading_sign text));
+  written = sign_split text;
+  signed_magnitude = sign_value text (digits_value 10 (without_leading_sign text));
 }
 
 -- no other text has one
 no_integer_form : (text : List ℕ) (z : ℤ) → IntegerForm text z → (nat_lt 0 (length (without_leading_sign text)) && all_digits (without_leading_sign text)) ≡ false → ⊥
 no_integer_form text z form none =
-    let same : without_leading_sign text ≡ form.digits = ap without_leading_sign form.spelled ∙ spelled_sign form.sign form.digits form.numeral.1 in
-    let digits : all_digits (without_leading_sign text) ≡ true = rw same (own.from form.digits form.numeral.1) in
-    let some : nat_lt 0 (length (without_leading_sign text)) ≡ true = rw same (some_length_test (length form.digits) form.numeral.0) in
+    let same : without_leading_sign text ≡ form.magnitude = ap without_leading_sign form.written ∙ spelled_sign form.sign form.magnitude form.numeral.1 in
+    let digits : all_digits (without_leading_sign text) ≡ true = rw same (own.from form.magnitude form.numeral.1) in
+    let some : nat_lt 0 (length (without_leading_sign text)) ≡ true = rw same (some_length_test (length form.magnitude) form.numeral.0) in
     not_both _ _ none some digits
 
 pub integer_read : (text : List ℕ) → ReadsInteger text (integer_of text)

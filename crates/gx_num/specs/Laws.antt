@@ -3,7 +3,7 @@ use Rattle.std.specs.Prelude.{◌<◌, ◌≡◌, ℤ, pos, ◌+ℤ◌, ◌*ℤ�
 
 -- q and r are what dividing a by d toward zero gives and leaves: r is smaller than d and has the sign of a
 pub record IsTruncatedDivision (a d q r : ℤ) : Type 0 where
-  pub whole : q *ℤ d +ℤ r ≡ a
+  pub adds_up : q *ℤ d +ℤ r ≡ a
   pub smaller : unsigned_abs r < unsigned_abs d
   pub not_negative : pos 0 ≤ℤ a → pos 0 ≤ℤ r
   pub not_positive : a ≤ℤ pos 0 → r ≤ℤ pos 0

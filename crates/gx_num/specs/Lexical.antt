@@ -10,35 +10,35 @@ use Rattle.gx_num.specs.Number.{FitsInteger, FitsDecimal, fits_integer}
 
 -- ---- the forms
 
-pub data Sign : Type 0 where
-  unsigned : Sign
-  plus : Sign
-  minus : Sign
+pub data NumeralSign : Type 0 where
+  unsigned : NumeralSign
+  plus : NumeralSign
+  minus : NumeralSign
 
-abbrev pub sign_text : Sign → List ℕ
+abbrev pub sign_text : NumeralSign → List ℕ
 sign_text unsigned = []
 sign_text plus = 43 ∷ []
 sign_text minus = 45 ∷ []
 
-abbrev pub with_sign : Sign → ℕ → ℤ
+abbrev pub with_sign : NumeralSign → ℕ → ℤ
 with_sign unsigned n = pos n
 with_sign plus n = pos n
 with_sign minus n = neg_ℤ (pos n)
 
 -- an optional sign, then one digit or more
 pub record IntegerForm (text : List ℕ) (z : ℤ) : Type 0 where
-  pub sign : Sign
-  pub digits : List ℕ
-  pub numeral : IsNumeral 10 digits
-  pub spelled : text ≡ sign_text sign ++ digits
-  pub value : z ≡ with_sign sign (digits_value 10 digits)
+  pub sign : NumeralSign
+  pub magnitude : List ℕ
+  pub numeral : IsNumeral 10 magnitude
+  pub written : text ≡ sign_text sign ++ magnitude
+  pub signed_magnitude : z ≡ with_sign sign (digits_value 10 magnitude)
 
 -- an optional sign, then one digit or more, with at most one point among them, first or last or between
-pub record DecimalForm (text : List ℕ) (sign : Sign) (whole fraction : List ℕ) : Type 0 where
+pub record DecimalForm (text : List ℕ) (sign : NumeralSign) (whole fraction : List ℕ) : Type 0 where
   pub whole_digits : AllDigits 10 whole
   pub fraction_digits : AllDigits 10 fraction
   pub some_digit : 0 < length whole + length fraction
-  pub spelled : (text ≡ sign_text sign ++ (whole ++ 46 ∷ fraction)) ⊎ ((text ≡ sign_text sign ++ whole) × (fraction ≡ []))
+  pub written : (text ≡ sign_text sign ++ (whole ++ 46 ∷ fraction)) ⊎ ((text ≡ sign_text sign ++ whole) × (fraction ≡ []))
 
 -- The digits of a decimal write `digits_value (whole ++ fraction)` units of 10^-(length fraction).
 -- n units of 10^-6 are that magnitude.
@@ -71,13 +71,13 @@ ReadsInteger text (Err TooLarge) = (z : ℤ) × IntegerForm text z × ¬ FitsInt
 ReadsInteger text (Err TooPrecise) = ⊥
 
 -- a decimal's form, with a fact of its parts
-abbrev pub SomeForm : List ℕ → (Sign → List ℕ → List ℕ → Type 0) → Type 0
-SomeForm text P = (sign : Sign) × (whole : List ℕ) × (fraction : List ℕ) × DecimalForm text sign whole fraction × P sign whole fraction
+abbrev pub SomeForm : List ℕ → (NumeralSign → List ℕ → List ℕ → Type 0) → Type 0
+SomeForm text P = (sign : NumeralSign) × (whole : List ℕ) × (fraction : List ℕ) × DecimalForm text sign whole fraction × P sign whole fraction
 
 abbrev pub ReadsDecimal : List ℕ → Result ℤ NumRead → Type 0
 ReadsDecimal text (Ok u) =
     SomeForm text (λ sign whole fraction. (n : ℕ) × IsMagnitude whole fraction n × (u ≡ with_sign sign n)) × FitsDecimal u
-ReadsDecimal text (Err NotANumber) = (sign : Sign) (whole fraction : List ℕ) → ¬ DecimalForm text sign whole fraction
+ReadsDecimal text (Err NotANumber) = (sign : NumeralSign) (whole fraction : List ℕ) → ¬ DecimalForm text sign whole fraction
 ReadsDecimal text (Err TooLarge) = SomeForm text (λ sign whole fraction. ¬ IsBelowLimit whole fraction)
 ReadsDecimal text (Err TooPrecise) = SomeForm text (λ sign whole fraction. IsBelowLimit whole fraction × ¬ HasSixPlaces fraction)
 

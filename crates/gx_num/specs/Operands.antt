@@ -11,5 +11,5 @@ shown (Integers x y) = integers x y
 shown (Decimals x y) = decimals x y
 
 pub record AreOperands (a b : Number) (o : Operands) : Type 0 where
-  pub same : operands_of a b ≡ shown o
+  pub stand_for : operands_of a b ≡ shown o
   pub fit : OperandsFit (operands_of a b)

@@ -1,7 +1,7 @@
 // The operations on numbers, each exact over whole numbers.
 ghost use Rattle.std.specs.Prelude.{◌≡◌, ◌≢◌, ◌<◌, ◌↔◌, IsTrue, ◌*ℤ◌, neg_ℤ, pos, unsigned_abs, int_div, int_rem, MatchResult, MatchOption};
 ghost use Rattle.std.specs.Ordering.{int_cmp};
-ghost use Rattle.gx_num.specs.Number.{units_of, FitsInteger, FitsDecimal, InRange, IsZero};
+ghost use Rattle.gx_num.specs.Number.{units_of, FitsInteger, FitsDecimal, InRange, IsZero, is_zero};
 ghost use Rattle.gx_num.specs.Arithmetic.{operands_of, OperandsFit, OverflowUnless, DivZeroOrOverflowUnless, in_range_or_overflow};
 ghost use Rattle.gx_num.specs.Arithmetic.{exact_sum, exact_difference, exact_product, exact_quotient, exact_integer_quotient, exact_remainder};
 ghost use Rattle.gx_num.specs.Arithmetic.{sum_of, difference_of, product_of, quotient_of, integer_quotient_of, remainder_of, decimal_of_integer};
@@ -128,15 +128,17 @@ fn product(x: Dec, y: Dec) -> i128
 fn nonzero(divisor: Number) -> Result<Number, NumFault>
     ensures { MatchResult result (λ d. (d ≡ divisor) × ¬ IsZero divisor) (λ e. (e ≡ NumFault.DivZero) × IsZero divisor) }
 {
-    if is_zero_number(&divisor) {
+    if is_zero(&divisor) {
         Err(NumFault::DivZero)
     } else {
         Ok(divisor)
     }
 }
 
-fn is_zero_number(a: &Number) -> bool
-    ensures { IsTrue result ↔ IsZero a.now }
+/// Whether the number is zero.
+pub fn is_zero(a: &Number) -> bool
+    ensures exact { result ≡ is_zero a.now }
+    ensures when { IsTrue result ↔ IsZero a.now }
 {
     match a {
         Number::Int(i) => *i == 0,

@@ -5,7 +5,7 @@ ghost use Rattle.gx_num.specs.declared.Number.{Number as AnyNumber};
 ghost use Rattle.gx_num.specs.declared.Number.TheVariants.{Int as AnInteger, Dec as ADecimal};
 ghost use Rattle.gx_num.specs.Number.{units_of, FitsInteger, FitsDecimal};
 ghost use Rattle.gx_num.specs.Arithmetic.{operands_of, exact_sum, exact_difference, whole_below};
-ghost use Rattle.gx_num.specs.Lexical.{Sign, IntegerForm, DecimalForm, integer_of, decimal_of};
+ghost use Rattle.gx_num.specs.Lexical.{NumeralSign, IntegerForm, DecimalForm, ReadsInteger, ReadsDecimal, integer_of, decimal_of};
 ghost use Rattle.gx_num.specs.Printed.{printed};
 ghost use Rattle.gx_num.specs.Laws.{IsTruncatedDivision, IsGreatestMultipleBelow};
 
@@ -33,7 +33,13 @@ pub fn digits_count_by_place()
 /// A text has at most one reading.
 pub fn readings_are_unique()
     ensures integer { (text : List ℕ) (y z : ℤ) → IntegerForm text y → IntegerForm text z → y ≡ z }
-    ensures decimal { (text : List ℕ) (s t : Sign) (v w f g : List ℕ) → DecimalForm text s v f → DecimalForm text t w g → (v ≡ w) × (f ≡ g) }
+    ensures decimal { (text : List ℕ) (s t : NumeralSign) (v w f g : List ℕ) → DecimalForm text s v f → DecimalForm text t w g → (v ≡ w) × (f ≡ g) }
+{}
+
+/// The computed readings answer as the lexical forms say: the number of the form that a text has, or the fault.
+pub fn forms_are_read()
+    ensures integer { (text : List ℕ) → ReadsInteger text (integer_of text) }
+    ensures decimal { (text : List ℕ) → ReadsDecimal text (decimal_of text) }
 {}
 
 /// What is printed is read back as the same number.

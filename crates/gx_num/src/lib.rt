@@ -10,7 +10,8 @@ mod printing;
 mod reading;
 
 pub use arithmetic::{
-    abs, add, ceiling, compare, div, floor, idiv, modulo, mul, negate, round, sub, to_dec, to_int,
+    abs, add, ceiling, compare, div, floor, idiv, is_zero, modulo, mul, negate, round, sub, to_dec,
+    to_int,
 };
 pub use printing::print_number;
 pub use reading::{read_dec, read_int};

@@ -1,22 +1,23 @@
 -- Steps over white space and comments.
 use Rattle.std.proofs.Common.{◌≡◌, ℕ, zero, suc, ◌+◌, ◌-◌, ◌<◌, true, false, List, [], ◌∷◌, length, refl, sym, ap, subst, ◌∙◌, arith}
-use Rattle.gx_grammar.specs.Gaps.{is_white, begins_comment, ends_comment}
+use Rattle.gx_base.specs.WhiteSpace.{is_white_space}
+use Rattle.gx_grammar.specs.Gaps.{begins_comment, ends_comment}
 use Rattle.gx_parse.specs.GapSteps.{GoesOn, Stops}
 
-pub white_step : (c : ℕ) (rest x : List ℕ) → is_white c ≡ true → rest ≡ c ∷ x → GoesOn 0 rest 0 x
+pub white_step : (c : ℕ) (rest x : List ℕ) → is_white_space c ≡ true → rest ≡ c ∷ x → GoesOn 0 rest 0 x
 white_step c rest [] w e = record { behind = rw (e, w) refl; seen = rw (e, w) refl; shorter = omega (arith, ap length e); bounded = omega (arith, ap length e) }
 white_step c rest (d ∷ x) w e = record { behind = rw (e, w) refl; seen = rw (e, w) refl; shorter = omega (arith, ap length e); bounded = omega (arith, ap length e) }
 
-pub first_comment : (c d : ℕ) (rest tail x : List ℕ) → is_white c ≡ false → begins_comment c d ≡ true → rest ≡ c ∷ tail → tail ≡ d ∷ x → GoesOn 0 rest 1 x
+pub first_comment : (c d : ℕ) (rest tail x : List ℕ) → is_white_space c ≡ false → begins_comment c d ≡ true → rest ≡ c ∷ tail → tail ≡ d ∷ x → GoesOn 0 rest 1 x
 first_comment c d rest tail x w b e f = record { behind = rw (e, f, w, b) refl; seen = rw (e, f, w, b) refl; shorter = omega (arith, ap length e, ap length f); bounded = omega (arith, ap length e, ap length f) }
 
 pub stops_end : (rest : List ℕ) → rest ≡ [] → Stops 0 rest
 stops_end rest e = rw e (refl, refl)
 
-pub stops_last : (c : ℕ) (rest tail : List ℕ) → is_white c ≡ false → rest ≡ c ∷ tail → tail ≡ [] → Stops 0 rest
+pub stops_last : (c : ℕ) (rest tail : List ℕ) → is_white_space c ≡ false → rest ≡ c ∷ tail → tail ≡ [] → Stops 0 rest
 stops_last c rest tail w e f = rw (e, f, w) (refl, refl)
 
-pub stops_before : (c d : ℕ) (rest tail x : List ℕ) → is_white c ≡ false → begins_comment c d ≡ false → rest ≡ c ∷ tail → tail ≡ d ∷ x → Stops 0 rest
+pub stops_before : (c d : ℕ) (rest tail x : List ℕ) → is_white_space c ≡ false → begins_comment c d ≡ false → rest ≡ c ∷ tail → tail ≡ d ∷ x → Stops 0 rest
 stops_before c d rest tail x w b e f = rw (e, f, w, b) (refl, refl)
 
 pub comment_in_comment : (c d depth more : ℕ) (rest tail x : List ℕ) → 0 < depth → more ≡ depth + 1 → begins_comment c d ≡ true → rest ≡ c ∷ tail → tail ≡ d ∷ x → GoesOn depth rest more x

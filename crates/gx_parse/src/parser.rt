@@ -1,6 +1,6 @@
 // The parser of queries.
 
-ghost use Rattle.std.specs.Prelude.{◌≡◌, ℕ, List, ◌≤◌, IfOk, IfErr, length, suc};
+ghost use Rattle.std.specs.Prelude.{◌≡◌, ℕ, List, ◌≤◌, IfOk, IfErr, length, suc, ◌⊎◌};
 ghost use Rattle.gx_grammar.specs.Text.{read_text};
 ghost use Rattle.gx_parse.specs.SyntaxTree.{SyntaxTree, VariableTree, SequenceTree, SumTree, nodes};
 ghost use Rattle.gx_parse.specs.Tokens.{comma, plus};
@@ -72,6 +72,11 @@ pub fn parse(alloc: Global, text: &[char]) -> Result<Syntax, ParseError>
 /// A text has at most one syntax tree.
 pub fn one_tree()
     ensures { (text : List ℕ) (s t : SyntaxTree) → IsQuery text s → IsQuery text t → s ≡ t }
+{}
+
+/// A text has a syntax tree, or it has none.
+pub fn tree_or_none()
+    ensures { (text : List ℕ) → ((t : SyntaxTree) × IsQuery text t) ⊎ ((t : SyntaxTree) → IsQuery text t → ⊥) }
 {}
 
 // Reads a whole text.

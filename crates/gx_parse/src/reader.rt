@@ -2,7 +2,7 @@
 
 ghost use Rattle.std.specs.Prelude.{◌≡◌, ◌==◌, IfOk, ◌+◌, ◌≤◌, ◌<◌, ◌^◌, IsNone, IfSome, length, min, [], ◌∷◌};
 ghost use Rattle.gx_grammar.specs.First.{head_passes};
-ghost use Rattle.gx_grammar.specs.Gaps.{is_white, begins_comment, ends_comment};
+ghost use Rattle.gx_grammar.specs.Gaps.{begins_comment, ends_comment};
 ghost use Rattle.gx_grammar.specs.Reading.{start, notes, taken};
 ghost use Rattle.gx_grammar.specs.Tokens.{run_of, behind_run};
 ghost use Rattle.gx_grammar.specs.Value.{nothing, pair, characters};
@@ -11,6 +11,7 @@ ghost use Rattle.gx_parse.specs.Tokens.{name};
 ghost use Rattle.gx_parse.specs.Reading.{Gives, read_gap, read_spelled, read_word, read_lexeme, read_digits, read_integer};
 ghost use Rattle.gx_parse.specs.GapSteps.{GoesOn, Stops};
 
+use gx_base::characters::is_white_space;
 use gx_base::text::Text;
 use gx_base::text_builder::TextBuilder;
 use std::alloc::{AllocError, AllocFailed, Global};
@@ -43,12 +44,6 @@ impl<T: Drop> From<AllocFailed<T>> for Fault {
     fn from(_e: AllocFailed<T>) -> Fault {
         Fault::Memory
     }
-}
-
-fn is_white(c: char) -> bool
-    ensures { result ≡ is_white c }
-{
-    c == ' ' || c == '\t' || c == '\n' || c == '\r'
 }
 
 fn is_digit(c: char) -> bool
@@ -100,7 +95,7 @@ fn outside_step(rest: &[char]) -> Option<(&[char], usize)>
     let Some((c, tail)) = first(rest) else {
         return None;
     };
-    if is_white(c) {
+    if is_white_space(c) {
         return Some((tail, 0));
     }
     let Some((e, behind)) = first(tail) else {

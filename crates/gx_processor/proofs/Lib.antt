@@ -7,3 +7,4 @@ pub mod PromiseLemmas
 pub mod HeadlineLemmas
 pub mod Promised
 pub mod NumberedVariables
+pub mod AnswerExists

@@ -4,7 +4,7 @@ use Rattle.gx_base.specs.declared.code.Code.TheVariants.{GLXS0001, XPST0003}
 use Rattle.gx_types.specs.SchemaSet.{no_declarations}
 use Rattle.gx_core.specs.declared.expression.Core.{Core}
 use Rattle.gx_core.specs.declared.typed.TypedCore.{TypedCore}
-use Rattle.gx_model.specs.Item.{Value}
+use Rattle.gx_model.specs.Item.{Items}
 use Rattle.gx_core.specs.Outcome.{Outcome, gives, raises, wrong}
 use Rattle.gx_core.specs.QueryMeaning.{query_outcome, query_type}
 use Rattle.gx_static.specs.QueryJudgement.{QueryJudgement, query_typed, query_rejected, query_judged}
@@ -18,6 +18,7 @@ use Rattle.gx_processor.specs.Serialisation.{serialised}
 use Rattle.gx_processor.specs.TypeBytes.{type_bytes}
 use Rattle.gx_processor.specs.Command.{Command, run_file, check_file, query_file, command_of}
 use Rattle.gx_processor.specs.FaultLines.{usage_line, read_fault_line, code_line, placed_line}
+use Rattle.gx_base.specs.declared.limits.TheConstants.{FILE_BYTES}
 
 -- bytes for standard output, or a refusal with its fault line
 pub data Answer : Type 0 where
@@ -37,8 +38,8 @@ line_of (writes bytes) = []
 line_of (refuses status line) = line
 
 -- evaluation, and the writing of the value
-abbrev pub AnswersOutcome : Outcome Value → Answer → Type 0
-AnswersOutcome (gives items forest) answer = answer ≡ writes (serialised items)
+abbrev pub AnswersOutcome : Outcome Items → Answer → Type 0
+AnswersOutcome (gives items forest) answer = answer ≡ writes (serialised forest items)
 AnswersOutcome (raises code) answer = answer ≡ refuses status.Dynamic (code_line code)
 AnswersOutcome wrong answer = ⊥
 
@@ -69,7 +70,7 @@ AnswersBytes command bytes answer = (tree : Option SyntaxTree) × HasTree bytes 
 abbrev pub AnswersFile : Command → Option (List ℕ) → Answer → Type 0
 AnswersFile command None answer = answer ≡ refuses status.ReadFault (read_fault_line (query_file command))
 AnswersFile command (Some bytes) answer =
-    MatchBool (nat_le (length bytes) 16777216) (AnswersBytes command bytes answer) (answer ≡ refuses status.Query (code_line GLXS0001))
+    MatchBool (nat_le (length bytes) FILE_BYTES) (AnswersBytes command bytes answer) (answer ≡ refuses status.Query (code_line GLXS0001))
 
 -- the words
 abbrev pub AnswersCommand : List (List ℕ × List ℕ) → Option Command → Answer → Type 0
@@ -79,6 +80,10 @@ AnswersCommand files (Some command) answer = AnswersFile command (file_of files 
 -- each step of the work is done only where no step before it refuses
 abbrev pub Answers : List (List ℕ) → List (List ℕ × List ℕ) → Answer → Type 0
 Answers words files answer = AnswersCommand files (command_of words) answer
+
+-- there is an answer
+abbrev pub AnAnswerExists : Type 0
+AnAnswerExists = (words : List (List ℕ)) (files : List (List ℕ × List ℕ)) → (answer : Answer) × Answers words files answer
 
 -- what a check of a file refuses, a run of it refuses with the same line
 abbrev pub ChecksRefuseForRuns : Type 0

@@ -1,5 +1,6 @@
 -- Which words name a command.
 use Rattle.std.specs.Prelude.{◌≡◌, String, string_bytes, map, ℕ, ◌==◌, nat_le, not, Bool, false, ◌&&◌, List, [], ◌∷◌, length, Option, None, Some, codes, bytes_eq, if◌then◌else◌}
+use Rattle.gx_base.specs.declared.limits.TheConstants.{WORD_BYTES}
 
 -- what the program is asked to do: to run the query in a file, or to check it
 pub data Command : Type 0 where
@@ -18,7 +19,7 @@ bytes_of = map string_bytes
 -- a word behind the command's name: not empty, at most 16,777,216 bytes long, and without a `-` at its front
 abbrev pub is_operand : List ℕ → Bool
 is_operand [] = false
-is_operand (first ∷ others) = not (first == 45) && nat_le (length (first ∷ others)) 16777216
+is_operand (first ∷ others) = not (first == 45) && nat_le (length (first ∷ others)) WORD_BYTES
 
 -- the command of that name over a file
 abbrev pub command_named : List ℕ → List ℕ → Option Command

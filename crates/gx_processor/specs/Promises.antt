@@ -13,6 +13,7 @@ use Rattle.gx_processor.specs.FaultLines.{usage_line, read_fault_line, code_line
 use Rattle.gx_processor.specs.Headline.{RunsTyped, ChecksTyped, RunsAsChecked, RejectsUntyped}
 use Rattle.gx_processor.specs.Replies.{HasForm}
 use Rattle.gx_processor.specs.Run.{Run, WhereTold, IsFaultless, FailsToLoad}
+use Rattle.gx_base.specs.declared.limits.TheConstants.{FILE_BYTES}
 
 -- neither a fault outside nor want of memory ended the run
 abbrev pub IsCertain : Status → Type 0
@@ -103,7 +104,7 @@ pub record IsTooLong (words : List (List ℕ)) (files : List (List ℕ × List �
   pub bytes : List ℕ
   pub asked : command_of words ≡ Some command
   pub held : file_of files (query_file command) ≡ Some bytes
-  pub long : 16777216 < length bytes
+  pub long : FILE_BYTES < length bytes
 
 pub record Promises (run : Run) : Type 0 where
   -- Unless a fault outside or want of memory ends the run, it ends with the answer.

@@ -6,6 +6,7 @@ use Rattle.gx_io.specs.Load.{file_of}
 use Rattle.gx_parse.specs.Query.{IsQuery}
 use Rattle.gx_parse.specs.SyntaxTree.{SyntaxTree}
 use Rattle.gx_processor.specs.Normalisation.{named_query, query_named}
+use Rattle.gx_base.specs.declared.limits.TheConstants.{FILE_BYTES}
 
 -- a `:` stands behind a `(`, at the front where a `(` stands before the text
 abbrev pub has_colon_behind : Bool → List ℕ → Bool
@@ -43,5 +44,5 @@ pub record IsQueryOf (bytes : List ℕ) (core : Core) : Type 0 where
 pub record HoldsQuery (files : List (List ℕ × List ℕ)) (name : List ℕ) (core : Core) : Type 0 where
   pub bytes : List ℕ
   pub held : file_of files name ≡ Some bytes
-  pub within : length bytes ≤ 16777216
+  pub within : length bytes ≤ FILE_BYTES
   pub query : IsQueryOf bytes core

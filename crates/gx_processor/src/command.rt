@@ -4,7 +4,7 @@ ghost use Rattle.std.specs.Prelude.{◌≡◌, option_map};
 ghost use Rattle.gx_processor.specs.Command.{bytes_of, is_operand, command_named, command_of};
 ghost use Rattle.gx_processor.specs.CommandView.{plain_command};
 
-const LONGEST_WORD: usize = 16_777_216;
+use gx_base::limits::WORD_BYTES;
 
 /// What the words ask for, with the name of the query's file.
 #[derive(Clone, Copy)]
@@ -55,6 +55,6 @@ fn is_operand(word: &str) -> bool
 {
     match word.as_bytes() {
         [] => false,
-        [first, ..] => *first != b'-' && word.len() <= LONGEST_WORD,
+        [first, ..] => *first != b'-' && word.len() <= WORD_BYTES,
     }
 }

@@ -1,7 +1,12 @@
 // Laws over the definitions.
 
 ghost use Rattle.std.specs.Prelude.{◌≡◌, ℕ, List};
-ghost use Rattle.gx_processor.specs.Answer.{Answer, Answers, AnswersLookAtTheirLoads, ChecksRefuseForRuns};
+ghost use Rattle.gx_processor.specs.Answer.{Answer, Answers, AnAnswerExists, AnswersLookAtTheirLoads, ChecksRefuseForRuns};
+
+/// The words and the files have an answer.
+pub fn an_answer_exists()
+    ensures { AnAnswerExists }
+{}
 
 /// The words and the files have at most one answer.
 pub fn one_answer()

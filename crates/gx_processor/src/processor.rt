@@ -3,6 +3,8 @@
 ghost use Rattle.std.specs.Prelude.{◌≡◌, ◌≤◌, ◌++◌, string_bytes, IfOk, IfSome, None};
 ghost use Rattle.gx_io.specs.Calls.{Loads};
 ghost use Rattle.gx_io.specs.Faults.{Rose};
+ghost use Rattle.gx_io.specs.LibraryUse.{library_use};
+ghost use Rattle.gx_io.specs.SinkUse.{sink_use};
 ghost use Rattle.gx_processor.specs.Answer.{Answers, loads_of};
 ghost use Rattle.gx_processor.specs.Command.{bytes_of, command_of};
 ghost use Rattle.gx_processor.specs.Ending.{Ends, Put, PutOutput};
@@ -36,10 +38,10 @@ pub fn galax<L: Library, O: Sink, E: Sink>(
 ) -> Status
     ensures { Promises (record {
       words = bytes_of words.now;
-      library = record { Library = L; before = library.old; after = library.new; files = L.files; faults = L.faults; was_loaded = L.was_loaded };
+      library = library_use L.files L.faults L.was_loaded library.old library.new;
       status = result;
-      out = record { Sink = O; before = out.old; after = out.new; written = O.written; faults = O.faults; was_put = O.was_put };
-      err = record { Sink = E; before = err.old; after = err.new; written = E.written; faults = E.faults; was_put = E.was_put };
+      out = sink_use O.written O.faults O.was_put out.old out.new;
+      err = sink_use E.written E.faults E.was_put err.old err.new;
     }) }
 {
     query_typing_is_sound();
@@ -102,8 +104,8 @@ fn fault_line(alloc: Global, start: &str, end: &str) -> Result<String, AllocErro
 
 fn finish<O: Sink, E: Sink>(reply: Reply, out: &mut O, err: &mut E) -> Status
     ensures { Ends reply result
-        (record { Sink = O; before = out.old; after = out.new; written = O.written; faults = O.faults; was_put = O.was_put })
-        (record { Sink = E; before = err.old; after = err.new; written = E.written; faults = E.faults; was_put = E.was_put }) }
+        (sink_use O.written O.faults O.was_put out.old out.new)
+        (sink_use E.written E.faults E.was_put err.old err.new) }
 {
     match reply {
         Reply::Output(text) => write_output(text.as_str(), out, err),
@@ -114,8 +116,8 @@ fn finish<O: Sink, E: Sink>(reply: Reply, out: &mut O, err: &mut E) -> Status
 
 fn write_output<O: Sink, E: Sink>(text: &str, out: &mut O, err: &mut E) -> Status
     ensures { PutOutput text.now result
-        (record { Sink = O; before = out.old; after = out.new; written = O.written; faults = O.faults; was_put = O.was_put })
-        (record { Sink = E; before = err.old; after = err.new; written = E.written; faults = E.faults; was_put = E.was_put }) }
+        (sink_use O.written O.faults O.was_put out.old out.new)
+        (sink_use E.written E.faults E.was_put err.old err.new) }
 {
     match out.put(text.as_bytes()) {
         Ok(()) => Status::Done,
@@ -127,7 +129,7 @@ fn write_output<O: Sink, E: Sink>(text: &str, out: &mut O, err: &mut E) -> Statu
 // Puts a line in one piece.
 fn report<E: Sink>(status: Status, line: &str, err: &mut E) -> Status
     ensures { Put status line.now result
-        (record { Sink = E; before = err.old; after = err.new; written = E.written; faults = E.faults; was_put = E.was_put }) }
+        (sink_use E.written E.faults E.was_put err.old err.new) }
 {
     match err.put(line.as_bytes()) {
         Ok(()) => status,

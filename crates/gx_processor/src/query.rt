@@ -17,6 +17,7 @@ ghost use Rattle.gx_parse.specs.SyntaxTree.{SyntaxTree, nodes};
 use crate::normalise::{NameRefusal, normalise};
 use crate::refusal::Refusal;
 use gx_base::code::Code;
+use gx_base::limits::FILE_BYTES;
 use gx_core::expression::Core;
 use gx_core::typed::TypedCore;
 use gx_grammar::decode::{DecodeError, decode};
@@ -27,8 +28,6 @@ use gx_static::error::InferError;
 use gx_static::infer::infer;
 use gx_types::schemas::Schemas;
 use std::alloc::{AllocError, Global};
-
-const MOST_BYTES: usize = 16_777_216;
 
 /// The query in a file of the library, with the types that the static rules give it (XQuery 1.0, section 2.2.3.1).
 pub fn typed_query<L: Library>(
@@ -56,12 +55,12 @@ fn bytes_of<L: Library>(alloc: Global, file: &str, library: &mut L) -> Result<Ve
     ensures loads { Loads L.was_loaded (file.now ∷ []) library.old library.new }
     ensures counted { L.faults library.old ≤ L.faults library.new }
     ensures held { IfSome (L.files library.old) (λ files. IfOk result (λ bytes. file_of files file.now ≡ Some bytes.items)) }
-    ensures within { IfOk result (λ bytes. length bytes.items ≤ 16777216) }
+    ensures within { IfOk result (λ bytes. length bytes.items ≤ FILE_BYTES) }
     ensures refused { IfSome (L.files library.old) (λ files. IfErr result (λ refusal.
         (command : Command) → RefusesSo refusal (AnswersFile command (file_of files file.now)))) }
     ensures cause { IfErr result (HasCause (Rose (L.faults library.old) (L.faults library.new)) ⊥) }
 {
-    match library.load(alloc, file, MOST_BYTES) {
+    match library.load(alloc, file, FILE_BYTES) {
         Ok(bytes) => Ok(bytes),
         Err(LoadError::TooLong { .. }) => Err(Refusal::Query(Code::GLXS0001)),
         Err(LoadError::Failed) => Err(Refusal::ReadFault),
@@ -71,7 +70,7 @@ fn bytes_of<L: Library>(alloc: Global, file: &str, library: &mut L) -> Result<Ve
 
 // The tree of the bytes.
 fn syntax_of(alloc: Global, bytes: &[u8]) -> Result<Syntax, Refusal>
-    requires { length bytes.now ≤ 16777216 }
+    requires { length bytes.now ≤ FILE_BYTES }
     ensures tree { IfOk result (λ tree. HasTree bytes.now (Some tree)) }
     ensures small { IfOk result (λ tree. nodes tree < 2 ^ 31) }
     ensures refused { IfErr result (λ refusal. (command : Command) → RefusesSo refusal (AnswersBytes command bytes.now)) }
@@ -86,7 +85,7 @@ fn syntax_of(alloc: Global, bytes: &[u8]) -> Result<Syntax, Refusal>
 
 // The tree of the bytes, if they have one.
 fn tree_of_bytes(alloc: Global, bytes: &[u8]) -> Result<Option<Syntax>, AllocError>
-    requires { length bytes.now ≤ 16777216 }
+    requires { length bytes.now ≤ FILE_BYTES }
     ensures tree { IfOk result (λ tree. HasTree bytes.now tree) }
     ensures small { IfOk result (λ tree. IfSome tree (λ t. nodes t < 2 ^ 31)) }
 {
@@ -99,7 +98,7 @@ fn tree_of_bytes(alloc: Global, bytes: &[u8]) -> Result<Option<Syntax>, AllocErr
 
 // The tree of a text without comments.
 fn tree_of_text(alloc: Global, text: &[char]) -> Result<Option<Syntax>, AllocError>
-    requires { length text.now ≤ 16777216 }
+    requires { length text.now ≤ FILE_BYTES }
     ensures tree { IfOk result (λ tree. IfSome tree (IsPlainQuery text.now)) }
     ensures none { IfOk result (λ tree. IfNone tree ((t : SyntaxTree) → IsPlainQuery text.now t → ⊥)) }
     ensures small { IfOk result (λ tree. IfSome tree (λ t. nodes t < 2 ^ 31)) }

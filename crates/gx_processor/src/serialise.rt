@@ -1,31 +1,27 @@
 // The writing of values.
 
-ghost use Rattle.std.specs.Prelude.{◌≡◌, ◌++◌, IfOk, OnOk, string_bytes};
-ghost use Rattle.gx_processor.specs.Serialisation.{atom_bytes, atoms_bytes};
+ghost use Rattle.std.specs.Prelude.{◌≡◌, IfOk, string_bytes, map};
+ghost use Rattle.gx_processor.specs.Serialisation.{serialised_atoms, atom_item};
 
 use gx_facets::{Atomic, print_value};
+use gx_serial::item::{SerialItem, answer_text};
 use std::alloc::{AllocError, Global};
 
-/// The texts of atomic values with one space between two (Serialization, section 2).
+/// The text of atomic values, as the serialiser writes an answer of their texts (Serialization, section 2).
 pub fn serialise(alloc: Global, values: &[Atomic]) -> Result<String, AllocError>
-    ensures { IfOk result (λ text. string_bytes text ≡ atoms_bytes values.now) }
+    ensures { IfOk result (λ text. string_bytes text ≡ serialised_atoms values.now) }
 {
-    let mut text = String::new(alloc);
-    let Some((first, others)) = values.split_first() else {
-        return Ok(text);
-    };
-    push_value(alloc, &mut text, first)?;
-    for value in others {
-        text.push(' ')?;
-        push_value(alloc, &mut text, value)?;
-    }
-    Ok(text)
+    let items = serial_items(alloc, values)?;
+    let text = answer_text(alloc, items.as_slice())?;
+    Ok(text.into_string())
 }
 
-fn push_value(alloc: Global, text: &mut String, value: &Atomic) -> Result<(), AllocError>
-    ensures { OnOk result (string_bytes text.new ≡ string_bytes text.old ++ atom_bytes value.now) }
+fn serial_items(alloc: Global, values: &[Atomic]) -> Result<Vec<SerialItem>, AllocError>
+    ensures { IfOk result (λ items. items.items ≡ map atom_item values.now) }
 {
-    let printed = print_value(alloc, &value.value)?;
-    text.push_str(printed.as_str())?;
-    Ok(())
+    let mut items = Vec::new(alloc);
+    for value in values {
+        items.push(SerialItem::Text(print_value(alloc, &value.value)?))?;
+    }
+    Ok(items)
 }

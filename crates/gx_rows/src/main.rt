@@ -1,23 +1,18 @@
-//! Worked values of the lower crates: each line of standard input is a call with its arguments, and is written again with
-//! its answer.
+//! Worked values of texts, names, numbers and atomic values: each line of standard input is a call with its arguments, and
+//! is written again with its answer.
 #![tactic(auto)]
 
-mod builtins;
 mod names;
 mod numbers;
-mod row;
-mod type_rows;
-mod types;
 mod values;
 
-use gx_row::words;
-use names::{code_row, names_row, texts_row, type_names_row};
+use gx_row::not_a_row;
+use gx_row::words::words;
+use names::{build_row, code_row, names_row, texts_row, type_names_row};
 use numbers::{number, one_number, two_numbers};
-use row::not_a_row;
 use std::alloc::{AllocError, Global};
 use std::io;
-use type_rows::{derives_row, item_takes_row, type_row};
-use values::{admission_row, order_row, value, value_row};
+use values::{admits_list_row, admits_row, order_row, value_row};
 
 fn main(rt: HostRuntime) -> io::Result<()> {
     for line in rt.lines(rt.alloc()) {
@@ -41,27 +36,17 @@ fn row_answer(alloc: Global, row: &str) -> Result<String, AllocError> {
 
 fn answer(alloc: Global, words: &[&str]) -> Result<String, AllocError> {
     match words {
+        ["build", a, b] => build_row(alloc, a, b),
         ["texts", a, b] => texts_row(alloc, a, b),
         ["names", a, b] => names_row(alloc, a, b),
         ["type_names", a, b] => type_names_row(alloc, a, b),
         ["code", name] => code_row(alloc, name),
         ["read_value", kind, text] => value_row(alloc, kind, text),
-        ["compare_values", t, a, u, b] => {
-            order_row(alloc, value(alloc, t, a), value(alloc, u, b))
+        ["compare_values", t, a, u, b] => { order_row(alloc, (t, a), (u, b)) }
+        ["admits", facets @ .., "of", kind, text] => admits_row(alloc, facets, kind, text),
+        ["admits_list", facets @ .., "of", kind, text] => {
+            admits_list_row(alloc, facets, kind, text)
         }
-        [
-            call @ ("admits" | "admits_list"),
-            facets @ ..,
-            "of",
-            kind,
-            text,
-        ] => { admission_row(alloc, call, facets, kind, text) }
-        ["derives", t, u] => derives_row(alloc, t, u),
-        ["item_takes", item, shape] => item_takes_row(alloc, item, shape),
-        [
-            call @ ("print_type" | "prime" | "occurrence" | "same" | "sum"),
-            parts @ ..,
-        ] => { type_row(alloc, call, parts) }
         [call, a] => one_number(alloc, call, a),
         [call, a, b] => two_numbers(alloc, call, number(a), number(b)),
         _ => not_a_row(alloc),

@@ -1,10 +1,10 @@
 // Rows of texts, names and codes.
 
-use crate::builtins::builtin;
 use gx_base::code::Code;
-use gx_base::name::Name;
 use gx_base::text::Text;
+use gx_base::text_builder::TextBuilder;
 use gx_base::type_name::TypeName;
+use gx_row::names::{name, type_name};
 use std::alloc::{AllocError, Global};
 
 static CODES: [Code; 54] = [
@@ -64,50 +64,42 @@ static CODES: [Code; 54] = [
     Code::GLXD0003,
 ];
 
-/// A name as `{uri}prefix:local`, where the URI with its braces and the prefix with its colon may be left out.
-pub fn name(alloc: Global, word: &str) -> Result<Name, AllocError> {
-    let (uri, rest) = word
-        .strip_prefix('{')
-        .and_then(|rest| rest.split_once('}'))
-        .unwrap_or(("", word));
-    let (prefix, local) = rest.split_once(':').unwrap_or(("", rest));
-    Ok(Name {
-        uri: Text::from_str(alloc, uri)?,
-        prefix: Text::from_str(alloc, prefix)?,
-        local: Text::from_str(alloc, local)?,
-    })
-}
-
-/// The name of a type: a built-in one, the anonymous one of a number behind `#`, or a declared one.
-pub fn type_name(alloc: Global, word: &str) -> Result<TypeName, AllocError> {
-    if let Some(found) = builtin(word) {
-        return Ok(TypeName::Builtin(found));
-    }
-    match word.strip_prefix('#') {
-        Some(number) => Ok(TypeName::Anonymous(number.parse::<u32>().unwrap_or(0))),
-        None => Ok(TypeName::Named(name(alloc, word)?)),
-    }
+/// The text of a text, a string slice and a mark, one behind the other.
+pub fn build_row(alloc: Global, first: &str, second: &str) -> Result<String, AllocError> {
+    let mut builder = TextBuilder::new(alloc);
+    builder.push_text(&Text::from_str(alloc, first)?)?;
+    builder.push_str(second)?;
+    builder.push('!')?;
+    format!(in alloc; "{:?}", builder.finish()?)
 }
 
 /// The order of two texts, and whether they are equal.
 pub fn texts_row(alloc: Global, a: &str, b: &str) -> Result<String, AllocError> {
     let a = Text::from_str(alloc, a)?;
     let b = Text::from_str(alloc, b)?;
-    format!(in alloc; "{:?} {}", a.cmp(&b), a == b)
+    compared(alloc, &a, &b)
 }
 
 /// The order of two names, and whether they are equal.
 pub fn names_row(alloc: Global, a: &str, b: &str) -> Result<String, AllocError> {
     let a = name(alloc, a)?;
     let b = name(alloc, b)?;
-    format!(in alloc; "{:?} {}", a.cmp(&b), a == b)
+    compared(alloc, &a, &b)
 }
 
 /// The order of two names of types, and whether they are equal.
 pub fn type_names_row(alloc: Global, a: &str, b: &str) -> Result<String, AllocError> {
     let a = type_name(alloc, a)?;
+    with_type_name(alloc, &a, b)
+}
+
+fn with_type_name(alloc: Global, a: &TypeName, b: &str) -> Result<String, AllocError> {
     let b = type_name(alloc, b)?;
-    format!(in alloc; "{:?} {}", a.cmp(&b), a == b)
+    compared(alloc, a, &b)
+}
+
+fn compared<T: Ord>(alloc: Global, a: &T, b: &T) -> Result<String, AllocError> {
+    format!(in alloc; "{:?} {}", a.cmp(b), a == b)
 }
 
 /// The spelling of the code that has this name in the program.

@@ -1,10 +1,10 @@
 // Rows of the arithmetic on numbers.
 
-use crate::row::not_a_row;
 use gx_num::{
     Number, abs, add, ceiling, compare, div, floor, idiv, modulo, mul, negate, print_number,
     read_dec, read_int, round, sub, to_dec, to_int,
 };
+use gx_row::not_a_row;
 use std::alloc::{AllocError, Global};
 use std::fmt::Debug;
 

@@ -1,7 +1,5 @@
 // Rows of atomic values and facets.
 
-use crate::builtins::builtin;
-use crate::row::not_a_row;
 use gx_base::text::Text;
 use gx_base::type_name::{Builtin, TypeName};
 use gx_facets::restriction::{AtomValues, Enumeration};
@@ -10,6 +8,7 @@ use gx_facets::{
     read_value,
 };
 use gx_num::Number;
+use gx_row::builtins::builtin;
 use std::alloc::{AllocError, Global};
 
 /// The value of a text at a built-in type.
@@ -42,38 +41,63 @@ fn kind_of(value: &AtomValue) -> &'static str {
     }
 }
 
-/// The order of two values.
-pub fn order_row(
-    alloc: Global,
-    a: Result<AtomValue, ValueRead>,
-    b: Result<AtomValue, ValueRead>,
-) -> Result<String, AllocError> {
-    match (a, b) {
-        (Ok(a), Ok(b)) => format!(in alloc; "{:?}", compare_values(&a, &b)),
-        _ => not_a_row(alloc),
+/// The order of two values, each given by its type and its text.
+pub fn order_row(alloc: Global, a: (&str, &str), b: (&str, &str)) -> Result<String, AllocError> {
+    match value(alloc, a.0, a.1) {
+        Ok(a) => order_with(alloc, &a, b),
+        Err(fault) => format!(in alloc; "{fault:?}"),
     }
 }
 
-/// Whether facets admit a value, or the list of the values in a text.
-pub fn admission_row(
+fn order_with(alloc: Global, a: &AtomValue, b: (&str, &str)) -> Result<String, AllocError> {
+    match value(alloc, b.0, b.1) {
+        Ok(b) => format!(in alloc; "{:?}", compare_values(a, &b)),
+        Err(fault) => format!(in alloc; "{fault:?}"),
+    }
+}
+
+/// Whether facets admit a value.
+pub fn admits_row(
     alloc: Global,
-    call: &str,
     facets: &[&str],
     kind: &str,
     text: &str,
 ) -> Result<String, AllocError> {
     let facets = facets_of(alloc, facets);
-    match call {
-        "admits" => match value(alloc, kind, text) {
-            Ok(value) => format!(in alloc; "{}", admits(&facets, &value)),
-            Err(fault) => format!(in alloc; "{fault:?}"),
-        },
-        "admits_list" => {
-            let items = items(alloc, kind, text)?;
-            format!(in alloc; "{}", admits_list(&facets, items.as_slice()))
-        }
-        _ => not_a_row(alloc),
+    admits_value(alloc, &facets, kind, text)
+}
+
+fn admits_value(
+    alloc: Global,
+    facets: &Facets,
+    kind: &str,
+    text: &str,
+) -> Result<String, AllocError> {
+    match value(alloc, kind, text) {
+        Ok(value) => format!(in alloc; "{}", admits(facets, &value)),
+        Err(fault) => format!(in alloc; "{fault:?}"),
     }
+}
+
+/// Whether facets admit the list of the values in a text.
+pub fn admits_list_row(
+    alloc: Global,
+    facets: &[&str],
+    kind: &str,
+    text: &str,
+) -> Result<String, AllocError> {
+    let facets = facets_of(alloc, facets);
+    admits_items(alloc, &facets, kind, text)
+}
+
+fn admits_items(
+    alloc: Global,
+    facets: &Facets,
+    kind: &str,
+    text: &str,
+) -> Result<String, AllocError> {
+    let items = items(alloc, kind, text)?;
+    format!(in alloc; "{}", admits_list(facets, items.as_slice()))
 }
 
 // The facets of a row: each by its name, with a type and a text behind a bound or an entry, and a number behind a length.

@@ -6,7 +6,7 @@ use Rattle.std.proofs.lemmas.Str.{chars-IsAscii, IsAscii-append}
 use Rattle.std.proofs.lemmas.Fmt.{IsAscii-decimal}
 use Rattle.std.specs.Bool.{one_answer}
 use Rattle.std.specs.Cmp.Lexicographic.{bytes_decides}
-use Rattle.gx_serial.specs.Binding.{last_of, xml, is_among, numbered_prefix, free_number}
+use Rattle.gx_serial.specs.Binding.{last_of, xml, is_prefix_among, numbered_prefix, free_number}
 use Rattle.gx_serial.proofs.TextLemmas.{chars_of_text}
 
 pub last_of-cond : (b : Bool) (first rest : Option (List ℕ)) (uri : List ℕ) → last_of first (cond b (Some uri) rest) ≡ cond b (Some uri) (last_of first rest)
@@ -23,13 +23,13 @@ is_xml text scalars =
     one_answer {P = encode_utf8_all text ≡ xml} _ _ by_bytes (λ h. ap encode_utf8_all (by_text.0 h), λ e. by_text.1 (back e))
 
 -- a free number is the first one
-pub free_here : (used : List (List ℕ)) (spare k : ℕ) → is_among used (numbered_prefix k) ≡ false → free_number used spare k ≡ k
+pub free_here : (used : List (List ℕ)) (spare k : ℕ) → is_prefix_among used (numbered_prefix k) ≡ false → free_number used spare k ≡ k
 unfolding free_number
 free_here used zero k free = refl
 free_here used (suc spare) k free = rw free refl
 
 -- a number that is not free is passed over
-pub free_next : (used : List (List ℕ)) (n i : ℕ) → i < n → is_among used (numbered_prefix (i + 1)) ≡ true
+pub free_next : (used : List (List ℕ)) (n i : ℕ) → i < n → is_prefix_among used (numbered_prefix (i + 1)) ≡ true
     → free_number used (n - i) (i + 1) ≡ free_number used (n - (i + 1)) (i + 1 + 1)
 unfolding free_number
 free_next used n i below taken =

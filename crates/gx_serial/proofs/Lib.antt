@@ -7,3 +7,4 @@ mod FreeLemmas
 mod IndexLemmas
 mod PrefixLemmas
 mod ReadingLemmas
+mod DeclarationLemmas

@@ -48,16 +48,16 @@ state_next used s t (b ∷ bs) (suc i) a below here e = rw add-one (rw add-one a
 -- the text of its attributes after one more
 pub text_next : (used : List (List ℕ)) (s t : Begun) (w v : List ℕ) (attributes : List Attribute) (i : ℕ) (a : Attribute)
     → i < length attributes → a ≡ get_or attributes i a → t ≡ after_attribute used s a
-    → v ≡ w ++ spelled_attribute (record { prefix = written_prefix used s a; local = a.name.local; value = a.value })
+    → v ≡ w ++ spelled_attribute (record { prefix = written_prefix used s a; local = a.name.local; written_value = a.value })
     → v ++ spelled_attributes (written_attributes used t (drop (i + 1) attributes)) ≡ w ++ spelled_attributes (written_attributes used s (drop i attributes))
 text_next used s t w v [] i a below here e f = absurd (omega arith)
 text_next used s t w v (b ∷ bs) zero a below here e f =
-    let one : WrittenAttribute = record { prefix = written_prefix used s a; local = a.name.local; value = a.value } in
+    let one : WrittenAttribute = record { prefix = written_prefix used s a; local = a.name.local; written_value = a.value } in
     let rest = λ (u : Begun). spelled_attributes (written_attributes used u bs) in
     ap (λ x. x ++ rest t) f
     ∙ append_assoc w (spelled_attribute one) (rest t)
     ∙ ap (λ u. w ++ (spelled_attribute one ++ rest u)) e
-    ∙ ap (λ (c : Attribute). w ++ (spelled_attribute (record { prefix = written_prefix used s c; local = c.name.local; value = c.value }) ++ rest (after_attribute used s c))) here
+    ∙ ap (λ (c : Attribute). w ++ (spelled_attribute (record { prefix = written_prefix used s c; local = c.name.local; written_value = c.value }) ++ rest (after_attribute used s c))) here
 text_next used s t w v (b ∷ bs) (suc i) a below here e f =
     rw add-one (rw add-one at (text_next used s t w v bs i a (omega arith) here e f))
 
@@ -81,10 +81,10 @@ start_text before after out named declared written name attributes n d s w =
     let listed = spelled_attributes (written_attributes (prefixes_of name attributes) (begun before name) attributes) in
     let added : d.0 ≡ drop (length before) (scope_within before name attributes) =
     sym (ap (drop (length before)) (sym s ∙ d.1) ∙ drop-append_seam before d.0) in
-    let spelled = λ (bs : List Binding). out ++ (((codes "<" ++ own) ++ spelled_declarations bs) ++ listed) in
+    let spelled_markup = λ (bs : List Binding). out ++ (((codes "<" ++ own) ++ spelled_declarations bs) ++ listed) in
     let joined : declared ++ written ≡ ((((out ++ codes "<") ++ own) ++ spelled_declarations d.0) ++ listed) =
     ap (λ x. x ++ written) (d.2 ∙ ap (λ x. x ++ spelled_declarations d.0) n) ∙ ap (λ x. (((out ++ codes "<") ++ own) ++ spelled_declarations d.0) ++ x) w in
-    joined ∙ (simp append_assoc) ∙ ap spelled added
+    joined ∙ (simp append_assoc) ∙ ap spelled_markup added
 
 -- the bindings from before stand in front
 pub kept_in_front : (before after : List Binding) (x y : List ℕ) → Declares before after x y → take (length before) after ≡ before

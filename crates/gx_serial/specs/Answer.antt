@@ -2,9 +2,9 @@
 use Rattle.std.specs.Prelude.{ℕ, List, [], ◌∷◌, ◌++◌, Bool, true, false, codes}
 use Rattle.gx_serial.specs.declared.item.SerialItem.{SerialItem}
 use Rattle.gx_serial.specs.declared.item.SerialItem.TheVariants.{Text, Tree}
-use Rattle.gx_serial.specs.Binding.{no_declarations}
+use Rattle.gx_serial.specs.Binding.{outermost_scope}
 use Rattle.gx_serial.specs.Escape.{text_escaped}
-use Rattle.gx_serial.specs.Markup.{spelled}
+use Rattle.gx_serial.specs.Markup.{spelled_markup}
 use Rattle.gx_serial.specs.Marked.{marked}
 
 -- one space, where an atomic value comes next
@@ -16,7 +16,7 @@ separator _ = []
 abbrev pub answer_text : List SerialItem → List ℕ
 answer_text [] = []
 answer_text (Text t ∷ items) = text_escaped t ++ separator items ++ answer_text items
-answer_text (Tree t ∷ items) = spelled (marked no_declarations t) ++ answer_text items
+answer_text (Tree t ∷ items) = spelled_markup (marked outermost_scope t) ++ answer_text items
 
 -- what is left to write, after an atomic value or not
 abbrev pub left_after : Bool → List SerialItem → List ℕ

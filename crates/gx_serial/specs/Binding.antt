@@ -24,9 +24,17 @@ xml = codes "xml"
 abbrev pub xml_uri : List ℕ
 xml_uri = codes "http://www.w3.org/XML/1998/namespace"
 
+-- the prefix xmlns, which declares prefixes
+abbrev pub xmlns : List ℕ
+xmlns = codes "xmlns"
+
+-- the URI that the prefix xmlns is always bound to
+abbrev pub xmlns_uri : List ℕ
+xmlns_uri = codes "http://www.w3.org/2000/xmlns/"
+
 -- where nothing is declared, a name without a prefix is in no namespace
-abbrev pub no_declarations : List Binding
-no_declarations = ([], []) ∷ []
+abbrev pub outermost_scope : List Binding
+outermost_scope = ([], []) ∷ []
 
 -- two bindings, where there are any, give one URI
 abbrev pub gives : Option (List ℕ) → List ℕ → Bool
@@ -41,13 +49,13 @@ needs_declaration scope prefix uri = not (bytes_eq prefix xml) && not (gives (bo
 abbrev pub numbered_prefix : ℕ → List ℕ
 numbered_prefix k = codes "ns" ++ decimal k
 
-abbrev pub is_among : List (List ℕ) → List ℕ → Bool
-is_among prefixes prefix = list_any (λ used. bytes_eq used prefix) prefixes
+abbrev pub is_prefix_among : List (List ℕ) → List ℕ → Bool
+is_prefix_among prefixes prefix = list_any (λ used. bytes_eq used prefix) prefixes
 
 -- the first number from k on whose prefix is not among these, passing over so many at most
 unfoldable pub free_number : List (List ℕ) → ℕ → ℕ → ℕ
 free_number used zero k = k
-free_number used (suc spare) k = if is_among used (numbered_prefix k) then free_number used spare (k + 1) else k
+free_number used (suc spare) k = if is_prefix_among used (numbered_prefix k) then free_number used spare (k + 1) else k
 
 -- the first of ns1, ns2, .. that is not among these
 abbrev pub free_prefix : List (List ℕ) → List ℕ

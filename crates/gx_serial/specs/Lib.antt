@@ -7,3 +7,4 @@ pub mod View
 pub mod Index
 pub mod PrefixSet
 pub mod Reading
+pub mod Declarations

@@ -12,19 +12,19 @@ prefixes_of name attributes = name.prefix ∷ map (λ (a : Attribute). a.name.pr
 
 -- a tag so far: the prefixes that its names have taken, and the bindings in force
 pub record Begun : Type 0 where
-  pub taken : List Binding
+  pub taken_bindings : List Binding
   pub scope : List Binding
 
 -- a name takes a prefix for its URI, which is declared where that is needed
 abbrev pub with_prefix : Begun → List ℕ → List ℕ → Begun
 with_prefix begun prefix uri = record {
-  taken = begun.taken ++ ((prefix, uri) ∷ []);
+  taken_bindings = begun.taken_bindings ++ ((prefix, uri) ∷ []);
   scope = if needs_declaration begun.scope prefix uri then begun.scope ++ ((prefix, uri) ∷ []) else begun.scope;
 }
 
 -- a tag after its element's name
 abbrev pub begun : List Binding → Name → Begun
-begun scope name = with_prefix (record { taken = []; scope = scope }) name.prefix name.uri
+begun scope name = with_prefix (record { taken_bindings = []; scope = scope }) name.prefix name.uri
 
 -- a prefix that nothing has taken, or that the URI itself has taken, or else the first free one
 abbrev pub unless_taken : Option (List ℕ) → List (List ℕ) → List Binding → List ℕ → List ℕ → List ℕ
@@ -35,7 +35,7 @@ unless_taken (Some bound) used taken prefix uri =
 -- the prefix that is written for an attribute
 abbrev pub written_prefix : List (List ℕ) → Begun → Attribute → List ℕ
 written_prefix used tag a =
-    if bytes_eq a.name.prefix [] then [] else unless_taken (bound_to tag.taken a.name.prefix) used tag.taken a.name.prefix a.name.uri
+    if bytes_eq a.name.prefix [] then [] else unless_taken (bound_to tag.taken_bindings a.name.prefix) used tag.taken_bindings a.name.prefix a.name.uri
 
 -- the tag after an attribute's name; an attribute without a prefix is in no namespace, and takes none
 abbrev pub after_attribute : List (List ℕ) → Begun → Attribute → Begun
@@ -49,7 +49,7 @@ after_attributes used tag (a ∷ others) = after_attributes used (after_attribut
 abbrev pub written_attributes : List (List ℕ) → Begun → List Attribute → List WrittenAttribute
 written_attributes used tag [] = []
 written_attributes used tag (a ∷ others) =
-    record { prefix = written_prefix used tag a; local = a.name.local; value = a.value }
+    record { prefix = written_prefix used tag a; local = a.name.local; written_value = a.value }
     ∷ written_attributes used (after_attribute used tag a) others
 
 -- the bindings in force within an element

@@ -7,7 +7,7 @@ use Rattle.gx_serial.specs.Escape.{text_escaped, value_escaped}
 pub record WrittenAttribute : Type 0 where
   pub prefix : List ℕ
   pub local : List ℕ
-  pub value : List ℕ
+  pub written_value : List ℕ
 
 -- the name, declarations and attributes of a start tag
 pub record Tag : Type 0 where
@@ -41,7 +41,7 @@ spelled_declarations [] = []
 spelled_declarations (b ∷ bs) = spelled_declaration b ++ spelled_declarations bs
 
 abbrev pub spelled_attribute : WrittenAttribute → List ℕ
-spelled_attribute a = codes " " ++ spelled_name a.prefix a.local ++ codes "=\"" ++ value_escaped a.value ++ codes "\""
+spelled_attribute a = codes " " ++ spelled_name a.prefix a.local ++ codes "=\"" ++ value_escaped a.written_value ++ codes "\""
 
 abbrev pub spelled_attributes : List WrittenAttribute → List ℕ
 spelled_attributes [] = []
@@ -57,16 +57,16 @@ spelled_end prefix local = codes "</" ++ spelled_name prefix local ++ codes ">"
 
 -- the text of tags and characters; an element without content is one tag
 abbrev mutual
-  pub spelled : Markup → List ℕ
-  spelled (tagged tag content) = spelled_start tag ++ spelled_content tag.prefix tag.local content
-  spelled (characters t) = text_escaped t
-  spelled (several ms) = all_spelled ms
+  pub spelled_markup : Markup → List ℕ
+  spelled_markup (tagged tag content) = spelled_start tag ++ spelled_content tag.prefix tag.local content
+  spelled_markup (characters t) = text_escaped t
+  spelled_markup (several ms) = all_spelled ms
 
   -- what follows a start tag
   pub spelled_content : List ℕ → List ℕ → Markups → List ℕ
   spelled_content prefix local no_markup = codes "/>"
-  spelled_content prefix local (a_markup m ms) = codes ">" ++ (spelled m ++ all_spelled ms) ++ spelled_end prefix local
+  spelled_content prefix local (a_markup m ms) = codes ">" ++ (spelled_markup m ++ all_spelled ms) ++ spelled_end prefix local
 
   pub all_spelled : Markups → List ℕ
   all_spelled no_markup = []
-  all_spelled (a_markup m ms) = spelled m ++ all_spelled ms
+  all_spelled (a_markup m ms) = spelled_markup m ++ all_spelled ms

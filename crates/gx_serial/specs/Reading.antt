@@ -1,8 +1,9 @@
 -- The names of a written text as they are read (Namespaces in XML 1.0, sections 5 and 6).
-use Rattle.std.specs.Prelude.{◌≡◌, ℕ, ◌^◌, ◌<◌, List, [], ◌∷◌, ◌++◌, length, Option, Some, if◌then◌else◌, bytes_eq}
+use Rattle.std.specs.Prelude.{◌≡◌, ◌≢◌, ℕ, ◌^◌, ◌<◌, List, [], ◌∷◌, ◌++◌, length, Option, Some, if◌then◌else◌, bytes_eq}
+use Rattle.gx_base.specs.declared.name.Name.{Name}
 use Rattle.gx_tree.specs.declared.attribute.Attribute.{Attribute}
 use Rattle.gx_tree.specs.PlainTree.{PlainTree, PlainTrees, document, element, attribute, text, no_trees, a_tree}
-use Rattle.gx_serial.specs.Binding.{Binding, bound_to, xml, xml_uri}
+use Rattle.gx_serial.specs.Binding.{Binding, bound_to, xml, xml_uri, xmlns, xmlns_uri}
 use Rattle.gx_serial.specs.Markup.{WrittenAttribute, Markup, Markups, tagged, characters, several, no_markup, a_markup}
 
 -- the URI of a prefix where these bindings are in force; the prefix xml is always bound
@@ -17,7 +18,7 @@ attribute_uri_read scope prefix = if bytes_eq prefix [] then Some [] else uri_re
 abbrev pub AttributesReadAs : List Binding → List WrittenAttribute → List Attribute → Type 0
 AttributesReadAs scope [] [] = Unit {0}
 AttributesReadAs scope (w ∷ ws) (a ∷ others) =
-    (attribute_uri_read scope w.prefix ≡ Some a.name.uri) × (w.local ≡ a.name.local) × (w.value ≡ a.value) × AttributesReadAs scope ws others
+    (attribute_uri_read scope w.prefix ≡ Some a.name.uri) × (w.local ≡ a.name.local) × (w.written_value ≡ a.value) × AttributesReadAs scope ws others
 AttributesReadAs scope _ _ = ⊥
 
 -- tags and characters are read as the tree, each name with the declarations of its own tag and of those round it
@@ -38,10 +39,19 @@ abbrev mutual
   AllReadAs scope (a_markup m ms) (a_tree t ts) = ReadsAs scope m t × AllReadAs scope ms ts
   AllReadAs scope _ _ = ⊥
 
--- an attribute's name can be written: it has a prefix where it has a URI, and the prefix xml has its own URI
+-- A name can be written: its prefix has a URI, and neither is that of xmlns. The prefix xml has its own URI, and that URI no other
+-- prefix.
+pub record IsWritableName (name : Name) : Type 0 where
+  pub prefix_has_uri : name.prefix ≢ [] → name.uri ≢ []
+  pub not_xmlns : name.prefix ≢ xmlns
+  pub not_uri_of_xmlns : name.uri ≢ xmlns_uri
+  pub xml_has_its_uri : name.prefix ≡ xml → name.uri ≡ xml_uri
+  pub uri_of_xml_is_its : name.uri ≡ xml_uri → name.prefix ≡ xml
+
+-- an attribute's name can be written: besides, it has a prefix where it has a URI
 pub record IsWritableAttribute (a : Attribute) : Type 0 where
-  pub prefixed : a.name.prefix ≡ [] → a.name.uri ≡ []
-  pub xml : a.name.prefix ≡ xml → a.name.uri ≡ xml_uri
+  pub own_name : IsWritableName a.name
+  pub uri_has_prefix : a.name.prefix ≡ [] → a.name.uri ≡ []
 
 abbrev pub AreWritableAttributes : List Attribute → Type 0
 AreWritableAttributes [] = Unit {0}
@@ -52,7 +62,7 @@ abbrev mutual
   pub IsWritable : PlainTree → Type 0
   IsWritable (document ts) = AreWritable ts
   IsWritable (element name kind attributes ts) =
-      (name.prefix ≡ xml → name.uri ≡ xml_uri) × AreWritableAttributes attributes × (length attributes < 2 ^ 62) × AreWritable ts
+      IsWritableName name × AreWritableAttributes attributes × (length attributes < 2 ^ 62) × AreWritable ts
   IsWritable (attribute a) = Unit {0}
   IsWritable (text t) = Unit {0}
 

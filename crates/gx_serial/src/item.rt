@@ -1,11 +1,11 @@
 // What is serialised.
-ghost use Rattle.std.specs.Prelude.{◌≡◌, ◌≤◌, List, ◌∷◌, ◌++◌, map, IfOk, OnOk, OnErr, IsErrOf};
+ghost use Rattle.std.specs.Prelude.{◌≡◌, ◌≤◌, List, ◌∷◌, ◌++◌, IfOk, OnOk, OnErr, IsErrOf};
 ghost use Rattle.std.specs.Str.{encode_utf8_all};
 ghost use Rattle.gx_io.specs.Faults.{Rose};
 ghost use Rattle.gx_io.specs.Put.{GrowsBy, GrowsByPrefix};
 ghost use Rattle.gx_serial.specs.declared.item.SerialItem.{SerialItem};
 ghost use Rattle.gx_serial.specs.Answer.{answer_text, left_after};
-ghost use Rattle.gx_serial.specs.Binding.{no_declarations};
+ghost use Rattle.gx_serial.specs.Binding.{outermost_scope};
 
 use crate::binding::Bindings;
 use crate::escape::push_text;
@@ -35,13 +35,14 @@ pub fn serialise<S: Sink>(alloc: Global, items: &[SerialItem], sink: &mut S) -> 
     ensures counted { S.faults sink.old ≤ S.faults sink.new }
     ensures failed { IsErrOf result PutError.Failed → Rose (S.faults sink.old) (S.faults sink.new) }
 {
-    match text_of(alloc, items) {
+    match answer_text(alloc, items) {
         Ok(text) => put_in_pieces(sink, text.as_str().as_bytes()),
         Err(_) => Err(PutError::Memory),
     }
 }
 
-fn text_of(alloc: Global, items: &[SerialItem]) -> Result<TextBuilder, AllocError>
+/// The text of the items, which `serialise` puts.
+pub fn answer_text(alloc: Global, items: &[SerialItem]) -> Result<TextBuilder, AllocError>
     ensures { IfOk result (λ text. text ≡ answer_text items.now) }
 {
     let none = Text::empty(alloc)?;
@@ -58,7 +59,7 @@ fn push_items<'a>(
     scope: &mut Bindings<'a>,
     items: &'a [SerialItem],
 ) -> Result<(), AllocError>
-    requires { scope.old ≡ no_declarations }
+    requires { scope.old ≡ outermost_scope }
     ensures { OnOk result (out.new ≡ out.old ++ answer_text items.now) }
 {
     let mut follows_value = false;
@@ -76,10 +77,10 @@ fn push_item<'a>(
     follows_value: bool,
     item: &'a SerialItem,
 ) -> Result<bool, AllocError>
-    requires { scope.old ≡ no_declarations }
+    requires { scope.old ≡ outermost_scope }
     ensures text { IfOk result (λ is_value. (rest : List SerialItem)
         → out.new ++ left_after is_value rest ≡ out.old ++ left_after follows_value (item.now ∷ rest)) }
-    ensures scope { OnOk result (scope.new ≡ no_declarations) }
+    ensures scope { OnOk result (scope.new ≡ outermost_scope) }
 {
     match item {
         SerialItem::Text(text) => {

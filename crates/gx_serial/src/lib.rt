@@ -4,8 +4,8 @@
 mod binding;
 mod escape;
 pub mod item;
+pub mod laws;
 mod prefix;
 mod put;
-pub mod reading;
 mod tag;
 mod write;

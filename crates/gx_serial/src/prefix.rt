@@ -1,7 +1,7 @@
 // The prefixes of a tag.
 ghost use Rattle.std.specs.Prelude.{◌≡◌, [], ◌∷◌, ◌++◌, length, map, option_map, IfOk, OnOk, OnErr};
 ghost use Rattle.gx_tree.specs.declared.attribute.Attribute.{Attribute};
-ghost use Rattle.gx_serial.specs.Binding.{bound_to, numbered_prefix, is_among, free_number, free_prefix};
+ghost use Rattle.gx_serial.specs.Binding.{bound_to, numbered_prefix, is_prefix_among, free_number, free_prefix};
 ghost use Rattle.gx_serial.specs.Marked.{prefixes_of, unless_taken};
 ghost use Rattle.gx_serial.specs.View.{all_prefixes, IsSearchStart};
 ghost use Rattle.gx_serial.specs.PrefixSet.{HoldsAll};
@@ -21,7 +21,7 @@ pub(crate) struct Prefixes<'a> {
     name: &'a Name,
     attributes: &'a [Attribute],
     attribute_prefixes: BTreeSet<Text>,
-    taken: Bindings<'a>,
+    taken_bindings: Bindings<'a>,
     number: usize,
 }
 
@@ -45,7 +45,7 @@ impl<'a> Prefixes<'a> {
         attributes: &'a [Attribute],
     ) -> Result<Prefixes<'a>, AllocError>
         ensures { IfOk result (λ prefixes. prefixes
-            ≡ record { used = prefixes_of name.now attributes.now; taken = (name.now.prefix, name.now.uri) ∷ [] }) }
+            ≡ record { used = prefixes_of name.now attributes.now; taken_bindings = (name.now.prefix, name.now.uri) ∷ [] }) }
     {
         let mut taken = Bindings::new(alloc);
         taken.push(&name.prefix, &name.uri)?;
@@ -53,33 +53,33 @@ impl<'a> Prefixes<'a> {
             name,
             attributes,
             attribute_prefixes: prefix_set(alloc, attributes)?,
-            taken,
+            taken_bindings: taken,
             number: 1,
         })
     }
 
     // The URI for which a prefix was taken last.
     pub(crate) fn bound_to(&self, prefix: &Text) -> Option<&'a Text>
-        ensures { option_map (λ u. u.now) result ≡ bound_to self.now.taken prefix.now }
+        ensures { option_map (λ u. u.now) result ≡ bound_to self.now.taken_bindings prefix.now }
     {
-        self.taken.bound_to(prefix)
+        self.taken_bindings.bound_to(prefix)
     }
 
     // Whether a name has the prefix, or has taken it.
     fn is_used(&self, prefix: &Text) -> bool
-        ensures { result ≡ is_among (all_prefixes self.now) prefix.now }
+        ensures { result ≡ is_prefix_among (all_prefixes self.now) prefix.now }
     {
         self.name.prefix == *prefix
             || self.attribute_prefixes.contains(prefix)
-            || self.taken.bound_to(prefix).is_some()
+            || self.taken_bindings.bound_to(prefix).is_some()
     }
 
     // Lets a name take a prefix for its URI.
     pub(crate) fn take(&mut self, prefix: &Text, uri: &'a Text) -> Result<(), AllocError>
-        ensures ok { OnOk result (self.new ≡ record self.old { taken = self.old.taken ++ ((prefix.now, uri.now) ∷ []) }) }
+        ensures ok { OnOk result (self.new ≡ record self.old { taken_bindings = self.old.taken_bindings ++ ((prefix.now, uri.now) ∷ []) }) }
         ensures err { OnErr result (self.new ≡ self.old) }
     {
-        self.taken.push(prefix, uri)
+        self.taken_bindings.push(prefix, uri)
     }
 
     // The first number from 1 on whose prefix no name has or has taken.
@@ -88,7 +88,7 @@ impl<'a> Prefixes<'a> {
             ≡ free_number (all_prefixes self.now) (length (all_prefixes self.now)) 1) }
         ensures start { IfOk result (IsSearchStart (all_prefixes self.now)) }
     {
-        let most = 1 + self.attributes.len() + self.taken.len();
+        let most = 1 + self.attributes.len() + self.taken_bindings.len();
         let mut number = self.number;
         while number <= most {
             let prefix = numbered_prefix(alloc, number)?;
@@ -116,7 +116,7 @@ impl<'a> Prefixes<'a> {
         attribute: &Attribute,
     ) -> Result<Text, AllocError>
         ensures prefix { IfOk result (λ prefix. prefix
-            ≡ unless_taken (bound_to self.old.taken attribute.now.name.prefix) self.old.used self.old.taken
+            ≡ unless_taken (bound_to self.old.taken_bindings attribute.now.name.prefix) self.old.used self.old.taken_bindings
             attribute.now.name.prefix attribute.now.name.uri) }
         ensures same { self.new ≡ self.old }
     {

@@ -2,7 +2,7 @@
 ghost use Rattle.std.specs.Prelude.{◌≡◌, [], ◌++◌, take, length, OnOk};
 ghost use Rattle.gx_serial.specs.Markup.{spelled_name, spelled_declaration, spelled_attribute, spelled_attributes, spelled_start};
 ghost use Rattle.gx_serial.specs.Marked.{with_prefix, prefixes_of, written_prefix, written_attributes, after_attribute, after_attributes, scope_within, tag_of};
-ghost use Rattle.gx_serial.specs.View.{begun_of, named, Declares, DeclaresThen};
+ghost use Rattle.gx_serial.specs.View.{begun_of, begun_by_name, Declares, DeclaresThen};
 
 use crate::binding::Bindings;
 use crate::escape::{push_ascii, push_value};
@@ -54,7 +54,7 @@ pub(crate) fn push_attribute(
     value: &Text,
 ) -> Result<(), AllocError>
     ensures { OnOk result (out.new ≡ out.old
-        ++ spelled_attribute (record { prefix = prefix.now; local = local.now; value = value.now })) }
+        ++ spelled_attribute (record { prefix = prefix.now; local = local.now; written_value = value.now })) }
 {
     out.push(' ')?;
     push_name(out, prefix, local)?;
@@ -70,7 +70,7 @@ fn declare<'a>(
     prefix: &Text,
     uri: &'a Text,
 ) -> Result<(), AllocError>
-    ensures scope { OnOk result (scope.new ≡ (with_prefix (record { taken = []; scope = scope.old }) prefix.now uri.now).scope) }
+    ensures scope { OnOk result (scope.new ≡ (with_prefix (record { taken_bindings = []; scope = scope.old }) prefix.now uri.now).scope) }
     ensures declares { OnOk result (Declares scope.old scope.new out.old out.new) }
 {
     if !scope.needs_declaration(prefix, uri) {
@@ -97,7 +97,7 @@ fn push_next<'a>(
         ++ spelled_attribute (record {
           prefix = written_prefix prefixes.old.used (begun_of prefixes.old scope.old) attribute.now;
           local = attribute.now.name.local;
-          value = attribute.now.value;
+          written_value = attribute.now.value;
         })) }
 {
     if attribute.name.prefix.is_empty() {
@@ -119,9 +119,9 @@ fn push_attributes<'a>(
     attributes: &'a [Attribute],
 ) -> Result<(), AllocError>
     ensures scope { OnOk result (scope.new
-        ≡ (after_attributes (prefixes_of name.now attributes.now) (named name.now scope.old) attributes.now).scope) }
+        ≡ (after_attributes (prefixes_of name.now attributes.now) (begun_by_name name.now scope.old) attributes.now).scope) }
     ensures text { OnOk result (DeclaresThen scope.old scope.new out.old out.new
-        (spelled_attributes (written_attributes (prefixes_of name.now attributes.now) (named name.now scope.old) attributes.now))) }
+        (spelled_attributes (written_attributes (prefixes_of name.now attributes.now) (begun_by_name name.now scope.old) attributes.now))) }
 {
     let mut prefixes = Prefixes::new(alloc, name, attributes)?;
     let mut written = TextBuilder::new(alloc);

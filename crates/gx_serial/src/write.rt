@@ -1,7 +1,7 @@
 // Trees as text.
 ghost use Rattle.std.specs.Prelude.{◌≡◌, ◌++◌, OnOk};
 ghost use Rattle.gx_tree.specs.PlainTree.{trees_of};
-ghost use Rattle.gx_serial.specs.Markup.{tagged, spelled, spelled_content, spelled_end, all_spelled};
+ghost use Rattle.gx_serial.specs.Markup.{tagged, spelled_markup, spelled_content, spelled_end, all_spelled};
 ghost use Rattle.gx_serial.specs.Marked.{marked, all_marked, scope_within, tag_of};
 
 use crate::binding::Bindings;
@@ -22,7 +22,7 @@ pub(crate) fn push_tree<'a>(
     scope: &mut Bindings<'a>,
     tree: &'a Tree,
 ) -> Result<(), AllocError>
-    ensures text { OnOk result (out.new ≡ out.old ++ spelled (marked scope.old tree.now)) }
+    ensures text { OnOk result (out.new ≡ out.old ++ spelled_markup (marked scope.old tree.now)) }
     ensures scope { OnOk result (scope.new ≡ scope.old) }
 {
     match &tree.node {
@@ -48,7 +48,7 @@ fn push_element<'a>(
     children: &'a Vec<Tree>,
 ) -> Result<(), AllocError>
     ensures text { OnOk result (out.new ≡ out.old
-        ++ spelled (tagged (tag_of scope.old name.now attributes.now.items)
+        ++ spelled_markup (tagged (tag_of scope.old name.now attributes.now.items)
         (all_marked (scope_within scope.old name.now attributes.now.items) (trees_of children.now.items)))) }
     ensures scope { OnOk result (scope.new ≡ scope.old) }
 {

@@ -22,7 +22,7 @@ mutual
   AreUntyped-erased (a_tree t ts) = (IsUntyped-erased t, AreUntyped-erased ts)
 
 SameAttribute-erased : (a : Attribute) → SameAttribute a (erased_attribute a)
-SameAttribute-erased a = record { name = refl; value = refl }
+SameAttribute-erased a = record { name = refl; equal_values = refl }
 
 SameAttributes-erased : (l : List Attribute) → SameAttributes l (map erased_attribute l)
 SameAttributes-erased [] = tt
@@ -41,7 +41,7 @@ mutual
 
 -- an attribute of that name and value that is xs:untypedAtomic
 attribute_only : (a b : Attribute) → SameAttribute a b → b.kind ≡ Builtin UntypedAtomic → b ≡ erased_attribute a
-attribute_only a b s u = λ i. record { name = sym s.name i; kind = u i; value = sym s.value i }
+attribute_only a b s u = λ i. record { name = sym s.name i; kind = u i; value = sym s.equal_values i }
 
 attributes_only : (l r : List Attribute) → SameAttributes l r → AreUntypedAtomic r → r ≡ map erased_attribute l
 attributes_only [] [] s u = refl

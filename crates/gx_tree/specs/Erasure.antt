@@ -23,7 +23,7 @@ abbrev mutual
 -- two attributes have the same name, prefix and value
 pub record SameAttribute (a b : Attribute) : Type 0 where
   pub name : a.name ≡ b.name
-  pub value : a.value ≡ b.value
+  pub equal_values : a.value ≡ b.value
 
 abbrev pub SameAttributes : List Attribute → List Attribute → Type 0
 SameAttributes [] [] = Unit {0}

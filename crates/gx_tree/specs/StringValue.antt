@@ -16,15 +16,15 @@ abbrev mutual
 
 -- the node and all nodes that are its descendants, in document order
 abbrev mutual
-  pub nodes : PlainTree → List PlainTree
-  nodes (document ts) = document ts ∷ all_nodes ts
-  nodes (element name kind attributes ts) = element name kind attributes ts ∷ all_nodes ts
-  nodes (attribute a) = attribute a ∷ []
-  nodes (text t) = text t ∷ []
+  pub self_and_descendants : PlainTree → List PlainTree
+  self_and_descendants (document ts) = document ts ∷ all_descendants ts
+  self_and_descendants (element name kind attributes ts) = element name kind attributes ts ∷ all_descendants ts
+  self_and_descendants (attribute a) = attribute a ∷ []
+  self_and_descendants (text t) = text t ∷ []
 
-  pub all_nodes : PlainTrees → List PlainTree
-  all_nodes no_trees = []
-  all_nodes (a_tree t ts) = nodes t ++ all_nodes ts
+  pub all_descendants : PlainTrees → List PlainTree
+  all_descendants no_trees = []
+  all_descendants (a_tree t ts) = self_and_descendants t ++ all_descendants ts
 
 -- the contents of the text nodes among these nodes
 abbrev pub text_contents : List PlainTree → List (List ℕ)
@@ -32,7 +32,7 @@ text_contents [] = []
 text_contents (text t ∷ ts) = t ∷ text_contents ts
 text_contents (_ ∷ ts) = text_contents ts
 
--- the texts joined
-abbrev pub joined : List (List ℕ) → List ℕ
-joined [] = []
-joined (t ∷ ts) = t ++ joined ts
+-- the texts one after another
+abbrev pub texts_joined : List (List ℕ) → List ℕ
+texts_joined [] = []
+texts_joined (t ∷ ts) = t ++ texts_joined ts

@@ -51,5 +51,5 @@ module _ (names : Coded Name) (kinds : Coded TypeName) (attributes : Coded Attri
         λ i. a_tree (first i) (others i)
     same_trees _ _ e = absurd (cc)
 
-  abbrev pub tree_code : Coded PlainTree
-  tree_code = record { code = store_tree; inj = same_tree }
+  abbrev pub plain_tree_code : Coded PlainTree
+  plain_tree_code = record { code = store_tree; inj = same_tree }

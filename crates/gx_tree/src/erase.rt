@@ -1,7 +1,6 @@
 // Trees without their annotations.
 ghost use Rattle.std.specs.Prelude.{◌≡◌, IfOk, map};
-ghost use Rattle.gx_tree.specs.PlainTree.{PlainTree, IsProper};
-ghost use Rattle.gx_tree.specs.Erasure.{erased, erased_attribute, SameButTypes, IsUntyped};
+ghost use Rattle.gx_tree.specs.Erasure.{erased, erased_attribute};
 
 use crate::attribute::Attribute;
 use crate::tree::{Tree, TreeNode};
@@ -64,12 +63,3 @@ fn erase_attributes(
     }
     Ok(copies)
 }
-
-/// Erasure gives the one tree that has the same nodes, names and texts in the same order, with every element xs:untyped
-/// and every attribute xs:untypedAtomic. Children of documents and elements stay elements and texts.
-pub fn law_of_erasure()
-    ensures untyped { (t : PlainTree) → IsUntyped (erased t) }
-    ensures same { (t : PlainTree) → SameButTypes t (erased t) }
-    ensures only { (t : PlainTree) → (u : PlainTree) → SameButTypes t u → IsUntyped u → u ≡ erased t }
-    ensures proper { (t : PlainTree) → IsProper t → IsProper (erased t) }
-{}

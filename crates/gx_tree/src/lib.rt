@@ -3,6 +3,7 @@
 
 pub mod attribute;
 pub mod erase;
+pub mod laws;
 pub mod same;
 pub mod string_value;
 pub mod tree;

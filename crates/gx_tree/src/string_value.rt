@@ -1,10 +1,7 @@
 // String values.
-ghost use Rattle.std.specs.Prelude.{◌≡◌, ℕ, List, ◌++◌, IfOk, OnOk};
-ghost use Rattle.gx_base.specs.declared.name.Name.{Name};
-ghost use Rattle.gx_base.specs.declared.type_name.TypeName.{TypeName};
-ghost use Rattle.gx_tree.specs.declared.attribute.Attribute.{Attribute};
-ghost use Rattle.gx_tree.specs.PlainTree.{PlainTrees, document, element, attribute, text, trees_of, AreContent};
-ghost use Rattle.gx_tree.specs.StringValue.{string_value, string_values, all_nodes, text_contents, joined};
+ghost use Rattle.std.specs.Prelude.{◌≡◌, ◌++◌, IfOk, OnOk};
+ghost use Rattle.gx_tree.specs.PlainTree.{trees_of};
+ghost use Rattle.gx_tree.specs.StringValue.{string_value, string_values};
 
 use crate::tree::{Tree, TreeNode};
 use gx_base::text::Text;
@@ -47,14 +44,3 @@ fn push_all(value: &mut TextBuilder, trees: &Vec<Tree>) -> Result<(), AllocError
     }
     Ok(())
 }
-
-/// The string value of a document or an element is the texts of its descendant text nodes, in document order, one after
-/// another; that of an attribute or a text is its own.
-pub fn law_of_string_values()
-    ensures document { (ts : PlainTrees) → AreContent ts
-        → string_value (document ts) ≡ joined (text_contents (all_nodes ts)) }
-    ensures element { (name : Name) → (kind : TypeName) → (attributes : List Attribute) → (ts : PlainTrees) → AreContent ts
-        → string_value (element name kind attributes ts) ≡ joined (text_contents (all_nodes ts)) }
-    ensures attribute { (a : Attribute) → string_value (attribute a) ≡ a.value }
-    ensures text { (t : List ℕ) → string_value (text t) ≡ t }
-{}

@@ -32,24 +32,24 @@ pub enum TreeNode {
 
 impl Model for Tree {
     ghost use Rattle.gx_tree.specs.PlainTree.{PlainTree, tree_size};
-    ghost use Rattle.gx_tree.specs.TreeCode.{tree_code};
+    ghost use Rattle.gx_tree.specs.TreeCode.{plain_tree_code};
     ghost use Rattle.gx_base.specs.contracts.name.Name as names;
     ghost use Rattle.gx_base.specs.contracts.type_name.TypeName as kinds;
     ghost use Rattle.gx_tree.specs.contracts.attribute.Attribute as attributes;
 
     ghost Value = { PlainTree };
 
-    ghost coded = { tree_code names.the_row.coded kinds.the_row.coded attributes.the_row.coded };
+    ghost coded = { plain_tree_code names.the_row.coded kinds.the_row.coded attributes.the_row.coded };
 
-    ghost use Rattle.gx_tree.specs.TreeView.{tree_of};
+    ghost use Rattle.gx_tree.specs.TreeView.{plain_tree_of};
 
-    ghost view = { λ t. tree_of t.node };
+    ghost view = { λ t. plain_tree_of t.node };
 
     ghost size = { tree_size };
 
-    ghost use Rattle.gx_tree.specs.TreeParts.{parts_are_smaller};
+    ghost use Rattle.gx_tree.specs.TreeParts.{child_trees_are_smaller};
 
-    ghost size_decreases = { λ t h. parts_are_smaller t.node };
+    ghost size_decreases = { λ t h. child_trees_are_smaller t.node };
 }
 
 impl Clone for Tree {

@@ -5,7 +5,8 @@
 mod parts;
 
 use gx_io::MemorySink;
-use gx_row::words;
+use gx_row::not_a_row;
+use gx_row::words::words;
 use gx_serial::item::serialise;
 use gx_tree::erase::erase;
 use gx_tree::same::same;
@@ -82,8 +83,4 @@ fn tree_row(alloc: Global, call: &str, words: &[&str]) -> Result<String, AllocEr
 fn erases_row(alloc: Global, tree: &Tree, other: &Tree) -> Result<String, AllocError> {
     let copy = tree.clone()?;
     format!(in alloc; "{}", same(&erase(alloc, &copy)?, other))
-}
-
-fn not_a_row(alloc: Global) -> Result<String, AllocError> {
-    String::from_str(alloc, "not a row")
 }

@@ -1,8 +1,7 @@
 // Trees and items of an answer, made of their parts.
 
-use gx_base::name::Name;
 use gx_base::text::Text;
-use gx_base::type_name::{Builtin, TypeName};
+use gx_row::names::{name, type_name};
 use gx_serial::item::SerialItem;
 use gx_tree::attribute::Attribute;
 use gx_tree::tree::{Tree, TreeNode};
@@ -34,36 +33,46 @@ impl Parts {
 
     /// Takes what the words say, each part behind its own parts.
     pub fn take_words(&mut self, alloc: Global, words: &[&str]) -> Result<(), AllocError> {
+        let mut taken = 0usize;
+        for _ in words {
+            let rest = words.get(taken..).unwrap_or(&[]);
+            taken = taken.saturating_add(self.take_part(alloc, rest)?);
+        }
+        Ok(())
+    }
+
+    // Takes the part that the first words say, and gives the number of these words.
+    fn take_part(&mut self, alloc: Global, words: &[&str]) -> Result<usize, AllocError> {
         match words {
-            ["value", text, rest @ ..] => {
+            ["value", text, ..] => {
                 self.value(alloc, text)?;
-                self.take_words(alloc, rest)
+                Ok(2)
             }
-            ["text", text, "copied", count, rest @ ..] => {
+            ["text", text, "copied", count, ..] => {
                 self.text(alloc, copies(alloc, text, count)?.as_str())?;
-                self.take_words(alloc, rest)
+                Ok(4)
             }
-            ["text", text, rest @ ..] => {
+            ["text", text, ..] => {
                 self.text(alloc, text)?;
-                self.take_words(alloc, rest)
+                Ok(2)
             }
-            ["attribute", name, kind, value, rest @ ..] => {
+            ["attribute", name, kind, value, ..] => {
                 self.attribute(alloc, name, kind, value)?;
-                self.take_words(alloc, rest)
+                Ok(4)
             }
-            ["element", name, kind, children, rest @ ..] => {
+            ["element", name, kind, children, ..] => {
                 self.element(alloc, name, kind, children)?;
-                self.take_words(alloc, rest)
+                Ok(4)
             }
-            ["document", children, rest @ ..] => {
+            ["document", children, ..] => {
                 self.document(children)?;
-                self.take_words(alloc, rest)
+                Ok(2)
             }
-            ["lone", rest @ ..] => {
+            ["lone", ..] => {
                 self.lone_attributes(alloc)?;
-                self.take_words(alloc, rest)
+                Ok(1)
             }
-            _ => Ok(()),
+            _ => Ok(0),
         }
     }
 
@@ -93,7 +102,7 @@ impl Parts {
     ) -> Result<(), AllocError> {
         let attribute = Attribute {
             name: name(alloc, named)?,
-            kind: type_name(kind),
+            kind: type_name(alloc, kind)?,
             value: Text::from_str(alloc, value)?,
         };
         Ok(self.attributes.push(attribute)?)
@@ -108,10 +117,11 @@ impl Parts {
         children: &str,
     ) -> Result<(), AllocError> {
         let name = name(alloc, named)?;
+        let kind = type_name(alloc, kind)?;
         let children = self.take_trees(children)?;
         let node = TreeNode::Element {
             name,
-            kind: type_name(kind),
+            kind,
             attributes: mem::replace(&mut self.attributes, Vec::new(alloc)),
             children,
         };
@@ -155,27 +165,4 @@ fn copies(alloc: Global, text: &str, count: &str) -> Result<String, AllocError> 
         copies.push_str(text)?;
     }
     Ok(copies)
-}
-
-// A name as `{uri}prefix:local`, where the URI with its braces and the prefix with its colon may be left out.
-fn name(alloc: Global, word: &str) -> Result<Name, AllocError> {
-    let (uri, rest) = word
-        .strip_prefix('{')
-        .and_then(|rest| rest.split_once('}'))
-        .unwrap_or(("", word));
-    let (prefix, local) = rest.split_once(':').unwrap_or(("", rest));
-    Ok(Name {
-        uri: Text::from_str(alloc, uri)?,
-        prefix: Text::from_str(alloc, prefix)?,
-        local: Text::from_str(alloc, local)?,
-    })
-}
-
-fn type_name(word: &str) -> TypeName {
-    match word {
-        "untyped" => TypeName::Builtin(Builtin::Untyped),
-        "untypedAtomic" => TypeName::Builtin(Builtin::UntypedAtomic),
-        "anyType" => TypeName::Builtin(Builtin::AnyType),
-        _ => TypeName::Builtin(Builtin::Integer),
-    }
 }

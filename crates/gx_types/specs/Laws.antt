@@ -12,6 +12,7 @@ use Rattle.gx_types.specs.Choice.{with_members, has_empty, gathered, choice_amon
 use Rattle.gx_types.specs.Prime.{prime_of, items_of}
 use Rattle.gx_types.specs.TypeRules.{positions_of, factored, limited, joined_types, sequence_of, choice_of, times_of}
 use Rattle.gx_types.specs.Takes.{Takes, Each, EachShape, SomeTakes, SomeItemTakes, all_joined}
+use Rattle.gx_base.specs.declared.limits.TheConstants.{TYPE_POSITIONS}
 
 -- an occurrence allows a number of items
 pub record Allows (o : Occurs) (n : ℕ) : Type 0 where
@@ -46,10 +47,10 @@ abbrev pub SequenceTakesParts : Type 0
 SequenceTakesParts =
     (schemas : SchemaSet) (t u : SequenceType) (front rest : List Shape) → Takes schemas t front → Takes schemas u rest → Takes schemas (sequence_of t u) (front ++ rest)
 
--- of at most 64 positions, it takes nothing else
+-- of no more positions than the limit, it takes nothing else
 abbrev pub SequenceTakesNoMore : Type 0
 SequenceTakesNoMore =
-    (schemas : SchemaSet) (t u : SequenceType) (shapes : List Shape) → positions_of (joined_types t u) ≤ 64 → Takes schemas (sequence_of t u) shapes → Takes schemas (both t u) shapes
+    (schemas : SchemaSet) (t u : SequenceType) (shapes : List Shape) → positions_of (joined_types t u) ≤ TYPE_POSITIONS → Takes schemas (sequence_of t u) shapes → Takes schemas (both t u) shapes
 
 -- Choices
 
@@ -71,10 +72,10 @@ abbrev pub ChoiceTakesMembers : Type 0
 ChoiceTakesMembers =
     (schemas : SchemaSet) (t u : SequenceType) (shapes : List Shape) → (Takes schemas t shapes ⊎ Takes schemas u shapes) → Takes schemas (choice_of t u) shapes
 
--- of at most 64 positions, it takes nothing else
+-- of no more positions than the limit, it takes nothing else
 abbrev pub ChoiceTakesNoMore : Type 0
 ChoiceTakesNoMore =
-    (schemas : SchemaSet) (t u : SequenceType) (shapes : List Shape) → positions_of (choice_among (t ∷ u ∷ [])) ≤ 64 → Takes schemas (choice_of t u) shapes → Takes schemas t shapes ⊎ Takes schemas u shapes
+    (schemas : SchemaSet) (t u : SequenceType) (shapes : List Shape) → positions_of (choice_among (t ∷ u ∷ [])) ≤ TYPE_POSITIONS → Takes schemas (choice_of t u) shapes → Takes schemas t shapes ⊎ Takes schemas u shapes
 
 -- no two members of a choice are equal, and no two of a prime type
 pub record MembersAreDistinct : Type 0 where
@@ -104,11 +105,11 @@ abbrev pub TimesTakesJoined : Type 0
 TimesTakesJoined =
     (schemas : SchemaSet) (t : SequenceType) (o : Occurs) (parts : List (List Shape)) → Each (Takes schemas t) parts → Allows o (length parts) → Takes schemas (times_of t o) (all_joined parts)
 
--- of at most 64 positions, it takes nothing else
+-- of no more positions than the limit, it takes nothing else
 abbrev pub TimesTakesNoMore : Type 0
 TimesTakesNoMore =
     (schemas : SchemaSet) (t : SequenceType) (o : Occurs) (shapes : List Shape) → o.least ≤ 1 → o.least ≤ o.greatest
-    → positions_of (times_by t o.least o.greatest) ≤ 64 → Takes schemas (times_of t o) shapes → JoinedWithin schemas t o shapes
+    → positions_of (times_by t o.least o.greatest) ≤ TYPE_POSITIONS → Takes schemas (times_of t o) shapes → JoinedWithin schemas t o shapes
 
 -- Prime types, and the limit on positions
 
@@ -138,9 +139,9 @@ PrimeTakesType =
 abbrev pub LimitedTakesType : Type 0
 LimitedTakesType = (schemas : SchemaSet) (t : SequenceType) (shapes : List Shape) → Takes schemas t shapes → Takes schemas (limited t) shapes
 
--- and keeps a type of at most 64 positions
+-- and keeps a type of no more positions than the limit
 abbrev pub ShortTypesStay : Type 0
-ShortTypesStay = (t : SequenceType) → positions_of t ≤ 64 → limited t ≡ t
+ShortTypesStay = (t : SequenceType) → positions_of t ≤ TYPE_POSITIONS → limited t ≡ t
 
 -- Equality
 

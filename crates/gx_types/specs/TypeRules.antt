@@ -6,6 +6,7 @@ use Rattle.gx_types.specs.SequenceType.{SequenceType, never, nothing, item, both
 use Rattle.gx_types.specs.Indicator.{times_by}
 use Rattle.gx_types.specs.Choice.{choice_among}
 use Rattle.gx_types.specs.Prime.{prime_of}
+use Rattle.gx_base.specs.declared.limits.TheConstants.{TYPE_POSITIONS}
 
 -- how many item types stand in a type
 abbrev pub positions_of : SequenceType → ℕ
@@ -22,9 +23,9 @@ positions_of (plus part) = positions_of part
 abbrev pub factored : SequenceType → SequenceType
 factored t = times_by (prime_of t) (occurrence_of t).least (occurrence_of t).greatest
 
--- a type of more than 64 positions becomes its prime type, as often as it occurs
+-- a type of more positions than the limit becomes its prime type, as often as it occurs
 abbrev pub limited : SequenceType → SequenceType
-limited t = if nat_le (positions_of t) 64 then t else factored t
+limited t = if nat_le (positions_of t) TYPE_POSITIONS then t else factored t
 
 -- one type and then another: no value in either is none in both, and the empty sequence vanishes
 abbrev pub followed_by : SequenceType → SequenceType → SequenceType

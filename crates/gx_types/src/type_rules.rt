@@ -11,10 +11,9 @@ ghost use Rattle.gx_types.specs.Prime.{with_items, prime_of};
 
 use crate::occurrence::Occurrence;
 use crate::sequence_type::{Ty, TyNode};
+use gx_base::limits::TYPE_POSITIONS;
 use std::alloc::{AllocError, Global};
 use std::rc::Rc;
-
-const MOST_POSITIONS: usize = 64;
 
 /// How many items the values of a type have (Formal Semantics, section 8.4.1). `none` and an item count once, the least
 /// number of a sequence is 1 where that of a part is, and a choice has the smaller least and the greater greatest number.
@@ -106,7 +105,7 @@ pub fn factor(alloc: Global, t: &Ty) -> Result<Ty, AllocError>
 pub fn limit(alloc: Global, t: Ty) -> Result<Ty, AllocError>
     ensures { IfOk result (λ u. u ≡ limited t) }
 {
-    match room_after(&t, MOST_POSITIONS) {
+    match room_after(&t, TYPE_POSITIONS) {
         Some(_) => Ok(t),
         None => factor(alloc, &t),
     }

@@ -2,7 +2,7 @@ use Rattle.std.proofs.Common.{◌≡◌, ◌++◌, refl, ap, ◌∙◌}
 use Rattle.std.specs.Prelude.{codes}
 use Rattle.gx_serial.specs.Markup.{spelled_name, spelled_attributes}
 use Rattle.gx_serial.specs.Marked.{Begun, begun, prefixes_of, after_attributes, written_attributes, scope_within}
-use Rattle.gx_serial.specs.View.{named, Declares}
+use Rattle.gx_serial.specs.View.{begun_by_name, Declares}
 use Rattle.gx_serial.proofs.TagLemmas.{Declares-trans, Declares-from, start_text, kept_in_front}
 use Rattle.gx_serial.proofs.tag.push_start.Goals as goal
 
@@ -15,7 +15,7 @@ returns c =
     let front = (c.args.out.now ++ codes "<") ++ spelled_name name.prefix name.local in
     let opened : c.push_name.new.out ≡ front =
     c.in_ok-push_name.ensures ∙ ap (λ o. o ++ spelled_name name.prefix name.local) c.in_ok-push.ensures.ok in
-    let first : named name c.declare.new.scope ≡ begun before name = ap (named name) c.in_ok-declare.ensures.scope in
+    let first : begun_by_name name c.declare.new.scope ≡ begun before name = ap (begun_by_name name) c.in_ok-declare.ensures.scope in
     let within : c.push_attributes.new.scope ≡ scope_within before name attributes =
     c.in_ok-push_attributes.ensures.scope ∙ ap (λ (s : Begun). (after_attributes used s attributes).scope) first in
     let text = c.in_ok-push_attributes.ensures.text in

@@ -2,7 +2,7 @@ use Rattle.std.proofs.Common.{◌≡◌, false, ap, ◌∙◌}
 use Rattle.std.specs.Prelude.{bytes_eq}
 use Rattle.std.specs.BTreeSet.{contains}
 use Rattle.gx_base.specs.Text.{text_cmp}
-use Rattle.gx_serial.specs.Binding.{is_among}
+use Rattle.gx_serial.specs.Binding.{is_prefix_among}
 use Rattle.gx_serial.specs.View.{TagPrefixes, all_prefixes}
 use Rattle.gx_serial.proofs.PrefixLemmas.{used_taken}
 use Rattle.gx_serial.proofs.prefix.Prefixes.is_used.Goals as goal
@@ -17,5 +17,5 @@ returns-else-contains c =
           let other : bytes_eq c.self.inside.name.now.prefix prefix ≡ false = cc in
           let none : contains text_cmp c.self.inside.attribute_prefixes prefix ≡ false = cc in
           c.is_some.ensures ∙ used_taken c.self.inside prefix c.bound_to.result c.self.invariant other none c.bound_to.ensures
-          ∙ ap (λ (p : TagPrefixes). is_among (all_prefixes p) prefix) c.self.view_is
+          ∙ ap (λ (p : TagPrefixes). is_prefix_among (all_prefixes p) prefix) c.self.view_is
     ]

@@ -1,0 +1,4 @@
+pub mod SyntaxTree
+pub mod SyntaxCode
+pub mod SyntaxView
+pub mod SyntaxParts

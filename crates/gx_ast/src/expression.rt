@@ -1,0 +1,220 @@
+// Expressions and direct constructors.
+
+use crate::name::QName;
+use crate::sequence_type::{
+    AxisStep, BoundVariable, CaseHead, DefaultHead, KeyOrder, SequenceType, SingleType,
+};
+use gx_base::place::Place;
+use gx_base::text::Text;
+use gx_num::Number;
+use std::marker::Model;
+
+/// The operators with two operands (XQuery 1.0, appendix A.4).
+#[derive(Clone, Copy, Debug, PartialEq, Eq)]
+pub enum BinaryOperator {
+    Or,
+    And,
+    Equal,
+    NotEqual,
+    Less,
+    LessOrEqual,
+    Greater,
+    GreaterOrEqual,
+    ValueEqual,
+    ValueNotEqual,
+    ValueLess,
+    ValueLessOrEqual,
+    ValueGreater,
+    ValueGreaterOrEqual,
+    Is,
+    Before,
+    After,
+    To,
+    Add,
+    Subtract,
+    Multiply,
+    Divide,
+    DivideInteger,
+    Modulo,
+    Union,
+    Intersect,
+    Except,
+}
+
+/// An expression. Its place is that of its first token, of its operator where it has one between its parts, of the word of
+/// a FLWOR, a quantified expression, a typeswitch or a conditional, and, where predicates stand behind it, of the expression
+/// in front of them.
+#[cycle(expression)]
+#[derive(Debug, Drop)]
+pub struct Expr {
+    pub place: Place,
+    pub node: ExprNode,
+}
+
+/// What stands at the root of an expression (XQuery 1.0, section 3).
+#[cycle(expression)]
+#[derive(Debug, Drop)]
+pub enum ExprNode {
+    /// A numeric literal.
+    Number(Number),
+    /// A string literal.
+    String(Text),
+    /// A variable.
+    Variable(QName),
+    /// An expression in parentheses.
+    Parenthesised(Box<Expr>),
+    /// `()`.
+    Empty,
+    /// `.`.
+    Context,
+    /// A function call.
+    Call(QName, Vec<Expr>),
+    /// Two expressions with a comma between. `a, b, c` is `(a, b), c`.
+    Sequence(Box<Expr>, Box<Expr>),
+    /// A FLWOR: its clauses, whether its order is stable, its sort keys, and what is returned.
+    Flwor(Vec<Clause>, bool, Vec<Key>, Box<Expr>),
+    /// `some`, or `every` where that is true, with its bindings and its condition.
+    Quantified(bool, Vec<Binding>, Box<Expr>),
+    /// A typeswitch: the operand, the cases, and the default.
+    Typeswitch(Box<Expr>, Vec<Case>, DefaultHead, Box<Expr>),
+    /// `if`, `then` and `else`.
+    If(Box<Expr>, Box<Expr>, Box<Expr>),
+    /// Two operands with an operator between. Chains nest to the left.
+    Binary(BinaryOperator, Box<Expr>, Box<Expr>),
+    /// `instance of`.
+    InstanceOf(Box<Expr>, SequenceType),
+    /// `treat as`.
+    TreatAs(Box<Expr>, SequenceType),
+    /// `castable as`.
+    CastableAs(Box<Expr>, SingleType),
+    /// `cast as`.
+    CastAs(Box<Expr>, SingleType),
+    /// A sign, `-` where that is true.
+    Signed(bool, Box<Expr>),
+    /// A path of two parts, with `//` between where that is true. Paths nest to the left.
+    Path(bool, Box<Expr>, Box<Expr>),
+    /// An axis step.
+    Step(AxisStep),
+    /// `..`.
+    ParentStep,
+    /// An expression with its predicates.
+    Filtered(Box<Expr>, Vec<Expr>),
+    /// A direct element, at its `<`.
+    Direct(DirectElement),
+    /// `document { .. }`.
+    Document(Box<Expr>),
+    /// `text { .. }`.
+    TextNode(Box<Expr>),
+    /// `element q { .. }`.
+    Element(QName, Box<Expr>),
+    /// `element q {}`.
+    EmptyElement(QName),
+    /// `attribute q { .. }`.
+    Attribute(QName, Box<Expr>),
+    /// `attribute q {}`.
+    EmptyAttribute(QName),
+}
+
+/// A binding of a `for`, a `let` or a quantified expression.
+#[cycle(expression)]
+#[derive(Debug, Drop)]
+pub struct Binding {
+    pub bound: BoundVariable,
+    pub value: Expr,
+}
+
+/// A clause of a FLWOR, at its word.
+#[cycle(expression)]
+#[derive(Debug, Drop)]
+pub enum Clause {
+    For(Place, Vec<Binding>),
+    Let(Place, Vec<Binding>),
+    Where(Place, Expr),
+}
+
+/// A sort key.
+#[cycle(expression)]
+#[derive(Debug, Drop)]
+pub struct Key {
+    pub value: Expr,
+    pub order: KeyOrder,
+}
+
+/// A case of a typeswitch.
+#[cycle(expression)]
+#[derive(Debug, Drop)]
+pub struct Case {
+    pub head: CaseHead,
+    pub body: Expr,
+}
+
+/// A direct element (XQuery 1.0, section 3.7.1).
+#[cycle(expression)]
+#[derive(Debug, Drop)]
+pub struct DirectElement {
+    pub name: QName,
+    pub attributes: Vec<DirectAttribute>,
+    pub content: Vec<Part>,
+}
+
+/// An attribute of a direct element.
+#[cycle(expression)]
+#[derive(Debug, Drop)]
+pub struct DirectAttribute {
+    pub name: QName,
+    pub value: Vec<AttributePart>,
+}
+
+/// A part of the value of a direct attribute.
+#[cycle(expression)]
+#[derive(Debug, Drop)]
+pub enum AttributePart {
+    /// Characters and references.
+    Text(Text),
+    /// An enclosed expression.
+    Enclosed(Expr),
+}
+
+/// A part of the content of a direct element.
+#[cycle(expression)]
+#[derive(Debug, Drop)]
+pub enum Part {
+    /// Literal white space alone.
+    Blank(Text),
+    /// Characters, references and CDATA sections.
+    Text(Text),
+    /// A direct element.
+    Element(Expr),
+    /// An enclosed expression.
+    Enclosed(Expr),
+}
+
+impl Model for Expr {
+    ghost use Rattle.gx_ast.specs.SyntaxTree.{SyntaxTree, syntax_size};
+    ghost use Rattle.gx_ast.specs.SyntaxCode.{syntax_code};
+    ghost use Rattle.gx_base.specs.contracts.place.Place as places;
+    ghost use Rattle.gx_ast.specs.contracts.name.QName as names;
+    ghost use Rattle.gx_num.specs.contracts.Number as numbers;
+    ghost use Rattle.gx_ast.specs.contracts.sequence_type.AxisStep as steps;
+    ghost use Rattle.gx_ast.specs.contracts.sequence_type.BoundVariable as bounds;
+    ghost use Rattle.gx_ast.specs.contracts.sequence_type.CaseHead as cases;
+    ghost use Rattle.gx_ast.specs.contracts.sequence_type.DefaultHead as defaults;
+    ghost use Rattle.gx_ast.specs.contracts.sequence_type.KeyOrder as orders;
+    ghost use Rattle.gx_ast.specs.contracts.sequence_type.SequenceType as kinds;
+    ghost use Rattle.gx_ast.specs.contracts.sequence_type.SingleType as singles;
+    ghost use Rattle.gx_ast.specs.contracts.expression.BinaryOperator as operators;
+
+    ghost Value = { SyntaxTree };
+
+    ghost coded = { syntax_code places.the_row.coded names.the_row.coded numbers.the_row.coded steps.the_row.coded bounds.the_row.coded cases.the_row.coded defaults.the_row.coded orders.the_row.coded kinds.the_row.coded singles.the_row.coded operators.the_row.coded };
+
+    ghost use Rattle.gx_ast.specs.SyntaxView.{syntax_of};
+
+    ghost view = { λ e. syntax_of e.place e.node };
+
+    ghost size = { syntax_size };
+
+    ghost use Rattle.gx_ast.specs.SyntaxParts.{parts_are_smaller};
+
+    ghost size_decreases = { λ e h. parts_are_smaller e.place e.node };
+}

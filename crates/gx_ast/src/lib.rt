@@ -1,0 +1,7 @@
+//! The syntax trees of queries: expressions, types, direct constructors and declarations.
+#![tactic(auto)]
+
+pub mod expression;
+pub mod name;
+pub mod query;
+pub mod sequence_type;

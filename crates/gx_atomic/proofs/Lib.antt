@@ -1,0 +1,9 @@
+pub mod Decisions
+pub mod Deciding
+pub mod BooleanText
+pub mod FailingComparisons
+pub mod Comparing
+pub mod Fitting
+pub mod OwnType
+pub mod TargetValues
+pub mod PublicLaws

@@ -1,0 +1,98 @@
+-- The laws of casts and comparisons.
+use Rattle.std.specs.Prelude.{◌≡◌, ◌≢◌, ◌↔◌, Bool, true, false, not, ◌||◌, List, [], ◌∷◌, ◌++◌, All, Some, is_some, Ok, Err, IsSome}
+use Rattle.std.specs.declared.cmp.Ordering.{Ordering}
+use Rattle.std.specs.declared.cmp.Ordering.TheVariants.{Equal}
+use Rattle.gx_base.specs.declared.type_name.Builtin.{Builtin}
+use Rattle.gx_base.specs.declared.type_name.TypeName.{TypeName}
+use Rattle.gx_base.specs.declared.type_name.TypeName.TheVariants as names
+use Rattle.gx_num.specs.Number.{InRange}
+use Rattle.gx_facets.specs.declared.AtomValue.{AtomValue}
+use Rattle.gx_facets.specs.declared.AtomValue.TheVariants.{Untyped, Str, Truth, Num}
+use Rattle.gx_facets.specs.declared.Atomic.{Atomic}
+use Rattle.gx_facets.specs.Value.{same_family, printed_value}
+use Rattle.gx_facets.specs.ValueSpace.{FitsType}
+use Rattle.gx_types.specs.SchemaSet.{SchemaSet}
+use Rattle.gx_atomic.specs.declared.casting.CastError.{CastError}
+use Rattle.gx_atomic.specs.declared.casting.CastError.TheVariants.{FORG0001}
+use Rattle.gx_atomic.specs.declared.comparison.Op.{Op}
+use Rattle.gx_atomic.specs.declared.comparison.Op.TheVariants.{Eq, Ne, Lt, Le, Gt, Ge}
+use Rattle.gx_atomic.specs.Cast.{cast_value, cast_of}
+use Rattle.gx_atomic.specs.Comparison.{Decision, holds, value_comparison, pair_comparison, pairs_of, pair_decision, general_comparison}
+use Rattle.gx_atomic.specs.Fit.{FitsItsType}
+
+-- ---- comparisons
+
+-- each operator says what it says of the order, and three of them the contrary of the others
+pub record OperatorsAreContraries : Type 0 where
+  pub unequal : (order : Ordering) → holds Ne order ≡ not (holds Eq order)
+  pub not_less : (order : Ordering) → holds Ge order ≡ not (holds Lt order)
+  pub not_greater : (order : Ordering) → holds Le order ≡ not (holds Gt order)
+  pub less_or_equal : (order : Ordering) → holds Le order ≡ holds Lt order || holds Eq order
+
+-- a value is equal to itself, and neither less nor greater
+abbrev pub ValuesAreEqualToThemselves : Type 0
+ValuesAreEqualToThemselves = (op : Op) (value : AtomValue) → value_comparison op value value ≡ Some (holds op Equal)
+
+-- the general comparison with an empty list is false
+pub record EmptyListsCompareFalse : Type 0 where
+  pub empty_left : (op : Op) (b : List Atomic) → general_comparison op [] b ≡ Some (Ok false)
+  pub empty_right : (op : Op) (a : List Atomic) → general_comparison op a [] ≡ Some (Ok false)
+
+-- a pair with this decision stands among the pairs, and all pairs before it compare false
+pub record IsFirstToDecide (op : Op) (pairs : List (Atomic × Atomic)) (decision : Decision) : Type 0 where
+  pub earlier : List (Atomic × Atomic)
+  pub deciding : Atomic × Atomic
+  pub later : List (Atomic × Atomic)
+  pub standing : pairs ≡ earlier ++ deciding ∷ later
+  pub all_false : All (λ other. pair_decision op other ≡ Some (Ok false)) earlier
+  pub decides : pair_decision op deciding ≡ decision
+
+-- a general comparison is true, fails or cannot be made exactly where the first pair, left item first, that does not compare
+-- false does so; and it is false exactly where all pairs compare false
+pub record FirstPairDecides : Type 0 where
+  pub by_first_pair : (op : Op) (a b : List Atomic) (decision : Decision) → decision ≢ Some (Ok false)
+      → (general_comparison op a b ≡ decision) ↔ IsFirstToDecide op (pairs_of a b) decision
+  pub by_no_pair : (op : Op) (a b : List Atomic)
+      → (general_comparison op a b ≡ Some (Ok false)) ↔ All (λ pair. pair_decision op pair ≡ Some (Ok false)) (pairs_of a b)
+
+-- both are numbers, both strings or untyped values, both booleans, or one is untyped and the other a boolean
+abbrev pub are_comparable : AtomValue → AtomValue → Bool
+are_comparable (Untyped text) (Truth b) = true
+are_comparable (Truth b) (Untyped text) = true
+are_comparable a b = same_family a b
+
+-- a pair can be compared exactly by its families, whatever the operator is, and lists where all their pairs can
+pub record ComparableByFamilies : Type 0 where
+  pub pairs : (op : Op) (a b : AtomValue) → is_some (pair_comparison op a b) ≡ are_comparable a b
+  pub lists : (op : Op) (a b : List Atomic) → All (λ pair. are_comparable pair.0.value pair.1.value ≡ true) (pairs_of a b) → IsSome (general_comparison op a b)
+
+-- a general comparison fails with FORG0001 alone
+abbrev pub ComparisonsFailInOneWay : Type 0
+ComparisonsFailInOneWay = (op : Op) (a b : List Atomic) (error : CastError) → general_comparison op a b ≡ Some (Err error) → error ≡ FORG0001
+
+-- ---- casts
+
+-- what a cast gives has the target as its type, and fits it
+abbrev pub CastsFitTheirTarget : Type 0
+CastsFitTheirTarget =
+    (schemas : SchemaSet) (a b : Atomic) (to : TypeName) → cast_of schemas a to ≡ Ok b → (b.kind ≡ to) × FitsItsType schemas b
+
+-- a number within the limits of its type
+abbrev pub HasNumberInRange : AtomValue → Type 0
+HasNumberInRange (Num n) = InRange n
+HasNumberInRange _ = Unit {0}
+
+-- what a cast gives is a value of its target
+abbrev pub CastsGiveValuesOfTheirTarget : Type 0
+CastsGiveValuesOfTheirTarget =
+    (kind : Builtin) (value given : AtomValue) → HasNumberInRange value → cast_value kind value ≡ Ok given → FitsType kind given
+
+-- a value of a type, cast to that type, stays as it is
+abbrev pub CastsToTheOwnTypeChangeNothing : Type 0
+CastsToTheOwnTypeChangeNothing =
+    (schemas : SchemaSet) (a : Atomic) (kind : Builtin) → a.kind ≡ names.Builtin kind → FitsType kind a.value → cast_of schemas a a.kind ≡ Ok a
+
+-- the printed text of a value of a type, cast to that type, is the value again
+abbrev pub CastsOfPrintedValuesGoBack : Type 0
+CastsOfPrintedValuesGoBack =
+    (kind : Builtin) (value : AtomValue) → FitsType kind value → cast_value kind (Str (printed_value value)) ≡ Ok value

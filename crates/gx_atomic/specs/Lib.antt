@@ -1,0 +1,5 @@
+pub mod Cast
+pub mod Comparison
+pub mod EffectiveBoolean
+pub mod Fit
+pub mod Laws

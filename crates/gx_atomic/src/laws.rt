@@ -1,0 +1,62 @@
+// Laws of the definitions that the contracts cite.
+ghost use Rattle.gx_atomic.specs.Laws.{OperatorsAreContraries, ValuesAreEqualToThemselves, EmptyListsCompareFalse, FirstPairDecides, ComparableByFamilies, ComparisonsFailInOneWay};
+ghost use Rattle.gx_atomic.specs.Laws.{CastsFitTheirTarget, CastsGiveValuesOfTheirTarget, CastsToTheOwnTypeChangeNothing, CastsOfPrintedValuesGoBack};
+
+use gx_facets::laws::{printed_values_read_back, read_values_fit};
+
+/// `ne`, `ge` and `le` hold where `eq`, `lt` and `gt` do not, and `le` where `lt` or `eq` does.
+pub fn operators_are_contraries()
+    ensures { OperatorsAreContraries }
+{}
+
+/// A value compared with itself is equal.
+pub fn values_are_equal_to_themselves()
+    ensures { ValuesAreEqualToThemselves }
+{}
+
+/// The general comparison with an empty list is false.
+pub fn empty_lists_compare_false()
+    ensures { EmptyListsCompareFalse }
+{}
+
+/// A general comparison is decided by the first pair, left item first, that does not compare false, and is false where all
+/// pairs do.
+pub fn first_pair_decides()
+    ensures { FirstPairDecides }
+{}
+
+/// A pair of values can be compared exactly by its families, and two lists where each of their pairs can.
+pub fn values_are_comparable_by_families()
+    ensures { ComparableByFamilies }
+{}
+
+/// A general comparison fails with FORG0001 alone.
+pub fn comparisons_fail_in_one_way()
+    ensures { ComparisonsFailInOneWay }
+{}
+
+/// What a cast gives has the target as its type, and fits it.
+pub fn casts_fit_their_target()
+    ensures { CastsFitTheirTarget }
+{}
+
+/// What a cast gives is a value of its target.
+pub fn casts_give_values_of_their_target()
+    ensures { CastsGiveValuesOfTheirTarget }
+{
+    read_values_fit();
+}
+
+/// A value of a type, cast to that type, stays as it is.
+pub fn casts_to_the_own_type_change_nothing()
+    ensures { CastsToTheOwnTypeChangeNothing }
+{
+    printed_values_read_back();
+}
+
+/// The printed text of a value of a type, cast to that type, is the value again.
+pub fn casts_of_printed_values_go_back()
+    ensures { CastsOfPrintedValuesGoBack }
+{
+    printed_values_read_back();
+}
