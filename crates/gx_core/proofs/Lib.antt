@@ -1,2 +1,3 @@
 pub mod PlainMeaning
+pub mod KeptFacts
 pub mod SoundQueries

@@ -1,16 +1,21 @@
 -- What a query that is sound comes to.
-use Rattle.std.proofs.Common.{[], sym, subst}
+use Rattle.std.proofs.Common.{◌≡◌, [], None, Some, sym, subst}
 use Rattle.gx_types.specs.SchemaSet.{SchemaSet}
-use Rattle.gx_types.specs.SequenceType.{SequenceType}
+use Rattle.gx_model.specs.Item.{Value}
 use Rattle.gx_core.specs.Expression.{At, annotation_of}
-use Rattle.gx_core.specs.Meaning.{Outcome, meaning}
-use Rattle.gx_core.specs.Soundness.{TypedExpression, Keeps, IsSound}
+use Rattle.gx_core.specs.Bindings.{look_up, Types}
+use Rattle.gx_core.specs.Outcome.{Outcome}
+use Rattle.gx_core.specs.Meaning.{meaning}
+use Rattle.gx_core.specs.Soundness.{TypedExpression, Setting, typed_setting, context_of, Keeps, Standing, KeepsItsType, IsSound}
 use Rattle.gx_core.specs.QueryMeaning.{SoundQueriesKeepTheirTypes}
-use Rattle.gx_core.proofs.PlainMeaning.{plain_means_the_same}
+use Rattle.gx_core.proofs.PlainMeaning.{meaning_looks_at_no_type}
 
-sound_keeps : (schemas : SchemaSet) (e : TypedExpression) → IsSound schemas e [] → Keeps schemas (annotation_of e) (meaning e [])
-sound_keeps schemas (At place outer kind form) h = h.0 [] tt
+pub keeps_its_type : (setting : Setting) (e : TypedExpression) (types : Types) → IsSound setting e types → KeepsItsType setting e types
+keeps_its_type setting (At place outer t operator parts) types h = h.0
 
 pub sound_queries_keep : SoundQueriesKeepTheirTypes
-sound_queries_keep schemas query h =
-    subst (λ (o : Outcome). Keeps schemas (annotation_of query.body) o) (sym (plain_means_the_same SequenceType query.body [])) (sound_keeps schemas query.body h)
+sound_queries_keep schemas query documents honest h =
+    let setting : Setting = typed_setting schemas in
+    let standing : Standing setting [] = record { bindings = []; forest = documents; honest = honest; fits = λ number t found. absurd (cc) } in
+    subst (λ (o : Outcome Value). Keeps setting documents (annotation_of query.body) o)
+    (sym (meaning_looks_at_no_type (context_of setting) query.body [] documents)) (keeps_its_type setting query.body [] h standing)

@@ -1,62 +1,58 @@
--- Core expressions, as plain trees.
-use Rattle.std.specs.Prelude.{ℕ, ℤ, ◌+◌}
+-- Core expressions, as plain trees: an operator over its parts.
+use Rattle.std.specs.Prelude.{ℕ, ◌+◌, List, [], ◌∷◌}
 use Rattle.gx_base.specs.declared.place.Place.{Place}
-use Rattle.gx_core.specs.declared.expression.Binder.{Binder}
-use Rattle.gx_core.specs.declared.expression.BinaryOp.{BinaryOp}
+use Rattle.gx_core.specs.declared.operator.Operator.{Operator}
 
 -- Each expression has an annotation: nothing in Core as it is made, and the type in a typed Core.
 mutual
   -- an expression at its place, and at that of its outermost parentheses
   pub data Expression (A : Type 0) : Type 0 where
-    At : (place outer : Place) (annotation : A) (form : Form A) → Expression A
+    At : (place outer : Place) (annotation : A) (operator : Operator) (parts : Parts A) → Expression A
 
-  pub data Form (A : Type 0) : Type 0 where
-    literal : (value : ℤ) → Form A
-    variable : (number : ℕ) → Form A
-    empty : Form A
-    sequence : (first second : Expression A) → Form A
-    let_in : (binder : Binder) (value body : Expression A) → Form A
-    data_of : (operand : Expression A) → Form A
-    binary : (operator : BinaryOp) (left right : Expression A) → Form A
+  pub data Parts (A : Type 0) : Type 0 where
+    no_parts : Parts A
+    a_part : (first : Expression A) (others : Parts A) → Parts A
 
 abbrev mutual
-  -- how many expressions and forms a tree has
+  -- how many expressions and lists of parts a tree has
   pub expression_size : {A : Type 0} → Expression A → ℕ
-  expression_size (At place outer annotation form) = 1 + form_size form
+  expression_size (At place outer annotation operator parts) = 1 + parts_size parts
 
-  pub form_size : {A : Type 0} → Form A → ℕ
-  form_size (literal value) = 1
-  form_size (variable number) = 1
-  form_size empty = 1
-  form_size (sequence first second) = 1 + expression_size first + expression_size second
-  form_size (let_in binder value body) = 1 + expression_size value + expression_size body
-  form_size (data_of operand) = 1 + expression_size operand
-  form_size (binary operator left right) = 1 + expression_size left + expression_size right
+  pub parts_size : {A : Type 0} → Parts A → ℕ
+  parts_size no_parts = 1
+  parts_size (a_part first others) = 1 + expression_size first + parts_size others
 
 -- what a query is normalised to
 abbrev pub CoreExpression : Type 0
 CoreExpression = Expression (Unit {0})
 
-abbrev pub core_at : (place outer : Place) (form : Form (Unit {0})) → CoreExpression
-core_at place outer form = At place outer tt form
+abbrev pub core_at : (place outer : Place) → Operator → Parts (Unit {0}) → CoreExpression
+core_at place outer operator parts = At place outer tt operator parts
+
+-- the parts of operators of one and of two parts
+abbrev pub one_part : {A : Type 0} → Expression A → Parts A
+one_part first = a_part first no_parts
+
+abbrev pub two_parts : {A : Type 0} → Expression A → Expression A → Parts A
+two_parts first second = a_part first (a_part second no_parts)
 
 abbrev pub annotation_of : {A : Type 0} → Expression A → A
-annotation_of (At place outer annotation form) = annotation
+annotation_of (At place outer annotation operator parts) = annotation
 
 -- the place of the outermost parentheses
 abbrev pub outer_of : {A : Type 0} → Expression A → Place
-outer_of (At place outer annotation form) = outer
+outer_of (At place outer annotation operator parts) = outer
+
+-- something of each part
+abbrev pub each_of : {A B : Type 0} → (Expression A → B) → Parts A → List B
+each_of look no_parts = []
+each_of look (a_part first others) = look first ∷ each_of look others
 
 -- the tree without its annotations
 abbrev mutual
   pub plain : {A : Type 0} → Expression A → CoreExpression
-  plain (At place outer annotation form) = At place outer tt (plain_form form)
+  plain (At place outer annotation operator parts) = At place outer tt operator (plain_parts parts)
 
-  pub plain_form : {A : Type 0} → Form A → Form (Unit {0})
-  plain_form (literal value) = literal value
-  plain_form (variable number) = variable number
-  plain_form empty = empty
-  plain_form (sequence first second) = sequence (plain first) (plain second)
-  plain_form (let_in binder value body) = let_in binder (plain value) (plain body)
-  plain_form (data_of operand) = data_of (plain operand)
-  plain_form (binary operator left right) = binary operator (plain left) (plain right)
+  pub plain_parts : {A : Type 0} → Parts A → Parts (Unit {0})
+  plain_parts no_parts = no_parts
+  plain_parts (a_part first others) = a_part (plain first) (plain_parts others)

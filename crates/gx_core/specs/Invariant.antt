@@ -1,38 +1,38 @@
 -- What the variables of a Core keep to: each stands in the scope of its binder, and no number is bound twice.
 use Rattle.std.specs.Prelude.{◌≡◌, ℕ, nat_eq, Bool, true, false, List, [], ◌∷◌, ◌++◌}
 use Rattle.std.specs.List.{list_any}
-use Rattle.gx_core.specs.Expression.{Expression, At, Form, literal, variable, empty, sequence, let_in, data_of, binary}
+use Rattle.gx_core.specs.declared.operator.Operator.{Operator}
+use Rattle.gx_core.specs.declared.operator.Operator.TheVariants as operators
+use Rattle.gx_core.specs.Expression.{Expression, At, Parts, no_parts, a_part}
+use Rattle.gx_core.specs.Bindings.{numbers_bound_by}
 
 abbrev pub is_among : List ℕ → ℕ → Bool
 is_among numbers number = list_any (λ other. nat_eq other number) numbers
 
+-- an operator that is a variable is one of those in scope
+abbrev pub IsInScope : List ℕ → Operator → Type 0
+IsInScope scope (operators.Var number) = is_among scope number ≡ true
+IsInScope scope _ = Unit {0}
+
 -- each variable is one of those in scope, or stands in the scope of its binder
 abbrev mutual
   pub IsScoped : {A : Type 0} → List ℕ → Expression A → Type 0
-  IsScoped scope (At place outer annotation form) = IsFormScoped scope form
+  IsScoped scope (At place outer annotation operator parts) = IsInScope scope operator × ArePartsScoped scope operator [] parts
 
-  pub IsFormScoped : {A : Type 0} → List ℕ → Form A → Type 0
-  IsFormScoped scope (literal value) = Unit {0}
-  IsFormScoped scope (variable number) = is_among scope number ≡ true
-  IsFormScoped scope empty = Unit {0}
-  IsFormScoped scope (sequence first second) = IsScoped scope first × IsScoped scope second
-  IsFormScoped scope (let_in binder value body) = IsScoped scope value × IsScoped (binder.variable ∷ scope) body
-  IsFormScoped scope (data_of operand) = IsScoped scope operand
-  IsFormScoped scope (binary operator left right) = IsScoped scope left × IsScoped scope right
+  pub ArePartsScoped : {A : Type 0} → List ℕ → Operator → (before : List (Unit {0})) → Parts A → Type 0
+  ArePartsScoped scope operator before no_parts = Unit {0}
+  ArePartsScoped scope operator before (a_part first others) =
+      IsScoped (numbers_bound_by operator before ++ scope) first × ArePartsScoped scope operator (before ++ tt ∷ []) others
 
 -- the numbers that an expression binds
 abbrev mutual
   pub numbers_bound : {A : Type 0} → Expression A → List ℕ
-  numbers_bound (At place outer annotation form) = numbers_bound_in form
+  numbers_bound (At place outer annotation operator parts) = numbers_bound_in operator [] parts
 
-  pub numbers_bound_in : {A : Type 0} → Form A → List ℕ
-  numbers_bound_in (literal value) = []
-  numbers_bound_in (variable number) = []
-  numbers_bound_in empty = []
-  numbers_bound_in (sequence first second) = numbers_bound first ++ numbers_bound second
-  numbers_bound_in (let_in binder value body) = numbers_bound value ++ binder.variable ∷ numbers_bound body
-  numbers_bound_in (data_of operand) = numbers_bound operand
-  numbers_bound_in (binary operator left right) = numbers_bound left ++ numbers_bound right
+  pub numbers_bound_in : {A : Type 0} → Operator → (before : List (Unit {0})) → Parts A → List ℕ
+  numbers_bound_in operator before no_parts = []
+  numbers_bound_in operator before (a_part first others) =
+      numbers_bound_by operator before ++ numbers_bound first ++ numbers_bound_in operator (before ++ tt ∷ []) others
 
 -- none of the numbers stands twice
 abbrev pub AreDistinct : List ℕ → Type 0

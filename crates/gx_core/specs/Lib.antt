@@ -4,9 +4,12 @@ pub mod ExpressionView
 pub mod ExpressionParts
 pub mod TypedView
 pub mod TypedParts
-pub mod Values
-pub mod Meaning
+pub mod Bindings
 pub mod Invariant
+pub mod Outcome
+pub mod Arithmetic
+pub mod Meaning
 pub mod Soundness
 pub mod QueryMeaning
+pub mod Laws
 pub mod Refusal

@@ -1,74 +1,63 @@
--- What a Core expression means (Formal Semantics, section 4; XQuery 1.0, section 3).
-use Rattle.std.specs.Prelude.{ℕ, ℤ, List, [], ◌∷◌, ◌++◌, Option, Some, None, nat_eq, if◌then◌else◌, Result, Ok, Err}
-use Rattle.gx_base.specs.declared.code.Code.{Code}
-use Rattle.gx_base.specs.declared.code.Code.TheVariants.{FOAR0001, FOAR0002}
-use Rattle.gx_num.specs.declared.Number.{Number}
-use Rattle.gx_num.specs.declared.Number.TheVariants.{Int}
-use Rattle.gx_num.specs.declared.NumFault.{NumFault}
-use Rattle.gx_num.specs.declared.NumFault.TheVariants.{Overflow, DivZero}
-use Rattle.gx_num.specs.Arithmetic.{sum_of, truncated}
-use Rattle.gx_core.specs.declared.expression.BinaryOp.{BinaryOp}
-use Rattle.gx_core.specs.declared.expression.BinaryOp.TheVariants.{Add}
-use Rattle.gx_core.specs.Expression.{Expression, At, Form, literal, variable, empty, sequence, let_in, data_of, binary}
+-- What a Core expression means (XQuery 1.0 and XPath 2.0 Formal Semantics, section 4; XQuery 1.0, section 3).
+use Rattle.std.specs.Prelude.{ℕ, List, [], ◌∷◌, ◌++◌, Option, Some, None}
+use Rattle.gx_types.specs.SchemaSet.{SchemaSet}
+use Rattle.gx_model.specs.Forest.{Forest}
+use Rattle.gx_model.specs.Item.{Item, atom, node, Value}
+use Rattle.gx_core.specs.declared.operator.Operator.{Operator}
+use Rattle.gx_core.specs.declared.operator.Operator.TheVariants as operators
+use Rattle.gx_core.specs.Expression.{Expression, At, Parts, no_parts, a_part}
+use Rattle.gx_core.specs.Bindings.{look_up}
+use Rattle.gx_core.specs.Outcome.{Outcome, gives, raises, wrong, after, given}
+use Rattle.gx_core.specs.Arithmetic.{arithmetic}
 
--- what an evaluation comes to: a value, a dynamic error, or a type error, which typing excludes
-pub data Outcome : Type 0 where
-  gives : (items : List ℤ) → Outcome
-  raises : (code : Code) → Outcome
-  wrong : Outcome
-
--- the first outcome that is no value is that of the whole
-abbrev pub after : Outcome → (List ℤ → Outcome) → Outcome
-after (gives items) next = next items
-after (raises code) next = raises code
-after wrong next = wrong
-
--- what is bound to a variable, the innermost binding first
-abbrev pub look_up : {A : Type 0} → List (ℕ × A) → ℕ → Option A
-look_up [] number = None
-look_up (binding ∷ bindings) number = if nat_eq binding.0 number then Some binding.1 else look_up bindings number
+-- what an expression stands in
+pub record Context : Type 0 where
+  pub schemas : SchemaSet
 
 abbrev pub Bindings : Type 0
-Bindings = List (ℕ × List ℤ)
+Bindings = List (ℕ × Value)
 
--- the code of a fault of arithmetic
-abbrev pub fault_code : NumFault → Code
-fault_code DivZero = FOAR0001
-fault_code Overflow = FOAR0002
+-- what a part comes to, under bindings and in a forest
+abbrev pub Denotation : Type 0
+Denotation = Bindings → Forest → Outcome Value
 
--- what arithmetic answers, as the integer that it gives or the error that it raises
-abbrev pub number_outcome : Result Number NumFault → Outcome
-number_outcome (Ok number) = gives (truncated number ∷ [])
-number_outcome (Err fault) = raises (fault_code fault)
+abbrev with_more : Item → Option Value → Option Value
+with_more item None = None
+with_more item (Some items) = Some (item ∷ items)
 
--- a sum is empty where an operand is; an operand of more than one item is a type error
-abbrev pub sum_meaning : List ℤ → List ℤ → Outcome
-sum_meaning [] [] = gives []
-sum_meaning [] (y ∷ []) = gives []
-sum_meaning (x ∷ []) [] = gives []
-sum_meaning (x ∷ []) (y ∷ []) = number_outcome (sum_of (Int x) (Int y))
-sum_meaning _ _ = wrong
+-- the atomic values of items, if there are any: an atomic value is its own
+abbrev pub atomized : Forest → Value → Option Value
+atomized forest [] = Some []
+atomized forest (atom a ∷ items) = with_more (atom a) (atomized forest items)
+atomized forest (node place ∷ items) = None
 
-abbrev pub operator_meaning : BinaryOp → List ℤ → List ℤ → Outcome
-operator_meaning Add left right = sum_meaning left right
+-- what a strict operator makes of the values of its parts; a wrong number of them is a type error
+abbrev pub acts : Context → Operator → List Value → Forest → Outcome Value
+acts context (operators.Lit value) [] forest = gives (atom value ∷ []) forest
+acts context operators.Empty [] forest = gives [] forest
+acts context operators.Seq (xs ∷ ys ∷ []) forest = gives (xs ++ ys) forest
+acts context operators.DataOf (xs ∷ []) forest = given (atomized forest xs) (λ ys. gives ys forest)
+acts context (operators.Binary operator) (xs ∷ ys ∷ []) forest = arithmetic operator xs ys forest
+acts context _ _ forest = wrong
 
-abbrev pub variable_meaning : Option (List ℤ) → Outcome
-variable_meaning None = wrong
-variable_meaning (Some items) = gives items
+-- the values of parts, from the left, each in the forest that the part before it leaves
+abbrev pub all_of : List Denotation → Bindings → Forest → Outcome (List Value)
+all_of [] bindings forest = gives [] forest
+all_of (part ∷ parts) bindings forest =
+    after (part bindings forest) (λ value left. after (all_of parts bindings left) (λ values last. gives (value ∷ values) last))
+
+-- an operator over its parts: those that choose, bind or repeat have a line each, and all others are strict
+abbrev pub denoted : Context → Operator → List Denotation → Bindings → Forest → Outcome Value
+denoted context (operators.Var number) [] bindings forest = given (look_up bindings number) (λ value. gives value forest)
+denoted context (operators.Let binder) (value ∷ body ∷ []) bindings forest =
+    after (value bindings forest) (λ xs left. body ((binder.variable, xs) ∷ bindings) left)
+denoted context operator parts bindings forest = after (all_of parts bindings forest) (acts context operator)
 
 -- the meaning looks at no place and at no annotation
 abbrev mutual
-  pub meaning : {A : Type 0} → Expression A → Bindings → Outcome
-  meaning (At place outer annotation form) bindings = form_meaning form bindings
+  pub meaning : {A : Type 0} → Context → Expression A → Denotation
+  meaning context (At place outer annotation operator parts) = denoted context operator (meanings context parts)
 
-  pub form_meaning : {A : Type 0} → Form A → Bindings → Outcome
-  form_meaning (literal value) bindings = gives (value ∷ [])
-  form_meaning (variable number) bindings = variable_meaning (look_up bindings number)
-  form_meaning empty bindings = gives []
-  form_meaning (sequence first second) bindings =
-      after (meaning first bindings) (λ items. after (meaning second bindings) (λ more. gives (items ++ more)))
-  form_meaning (let_in binder value body) bindings =
-      after (meaning value bindings) (λ items. meaning body ((binder.variable, items) ∷ bindings))
-  form_meaning (data_of operand) bindings = meaning operand bindings
-  form_meaning (binary operator left right) bindings =
-      after (meaning left bindings) (λ items. after (meaning right bindings) (λ others. operator_meaning operator items others))
+  pub meanings : {A : Type 0} → Context → Parts A → List Denotation
+  meanings context no_parts = []
+  meanings context (a_part first others) = meaning context first ∷ meanings context others

@@ -1,45 +1,89 @@
 -- When a typed Core is sound: no expression goes wrong, and each value belongs to the type of its expression.
-use Rattle.std.specs.Prelude.{◌≡◌, ℕ, List, [], ◌∷◌}
+use Rattle.std.specs.Prelude.{◌≡◌, ℕ, List, [], ◌∷◌, ◌++◌, Some}
 use Rattle.gx_types.specs.SchemaSet.{SchemaSet}
 use Rattle.gx_types.specs.SequenceType.{SequenceType}
-use Rattle.gx_core.specs.Expression.{Expression, At, Form, literal, variable, empty, sequence, let_in, data_of, binary, annotation_of}
-use Rattle.gx_core.specs.Values.{Belongs}
-use Rattle.gx_core.specs.Meaning.{Outcome, gives, raises, wrong, Bindings, meaning}
+use Rattle.gx_model.specs.Forest.{Forest, IsHonest}
+use Rattle.gx_model.specs.Item.{Value}
+use Rattle.gx_model.specs.Belongs.{Belongs}
+use Rattle.gx_model.specs.Growth.{Extends}
+use Rattle.gx_core.specs.declared.operator.Operator.{Operator}
+use Rattle.gx_core.specs.Expression.{Expression, At, Parts, no_parts, a_part, annotation_of}
+use Rattle.gx_core.specs.Bindings.{look_up, Types, types_bound}
+use Rattle.gx_core.specs.Outcome.{Outcome, gives, raises, wrong}
+use Rattle.gx_core.specs.Meaning.{Context, Bindings, meaning}
 
 abbrev pub TypedExpression : Type 0
 TypedExpression = Expression SequenceType
 
--- the type of each variable in scope, the innermost first
-abbrev pub Types : Type 0
-Types = List (ℕ × SequenceType)
+-- what typing knows of a query: its schemas, and the types that an operator gives the variables which it binds for its
+-- next part, from the types of the parts before that one
+pub record Setting : Type 0 where
+  pub schemas : SchemaSet
+  pub binders : Operator → List SequenceType → Types
 
--- the bindings hold each variable, with a value of its type
-abbrev pub Fits : SchemaSet → Types → Bindings → Type 0
-Fits schemas [] [] = Unit {0}
-Fits schemas (t ∷ types) (b ∷ bindings) = (t.0 ≡ b.0) × Belongs schemas b.1 t.1 × Fits schemas types bindings
-Fits schemas [] (b ∷ bindings) = ⊥
-Fits schemas (t ∷ types) [] = ⊥
+-- the setting of a query with the types that the static rules give it
+abbrev pub typed_setting : SchemaSet → Setting
+typed_setting schemas = record { schemas = schemas; binders = types_bound }
 
--- an outcome keeps a type: it is no type error, and a value belongs to the type
-abbrev pub Keeps : SchemaSet → SequenceType → Outcome → Type 0
-Keeps schemas t (gives items) = Belongs schemas items t
-Keeps schemas t (raises code) = Unit {0}
-Keeps schemas t wrong = ⊥
+abbrev pub context_of : Setting → Context
+context_of setting = record { schemas = setting.schemas }
 
--- under all bindings that fit, the outcome of an expression keeps its type
-abbrev pub KeepsItsType : SchemaSet → TypedExpression → Types → Type 0
-KeepsItsType schemas e types = (bindings : Bindings) → Fits schemas types bindings → Keeps schemas (annotation_of e) (meaning e bindings)
+-- what an outcome leaves: the forest has grown, and is honest, and there is a fact about the result
+pub record Leaves {R : Type 0} (setting : Setting) (before : Forest) (Fact : Forest → R → Type 0) (result : R) (now : Forest) : Type 0 where
+  pub grown : Extends before now
+  pub honest : IsHonest setting.schemas now
+  pub fact : Fact now result
 
--- an expression and all that stand in it keep their types, where each binder gives its variable the type of the value
+-- an outcome keeps a fact: it is no type error, and where it gives a result, the fact holds of the result
+abbrev pub KeepsFact : {R : Type 0} → Setting → (before : Forest) → (Fact : Forest → R → Type 0) → Outcome R → Type 0
+KeepsFact setting before Fact (gives result now) = Leaves setting before Fact result now
+KeepsFact setting before Fact (raises code) = Unit {0}
+KeepsFact setting before Fact wrong = ⊥
+
+-- a value belongs to a type
+abbrev pub IsOfType : SchemaSet → SequenceType → Forest → Value → Type 0
+IsOfType schemas t forest value = Belongs schemas forest value t
+
+-- values belong to types, each to its own
+abbrev pub AreOfTypes : SchemaSet → List SequenceType → Forest → List Value → Type 0
+AreOfTypes schemas [] forest [] = Unit {0}
+AreOfTypes schemas (t ∷ types) forest (value ∷ values) = Belongs schemas forest value t × AreOfTypes schemas types forest values
+AreOfTypes schemas [] forest (value ∷ values) = ⊥
+AreOfTypes schemas (t ∷ types) forest [] = ⊥
+
+-- an outcome keeps a type
+abbrev pub Keeps : Setting → (before : Forest) → SequenceType → Outcome Value → Type 0
+Keeps setting before t outcome = KeepsFact setting before (IsOfType setting.schemas t) outcome
+
+-- a variable is bound to a value of this type
+pub record IsBoundTo (schemas : SchemaSet) (forest : Forest) (bindings : Bindings) (number : ℕ) (t : SequenceType) : Type 0 where
+  pub value : Value
+  pub bound : look_up bindings number ≡ Some value
+  pub belongs : Belongs schemas forest value t
+
+-- each variable that has a type is bound to a value of it
+abbrev pub Fits : SchemaSet → Forest → Types → Bindings → Type 0
+Fits schemas forest types bindings = (number : ℕ) (t : SequenceType) → look_up types number ≡ Some t → IsBoundTo schemas forest bindings number t
+
+-- all that an evaluation stands in
+pub record Standing (setting : Setting) (types : Types) : Type 0 where
+  pub bindings : Bindings
+  pub forest : Forest
+  pub honest : IsHonest setting.schemas forest
+  pub fits : Fits setting.schemas forest types bindings
+
+-- wherever it stands, the outcome of an expression keeps its type
+abbrev pub KeepsItsType : Setting → TypedExpression → Types → Type 0
+KeepsItsType setting e types =
+    (standing : Standing setting types) → Keeps setting standing.forest (annotation_of e) (meaning (context_of setting) e standing.bindings standing.forest)
+
+-- an expression and all that stand in it keep their types
 abbrev mutual
-  pub IsSound : SchemaSet → TypedExpression → Types → Type 0
-  IsSound schemas (At place outer kind form) types = KeepsItsType schemas (At place outer kind form) types × PartsAreSound schemas form types
+  pub IsSound : Setting → TypedExpression → Types → Type 0
+  IsSound setting (At place outer kind operator parts) types =
+      KeepsItsType setting (At place outer kind operator parts) types × PartsAreSound setting operator [] parts types
 
-  pub PartsAreSound : SchemaSet → Form SequenceType → Types → Type 0
-  PartsAreSound schemas (literal value) types = Unit {0}
-  PartsAreSound schemas (variable number) types = Unit {0}
-  PartsAreSound schemas empty types = Unit {0}
-  PartsAreSound schemas (sequence first second) types = IsSound schemas first types × IsSound schemas second types
-  PartsAreSound schemas (let_in binder value body) types = IsSound schemas value types × IsSound schemas body ((binder.variable, annotation_of value) ∷ types)
-  PartsAreSound schemas (data_of operand) types = IsSound schemas operand types
-  PartsAreSound schemas (binary operator left right) types = IsSound schemas left types × IsSound schemas right types
+  pub PartsAreSound : Setting → Operator → (before : List SequenceType) → Parts SequenceType → Types → Type 0
+  PartsAreSound setting operator before no_parts types = Unit {0}
+  PartsAreSound setting operator before (a_part first others) types =
+      IsSound setting first (setting.binders operator before ++ types) × PartsAreSound setting operator (before ++ annotation_of first ∷ []) others types

@@ -1,18 +1,29 @@
 -- The plain tree that a typed Core expression stands for.
 use Rattle.gx_types.specs.SequenceType.{SequenceType}
+use Rattle.gx_core.specs.declared.operator.Operator.{Operator}
+use Rattle.gx_core.specs.declared.operator.Operator.TheVariants as operators
 use Rattle.gx_core.specs.declared.typed.TypedForm.{TypedForm}
 use Rattle.gx_core.specs.declared.typed.TypedForm.TheVariants.{Lit, Var, Empty, Seq, Let, DataOf, Binary}
 use Rattle.gx_core.specs.declared.typed.TypedExpr.TheInside.{Inside}
-use Rattle.gx_core.specs.Expression.{Expression, At, Form, literal, variable, empty, sequence, let_in, data_of, binary}
+use Rattle.gx_core.specs.Expression.{Expression, At, Parts, no_parts, one_part, two_parts}
 
-abbrev pub typed_form_of : TypedForm → Form SequenceType
-typed_form_of (Lit z) = literal z
-typed_form_of (Var n) = variable n
-typed_form_of Empty = empty
-typed_form_of (Seq a b) = sequence a.value b.value
-typed_form_of (Let v a b) = let_in v a.value b.value
-typed_form_of (DataOf a) = data_of a.value
-typed_form_of (Binary o a b) = binary o a.value b.value
+abbrev pub typed_operator_of : TypedForm → Operator
+typed_operator_of (Lit a) = operators.Lit a
+typed_operator_of (Var n) = operators.Var n
+typed_operator_of Empty = operators.Empty
+typed_operator_of (Seq a b) = operators.Seq
+typed_operator_of (Let v a b) = operators.Let v
+typed_operator_of (DataOf a) = operators.DataOf
+typed_operator_of (Binary o a b) = operators.Binary o
+
+abbrev pub typed_parts_of : TypedForm → Parts SequenceType
+typed_parts_of (Lit a) = no_parts
+typed_parts_of (Var n) = no_parts
+typed_parts_of Empty = no_parts
+typed_parts_of (Seq a b) = two_parts a.value b.value
+typed_parts_of (Let v a b) = two_parts a.value b.value
+typed_parts_of (DataOf a) = one_part a.value
+typed_parts_of (Binary o a b) = two_parts a.value b.value
 
 abbrev pub typed_expression_of : Inside → Expression SequenceType
-typed_expression_of e = At e.place e.outer e.kind (typed_form_of e.form)
+typed_expression_of e = At e.place e.outer e.kind (typed_operator_of e.form) (typed_parts_of e.form)

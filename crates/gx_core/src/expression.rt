@@ -1,6 +1,7 @@
 // Core expressions.
 
 use gx_base::place::Place;
+use gx_facets::Atomic;
 use std::marker::Model;
 
 /// A Core expression inside another one.
@@ -40,7 +41,7 @@ pub struct CoreExpr {
 #[cycle(core_tree)]
 #[derive(Debug, Drop)]
 pub enum CoreForm {
-    Lit(i128),
+    Lit(Atomic),
     Var(u32),
     Empty,
     Seq(E, E),

@@ -1,14 +1,29 @@
 // Laws over the definitions.
 
-ghost use Rattle.std.specs.Prelude.{◌≡◌};
-ghost use Rattle.gx_core.specs.Expression.{plain};
-ghost use Rattle.gx_core.specs.Meaning.{Bindings, meaning};
+ghost use Rattle.gx_core.specs.Laws.{MeaningLooksAtNoType, AfterKeeps, BindingsFitStill, BindingFits, OperandsKeepTheirTypes};
 ghost use Rattle.gx_core.specs.QueryMeaning.{SoundQueriesKeepTheirTypes};
-ghost use Rattle.gx_core.specs.Soundness.{TypedExpression};
 
 /// The meaning of a typed expression is that of the same expression without its types.
 pub fn meaning_looks_at_no_type()
-    ensures { (e : TypedExpression) (bindings : Bindings) → meaning (plain e) bindings ≡ meaning e bindings }
+    ensures { MeaningLooksAtNoType }
+{}
+
+/// An outcome keeps a type that is made of a value of a type, where what is made of it keeps the type in each forest that
+/// has grown.
+pub fn what_follows_keeps_its_type()
+    ensures { AfterKeeps }
+{}
+
+/// Bindings that fit types fit them still where the forest has grown, and with one more variable that is bound to a value of
+/// its type.
+pub fn bindings_fit_still()
+    ensures grown { BindingsFitStill }
+    ensures bound { BindingFits }
+{}
+
+/// Parts that keep their types have values of these types, in the forest that the last part leaves.
+pub fn operands_keep_their_types()
+    ensures { OperandsKeepTheirTypes }
 {}
 
 /// A query that is sound is no type error, and its value belongs to its type.

@@ -6,4 +6,5 @@ pub mod expression;
 pub mod laws;
 pub mod operator;
 pub mod scope;
+pub mod stack;
 pub mod typed;

@@ -1,7 +1,7 @@
 // The variables in scope, each with what is bound to it.
 
 ghost use Rattle.std.specs.Prelude.{◌≡◌, [], ◌∷◌, OnOk, OnErr, IfSome, IfNone, None, Some, option_copied, drop};
-ghost use Rattle.gx_core.specs.Meaning.{look_up};
+ghost use Rattle.gx_core.specs.Bindings.{look_up};
 
 use std::alloc::{AllocError, Global};
 use std::marker::Model;

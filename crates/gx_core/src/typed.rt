@@ -2,6 +2,7 @@
 
 use crate::expression::{BinaryOp, Binder};
 use gx_base::place::Place;
+use gx_facets::Atomic;
 use gx_types::sequence_type::Ty;
 use std::marker::Model;
 
@@ -30,7 +31,7 @@ pub struct TypedExpr {
 #[cycle(typed_tree)]
 #[derive(Debug, Drop)]
 pub enum TypedForm {
-    Lit(i128),
+    Lit(Atomic),
     Var(u32),
     Empty,
     Seq(T, T),

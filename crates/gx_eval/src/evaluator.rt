@@ -1,64 +1,38 @@
-// The evaluation of Core expressions.
+// The evaluation of queries.
 
-ghost use Rattle.std.specs.Prelude.{◌≡◌, ◌≢◌, [], ◌∷◌, IfOk, IfErr, OnOk, map};
+ghost use Rattle.std.specs.Prelude.{◌≡◌, ◌≢◌, [], IfOk, IfErr};
 ghost use Rattle.gx_types.specs.SchemaSet.{SchemaSet};
+ghost use Rattle.gx_model.specs.Forest.{Forest};
+ghost use Rattle.gx_model.specs.Item.{atoms};
+ghost use Rattle.gx_model.specs.Belongs.{Belongs};
 ghost use Rattle.gx_core.specs.QueryMeaning.{query_outcome, query_type, plain_query, IsSoundQuery};
-ghost use Rattle.gx_core.specs.Meaning.{meaning, gives, wrong, look_up, variable_meaning, operator_meaning, fault_code};
+ghost use Rattle.gx_core.specs.Outcome.{gives, wrong};
+ghost use Rattle.gx_core.specs.Meaning.{Context, meaning};
 ghost use Rattle.gx_core.specs.Refusal.{Fails};
-ghost use Rattle.gx_core.specs.Values.{Belongs};
-ghost use Rattle.gx_eval.specs.Extended.{extended, items_of, FailsSo};
+ghost use Rattle.gx_eval.specs.Failing.{FailsSo};
 
-use gx_base::code::Code;
+use crate::evaluation::Evaluation;
+use crate::failure::Failure;
 use gx_core::dyn_error::DynError;
-use gx_core::expression::BinaryOp;
-use gx_core::laws::meaning_looks_at_no_type;
-use gx_core::scope::Scope;
-use gx_core::typed::{TypedCore, TypedExpr, TypedForm};
-use gx_num::{NumFault, Number, add, to_int};
-use std::alloc::{AllocError, AllocFailed, Global};
+use gx_core::laws::{meaning_looks_at_no_type, sound_queries_keep_their_types};
+use gx_core::typed::{TypedCore, TypedExpr};
+use gx_facets::Atomic;
+use std::alloc::Global;
 
-// Why an evaluation has no value.
-#[derive(Clone, Copy, Debug, PartialEq, Eq)]
-enum Failure {
-    Raised(Code),
-    Wrong,
-    Memory,
-}
-
-impl From<AllocError> for Failure {
-    ghost use Rattle.std.specs.Prelude.{◌≡◌};
-    ghost use Rattle.gx_eval.specs.declared.evaluator.Failure.TheVariants.{Memory};
-
-    ghost from_gives = { λ _ e. e ≡ Memory };
-
-    fn from(_error: AllocError) -> Failure {
-        Failure::Memory
-    }
-}
-
-impl<T: Drop> From<AllocFailed<T>> for Failure {
-    ghost use Rattle.std.specs.Prelude.{◌≡◌};
-    ghost use Rattle.gx_eval.specs.declared.evaluator.Failure.TheVariants.{Memory};
-
-    ghost from_gives = { λ _ e. e ≡ Memory };
-
-    fn from(_error: AllocFailed<T>) -> Failure {
-        Failure::Memory
-    }
-}
-
-/// The value of a query that does not go wrong, or the dynamic error that it raises (XQuery 1.0, section 2.2.3.2). Where the
-/// typing is sound, the value belongs to the type.
-pub fn evaluate(alloc: Global, core: &TypedCore) -> Result<Vec<i128>, DynError>
-    requires { query_outcome (plain_query core.now) ≢ wrong }
-    ensures value { IfOk result (λ v. query_outcome (plain_query core.now) ≡ gives v.items) }
-    ensures raised { IfErr result (λ e. Fails e (query_outcome (plain_query core.now))) }
+/// The value of a query that does not go wrong, or the dynamic error that it raises (XQuery 1.0, section 2.2.3.2), whatever
+/// the documents are: no expression looks at one. Where the typing is sound, the value belongs to the type.
+pub fn evaluate(alloc: Global, core: &TypedCore) -> Result<Vec<Atomic>, DynError>
+    requires { (schemas : SchemaSet) × (query_outcome schemas (plain_query core.now) [] ≢ wrong) }
+    ensures value { (schemas : SchemaSet) (documents : Forest)
+        → IfOk result (λ v. query_outcome schemas (plain_query core.now) documents ≡ gives (atoms v.items) documents) }
+    ensures raised { (schemas : SchemaSet) (documents : Forest)
+        → IfErr result (λ e. Fails e (query_outcome schemas (plain_query core.now) documents)) }
     ensures belongs { (schemas : SchemaSet) → IsSoundQuery schemas core.now
-        → IfOk result (λ v. Belongs schemas v.items (query_type core.now)) }
+        → IfOk result (λ v. Belongs schemas [] (atoms v.items) (query_type core.now)) }
 {
     meaning_looks_at_no_type();
-    let mut scope = Scope::new(alloc);
-    match value_of(alloc, &core.body, &mut scope) {
+    sound_queries_keep_their_types();
+    match value_of(alloc, &core.body) {
         Ok(items) => Ok(items),
         Err(Failure::Raised(code)) => Err(DynError::Raised(code)),
         Err(Failure::Memory) => Err(DynError::Memory),
@@ -66,100 +40,17 @@ pub fn evaluate(alloc: Global, core: &TypedCore) -> Result<Vec<i128>, DynError>
     }
 }
 
-// The value of an expression, in a list of its own.
-fn value_of(
-    alloc: Global,
-    expression: &TypedExpr,
-    scope: &mut Scope<Vec<i128>>,
-) -> Result<Vec<i128>, Failure>
-    ensures value { IfOk result (λ v. meaning expression.now (items_of scope.old) ≡ gives v.items) }
-    ensures failed { IfErr result (λ e. FailsSo e (meaning expression.now (items_of scope.old))) }
-    ensures kept { OnOk result (scope.new ≡ scope.old) }
+// The value of an expression without free variables. The work ends long before the loop does.
+fn value_of(alloc: Global, expression: &TypedExpr) -> Result<Vec<Atomic>, Failure>
+    ensures value { (k : Context) (forest : Forest) → IfOk result (λ v. meaning k expression.now [] forest ≡ gives (atoms v.items) forest) }
+    ensures failed { (k : Context) (forest : Forest) → IfErr result (λ e. FailsSo e (meaning k expression.now [] forest)) }
 {
-    let mut items = Vec::new(alloc);
-    append(alloc, expression, scope, &mut items)?;
-    Ok(items)
-}
-
-// Adds the value of an expression behind the items that are there.
-#[cycle(append)]
-fn append(
-    alloc: Global,
-    expression: &TypedExpr,
-    scope: &mut Scope<Vec<i128>>,
-    items: &mut Vec<i128>,
-) -> Result<(), Failure>
-    ensures value { OnOk result (extended items.old.items (meaning expression.now (items_of scope.old)) ≡ gives items.new.items) }
-    ensures failed { IfErr result (λ e. FailsSo e (meaning expression.now (items_of scope.old))) }
-    ensures kept { OnOk result (scope.new ≡ scope.old) }
-{
-    match &expression.form {
-        TypedForm::Lit(value) => Ok(items.push(*value)?),
-        TypedForm::Var(number) => append_variable(*number, scope, items),
-        TypedForm::Empty => Ok(()),
-        TypedForm::Seq(first, second) => {
-            append(alloc, first, scope, items)?;
-            append(alloc, second, scope, items)
-        }
-        TypedForm::Let(binder, value, body) => {
-            let mut bound = Vec::new(alloc);
-            append(alloc, value, scope, &mut bound)?;
-            scope.bind(binder.variable, bound)?;
-            append(alloc, body, scope, items)?;
-            scope.unbind();
-            Ok(())
-        }
-        TypedForm::DataOf(operand) => append(alloc, operand, scope, items),
-        TypedForm::Binary(operator, left, right) => {
-            let mut first = Vec::new(alloc);
-            append(alloc, left, scope, &mut first)?;
-            let mut second = Vec::new(alloc);
-            append(alloc, right, scope, &mut second)?;
-            append_result(*operator, first.as_slice(), second.as_slice(), items)
+    let mut evaluation = Evaluation::new(alloc, expression)?;
+    for _ in 0..u64::MAX {
+        match evaluation.work.pop() {
+            None => return Ok(evaluation.values),
+            Some(pending) => evaluation.step(alloc, pending)?,
         }
     }
-}
-
-fn append_variable(
-    number: u32,
-    scope: &Scope<Vec<i128>>,
-    items: &mut Vec<i128>,
-) -> Result<(), Failure>
-    ensures value { OnOk result (extended items.old.items (variable_meaning (look_up (items_of scope.now) number)) ≡ gives items.new.items) }
-    ensures failed { IfErr result (λ e. FailsSo e (variable_meaning (look_up (items_of scope.now) number))) }
-{
-    match scope.find(number) {
-        Some(bound) => Ok(items.extend_from_slice(bound.as_slice())?),
-        None => Err(Failure::Wrong),
-    }
-}
-
-fn append_result(
-    operator: BinaryOp,
-    left: &[i128],
-    right: &[i128],
-    items: &mut Vec<i128>,
-) -> Result<(), Failure>
-    ensures value { OnOk result (extended items.old.items (operator_meaning operator left.now right.now) ≡ gives items.new.items) }
-    ensures failed { IfErr result (λ e. FailsSo e (operator_meaning operator left.now right.now)) }
-{
-    match operator {
-        BinaryOp::Add => match (left, right) {
-            ([x], [y]) => match add(Number::Int(*x), Number::Int(*y)) {
-                Ok(sum) => Ok(items.push(to_int(sum))?),
-                Err(fault) => Err(Failure::Raised(fault_code(fault))),
-            },
-            ([], []) | ([], [_]) | ([_], []) => Ok(()),
-            _ => Err(Failure::Wrong),
-        },
-    }
-}
-
-fn fault_code(fault: NumFault) -> Code
-    ensures { result ≡ fault_code fault }
-{
-    match fault {
-        NumFault::DivZero => Code::FOAR0001,
-        NumFault::Overflow => Code::FOAR0002,
-    }
+    Err(Failure::Memory)
 }

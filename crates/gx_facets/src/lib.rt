@@ -52,6 +52,17 @@ pub struct Atomic {
     pub kind: TypeName,
 }
 
+impl Clone for Atomic {
+    ghost is_clone = { λ atomic copy. copy ≡ atomic };
+
+    fn clone(&self) -> Result<Atomic, AllocError> {
+        Ok(Atomic {
+            value: self.value.clone()?,
+            kind: self.kind.clone()?,
+        })
+    }
+}
+
 /// Why a text is not read as a value.
 #[derive(Clone, Copy, PartialEq, Eq, Debug)]
 pub enum ValueRead {

@@ -1,14 +1,15 @@
 -- The headline, from the answer that a run ends with.
-use Rattle.std.proofs.Common.{◌≡◌, ℕ, ◌≤◌, Bool, true, false, List, inl, inr, length, Option, Some, None, refl, sym, ◌∙◌, ap, subst, nat_le}
+use Rattle.std.proofs.Common.{◌≡◌, ℕ, ◌≤◌, Bool, true, false, List, [], ◌⊎◌, inl, inr, length, Option, Some, None, refl, sym, ◌∙◌, ap, subst, nat_le}
 use Rattle.std.specs.Bool.{MatchBool}
 use Rattle.std.proofs.lemmas.Bool.{leb-true, le-leb}
 use Rattle.gx_base.specs.declared.code.Code.TheVariants.{GLXS0001}
 use Rattle.gx_types.specs.SchemaSet.{no_declarations}
 use Rattle.gx_core.specs.declared.expression.Core.{Core}
 use Rattle.gx_core.specs.declared.typed.TypedCore.{TypedCore}
-use Rattle.gx_core.specs.Meaning.{Outcome, gives, raises, wrong}
+use Rattle.gx_model.specs.Item.{Value}
+use Rattle.gx_core.specs.Outcome.{Outcome, gives, raises, wrong}
 use Rattle.gx_core.specs.QueryMeaning.{query_outcome, query_type, SoundQueriesKeepTheirTypes}
-use Rattle.gx_core.specs.Soundness.{Keeps}
+use Rattle.gx_core.specs.Soundness.{typed_setting, Keeps}
 use Rattle.gx_static.specs.QueryJudgement.{QueryJudgement, query_typed, query_rejected, query_judged, QueryTypingIsSound, QueryRejectionNamesFailure}
 use Rattle.gx_io.specs.Load.{file_of}
 use Rattle.gx_processor.specs.declared.status.Status.TheVariants.{Query}
@@ -44,17 +45,17 @@ typed_answer words files command core t a e q j h = subst (λ (k : QueryJudgemen
 
 -- the meaning of a query that has a type keeps the type
 abbrev pub TypesAreKept : Type 0
-TypesAreKept = (core : Core) (t : TypedCore) → query_judged no_declarations core ≡ query_typed t → Keeps no_declarations (query_type t) (query_outcome core)
+TypesAreKept = (core : Core) (t : TypedCore) → query_judged no_declarations core ≡ query_typed t → Keeps (typed_setting no_declarations) [] (query_type t) (query_outcome no_declarations core [])
 
 pub types_are_kept : QueryTypingIsSound → SoundQueriesKeepTheirTypes → TypesAreKept
 types_are_kept sound keep core t j =
     let s = sound no_declarations core t j in
-    subst (λ (c : Core). Keeps no_declarations (query_type t) (query_outcome c)) s.same (keep no_declarations t s.sound)
+    subst (λ (c : Core). Keeps (typed_setting no_declarations) [] (query_type t) (query_outcome no_declarations c [])) s.same (keep no_declarations t [] tt s.sound)
 
-outcome_runs : (run : Run) (core : Core) (t : TypedCore) (o : Outcome) (a : Answer) → query_outcome core ≡ o → Keeps no_declarations (query_type t) o → AnswersOutcome o a → run.status ≡ status_of a → LeavesAnswer a run → RunEnds core t run
-outcome_runs run core t (gives items) a m k is s l =
+outcome_runs : (run : Run) (core : Core) (t : TypedCore) (o : Outcome Value) (a : Answer) → query_outcome no_declarations core [] ≡ o → Keeps (typed_setting no_declarations) [] (query_type t) o → AnswersOutcome o a → run.status ≡ status_of a → LeavesAnswer a run → RunEnds core t run
+outcome_runs run core t (gives items forest) a m k is s l =
     let sinks = subst (λ (b : Answer). LeavesAnswer b run) is l in
-    inl (record { items = items; value = m; belongs = k; status = s ∙ ap status_of is; output = sinks.0; line = sinks.1 })
+    inl (record { items = items; forest = forest; value = m; belongs = k.fact; status = s ∙ ap status_of is; output = sinks.0; line = sinks.1 })
 outcome_runs run core t (raises code) a m k is s l =
     let sinks = subst (λ (b : Answer). LeavesAnswer b run) is l in
     inr (inl (record { code = code; raised = m; status = s ∙ ap status_of is; output = sinks.0; line = sinks.1 }))
@@ -64,7 +65,7 @@ pub typed_run : (run : Run) (files : List (List ℕ × List ℕ)) → TypesAreKe
 typed_run run files kept (inr m) name core t e q j = inr (inr m)
 typed_run run files kept (inl answered) name core t e q j =
     let of_outcome = typed_answer run.words files (run_file name) core t answered.answer e q j answered.answers in
-    outcome_runs run core t (query_outcome core) answered.answer refl (kept core t j) of_outcome answered.status answered.sinks
+    outcome_runs run core t (query_outcome no_declarations core []) answered.answer refl (kept core t j) of_outcome answered.status answered.sinks
 
 pub typed_check : (run : Run) (files : List (List ℕ × List ℕ)) → AnsweredOrStarved run files → ChecksTyped run files
 typed_check run files (inr m) name core t e q j = inr m

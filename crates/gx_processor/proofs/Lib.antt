@@ -1,3 +1,4 @@
+pub mod ValueTexts
 pub mod TextLemmas
 pub mod QueryLemmas
 pub mod AnswerLemmas

@@ -4,7 +4,8 @@ use Rattle.gx_base.specs.declared.code.Code.TheVariants.{GLXS0001, XPST0003}
 use Rattle.gx_types.specs.SchemaSet.{no_declarations}
 use Rattle.gx_core.specs.declared.expression.Core.{Core}
 use Rattle.gx_core.specs.declared.typed.TypedCore.{TypedCore}
-use Rattle.gx_core.specs.Meaning.{Outcome, gives, raises, wrong}
+use Rattle.gx_model.specs.Item.{Value}
+use Rattle.gx_core.specs.Outcome.{Outcome, gives, raises, wrong}
 use Rattle.gx_core.specs.QueryMeaning.{query_outcome, query_type}
 use Rattle.gx_static.specs.QueryJudgement.{QueryJudgement, query_typed, query_rejected, query_judged}
 use Rattle.gx_io.specs.Load.{file_of}
@@ -37,14 +38,14 @@ line_of (writes bytes) = []
 line_of (refuses status line) = line
 
 -- evaluation, and the writing of the value
-abbrev pub AnswersOutcome : Outcome → Answer → Type 0
-AnswersOutcome (gives items) answer = answer ≡ writes (serialised items)
+abbrev pub AnswersOutcome : Outcome Value → Answer → Type 0
+AnswersOutcome (gives items forest) answer = answer ≡ writes (serialised items)
 AnswersOutcome (raises code) answer = answer ≡ refuses status.Dynamic (code_line code)
 AnswersOutcome wrong answer = ⊥
 
 -- what a command does with a query that has a type: a run evaluates it, and a check writes its type
 abbrev pub AnswersTyped : Command → Core → TypedCore → Answer → Type 0
-AnswersTyped (run_file name) core typing answer = AnswersOutcome (query_outcome core) answer
+AnswersTyped (run_file name) core typing answer = AnswersOutcome (query_outcome no_declarations core []) answer
 AnswersTyped (check_file name) core typing answer = answer ≡ writes (type_bytes (query_type typing))
 
 -- typing

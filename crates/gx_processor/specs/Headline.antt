@@ -2,15 +2,17 @@
 -- exactly the serialisation of the value that the query has, and that value belongs to the type, or it reports the one
 -- dynamic error that the query raises. Where typing rejects a query, both report the code and the place of the first
 -- expression to which the static rules give no type.
-use Rattle.std.specs.Prelude.{◌≡◌, ℕ, ℤ, List, Some, ◌⊎◌}
+use Rattle.std.specs.Prelude.{◌≡◌, ℕ, List, [], Some, ◌⊎◌}
 use Rattle.gx_base.specs.declared.place.Place.{Place}
 use Rattle.gx_base.specs.declared.code.Code.{Code}
 use Rattle.gx_types.specs.SchemaSet.{no_declarations}
 use Rattle.gx_core.specs.declared.expression.Core.{Core}
 use Rattle.gx_core.specs.declared.typed.TypedCore.{TypedCore}
-use Rattle.gx_core.specs.Meaning.{gives, raises}
+use Rattle.gx_model.specs.Forest.{Forest}
+use Rattle.gx_model.specs.Item.{Value}
+use Rattle.gx_model.specs.Belongs.{Belongs}
+use Rattle.gx_core.specs.Outcome.{gives, raises}
 use Rattle.gx_core.specs.QueryMeaning.{query_outcome, query_type}
-use Rattle.gx_core.specs.Values.{Belongs}
 use Rattle.gx_static.specs.QueryJudgement.{query_typed, query_rejected, query_judged, QueryFailsFirst}
 use Rattle.gx_io.specs.SinkUse.{IsUntouched, Took}
 use Rattle.gx_processor.specs.declared.status.Status.TheVariants.{Done, Query, Dynamic, Memory}
@@ -24,9 +26,10 @@ use Rattle.gx_processor.specs.Run.{Run}
 
 -- the value that the query has, of the type, is written, and nothing else
 pub record WritesValue (core : Core) (typing : TypedCore) (run : Run) : Type 0 where
-  pub items : List ℤ
-  pub value : query_outcome core ≡ gives items
-  pub belongs : Belongs no_declarations items (query_type typing)
+  pub items : Value
+  pub forest : Forest
+  pub value : query_outcome no_declarations core [] ≡ gives items forest
+  pub belongs : Belongs no_declarations forest items (query_type typing)
   pub status : run.status ≡ Done
   pub output : Took run.out (serialised items)
   pub line : IsUntouched run.err
@@ -34,7 +37,7 @@ pub record WritesValue (core : Core) (typing : TypedCore) (run : Run) : Type 0 w
 -- the dynamic error that the query raises is reported, and nothing else
 pub record ReportsError (core : Core) (run : Run) : Type 0 where
   pub code : Code
-  pub raised : query_outcome core ≡ raises code
+  pub raised : query_outcome no_declarations core [] ≡ raises code
   pub status : run.status ≡ Dynamic
   pub output : IsUntouched run.out
   pub line : Took run.err (code_line code)

@@ -6,7 +6,11 @@ use Rattle.gx_base.specs.declared.code.Code.TheVariants.{XPST0008}
 use Rattle.gx_base.specs.Text.{same_text}
 use Rattle.gx_core.specs.declared.expression.BinaryOp.TheVariants.{Add}
 use Rattle.gx_core.specs.declared.expression.Core.{Core}
-use Rattle.gx_core.specs.Expression.{CoreExpression, At, Form, literal, variable, empty, sequence, let_in, data_of, binary, core_at, outer_of}
+use Rattle.gx_num.specs.declared.Number.TheVariants.{Int}
+use Rattle.gx_core.specs.declared.operator.Operator.{Operator}
+use Rattle.gx_core.specs.declared.operator.Operator.TheVariants as operators
+use Rattle.gx_core.specs.Arithmetic.{number_atom}
+use Rattle.gx_core.specs.Expression.{CoreExpression, At, Parts, no_parts, one_part, two_parts, core_at, outer_of}
 use Rattle.gx_parse.specs.SyntaxTree.{SyntaxTree, IntegerTree, VariableTree, ParenthesisedTree, EmptyTree, SequenceTree, SumTree, LetTree}
 
 -- an expression, with the number that is free after it, or the first refused name
@@ -28,30 +32,34 @@ number_of (bound ∷ names) name = if same_text bound.0 name then Some bound.1 e
 
 abbrev pub variable_at : Option ℕ → Place → ℕ → Normalised
 variable_at None place free = unknown place XPST0008
-variable_at (Some number) place free = made (core_at place place (variable number)) free
+variable_at (Some number) place free = made (core_at place place (operators.Var number) no_parts) free
 
 -- the expression in parentheses that stand there
 abbrev pub within : Place → CoreExpression → CoreExpression
-within parentheses (At place outer annotation form) = core_at place parentheses form
+within parentheses (At place outer annotation operator parts) = core_at place parentheses operator parts
 
 -- what is added around an expression has that expression's outer place
-abbrev pub around : CoreExpression → Form (Unit {0}) → CoreExpression
-around e form = core_at (outer_of e) (outer_of e) form
+abbrev pub around : CoreExpression → Operator → Parts (Unit {0}) → CoreExpression
+around e operator parts = core_at (outer_of e) (outer_of e) operator parts
+
+-- an operand is atomized
+abbrev pub atomized : CoreExpression → CoreExpression
+atomized e = around e operators.DataOf (one_part e)
 
 -- variables are numbered in the order in which their scopes begin
 abbrev pub core_of : SyntaxTree → Names → ℕ → Normalised
-core_of (IntegerTree place value) names free = made (core_at place place (literal value)) free
+core_of (IntegerTree place value) names free = made (core_at place place (operators.Lit (number_atom (Int value))) no_parts) free
 core_of (VariableTree place name) names free = variable_at (number_of names name) place free
 core_of (ParenthesisedTree place inner) names free = then_made (core_of inner names free) (λ e. made (within place e))
-core_of (EmptyTree place) names free = made (core_at place place empty) free
+core_of (EmptyTree place) names free = made (core_at place place operators.Empty no_parts) free
 core_of (SequenceTree first second) names free =
-    then_made (core_of first names free) (λ a free. then_made (core_of second names free) (λ b. made (around a (sequence a b))))
+    then_made (core_of first names free) (λ a free. then_made (core_of second names free) (λ b. made (around a operators.Seq (two_parts a b))))
 core_of (SumTree place left right) names free =
     then_made (core_of left names free) (λ a free. then_made (core_of right names free)
-    (λ b. made (core_at place place (binary Add (around a (data_of a)) (around b (data_of b))))))
+    (λ b. made (core_at place place (operators.Binary Add) (two_parts (atomized a) (atomized b)))))
 core_of (LetTree place dollar name bound body) names free =
     then_made (core_of bound names free) (λ value number. then_made (core_of body ((name, number) ∷ names) (number + 1))
-    (λ result. made (core_at place place (let_in (record { variable = number; place = dollar }) value result))))
+    (λ result. made (core_at place place (operators.Let (record { variable = number; place = dollar })) (two_parts value result))))
 
 -- the Core of a query: variables are numbered from 1
 abbrev pub normalised : SyntaxTree → Normalised

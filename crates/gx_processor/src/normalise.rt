@@ -1,19 +1,25 @@
 // From syntax trees to Core.
 
 ghost use Rattle.std.specs.Prelude.{◌≡◌, ℕ, ◌+◌, ◌<◌, ◌≤◌, ◌^◌, [], IfOk, IfErr, OnOk};
-ghost use Rattle.gx_processor.specs.Normalisation.{made, core_of, query_named, named_query, variable_at, number_of, within, around};
+ghost use Rattle.gx_processor.specs.Normalisation.{made, core_of, query_named, named_query, variable_at, number_of, within, around, atomized};
 ghost use Rattle.gx_processor.specs.NameRefusal.{RefusesName, RefusesQuery};
 ghost use Rattle.gx_parse.specs.SyntaxTree.{nodes};
-ghost use Rattle.gx_core.specs.Expression.{core_at, data_of, binary, let_in, sequence as sequence_form};
-ghost use Rattle.gx_core.specs.ExpressionView.{form_of};
+ghost use Rattle.gx_core.specs.Expression.{core_at, two_parts};
+ghost use Rattle.gx_core.specs.ExpressionView.{operator_of, parts_of};
+ghost use Rattle.gx_core.specs.Arithmetic.{number_atom};
+ghost use Rattle.gx_core.specs.declared.operator.Operator.TheVariants as operators;
+ghost use Rattle.gx_num.specs.declared.Number.TheVariants as numbers;
 ghost use Rattle.gx_core.specs.Invariant.{HasVariablesInOrder};
-ghost use Rattle.gx_core.specs.declared.expression.BinaryOp.TheVariants as operators;
+ghost use Rattle.gx_core.specs.declared.expression.BinaryOp.TheVariants as arithmetic;
 
 use crate::names::Names;
 use gx_base::code::Code;
 use gx_base::place::Place;
 use gx_base::text::Text;
-use gx_core::expression::{BinaryOp, Binder, Core, CoreExpr, CoreForm};
+use gx_base::type_name::{Builtin, TypeName};
+use gx_core::expression::{BinaryOp, Binder, Core, CoreExpr, CoreForm, E};
+use gx_facets::{AtomValue, Atomic};
+use gx_num::Number;
 use gx_parse::syntax::{LetHead, Syntax, SyntaxNode};
 use std::alloc::{AllocError, AllocFailed, Global};
 
@@ -49,7 +55,7 @@ impl<T: Drop> From<AllocFailed<T>> for NameRefusal {
 // A Core expression, and the first number that no variable before or in it has.
 #[derive(Drop)]
 struct Normalised {
-    expression: CoreExpr,
+    expression: E,
     free: u32,
 }
 
@@ -64,7 +70,7 @@ pub fn normalise(alloc: Global, syntax: &Syntax) -> Result<Core, NameRefusal>
     let mut names = Names::new(alloc);
     let normalised = expression(alloc, syntax, &mut names, 1)?;
     Ok(Core {
-        body: normalised.expression,
+        body: Box::into_inner(normalised.expression),
     })
 }
 
@@ -75,19 +81,21 @@ fn expression<'a>(
     free: u32,
 ) -> Result<Normalised, NameRefusal>
     requires { free + nodes syntax.now < 2 ^ 32 }
-    ensures made { IfOk result (λ n. core_of syntax.now names.old free ≡ made n.expression n.free) }
+    ensures made { IfOk result (λ n. core_of syntax.now names.old free ≡ made n.expression.value n.free) }
     ensures refused { IfErr result (λ e. RefusesName e (core_of syntax.now names.old free)) }
     ensures numbered { IfOk result (λ n. n.free ≤ free + nodes syntax.now) }
     ensures kept { OnOk result (names.new ≡ names.old) }
 {
     match &syntax.node {
-        SyntaxNode::Integer(place, value) => Ok(leaf(*place, CoreForm::Lit(*value), free)),
-        SyntaxNode::Variable(place, name) => variable(*place, name, names, free),
+        SyntaxNode::Integer(place, value) => {
+            Ok(at(alloc, *place, CoreForm::Lit(integer(*value)), free)?)
+        }
+        SyntaxNode::Variable(place, name) => variable(alloc, *place, name, names, free),
         SyntaxNode::Parenthesised(place, inner) => {
             let inner = expression(alloc, inner, names, free)?;
-            Ok(parenthesised(*place, inner))
+            Ok(parenthesised(alloc, *place, inner)?)
         }
-        SyntaxNode::Empty(place) => Ok(leaf(*place, CoreForm::Empty, free)),
+        SyntaxNode::Empty(place) => Ok(at(alloc, *place, CoreForm::Empty, free)?),
         SyntaxNode::Sequence(first, second) => {
             let first = expression(alloc, first, names, free)?;
             let second = expression(alloc, second, names, first.free)?;
@@ -108,32 +116,50 @@ fn expression<'a>(
     }
 }
 
-fn leaf(place: Place, form: CoreForm, free: u32) -> Normalised
-    ensures expression { result.expression ≡ core_at place place (form_of form) }
-    ensures free { result.free ≡ free }
+// An expression at a place, without parentheses.
+fn at(
+    alloc: Global,
+    place: Place,
+    form: CoreForm,
+    free: u32,
+) -> Result<Normalised, AllocFailed<CoreExpr>>
+    ensures expression { IfOk result (λ n. n.expression.value ≡ core_at place place (operator_of form) (parts_of form)) }
+    ensures free { IfOk result (λ n. n.free ≡ free) }
 {
-    Normalised {
-        expression: CoreExpr {
-            place,
-            outer: place,
-            form,
-        },
+    let expression = CoreExpr {
+        place,
+        outer: place,
+        form,
+    };
+    Ok(Normalised {
+        expression: Box::new(alloc, expression)?,
         free,
+    })
+}
+
+// An xs:integer.
+fn integer(value: i128) -> Atomic
+    ensures { result ≡ number_atom (numbers.Int value) }
+{
+    Atomic {
+        value: AtomValue::Num(Number::Int(value)),
+        kind: TypeName::Builtin(Builtin::Integer),
     }
 }
 
 fn variable(
+    alloc: Global,
     place: Place,
     name: &Text,
     names: &Names<'_>,
     free: u32,
 ) -> Result<Normalised, NameRefusal>
-    ensures made { IfOk result (λ n. variable_at (number_of names.now name.now) place free ≡ made n.expression n.free) }
+    ensures made { IfOk result (λ n. variable_at (number_of names.now name.now) place free ≡ made n.expression.value n.free) }
     ensures refused { IfErr result (λ e. RefusesName e (variable_at (number_of names.now name.now) place free)) }
     ensures numbered { IfOk result (λ n. n.free ≡ free) }
 {
     match names.number(name) {
-        Some(number) => Ok(leaf(place, CoreForm::Var(number), free)),
+        Some(number) => Ok(at(alloc, place, CoreForm::Var(number), free)?),
         None => Err(NameRefusal::Refused {
             code: Code::XPST0008,
             place,
@@ -141,57 +167,68 @@ fn variable(
     }
 }
 
-fn parenthesised(outer: Place, inner: Normalised) -> Normalised
-    ensures expression { result.expression ≡ within outer inner.expression }
-    ensures free { result.free ≡ inner.free }
+fn parenthesised(
+    alloc: Global,
+    outer: Place,
+    inner: Normalised,
+) -> Result<Normalised, AllocFailed<CoreExpr>>
+    ensures expression { IfOk result (λ n. n.expression.value ≡ within outer inner.expression.value) }
+    ensures free { IfOk result (λ n. n.free ≡ inner.free) }
 {
-    let CoreExpr { place, form, .. } = inner.expression;
-    Normalised {
-        expression: CoreExpr { place, outer, form },
+    let CoreExpr { place, form, .. } = Box::into_inner(inner.expression);
+    Ok(Normalised {
+        expression: Box::new(alloc, CoreExpr { place, outer, form })?,
         free: inner.free,
-    }
+    })
 }
 
 fn sequence(
     alloc: Global,
-    first: CoreExpr,
+    first: E,
     second: Normalised,
 ) -> Result<Normalised, AllocFailed<CoreExpr>>
-    ensures expression { IfOk result (λ n. n.expression ≡ around first (sequence_form first second.expression)) }
+    ensures expression { IfOk result (λ n. n.expression.value ≡ around first.value operators.Seq (two_parts first.value second.expression.value)) }
     ensures free { IfOk result (λ n. n.free ≡ second.free) }
 {
     let place = first.outer;
-    let first = Box::new(alloc, first)?;
-    let form = CoreForm::Seq(first, Box::new(alloc, second.expression)?);
-    Ok(leaf(place, form, second.free))
+    at(
+        alloc,
+        place,
+        CoreForm::Seq(first, second.expression),
+        second.free,
+    )
 }
 
 fn sum(
     alloc: Global,
     place: Place,
-    left: CoreExpr,
+    left: E,
     right: Normalised,
 ) -> Result<Normalised, AllocFailed<CoreExpr>>
-    ensures expression { IfOk result (λ n. n.expression ≡ core_at place place
-        (binary operators.Add (around left (data_of left)) (around right.expression (data_of right.expression)))) }
+    ensures expression { IfOk result (λ n. n.expression.value ≡ core_at place place (operators.Binary arithmetic.Add)
+        (two_parts (atomized left.value) (atomized right.expression.value))) }
     ensures free { IfOk result (λ n. n.free ≡ right.free) }
 {
-    let left = Box::new(alloc, atomized(alloc, left)?)?;
-    let operand = Box::new(alloc, atomized(alloc, right.expression)?)?;
-    let form = CoreForm::Binary(BinaryOp::Add, left, operand);
-    Ok(leaf(place, form, right.free))
+    let left = atomized(alloc, left)?;
+    let operand = atomized(alloc, right.expression)?;
+    at(
+        alloc,
+        place,
+        CoreForm::Binary(BinaryOp::Add, left, operand),
+        right.free,
+    )
 }
 
-fn atomized(alloc: Global, operand: CoreExpr) -> Result<CoreExpr, AllocFailed<CoreExpr>>
-    ensures { IfOk result (λ e. e ≡ around operand (data_of operand)) }
+fn atomized(alloc: Global, operand: E) -> Result<E, AllocFailed<CoreExpr>>
+    ensures { IfOk result (λ e. e.value ≡ atomized operand.value) }
 {
     let place = operand.outer;
-    let form = CoreForm::DataOf(Box::new(alloc, operand)?);
-    Ok(CoreExpr {
+    let expression = CoreExpr {
         place,
         outer: place,
-        form,
-    })
+        form: CoreForm::DataOf(operand),
+    };
+    Ok(Box::new(alloc, expression)?)
 }
 
 fn let_expression(
@@ -200,15 +237,14 @@ fn let_expression(
     bound: Normalised,
     body: Normalised,
 ) -> Result<Normalised, AllocFailed<CoreExpr>>
-    ensures expression { IfOk result (λ n. n.expression ≡ core_at head.now.place head.now.place
-        (let_in (record { variable = bound.free; place = head.now.variable }) bound.expression body.expression)) }
+    ensures expression { IfOk result (λ n. n.expression.value ≡ core_at head.now.place head.now.place
+        (operators.Let (record { variable = bound.free; place = head.now.variable })) (two_parts bound.expression.value body.expression.value)) }
     ensures free { IfOk result (λ n. n.free ≡ body.free) }
 {
     let binder = Binder {
         variable: bound.free,
         place: head.variable,
     };
-    let value = Box::new(alloc, bound.expression)?;
-    let form = CoreForm::Let(binder, value, Box::new(alloc, body.expression)?);
-    Ok(leaf(head.place, form, body.free))
+    let form = CoreForm::Let(binder, bound.expression, body.expression);
+    at(alloc, head.place, form, body.free)
 }

@@ -46,10 +46,11 @@ pub fn output<L: Library>(
 }
 
 // The serialisation of the value of a query that is typed soundly.
+#[tactic(auto, using(crate::proofs::ValueTexts::value_is_answered, crate::proofs::ValueTexts::error_is_answered))]
 fn value_text(alloc: Global, core: &TypedCore) -> Result<String, Refusal>
     requires { IsSoundQuery no_declarations core.now }
-    ensures output { IfOk result (λ text. AnswersOutcome (query_outcome (plain_query core.now)) (writes (string_bytes text))) }
-    ensures refused { IfErr result (λ refusal. RefusesSo refusal (AnswersOutcome (query_outcome (plain_query core.now)))) }
+    ensures output { IfOk result (λ text. AnswersOutcome (query_outcome no_declarations (plain_query core.now) []) (writes (string_bytes text))) }
+    ensures refused { IfErr result (λ refusal. RefusesSo refusal (AnswersOutcome (query_outcome no_declarations (plain_query core.now) []))) }
     ensures cause { IfErr result (HasCause ⊥ (Unit {0})) }
 {
     sound_queries_keep_their_types();

@@ -1,15 +1,19 @@
--- Sums belong to the type of arithmetic.
-use Rattle.std.proofs.Common.{◌≡◌, ℕ, suc, ◌≤◌, min, ℤ, Bool, true, false, ◌&&◌, List, [], ◌∷◌, length, None, refl, sym, ap, subst, arith, nat_le, if◌then◌else◌, Result, Ok, Err}
-use Rattle.std.proofs.Math.Dec.{T, leb→le}
+-- Results of arithmetic belong to its type.
+use Rattle.std.proofs.Common.{◌≡◌, ℕ, ◌≤◌, min, ℤ, Bool, true, false, ◌&&◌, List, [], ◌∷◌, length, Option, None, Some, Result, Ok, Err, refl, sym, ◌∙◌, ap, subst, arith, nat_le, if◌then◌else◌}
 use Rattle.std.proofs.lemmas.Bool.{and_parts}
 use Rattle.gx_base.specs.declared.code.Code.TheVariants.{XPTY0004}
 use Rattle.gx_base.specs.declared.type_name.Builtin.{Builtin}
 use Rattle.gx_base.specs.declared.type_name.Builtin.TheVariants.{Integer, Decimal}
+use Rattle.gx_base.specs.declared.type_name.TypeName.{TypeName}
 use Rattle.gx_base.specs.declared.type_name.TypeName.TheVariants as names
 use Rattle.gx_num.specs.declared.Number.{Number}
-use Rattle.gx_num.specs.declared.Number.TheVariants.{Int}
+use Rattle.gx_num.specs.declared.Number.TheVariants.{Int, Dec}
 use Rattle.gx_num.specs.declared.NumFault.{NumFault}
-use Rattle.gx_num.specs.Arithmetic.{sum_of, truncated}
+use Rattle.gx_num.specs.declared.NumFault.TheVariants.{Overflow}
+use Rattle.gx_num.specs.Arithmetic.{ranged}
+use Rattle.gx_facets.specs.declared.Atomic.{Atomic}
+use Rattle.gx_facets.specs.declared.AtomValue.{AtomValue}
+use Rattle.gx_facets.specs.declared.AtomValue.TheVariants as values
 use Rattle.gx_types.specs.declared.shape.Shape.TheVariants.{Atom}
 use Rattle.gx_types.specs.SchemaSet.{SchemaSet}
 use Rattle.gx_types.specs.Derivation.{DerivesFrom}
@@ -19,84 +23,141 @@ use Rattle.gx_types.specs.SequenceType.{SequenceType, never}
 use Rattle.gx_types.specs.SameType.{same_type}
 use Rattle.gx_types.specs.TypeRules.{times_of}
 use Rattle.gx_types.specs.Laws.{Allows}
-use Rattle.gx_types.proofs.PublicLaws.{occurrence_bounds_length, times_takes_joined, equal_types_take_the_same}
+use Rattle.gx_types.proofs.PublicLaws.{times_takes_joined, equal_types_take_the_same}
+use Rattle.gx_model.specs.Forest.{Forest, IsHonest}
+use Rattle.gx_model.specs.Item.{Item, atom, Value}
+use Rattle.gx_model.specs.Belongs.{ValueFits, Belongs}
+use Rattle.gx_core.specs.declared.expression.BinaryOp.{BinaryOp}
 use Rattle.gx_core.specs.declared.expression.BinaryOp.TheVariants.{Add}
-use Rattle.gx_core.specs.Expression.{annotation_of}
-use Rattle.gx_core.specs.Values.{shapes_of, Belongs}
-use Rattle.gx_core.specs.Meaning.{after, number_outcome, sum_meaning, meaning}
-use Rattle.gx_core.specs.Soundness.{Keeps}
+use Rattle.gx_core.specs.Outcome.{Outcome, gives, raises, wrong, given}
+use Rattle.gx_core.specs.Arithmetic.{number_of_value, number_in, type_of_number, number_atom, computed, result_of, arithmetic}
+use Rattle.gx_core.specs.Soundness.{typed_setting, IsOfType, Keeps}
+use Rattle.gx_core.proofs.KeptFacts.{fact_at_once}
 use Rattle.gx_static.specs.Rule.{has_type, has_none, atomic, is_all_in, is_number_or_empty, number_type, arithmetic_type, binary_rule}
-use Rattle.gx_static.specs.Laws.{AddKeepsType}
-use Rattle.gx_static.proofs.Keeping.{after_keeps, keeps_ruled}
+use Rattle.gx_static.specs.Laws.{ActsKeepType, AddKeepsType}
+use Rattle.gx_static.proofs.ItemLemmas.{EachItem, IsAtomIn, items_are_in, belongs_within, at_most_one}
+use Rattle.gx_static.proofs.LiteralLemmas.{string_is_no_number, boolean_is_no_number, untyped_is_no_number, number_fits}
+use Rattle.gx_static.proofs.Keeping.{tested}
 
-shapes_length : (xs : List ℤ) → length (shapes_of xs) ≡ length xs
-shapes_length [] = refl
-shapes_length (x ∷ xs) = ap suc (shapes_length xs)
+-- an item whose type is derived from xs:decimal is a number
+value_is_number : (s : SchemaSet) (v : AtomValue) (kind : TypeName) → ValueFits s v kind → DerivesFrom s kind (names.Builtin Decimal) → (n : Number) × (number_of_value v ≡ Some n)
+value_is_number s (values.Untyped t) kind f d = absurd (untyped_is_no_number s kind f d)
+value_is_number s (values.Str t) kind f d = absurd (string_is_no_number s kind f d)
+value_is_number s (values.Truth b) kind f d = absurd (boolean_is_no_number s kind f d)
+value_is_number s (values.Num n) kind f d = (n, refl)
 
-belongs_within : (s : SchemaSet) (t : SequenceType) (xs : List ℤ) → Belongs s xs t → Allows (occurrence_of t) (length xs)
-belongs_within s t xs h = subst (λ (n : ℕ). Allows (occurrence_of t) n) (shapes_length xs) (occurrence_bounds_length s t (shapes_of xs) h)
+abbrev IsNumber : Item → Type 0
+IsNumber x = (n : Number) × (number_in x ≡ Some n)
 
-at_most_one : (n : ℕ) → nat_le n 1 ≡ true → n ≤ 1
-at_most_one n e = leb→le n 1 (subst (λ (b : Bool). T b) (sym e) tt)
+item_is_number : (s : SchemaSet) (x : Item) → IsAtomIn s Decimal x → IsNumber x
+item_is_number s x a = subst IsNumber (sym a.is) (value_is_number s a.value.value a.value.kind a.fits a.derived)
 
--- an integer is of type xs:integer, and of xs:decimal
-integer_is_number : (s : SchemaSet) (b : Bool) → DerivesFrom s (names.Builtin Integer) (names.Builtin (if b then Integer else Decimal))
-integer_is_number s true = (0, refl)
-integer_is_number s false = (1, (names.Builtin Decimal, refl, refl))
+-- and one whose type is derived from xs:integer is an integer
+value_is_integer : (s : SchemaSet) (v : AtomValue) (kind : TypeName) (n : Number) → ValueFits s v kind → DerivesFrom s kind (names.Builtin Integer) → number_of_value v ≡ Some n → (i : ℤ) × (n ≡ Int i)
+value_is_integer s (values.Untyped t) kind n f d e = absurd (cc)
+value_is_integer s (values.Str t) kind n f d e = absurd (cc)
+value_is_integer s (values.Truth b) kind n f d e = absurd (cc)
+value_is_integer s (values.Num (Int i)) kind n f d e = let same : Int i ≡ n = cc in (i, sym same)
+value_is_integer s (values.Num (Dec u)) kind n f d e = absurd (f.1 d)
 
--- at most one integer, whose number lies within an occurrence
-few_belong : (s : SchemaSet) (n : Builtin) (o : Occurs) (zs : List ℤ) → DerivesFrom s (names.Builtin Integer) (names.Builtin n) → length zs ≤ 1 → Allows o (length zs) → Belongs s zs (times_of (atomic n) o)
-few_belong s n o [] d h w = times_takes_joined s (atomic n) o [] tt w
-few_belong s n o (z ∷ []) d h w = times_takes_joined s (atomic n) o ((Atom (names.Builtin Integer) ∷ []) ∷ []) ((Atom (names.Builtin Integer), refl, d), tt) w
-few_belong s n o (z ∷ y ∷ zs) d h w = absurd (omega arith)
+item_is_integer : (s : SchemaSet) (x : Item) (n : Number) → IsAtomIn s Integer x → number_in x ≡ Some n → (i : ℤ) × (n ≡ Int i)
+item_is_integer s x n a e = value_is_integer s a.value.value a.value.kind n a.fits a.derived (subst (λ (y : Item). number_in y ≡ Some n) a.is e)
 
-number_keeps : (s : SchemaSet) (t : SequenceType) → ((z : ℤ) → Belongs s (z ∷ []) t) → (r : Result Number NumFault) → Keeps s t (number_outcome r)
-number_keeps s t h (Ok number) = h (truncated number)
-number_keeps s t h (Err fault) = tt
+number_is_decimal : (s : SchemaSet) (n : Number) → DerivesFrom s (names.Builtin (type_of_number n)) (names.Builtin Decimal)
+number_is_decimal s (Int i) = (1, (names.Builtin Decimal, refl, refl))
+number_is_decimal s (Dec u) = (0, refl)
 
--- a sum has as many items as the shorter operand
-sum_value_keeps : (s : SchemaSet) (t : SequenceType) (xs ys : List ℤ) → length xs ≤ 1 → length ys ≤ 1 → ((zs : List ℤ) → (length zs ≡ min (length xs) (length ys)) → Belongs s zs t) → Keeps s t (sum_meaning xs ys)
-sum_value_keeps s t [] [] a b h = h [] (omega arith)
-sum_value_keeps s t [] (y ∷ []) a b h = h [] (omega arith)
-sum_value_keeps s t (x ∷ []) [] a b h = h [] (omega arith)
-sum_value_keeps s t (x ∷ []) (y ∷ []) a b h = number_keeps s t (λ z. h (z ∷ []) (omega arith)) (sum_of (Int x) (Int y))
-sum_value_keeps s t [] (y ∷ z ∷ ys) a b h = absurd (omega arith)
-sum_value_keeps s t (x ∷ []) (y ∷ z ∷ ys) a b h = absurd (omega arith)
-sum_value_keeps s t (x ∷ z ∷ xs) ys a b h = absurd (omega arith)
+-- at most one number of a type, as often as an occurrence allows
+nothing_belongs : (s : SchemaSet) (forest : Forest) (b : Builtin) (o : Occurs) → Allows o 0 → Belongs s forest [] (times_of (atomic b) o)
+nothing_belongs s forest b o w = record { seen = []; shaped = tt; taken = times_takes_joined s (atomic b) o [] tt w }
 
-counted_keeps : (s : SchemaSet) (n : Builtin) (o p : Occurs) (xs ys : List ℤ) → DerivesFrom s (names.Builtin Integer) (names.Builtin n) → o.greatest ≤ 1 → p.greatest ≤ 1 → Allows o (length xs) → Allows p (length ys)
-    → Keeps s (times_of (atomic n) (occurs (min o.least p.least) (min o.greatest p.greatest))) (sum_meaning xs ys)
-counted_keeps s n o p xs ys d a b v w =
-    let l = v.greatest (omega arith) in
-    let m = w.greatest (omega arith) in
-    sum_value_keeps s (times_of (atomic n) (occurs (min o.least p.least) (min o.greatest p.greatest))) xs ys (omega arith) (omega arith)
-    (λ zs e. few_belong s n (occurs (min o.least p.least) (min o.greatest p.greatest)) zs d (omega (arith, e, l, m))
-    (record { least = omega (arith, e, v.least, w.least); greatest = λ _. omega (arith, e, l, m) }))
+number_belongs : (s : SchemaSet) (forest : Forest) (b : Builtin) (o : Occurs) (n : Number) → DerivesFrom s (names.Builtin (type_of_number n)) (names.Builtin b) → Allows o 1 → Belongs s forest (atom (number_atom n) ∷ []) (times_of (atomic b) o)
+number_belongs s forest b o n d w = record {
+  seen = Atom (names.Builtin (type_of_number n)) ∷ [];
+  shaped = (refl, number_fits s n, tt);
+  taken = times_takes_joined s (atomic b) o ((Atom (names.Builtin (type_of_number n)) ∷ []) ∷ []) ((Atom (names.Builtin (type_of_number n)), refl, d), tt) w;
+}
 
-arithmetic_keeps : (s : SchemaSet) (t u : SequenceType) (xs ys : List ℤ) → (occurrence_of t).greatest ≤ 1 → (occurrence_of u).greatest ≤ 1 → Belongs s xs t → Belongs s ys u → Keeps s (arithmetic_type s t u) (sum_meaning xs ys)
-arithmetic_keeps s t u xs ys a b h k =
+-- what an operation yields of two integers is an integer
+ranged_is : (fits : Bool) (x n : Number) → ranged fits x ≡ Ok n → n ≡ x
+ranged_is true x n e = cc
+ranged_is false x n e = absurd (cc)
+
+integers_yield_integers : (operator : BinaryOp) (i j : ℤ) (n : Number) → result_of operator (Int i) (Int j) ≡ Ok n → (k : ℤ) × (n ≡ Int k)
+integers_yield_integers Add i j n e = (_, ranged_is _ _ n e)
+
+computed_keeps : (s : SchemaSet) (forest : Forest) (t : SequenceType) (r : Result Number NumFault) → IsHonest s forest → ((n : Number) → r ≡ Ok n → Belongs s forest (atom (number_atom n) ∷ []) t) → Keeps (typed_setting s) forest t (computed r forest)
+computed_keeps s forest t (Ok n) honest h = fact_at_once (typed_setting s) forest (IsOfType s t) (atom (number_atom n) ∷ []) honest (h n refl)
+computed_keeps s forest t (Err fault) honest h = tt
+
+-- the result of two items
+pair_keeps : (s : SchemaSet) (forest : Forest) (operator : BinaryOp) (b : Builtin) (o : Occurs) (x y : Item) → IsHonest s forest → IsNumber x → IsNumber y
+    → ((m n r : Number) → number_in x ≡ Some m → number_in y ≡ Some n → result_of operator m n ≡ Ok r → DerivesFrom s (names.Builtin (type_of_number r)) (names.Builtin b)) → Allows o 1
+    → Keeps (typed_setting s) forest (times_of (atomic b) o) (arithmetic operator (x ∷ []) (y ∷ []) forest)
+pair_keeps s forest operator b o x y honest p q h w =
+    subst (λ (m : Option Number). Keeps (typed_setting s) forest (times_of (atomic b) o) (given m (λ m. given (number_in y) (λ n. computed (result_of operator m n) forest)))) (sym p.1)
+    (subst (λ (n : Option Number). Keeps (typed_setting s) forest (times_of (atomic b) o) (given n (λ n. computed (result_of operator p.0 n) forest))) (sym q.1)
+    (computed_keeps s forest (times_of (atomic b) o) (result_of operator p.0 q.0) honest (λ r e. number_belongs s forest b o r (h p.0 q.0 r p.1 q.1 e) w)))
+
+-- the result has as many items as the shorter operand
+result_keeps : (s : SchemaSet) (forest : Forest) (operator : BinaryOp) (b : Builtin) (o : Occurs) (xs ys : Value) → IsHonest s forest → length xs ≤ 1 → length ys ≤ 1 → EachItem IsNumber xs → EachItem IsNumber ys
+    → ((x y : Item) → xs ≡ x ∷ [] → ys ≡ y ∷ [] → (m n r : Number) → number_in x ≡ Some m → number_in y ≡ Some n → result_of operator m n ≡ Ok r → DerivesFrom s (names.Builtin (type_of_number r)) (names.Builtin b))
+    → Allows o (min (length xs) (length ys)) → Keeps (typed_setting s) forest (times_of (atomic b) o) (arithmetic operator xs ys forest)
+result_keeps s forest operator b o [] [] honest l k p q h w = fact_at_once (typed_setting s) forest (IsOfType s (times_of (atomic b) o)) [] honest (nothing_belongs s forest b o w)
+result_keeps s forest operator b o [] (y ∷ []) honest l k p q h w = fact_at_once (typed_setting s) forest (IsOfType s (times_of (atomic b) o)) [] honest (nothing_belongs s forest b o w)
+result_keeps s forest operator b o (x ∷ []) [] honest l k p q h w = fact_at_once (typed_setting s) forest (IsOfType s (times_of (atomic b) o)) [] honest (nothing_belongs s forest b o w)
+result_keeps s forest operator b o (x ∷ []) (y ∷ []) honest l k p q h w = pair_keeps s forest operator b o x y honest p.0 q.0 (h x y refl refl) w
+result_keeps s forest operator b o [] (y ∷ z ∷ ys) honest l k p q h w = absurd (omega (arith, k))
+result_keeps s forest operator b o (x ∷ []) (y ∷ z ∷ ys) honest l k p q h w = absurd (omega (arith, k))
+result_keeps s forest operator b o (x ∷ z ∷ xs) ys honest l k p q h w = absurd (omega (arith, l))
+
+each_number : (s : SchemaSet) (xs : Value) → EachItem (IsAtomIn s Decimal) xs → EachItem IsNumber xs
+each_number s [] h = tt
+each_number s (x ∷ xs) h = (item_is_number s x h.0, each_number s xs h.1)
+
+first_is : (s : SchemaSet) (b : Builtin) (xs : Value) (x : Item) → xs ≡ x ∷ [] → EachItem (IsAtomIn s b) xs → IsAtomIn s b x
+first_is s b xs x e h = (subst (EachItem (IsAtomIn s b)) e h).0
+
+-- of two integers an integer, and else a decimal
+results_derive : (s : SchemaSet) (forest : Forest) (operator : BinaryOp) (t u : SequenceType) (xs ys : Value) (whole : Bool) → Belongs s forest xs t → Belongs s forest ys u → (is_all_in s Integer t && is_all_in s Integer u) ≡ whole
+    → (x y : Item) → xs ≡ x ∷ [] → ys ≡ y ∷ [] → (m n r : Number) → number_in x ≡ Some m → number_in y ≡ Some n → result_of operator m n ≡ Ok r → DerivesFrom s (names.Builtin (type_of_number r)) (names.Builtin (if whole then Integer else Decimal))
+results_derive s forest operator t u xs ys true b c e x y f g m n r p q o =
+    let both = and_parts (is_all_in s Integer t) (is_all_in s Integer u) e in
+    let i = item_is_integer s x m (first_is s Integer xs x f (items_are_in s forest Integer xs t both.0 b)) p in
+    let j = item_is_integer s y n (first_is s Integer ys y g (items_are_in s forest Integer ys u both.1 c)) q in
+    let k = integers_yield_integers operator i.0 j.0 r (subst (λ (a : Number). result_of operator a (Int j.0) ≡ Ok r) i.1 (subst (λ (a : Number). result_of operator m a ≡ Ok r) j.1 o)) in
+    subst (λ (a : Number). DerivesFrom s (names.Builtin (type_of_number a)) (names.Builtin Integer)) (sym k.1) (0, refl)
+results_derive s forest operator t u xs ys false b c e x y f g m n r p q o = number_is_decimal s r
+
+arithmetic_keeps : (s : SchemaSet) (forest : Forest) (operator : BinaryOp) (t u : SequenceType) (xs ys : Value) → IsHonest s forest → is_number_or_empty s t ≡ true → is_number_or_empty s u ≡ true → Belongs s forest xs t → Belongs s forest ys u
+    → Keeps (typed_setting s) forest (arithmetic_type s t u) (arithmetic operator xs ys forest)
+arithmetic_keeps s forest operator t u xs ys honest few_t few_u b c =
+    let p = and_parts (nat_le (occurrence_of t).greatest 1) (is_all_in s Decimal t) few_t in
+    let q = and_parts (nat_le (occurrence_of u).greatest 1) (is_all_in s Decimal u) few_u in
+    let g = at_most_one (occurrence_of t).greatest p.0 in
+    let h = at_most_one (occurrence_of u).greatest q.0 in
+    let v = belongs_within s forest t xs b in
+    let w = belongs_within s forest u ys c in
+    let l = v.greatest (omega (arith, g)) in
+    let m = w.greatest (omega (arith, h)) in
+    let o : Occurs = occurs (min (occurrence_of t).least (occurrence_of u).least) (min (occurrence_of t).greatest (occurrence_of u).greatest) in
     elim (same_type never t) as (λ (none : Bool). same_type never t ≡ none
-    → Keeps s (if none then never else times_of (atomic (number_type s t u)) (occurs (min (occurrence_of t).least (occurrence_of u).least) (min (occurrence_of t).greatest (occurrence_of u).greatest))) (sum_meaning xs ys)) [
-      | true ↦ λ e. absurd (equal_types_take_the_same s never t (shapes_of xs) e h)
-      | false ↦ λ _. counted_keeps s (number_type s t u) (occurrence_of t) (occurrence_of u) xs ys (integer_is_number s (is_all_in s Integer t && is_all_in s Integer u)) a b (belongs_within s t xs h) (belongs_within s u ys k)
+    → Keeps (typed_setting s) forest (if none then never else times_of (atomic (number_type s t u)) o) (arithmetic operator xs ys forest)) [
+      | true ↦ λ e. absurd (equal_types_take_the_same s never t b.seen e b.taken)
+      | false ↦ λ _. result_keeps s forest operator (number_type s t u) o xs ys honest (omega (arith, l, g)) (omega (arith, m, h))
+        (each_number s xs (items_are_in s forest Decimal xs t p.1 b)) (each_number s ys (items_are_in s forest Decimal ys u q.1 c))
+        (results_derive s forest operator t u xs ys (is_all_in s Integer t && is_all_in s Integer u) b c refl)
+        (record { least = omega (arith, v.least, w.least); greatest = λ _. omega (arith, l, m) })
     ] refl
 
--- where the rule gives a type, both operands are numbers, or may be empty
-allowed : (a b : Bool) (t u : SequenceType) → (if a && b then has_type t else has_none XPTY0004 None) ≡ has_type u → (a ≡ true) × (b ≡ true) × (has_type t ≡ has_type u)
-allowed true true t u e = (refl, refl, e)
-allowed true false t u e = absurd (cc)
-allowed false true t u e = absurd (cc)
-allowed false false t u e = absurd (cc)
-
-sum_has_type : (s : SchemaSet) (t u v : SequenceType) (xs ys : List ℤ) → Belongs s xs t → Belongs s ys u → binary_rule s Add t u ≡ has_type v → Keeps s v (sum_meaning xs ys)
-sum_has_type s t u v xs ys h k e =
-    let q = allowed (is_number_or_empty s t) (is_number_or_empty s u) (arithmetic_type s t u) v e in
-    keeps_ruled s (arithmetic_type s t u) v (sum_meaning xs ys) q.2
-    (arithmetic_keeps s t u xs ys (at_most_one (occurrence_of t).greatest ((and_parts (nat_le (occurrence_of t).greatest 1) (is_all_in s Decimal t) q.0).0))
-    (at_most_one (occurrence_of u).greatest ((and_parts (nat_le (occurrence_of u).greatest 1) (is_all_in s Decimal u) q.1).0)) h k)
-
 pub sum_keeps : AddKeepsType
-sum_keeps s a b types ka kb place outer t e bindings fits =
-    after_keeps s (annotation_of a) t (meaning a bindings) (λ xs. after (meaning b bindings) (λ ys. sum_meaning xs ys)) (ka bindings fits)
-    (λ xs h. after_keeps s (annotation_of b) t (meaning b bindings) (λ ys. sum_meaning xs ys) (kb bindings fits)
-    (λ ys k. sum_has_type s (annotation_of a) (annotation_of b) t xs ys h k e))
+sum_keeps s (a ∷ b ∷ []) t forest (xs ∷ ys ∷ []) e honest h =
+    let r = tested (is_number_or_empty s a && is_number_or_empty s b) (arithmetic_type s a b) t _ _ e in
+    let both = and_parts (is_number_or_empty s a) (is_number_or_empty s b) r.0 in
+    subst (λ (u : SequenceType). Keeps (typed_setting s) forest u (arithmetic Add xs ys forest)) r.1 (arithmetic_keeps s forest Add a b xs ys honest both.0 both.1 h.0 h.1.0)
+sum_keeps s (a ∷ b ∷ []) t forest [] e honest h = absurd h
+sum_keeps s (a ∷ b ∷ []) t forest (xs ∷ []) e honest h = absurd h.1
+sum_keeps s (a ∷ b ∷ []) t forest (xs ∷ ys ∷ zs ∷ values) e honest h = absurd h.1.1
+sum_keeps s [] t forest values e honest h = absurd (cc)
+sum_keeps s (a ∷ []) t forest values e honest h = absurd (cc)
+sum_keeps s (a ∷ b ∷ c ∷ ps) t forest values e honest h = absurd (cc)

@@ -1,72 +1,154 @@
--- Values of parts, and of what is made of them.
-use Rattle.std.proofs.Common.{◌≡◌, ℕ, ℤ, Bool, true, false, List, [], ◌∷◌, ◌++◌, Some, refl, sym, ap, subst, nat_eq, if◌then◌else◌}
-use Rattle.gx_base.specs.declared.type_name.Builtin.TheVariants.{Integer}
-use Rattle.gx_base.specs.declared.type_name.TypeName.TheVariants.{Builtin}
-use Rattle.gx_types.specs.declared.shape.Shape.TheVariants.{Atom}
+-- The operators but arithmetic keep their types.
+use Rattle.std.proofs.Common.{◌≡◌, ℕ, Bool, true, false, List, [], ◌∷◌, ◌++◌, Option, None, Some, refl, sym, ◌∙◌, ap, subst, if◌then◌else◌}
+use Rattle.std.specs.Option.{option_map}
+use Rattle.gx_base.specs.declared.code.Code.{Code}
+use Rattle.gx_base.specs.declared.type_name.Builtin.{Builtin}
+use Rattle.gx_base.specs.declared.type_name.TypeName.{TypeName}
+use Rattle.gx_base.specs.declared.type_name.TypeName.TheVariants as names
+use Rattle.gx_facets.specs.declared.Atomic.{Atomic}
+use Rattle.gx_types.specs.declared.item_type.ItemType.TheVariants as items
+use Rattle.gx_types.specs.declared.shape.Shape.{Shape}
+use Rattle.gx_types.specs.declared.shape.Shape.TheVariants as shapes
 use Rattle.gx_types.specs.SchemaSet.{SchemaSet}
-use Rattle.gx_types.specs.SequenceType.{SequenceType, nothing}
+use Rattle.gx_types.specs.SequenceType.{SequenceType, nothing, item}
+use Rattle.gx_types.specs.SameItemType.{same_type_name}
 use Rattle.gx_types.specs.TypeRules.{sequence_of}
-use Rattle.gx_types.specs.Takes.{Takes}
+use Rattle.gx_types.proofs.EqualNames.{type_name_itself}
 use Rattle.gx_types.proofs.PublicLaws.{sequence_takes_parts}
-use Rattle.gx_core.specs.Expression.{annotation_of}
-use Rattle.gx_core.specs.Values.{shapes_of, Belongs}
-use Rattle.gx_core.specs.Meaning.{Outcome, gives, raises, wrong, after, look_up, Bindings, variable_meaning, meaning}
-use Rattle.gx_core.specs.Soundness.{Types, Fits, Keeps}
-use Rattle.gx_static.specs.Rule.{has_type, atomic}
-use Rattle.gx_static.specs.Laws.{LiteralKeepsType, VariableKeepsType, EmptyKeepsType, SequenceKeepsType, LetKeepsType, DataKeepsType}
-
--- an outcome that is made of the value of a part
-pub after_keeps : (s : SchemaSet) (t u : SequenceType) (o : Outcome) (next : List ℤ → Outcome) → Keeps s t o → ((xs : List ℤ) → Belongs s xs t → Keeps s u (next xs)) → Keeps s u (after o next)
-after_keeps s t u (gives xs) next k h = h xs k
-after_keeps s t u (raises code) next k h = tt
-after_keeps s t u wrong next k h = absurd k
+use Rattle.gx_model.specs.Forest.{Forest, IsHonest}
+use Rattle.gx_model.specs.Item.{Item, atom, Value}
+use Rattle.gx_model.specs.Belongs.{HaveShapes, Belongs}
+use Rattle.gx_model.proofs.PublicLaws.{values_stay}
+use Rattle.gx_core.specs.declared.operator.Operator.{Operator}
+use Rattle.gx_core.specs.declared.operator.Operator.TheVariants as operators
+use Rattle.gx_core.specs.Expression.{At, Parts, no_parts, a_part, each_of, annotation_of}
+use Rattle.gx_core.specs.Bindings.{look_up, Types, types_bound}
+use Rattle.gx_core.specs.Outcome.{Outcome, gives, raises, wrong, after, given}
+use Rattle.gx_core.specs.Meaning.{Context, Bindings, Denotation, atomized, acts, all_of, denoted, meaning, meanings}
+use Rattle.gx_core.specs.Soundness.{Setting, typed_setting, context_of, KeepsFact, IsOfType, AreOfTypes, Keeps, IsBoundTo, Standing}
+use Rattle.gx_core.specs.Laws.{AllKeep}
+use Rattle.gx_core.proofs.KeptFacts.{fact_after, fact_at_once, binding_fits, bindings_fit_still, operands_keep}
+use Rattle.gx_static.specs.Rule.{Ruling, has_type, has_none, literal_rule, data_rule, shown_type, all_items, is_atomic, rule, ruling, variable_ruling}
+use Rattle.gx_static.specs.Laws.{ActsKeepType, PartsKeepTypes, OperatorKeepsType, LiteralKeepsType, VariableKeepsType, EmptyKeepsType, SequenceKeepsType, LetKeepsType, DataKeepsType}
+use Rattle.gx_static.proofs.ItemLemmas.{EachItem, IsAtom, items_are_atoms}
+use Rattle.gx_static.proofs.LiteralLemmas.{literal_fits}
 
 -- the type that a rule gives
 pub ruled : (t u : SequenceType) → has_type t ≡ has_type u → t ≡ u
 ruled t u e = cc
 
-pub keeps_ruled : (s : SchemaSet) (t u : SequenceType) (o : Outcome) → has_type t ≡ has_type u → Keeps s t o → Keeps s u o
-keeps_ruled s t u o e k = subst (λ (v : SequenceType). Keeps s v o) (ruled t u e) k
+-- a test decides whether there is a type
+pub tested : (test : Bool) (t u : SequenceType) (code : Code) (part : Option ℕ) → (if test then has_type t else has_none code part) ≡ has_type u → (test ≡ true) × (t ≡ u)
+tested true t u code part e = (refl, ruled t u e)
+tested false t u code part e = absurd (cc)
+
+-- a value of the type that a rule gives, in the forest as it is
+pub value_keeps : (s : SchemaSet) (t u : SequenceType) (forest : Forest) (xs : Value) → t ≡ u → IsHonest s forest → Belongs s forest xs t → Keeps (typed_setting s) forest u (gives xs forest)
+value_keeps s t u forest xs e honest b =
+    fact_at_once (typed_setting s) forest (IsOfType s u) xs honest (subst (λ (v : SequenceType). Belongs s forest xs v) e b)
 
 pub literal_keeps : LiteralKeepsType
-literal_keeps s value types place outer t e bindings fits =
-    keeps_ruled s (atomic Integer) t (gives (value ∷ [])) e (Atom (Builtin Integer), refl, (0, refl))
+literal_keeps s value [] t forest [] e honest b =
+    let r = tested (same_type_name value.kind (names.Builtin (shown_type value.value))) (item (items.Atom value.kind)) t _ _ e in
+    value_keeps s (item (items.Atom value.kind)) t forest (atom value ∷ []) r.1 honest
+    (record { seen = shapes.Atom value.kind ∷ []; shaped = (refl, literal_fits s value r.0, tt); taken = (shapes.Atom value.kind, refl, (0, type_name_itself value.kind)) })
+literal_keeps s value [] t forest (x ∷ xs) e honest b = absurd b
+literal_keeps s value (p ∷ ps) t forest xs e honest b = absurd (cc)
 
 pub empty_keeps : EmptyKeepsType
-empty_keeps s types place outer t e bindings fits = keeps_ruled s nothing t (gives []) e refl
+empty_keeps s [] t forest [] e honest b = value_keeps s nothing t forest [] (ruled nothing t e) honest (record { seen = []; shaped = tt; taken = refl })
+empty_keeps s [] t forest (x ∷ xs) e honest b = absurd b
+empty_keeps s (p ∷ ps) t forest xs e honest b = absurd (cc)
 
-shapes-append : (xs ys : List ℤ) → shapes_of (xs ++ ys) ≡ shapes_of xs ++ shapes_of ys
-shapes-append [] ys = refl
-shapes-append (x ∷ xs) ys = ap (λ ss. Atom (Builtin Integer) ∷ ss) (shapes-append xs ys)
+have_joined : (s : SchemaSet) (forest : Forest) (xs ys : Value) (ss us : List Shape) → HaveShapes s forest xs ss → HaveShapes s forest ys us → HaveShapes s forest (xs ++ ys) (ss ++ us)
+have_joined s forest [] ys [] us h k = k
+have_joined s forest [] ys (shape ∷ ss) us h k = absurd h
+have_joined s forest (x ∷ xs) ys [] us h k = absurd h
+have_joined s forest (x ∷ xs) ys (shape ∷ ss) us h k = (h.0, h.1, have_joined s forest xs ys ss us h.2 k)
 
-joined_belongs : (s : SchemaSet) (t u : SequenceType) (xs ys : List ℤ) → Belongs s xs t → Belongs s ys u → Belongs s (xs ++ ys) (sequence_of t u)
-joined_belongs s t u xs ys h k = subst (Takes s (sequence_of t u)) (sym (shapes-append xs ys)) (sequence_takes_parts s t u (shapes_of xs) (shapes_of ys) h k)
+pub joined_belongs : (s : SchemaSet) (forest : Forest) (t u : SequenceType) (xs ys : Value) → Belongs s forest xs t → Belongs s forest ys u → Belongs s forest (xs ++ ys) (sequence_of t u)
+joined_belongs s forest t u xs ys b c = record {
+  seen = b.seen ++ c.seen;
+  shaped = have_joined s forest xs ys b.seen c.seen b.shaped c.shaped;
+  taken = sequence_takes_parts s t u b.seen c.seen b.taken c.taken;
+}
 
 pub sequence_keeps : SequenceKeepsType
-sequence_keeps s a b types ka kb place outer t e bindings fits =
-    after_keeps s (annotation_of a) t (meaning a bindings) (λ xs. after (meaning b bindings) (λ ys. gives (xs ++ ys))) (ka bindings fits)
-    (λ xs h. after_keeps s (annotation_of b) t (meaning b bindings) (λ ys. gives (xs ++ ys)) (kb bindings fits)
-    (λ ys k. keeps_ruled s (sequence_of (annotation_of a) (annotation_of b)) t (gives (xs ++ ys)) e (joined_belongs s (annotation_of a) (annotation_of b) xs ys h k)))
+sequence_keeps s (a ∷ b ∷ []) t forest (xs ∷ ys ∷ []) e honest h =
+    value_keeps s (sequence_of a b) t forest (xs ++ ys) (ruled (sequence_of a b) t e) honest (joined_belongs s forest a b xs ys h.0 h.1.0)
+sequence_keeps s (a ∷ b ∷ []) t forest [] e honest h = absurd h
+sequence_keeps s (a ∷ b ∷ []) t forest (xs ∷ []) e honest h = absurd h.1
+sequence_keeps s (a ∷ b ∷ []) t forest (xs ∷ ys ∷ zs ∷ values) e honest h = absurd h.1.1
+sequence_keeps s [] t forest values e honest h = absurd (cc)
+sequence_keeps s (a ∷ []) t forest values e honest h = absurd (cc)
+sequence_keeps s (a ∷ b ∷ c ∷ ps) t forest values e honest h = absurd (cc)
 
--- the value of a variable in scope belongs to its type
-bound_keeps : (s : SchemaSet) (types : Types) (bindings : Bindings) (number : ℕ) (t : SequenceType) → Fits s types bindings → look_up types number ≡ Some t → Keeps s t (variable_meaning (look_up bindings number))
-bound_keeps s [] [] number t f e = absurd (cc)
-bound_keeps s (u ∷ us) [] number t f e = absurd f
-bound_keeps s [] (b ∷ bs) number t f e = absurd f
-bound_keeps s (u ∷ us) (b ∷ bs) number t f e =
-    subst (λ (m : ℕ). (if nat_eq u.0 number then Some u.1 else look_up us number) ≡ Some t → Keeps s t (variable_meaning (if nat_eq m number then Some b.1 else look_up bs number))) f.0
-    (elim (nat_eq u.0 number) as (λ (same : Bool). (if same then Some u.1 else look_up us number) ≡ Some t → Keeps s t (variable_meaning (if same then Some b.1 else look_up bs number))) [
-      | true ↦ λ g. let same : u.1 ≡ t = cc in subst (λ (v : SequenceType). Belongs s b.1 v) same f.1
-      | false ↦ λ g. bound_keeps s us bs number t f.2 g
-    ]) e
-
-pub variable_keeps : VariableKeepsType
-variable_keeps s number bound types found place outer t e bindings fits = keeps_ruled s bound t (variable_meaning (look_up bindings number)) e (bound_keeps s types bindings number bound fits found)
-
-pub let_keeps : LetKeepsType
-let_keeps s binder a b types ka kb place outer t e bindings fits =
-    after_keeps s (annotation_of a) t (meaning a bindings) (λ xs. meaning b ((binder.variable, xs) ∷ bindings)) (ka bindings fits)
-    (λ xs h. keeps_ruled s (annotation_of b) t (meaning b ((binder.variable, xs) ∷ bindings)) e (kb ((binder.variable, xs) ∷ bindings) (refl, h, fits)))
+atoms_are_atomized : (forest : Forest) (xs : Value) → EachItem IsAtom xs → atomized forest xs ≡ Some xs
+atoms_are_atomized forest [] h = refl
+atoms_are_atomized forest (x ∷ xs) h =
+    subst (λ (y : Item). atomized forest (y ∷ xs) ≡ Some (y ∷ xs)) (sym h.0.1) (ap (option_map (λ ys. atom h.0.0 ∷ ys)) (atoms_are_atomized forest xs h.1))
 
 pub data_keeps : DataKeepsType
-data_keeps s a types ka place outer t e bindings fits = keeps_ruled s (annotation_of a) t (meaning a bindings) e (ka bindings fits)
+data_keeps s (a ∷ []) t forest (xs ∷ []) e honest h =
+    let r = tested (all_items is_atomic a) a t _ _ e in
+    subst (λ (found : Option Value). Keeps (typed_setting s) forest t (given found (λ ys. gives ys forest))) (sym (atoms_are_atomized forest xs (items_are_atoms s forest xs a r.0 h.0)))
+    (value_keeps s a t forest xs r.1 honest h.0)
+data_keeps s (a ∷ []) t forest [] e honest h = absurd h
+data_keeps s (a ∷ []) t forest (xs ∷ ys ∷ values) e honest h = absurd h.1
+data_keeps s [] t forest values e honest h = absurd (cc)
+data_keeps s (a ∷ b ∷ ps) t forest values e honest h = absurd (cc)
+
+-- a variable, where it stands
+
+bound_keeps : (s : SchemaSet) (number : ℕ) (types : Types) (standing : Standing (typed_setting s) types) (t : SequenceType) (found : Option SequenceType)
+    → look_up types number ≡ found → variable_ruling s number found ≡ has_type t
+    → Keeps (typed_setting s) standing.forest t (given (look_up standing.bindings number) (λ value. gives value standing.forest))
+bound_keeps s number types standing t None found e = absurd (cc)
+bound_keeps s number types standing t (Some u) found e =
+    let b = standing.fits number u found in
+    subst (λ (o : Option Value). Keeps (typed_setting s) standing.forest t (given o (λ value. gives value standing.forest))) (sym b.bound)
+    (value_keeps s u t standing.forest b.value (ruled u t e) standing.honest b.belongs)
+
+pub variable_keeps : VariableKeepsType
+variable_keeps s number no_parts types place outer t e h standing = bound_keeps s number types standing t (look_up types number) refl e
+variable_keeps s number (a_part first others) types place outer t e h standing = absurd (cc)
+
+pub let_keeps : LetKeepsType
+let_keeps s binder (a_part a (a_part b no_parts)) types place outer t e h standing =
+    let setting : Setting = typed_setting s in
+    let k : Context = context_of setting in
+    fact_after setting standing.forest (IsOfType s (annotation_of a)) (IsOfType s t) (meaning k a standing.bindings standing.forest)
+    (λ xs left. meaning k b ((binder.variable, xs) ∷ standing.bindings) left) (h.0 standing)
+    (λ xs now grown honest belongs. subst (λ (u : SequenceType). Keeps setting now u (meaning k b ((binder.variable, xs) ∷ standing.bindings) now)) (ruled (annotation_of b) t e)
+    (h.1.0 (record {
+      bindings = (binder.variable, xs) ∷ standing.bindings;
+      forest = now;
+      honest = honest;
+      fits = binding_fits setting binder (annotation_of a) xs types standing.bindings now (bindings_fit_still setting types standing.bindings standing.forest now grown standing.fits) belongs;
+    })))
+let_keeps s binder no_parts types place outer t e h standing = absurd (cc)
+let_keeps s binder (a_part a no_parts) types place outer t e h standing = absurd (cc)
+let_keeps s binder (a_part a (a_part b (a_part c others))) types place outer t e h standing = absurd (cc)
+
+-- a strict operator keeps its type, since what it makes of values does
+
+parts_all_keep : (s : SchemaSet) (operator : Operator) → ((before : List SequenceType) → types_bound operator before ≡ []) → (before : List SequenceType) (parts : Parts SequenceType) (types : Types)
+    → PartsKeepTypes s operator before parts types → AllKeep (typed_setting s) types (meanings (context_of (typed_setting s)) parts) (each_of annotation_of parts)
+parts_all_keep s operator none before no_parts types h = tt
+parts_all_keep s operator none before (a_part a others) types h =
+    (subst (λ (bound : Types). (standing : Standing (typed_setting s) (bound ++ types)) → Keeps (typed_setting s) standing.forest (annotation_of a) (meaning (context_of (typed_setting s)) a standing.bindings standing.forest)) (none before) h.0,
+    parts_all_keep s operator none (before ++ annotation_of a ∷ []) others types h.1)
+
+pub record IsStrict (operator : Operator) : Type 0 where
+  pub denotes : (context : Context) (parts : List Denotation) (bindings : Bindings) (forest : Forest) → denoted context operator parts bindings forest ≡ after (all_of parts bindings forest) (acts context operator)
+  pub binds_nothing : (before : List SequenceType) → types_bound operator before ≡ []
+  pub ruled : (s : SchemaSet) (parts : List SequenceType) (types : Types) → ruling s operator parts types ≡ rule s operator parts
+
+pub strict_keeps : (s : SchemaSet) (operator : Operator) → IsStrict operator → ActsKeepType s operator → OperatorKeepsType s operator
+strict_keeps s operator strict keeps parts types place outer t e h standing =
+    let setting : Setting = typed_setting s in
+    let k : Context = context_of setting in
+    subst (λ (o : Outcome Value). Keeps setting standing.forest t o) (sym (strict.denotes k (meanings k parts) standing.bindings standing.forest))
+    (fact_after setting standing.forest (AreOfTypes s (each_of annotation_of parts)) (IsOfType s t) (all_of (meanings k parts) standing.bindings standing.forest) (acts k operator)
+    (operands_keep setting types (meanings k parts) (each_of annotation_of parts) standing (parts_all_keep s operator strict.binds_nothing [] parts types h))
+    (λ values now grown honest belong. keeps (each_of annotation_of parts) t now values (sym (strict.ruled s (each_of annotation_of parts) types) ∙ e) honest belong))

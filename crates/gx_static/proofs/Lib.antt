@@ -1,6 +1,9 @@
+pub mod LiteralLemmas
+pub mod ItemLemmas
 pub mod Keeping
 pub mod Arithmetic
 pub mod SoundTyping
 pub mod Failing
 pub mod ScopedVariables
+pub mod Refusals
 pub mod QueryLaws

@@ -1,21 +1,20 @@
 -- Where each variable stands in the scope of its binder, no variable is rejected.
-use Rattle.std.proofs.Common.{◌≡◌, ◌≢◌, ℕ, Bool, true, false, ◌&&◌, ◌||◌, List, [], ◌∷◌, map, Option, Some, None, refl, subst, nat_eq, if◌then◌else◌}
+use Rattle.std.proofs.Common.{◌≡◌, ◌≢◌, ℕ, Bool, true, false, ◌||◌, List, [], ◌∷◌, ◌++◌, map, Option, Some, None, refl, sym, ◌∙◌, ap, subst, nat_eq, if◌then◌else◌}
 use Rattle.gx_base.specs.declared.place.Place.{Place}
 use Rattle.gx_base.specs.declared.code.Code.{Code}
-use Rattle.gx_base.specs.declared.code.Code.TheVariants.{XPST0008, XPTY0004}
+use Rattle.gx_base.specs.declared.code.Code.TheVariants.{XPST0008, XPTY0004, FOTY0012}
 use Rattle.gx_types.specs.SchemaSet.{SchemaSet}
 use Rattle.gx_types.specs.SequenceType.{SequenceType}
-use Rattle.gx_core.specs.declared.expression.BinaryOp.{BinaryOp}
 use Rattle.gx_core.specs.declared.expression.BinaryOp.TheVariants.{Add}
+use Rattle.gx_core.specs.declared.operator.Operator.{Operator}
 use Rattle.gx_core.specs.declared.operator.Operator.TheVariants as operators
-use Rattle.gx_core.specs.Expression.{CoreExpression, At, Form, literal, variable, empty, sequence, let_in, data_of, binary, annotation_of, outer_of}
-use Rattle.gx_core.specs.Invariant.{is_among, IsScoped, IsFormScoped}
-use Rattle.gx_core.specs.Meaning.{look_up}
-use Rattle.gx_core.specs.Soundness.{Types}
-use Rattle.gx_static.specs.Rule.{has_type, has_none, is_number_or_empty, arithmetic_type, binary_rule, rule}
-use Rattle.gx_static.specs.Judgement.{with_typed, concluded, variable_judged, judged, form_judged}
+use Rattle.gx_core.specs.Expression.{CoreExpression, At, Parts, no_parts, a_part, each_of, annotation_of}
+use Rattle.gx_core.specs.Bindings.{look_up, Types, types_bound, numbers_bound_by}
+use Rattle.gx_core.specs.Invariant.{is_among, IsInScope, IsScoped, ArePartsScoped}
+use Rattle.gx_static.specs.Rule.{Ruling, has_type, has_none, rule, ruling, variable_ruling}
+use Rattle.gx_static.specs.Judgement.{typed, with_typed, concluded, judged, parts_judged}
 use Rattle.gx_static.specs.Laws.{ScopedVariablesHaveTypes}
-use Rattle.gx_static.proofs.Failing.{IfRejected, part_fails, own_fails}
+use Rattle.gx_static.proofs.Failing.{IfRejected, made_fails, own_fails}
 
 abbrev Bound : Place → Code → Type 0
 Bound place code = code ≢ XPST0008
@@ -31,45 +30,71 @@ not_found (t ∷ types) number e =
       | false ↦ λ g. not_found types number g
     ] e
 
-variable_bound : (s : SchemaSet) (own outer : Place) (number : ℕ) (types : Types) (found : Option SequenceType) → look_up types number ≡ found → is_among (in_scope types) number ≡ true → IfRejected Bound (variable_judged s own outer number found)
-variable_bound s own outer number types None e h = let clash = not_found types number e in absurd (cc)
-variable_bound s own outer number types (Some t) e h = tt
+-- a test decides whether there is a type
+tested_code : (test : Bool) (t : SequenceType) (given code : Code) (part : Option ℕ) → given ≢ XPST0008 → (if test then has_type t else has_none given None) ≡ has_none code part → code ≢ XPST0008
+tested_code true t given code part n e = absurd (cc)
+tested_code false t given code part n e = let same : given ≡ code = cc in subst (λ (c : Code). c ≢ XPST0008) same n
 
-binary_code : (s : SchemaSet) (operator : BinaryOp) (t u : SequenceType) (code : Code) (part : Option ℕ) → binary_rule s operator t u ≡ has_none code part → code ≢ XPST0008
-binary_code s Add t u code part e =
-    elim (is_number_or_empty s t && is_number_or_empty s u) as (λ (both : Bool). (if both then has_type (arithmetic_type s t u) else has_none XPTY0004 None) ≡ has_none code part → code ≢ XPST0008) [
-      | true ↦ λ g. absurd (cc)
-      | false ↦ λ g h. cc
-    ] e
+variable_code : (s : SchemaSet) (number : ℕ) (types : Types) (found : Option SequenceType) (code : Code) (part : Option ℕ) → look_up types number ≡ found → is_among (in_scope types) number ≡ true → variable_ruling s number found ≡ has_none code part → code ≢ XPST0008
+variable_code s number types None code part e h r = let clash = not_found types number e in absurd (cc)
+variable_code s number types (Some t) code part e h r = absurd (cc)
+
+other_code : (code : Code) (part : Option ℕ) → has_none XPTY0004 None ≡ has_none code part → code ≢ XPST0008
+other_code code part e h = cc
+
+-- no rule but that of a variable has the code
+ruling_code : (s : SchemaSet) (operator : Operator) (ts : List SequenceType) (types : Types) (code : Code) (part : Option ℕ) → IsInScope (in_scope types) operator → ruling s operator ts types ≡ has_none code part → code ≢ XPST0008
+ruling_code s (operators.Var number) [] types code part h e = variable_code s number types (look_up types number) code part refl h e
+ruling_code s (operators.Var number) (t ∷ ts) types code part h e = other_code code part e
+ruling_code s (operators.Lit value) [] types code part h e = tested_code _ _ XPTY0004 code part (λ x. cc) e
+ruling_code s (operators.Lit value) (t ∷ ts) types code part h e = other_code code part e
+ruling_code s operators.Empty [] types code part h e = absurd (cc)
+ruling_code s operators.Empty (t ∷ ts) types code part h e = other_code code part e
+ruling_code s operators.Seq (t ∷ u ∷ []) types code part h e = absurd (cc)
+ruling_code s operators.Seq _ types code part h e = other_code code part e
+ruling_code s (operators.Let binder) (t ∷ u ∷ []) types code part h e = absurd (cc)
+ruling_code s (operators.Let binder) _ types code part h e = other_code code part e
+ruling_code s operators.DataOf (t ∷ []) types code part h e = tested_code _ _ FOTY0012 code part (λ x. cc) e
+ruling_code s operators.DataOf _ types code part h e = other_code code part e
+ruling_code s (operators.Binary Add) (t ∷ u ∷ []) types code part h e = tested_code _ _ XPTY0004 code part (λ x. cc) e
+ruling_code s (operators.Binary Add) _ types code part h e = other_code code part e
+
+-- what is bound for a part has the numbers that its operator binds there
+abbrev places_of : List SequenceType → List (Unit {0})
+places_of ts = map (λ t. tt) ts
+
+numbers_agree : (operator : Operator) (before : List SequenceType) → in_scope (types_bound operator before) ≡ numbers_bound_by operator (places_of before)
+numbers_agree (operators.Let binder) [] = refl
+numbers_agree (operators.Let binder) (t ∷ []) = refl
+numbers_agree (operators.Let binder) (t ∷ u ∷ ts) = refl
+numbers_agree _ before = refl
+
+in_scope_joined : (bound types : Types) → in_scope (bound ++ types) ≡ in_scope bound ++ in_scope types
+in_scope_joined [] types = refl
+in_scope_joined (b ∷ bound) types = ap (λ ns. b.0 ∷ ns) (in_scope_joined bound types)
+
+scope_of_part : (operator : Operator) (before : List SequenceType) (types : Types) → numbers_bound_by operator (places_of before) ++ in_scope types ≡ in_scope (types_bound operator before ++ types)
+scope_of_part operator before types = ap (λ ns. ns ++ in_scope types) (sym (numbers_agree operator before)) ∙ sym (in_scope_joined (types_bound operator before) types)
+
+one_more_place : (before : List SequenceType) (t : SequenceType) → places_of before ++ tt ∷ [] ≡ places_of (before ++ t ∷ [])
+one_more_place [] t = refl
+one_more_place (b ∷ before) t = ap (λ ps. tt ∷ ps) (one_more_place before t)
 
 mutual
   judged_bound : (s : SchemaSet) (e : CoreExpression) (types : Types) → IsScoped (in_scope types) e → IfRejected Bound (judged s e types)
-  judged_bound s (At own outer tt form) types h = form_bound s own outer form types h
+  judged_bound s (At own outer tt operator parts) types h =
+      made_fails (parts_judged s operator [] parts types) (λ ts. concluded own outer operator ts (ruling s operator (each_of annotation_of ts) types))
+      Bound Bound (parts_bound s operator [] parts types h.1) (λ place code k. k)
+      (λ ts e. own_fails own outer operator ts (ruling s operator (each_of annotation_of ts) types) Bound (λ code part r. ruling_code s operator (each_of annotation_of ts) types code part h.0 r))
 
-  form_bound : (s : SchemaSet) (own outer : Place) (form : Form (Unit {0})) (types : Types) → IsFormScoped (in_scope types) form → IfRejected Bound (form_judged s own outer form types)
-  form_bound s own outer (literal value) types h = tt
-  form_bound s own outer (variable number) types h = variable_bound s own outer number types (look_up types number) refl h
-  form_bound s own outer empty types h = tt
-  form_bound s own outer (sequence a b) types h =
-      part_fails (judged s a types) (λ x. with_typed (judged s b types) (λ y. concluded own outer (sequence x y) (outer_of x ∷ outer_of y ∷ []) (rule s operators.Seq (annotation_of x ∷ annotation_of y ∷ []))))
-      Bound Bound (judged_bound s a types h.0) (λ place code k. k)
-      (λ x e. part_fails (judged s b types) (λ y. concluded own outer (sequence x y) (outer_of x ∷ outer_of y ∷ []) (rule s operators.Seq (annotation_of x ∷ annotation_of y ∷ [])))
-      Bound Bound (judged_bound s b types h.1) (λ place code k. k) (λ y f. tt))
-  form_bound s own outer (let_in binder a b) types h =
-      part_fails (judged s a types) (λ x. with_typed (judged s b ((binder.variable, annotation_of x) ∷ types)) (λ y. concluded own outer (let_in binder x y) (outer_of x ∷ outer_of y ∷ []) (rule s (operators.Let binder) (annotation_of x ∷ annotation_of y ∷ []))))
-      Bound Bound (judged_bound s a types h.0) (λ place code k. k)
-      (λ x e. part_fails (judged s b ((binder.variable, annotation_of x) ∷ types)) (λ y. concluded own outer (let_in binder x y) (outer_of x ∷ outer_of y ∷ []) (rule s (operators.Let binder) (annotation_of x ∷ annotation_of y ∷ [])))
-      Bound Bound (judged_bound s b ((binder.variable, annotation_of x) ∷ types) h.1) (λ place code k. k) (λ y f. tt))
-  form_bound s own outer (data_of a) types h =
-      part_fails (judged s a types) (λ x. concluded own outer (data_of x) (outer_of x ∷ []) (rule s operators.DataOf (annotation_of x ∷ [])))
-      Bound Bound (judged_bound s a types h) (λ place code k. k) (λ x e. tt)
-  form_bound s own outer (binary operator a b) types h =
-      part_fails (judged s a types) (λ x. with_typed (judged s b types) (λ y. concluded own outer (binary operator x y) (outer_of x ∷ outer_of y ∷ []) (rule s (operators.Binary operator) (annotation_of x ∷ annotation_of y ∷ []))))
-      Bound Bound (judged_bound s a types h.0) (λ place code k. k)
-      (λ x e. part_fails (judged s b types) (λ y. concluded own outer (binary operator x y) (outer_of x ∷ outer_of y ∷ []) (rule s (operators.Binary operator) (annotation_of x ∷ annotation_of y ∷ [])))
-      Bound Bound (judged_bound s b types h.1) (λ place code k. k)
-      (λ y f. own_fails own outer (binary operator x y) (outer_of x ∷ outer_of y ∷ []) (rule s (operators.Binary operator) (annotation_of x ∷ annotation_of y ∷ []))
-      Bound (λ code part r. binary_code s operator (annotation_of x) (annotation_of y) code part r)))
+  parts_bound : (s : SchemaSet) (operator : Operator) (before : List SequenceType) (parts : Parts (Unit {0})) (types : Types) → ArePartsScoped (in_scope types) operator (places_of before) parts → IfRejected Bound (parts_judged s operator before parts types)
+  parts_bound s operator before no_parts types h = tt
+  parts_bound s operator before (a_part first others) types h =
+      made_fails (judged s first (types_bound operator before ++ types)) (λ t. with_typed (parts_judged s operator (before ++ annotation_of t ∷ []) others types) (λ ts. typed (a_part t ts)))
+      Bound Bound (judged_bound s first (types_bound operator before ++ types) (subst (λ (scope : List ℕ). IsScoped scope first) (scope_of_part operator before types) h.0)) (λ place code k. k)
+      (λ t e. made_fails (parts_judged s operator (before ++ annotation_of t ∷ []) others types) (λ ts. typed (a_part t ts))
+      Bound Bound (parts_bound s operator (before ++ annotation_of t ∷ []) others types (subst (λ (places : List (Unit {0})). ArePartsScoped (in_scope types) operator places others) (one_more_place before (annotation_of t)) h.1))
+      (λ place code k. k) (λ ts f. tt))
 
 pub scoped_variables_have_types : ScopedVariablesHaveTypes
 scoped_variables_have_types s e types place code h j = subst (IfRejected Bound) j (judged_bound s e types h)

@@ -1,63 +1,72 @@
 -- The laws of typing: each operator keeps its type where its parts keep theirs, and so every typed Core is sound.
-use Rattle.std.specs.Prelude.{◌≡◌, ◌≢◌, ℕ, ℤ, List, [], ◌∷◌, map, Some}
+use Rattle.std.specs.Prelude.{◌≡◌, ◌≢◌, ℕ, List, [], ◌∷◌, ◌++◌, map}
 use Rattle.gx_base.specs.declared.place.Place.{Place}
+use Rattle.gx_base.specs.declared.code.Code.{Code}
+use Rattle.gx_base.specs.declared.code.Code.TheVariants.{XPST0008}
+use Rattle.gx_facets.specs.declared.Atomic.{Atomic}
 use Rattle.gx_types.specs.SchemaSet.{SchemaSet}
 use Rattle.gx_types.specs.SequenceType.{SequenceType}
+use Rattle.gx_model.specs.Forest.{Forest, IsHonest}
+use Rattle.gx_model.specs.Item.{Value}
 use Rattle.gx_core.specs.declared.expression.Binder.{Binder}
 use Rattle.gx_core.specs.declared.expression.BinaryOp.TheVariants.{Add}
 use Rattle.gx_core.specs.declared.operator.Operator.{Operator}
 use Rattle.gx_core.specs.declared.operator.Operator.TheVariants as operators
-use Rattle.gx_core.specs.Expression.{CoreExpression, At, Form, literal, variable, empty, sequence, let_in, data_of, binary, annotation_of, plain}
+use Rattle.gx_core.specs.Expression.{CoreExpression, At, Parts, no_parts, a_part, each_of, annotation_of, plain}
+use Rattle.gx_core.specs.Bindings.{Types, types_bound}
 use Rattle.gx_core.specs.Invariant.{IsScoped}
-use Rattle.gx_core.specs.Meaning.{look_up}
-use Rattle.gx_core.specs.Soundness.{TypedExpression, Types, KeepsItsType, IsSound}
-use Rattle.gx_static.specs.Rule.{has_type, rule}
-use Rattle.gx_base.specs.declared.code.Code.{Code}
-use Rattle.gx_base.specs.declared.code.Code.TheVariants.{XPST0008}
+use Rattle.gx_core.specs.Meaning.{acts}
+use Rattle.gx_core.specs.Soundness.{TypedExpression, typed_setting, context_of, AreOfTypes, Keeps, KeepsItsType, IsSound}
+use Rattle.gx_static.specs.Rule.{has_type, rule, ruling}
 use Rattle.gx_static.specs.Judgement.{typed, rejected, judged}
 use Rattle.gx_static.specs.Failure.{FailsFirst}
 
--- wherever the rule of the operator gives the form a type, the expression keeps it
-abbrev pub KeepsRuledType : SchemaSet → Operator → List SequenceType → Form SequenceType → Types → Type 0
-KeepsRuledType schemas operator parts form types =
-    (place outer : Place) (t : SequenceType) → rule schemas operator parts ≡ has_type t → KeepsItsType schemas (At place outer t form) types
+-- what a strict operator makes of values keeps the type of its rule, where the values belong to the types of the parts
+abbrev pub ActsKeepType : SchemaSet → Operator → Type 0
+ActsKeepType schemas operator =
+    (parts : List SequenceType) (t : SequenceType) (forest : Forest) (values : List Value) → rule schemas operator parts ≡ has_type t
+    → IsHonest schemas forest → AreOfTypes schemas parts forest values
+    → Keeps (typed_setting schemas) forest t (acts (context_of (typed_setting schemas)) operator values forest)
+
+-- each part keeps its type, under what the operator binds for it
+abbrev pub PartsKeepTypes : SchemaSet → Operator → (before : List SequenceType) → Parts SequenceType → Types → Type 0
+PartsKeepTypes schemas operator before no_parts types = Unit {0}
+PartsKeepTypes schemas operator before (a_part first others) types =
+    KeepsItsType (typed_setting schemas) first (types_bound operator before ++ types)
+    × PartsKeepTypes schemas operator (before ++ annotation_of first ∷ []) others types
+
+-- wherever the ruling gives an expression a type and its parts keep theirs, it keeps the type
+abbrev pub OperatorKeepsType : SchemaSet → Operator → Type 0
+OperatorKeepsType schemas operator =
+    (parts : Parts SequenceType) (types : Types) (place outer : Place) (t : SequenceType)
+    → ruling schemas operator (each_of annotation_of parts) types ≡ has_type t → PartsKeepTypes schemas operator [] parts types
+    → KeepsItsType (typed_setting schemas) (At place outer t operator parts) types
 
 abbrev pub LiteralKeepsType : Type 0
-LiteralKeepsType = (schemas : SchemaSet) (value : ℤ) (types : Types) → KeepsRuledType schemas (operators.Lit value) [] (literal value) types
+LiteralKeepsType = (schemas : SchemaSet) (value : Atomic) → ActsKeepType schemas (operators.Lit value)
 
 abbrev pub VariableKeepsType : Type 0
-VariableKeepsType =
-    (schemas : SchemaSet) (number : ℕ) (bound : SequenceType) (types : Types) → look_up types number ≡ Some bound
-    → KeepsRuledType schemas (operators.Var number) (bound ∷ []) (variable number) types
+VariableKeepsType = (schemas : SchemaSet) (number : ℕ) → OperatorKeepsType schemas (operators.Var number)
 
 abbrev pub EmptyKeepsType : Type 0
-EmptyKeepsType = (schemas : SchemaSet) (types : Types) → KeepsRuledType schemas operators.Empty [] empty types
+EmptyKeepsType = (schemas : SchemaSet) → ActsKeepType schemas operators.Empty
 
 abbrev pub SequenceKeepsType : Type 0
-SequenceKeepsType =
-    (schemas : SchemaSet) (first second : TypedExpression) (types : Types) → KeepsItsType schemas first types → KeepsItsType schemas second types
-    → KeepsRuledType schemas operators.Seq (annotation_of first ∷ annotation_of second ∷ []) (sequence first second) types
+SequenceKeepsType = (schemas : SchemaSet) → ActsKeepType schemas operators.Seq
 
 abbrev pub LetKeepsType : Type 0
-LetKeepsType =
-    (schemas : SchemaSet) (binder : Binder) (value body : TypedExpression) (types : Types)
-    → KeepsItsType schemas value types → KeepsItsType schemas body ((binder.variable, annotation_of value) ∷ types)
-    → KeepsRuledType schemas (operators.Let binder) (annotation_of value ∷ annotation_of body ∷ []) (let_in binder value body) types
+LetKeepsType = (schemas : SchemaSet) (binder : Binder) → OperatorKeepsType schemas (operators.Let binder)
 
 abbrev pub DataKeepsType : Type 0
-DataKeepsType =
-    (schemas : SchemaSet) (operand : TypedExpression) (types : Types) → KeepsItsType schemas operand types
-    → KeepsRuledType schemas operators.DataOf (annotation_of operand ∷ []) (data_of operand) types
+DataKeepsType = (schemas : SchemaSet) → ActsKeepType schemas operators.DataOf
 
 abbrev pub AddKeepsType : Type 0
-AddKeepsType =
-    (schemas : SchemaSet) (left right : TypedExpression) (types : Types) → KeepsItsType schemas left types → KeepsItsType schemas right types
-    → KeepsRuledType schemas (operators.Binary Add) (annotation_of left ∷ annotation_of right ∷ []) (binary Add left right) types
+AddKeepsType = (schemas : SchemaSet) → ActsKeepType schemas (operators.Binary Add)
 
 -- what is judged to have a type is the same tree with its types, and it is sound
 pub record IsTypedSoundly (schemas : SchemaSet) (e : CoreExpression) (types : Types) (t : TypedExpression) : Type 0 where
   pub same : plain t ≡ e
-  pub sound : IsSound schemas t types
+  pub sound : IsSound (typed_setting schemas) t types
 
 abbrev pub TypingIsSound : Type 0
 TypingIsSound =

@@ -1,15 +1,20 @@
 -- The static rules: the type that an operator has, from the types of its parts (XQuery 1.0 and XPath 2.0 Formal Semantics, section 4).
-use Rattle.std.specs.Prelude.{ℕ, min, nat_le, Bool, true, false, ◌&&◌, List, [], ◌∷◌, Option, None, if◌then◌else◌}
+use Rattle.std.specs.Prelude.{ℕ, min, nat_le, Bool, true, false, ◌&&◌, List, [], ◌∷◌, Option, None, Some, if◌then◌else◌}
 use Rattle.gx_base.specs.declared.code.Code.{Code}
-use Rattle.gx_base.specs.declared.code.Code.TheVariants.{XPTY0004}
+use Rattle.gx_base.specs.declared.code.Code.TheVariants.{XPTY0004, XPST0008, FOTY0012}
 use Rattle.gx_base.specs.declared.type_name.Builtin.{Builtin}
-use Rattle.gx_base.specs.declared.type_name.Builtin.TheVariants.{Integer, Decimal}
+use Rattle.gx_base.specs.declared.type_name.Builtin.TheVariants.{Integer, Decimal, UntypedAtomic, Boolean}
+use Rattle.gx_base.specs.declared.type_name.Builtin.TheVariants as builtins
 use Rattle.gx_base.specs.declared.type_name.TypeName.TheVariants as names
+use Rattle.gx_facets.specs.declared.Atomic.{Atomic}
+use Rattle.gx_facets.specs.declared.AtomValue.{AtomValue}
+use Rattle.gx_facets.specs.declared.AtomValue.TheVariants.{Untyped, Str, Truth, Num}
 use Rattle.gx_types.specs.declared.item_type.ItemType.{ItemType}
 use Rattle.gx_types.specs.declared.item_type.ItemType.TheVariants as items
 use Rattle.gx_types.specs.SchemaSet.{SchemaSet}
 use Rattle.gx_types.specs.Derivation.{is_derived}
 use Rattle.gx_types.specs.SequenceType.{SequenceType, never, nothing, item, both, either, optional, star, plus}
+use Rattle.gx_types.specs.SameItemType.{same_type_name}
 use Rattle.gx_types.specs.SameType.{same_type}
 use Rattle.gx_types.specs.Occurrence.{occurrence_of, occurs}
 use Rattle.gx_types.specs.TypeRules.{sequence_of, times_of}
@@ -17,6 +22,8 @@ use Rattle.gx_core.specs.declared.expression.BinaryOp.{BinaryOp}
 use Rattle.gx_core.specs.declared.expression.BinaryOp.TheVariants.{Add}
 use Rattle.gx_core.specs.declared.operator.Operator.{Operator}
 use Rattle.gx_core.specs.declared.operator.Operator.TheVariants as operators
+use Rattle.gx_core.specs.Arithmetic.{type_of_number}
+use Rattle.gx_core.specs.Bindings.{look_up, Types}
 
 -- a type, or none: then a code, which stands at a part, counted from 0, or at the operator itself
 pub data Ruling : Type 0 where
@@ -67,6 +74,26 @@ abbrev pub binary_rule : SchemaSet → BinaryOp → (left right : SequenceType) 
 binary_rule schemas Add left right =
     if is_number_or_empty schemas left && is_number_or_empty schemas right then has_type (arithmetic_type schemas left right) else has_none XPTY0004 None
 
+-- the type that an atomic value shows
+abbrev pub shown_type : AtomValue → Builtin
+shown_type (Untyped t) = UntypedAtomic
+shown_type (Str t) = builtins.Str
+shown_type (Truth b) = Boolean
+shown_type (Num n) = type_of_number n
+
+-- a literal has the type that its value shows
+abbrev pub literal_rule : Atomic → Ruling
+literal_rule value =
+    if same_type_name value.kind (names.Builtin (shown_type value.value)) then has_type (item (items.Atom value.kind)) else has_none XPTY0004 None
+
+abbrev pub is_atomic : ItemType → Bool
+is_atomic (items.Atom kind) = true
+is_atomic _ = false
+
+-- atomic values are their own typed values
+abbrev pub data_rule : SequenceType → Ruling
+data_rule operand = if all_items is_atomic operand then has_type operand else has_none FOTY0012 None
+
 -- how many parts an operator has
 abbrev pub arity : Operator → ℕ
 arity (operators.Lit value) = 0
@@ -79,11 +106,22 @@ arity (operators.Binary operator) = 2
 
 -- each operator, from the types of its parts; the one part of a variable is what it is bound to
 abbrev pub rule : SchemaSet → Operator → List SequenceType → Ruling
-rule schemas (operators.Lit value) [] = has_type (atomic Integer)
+rule schemas (operators.Lit value) [] = literal_rule value
 rule schemas (operators.Var number) (bound ∷ []) = has_type bound
 rule schemas operators.Empty [] = has_type nothing
 rule schemas operators.Seq (first ∷ second ∷ []) = has_type (sequence_of first second)
 rule schemas (operators.Let binder) (value ∷ body ∷ []) = has_type body
-rule schemas operators.DataOf (operand ∷ []) = has_type operand
+rule schemas operators.DataOf (operand ∷ []) = data_rule operand
 rule schemas (operators.Binary operator) (left ∷ right ∷ []) = binary_rule schemas operator left right
 rule schemas _ _ = has_none XPTY0004 None
+
+-- the rule of a variable, where its number has a type in scope
+abbrev pub variable_ruling : SchemaSet → (number : ℕ) → Option SequenceType → Ruling
+variable_ruling schemas number None = has_none XPST0008 None
+variable_ruling schemas number (Some bound) = rule schemas (operators.Var number) (bound ∷ [])
+
+-- each operator as it stands in an expression: a variable has no part there, and takes its type from its scope
+abbrev pub ruling : SchemaSet → Operator → List SequenceType → Types → Ruling
+ruling schemas (operators.Var number) [] types = variable_ruling schemas number (look_up types number)
+ruling schemas (operators.Var number) (part ∷ parts) types = has_none XPTY0004 None
+ruling schemas operator parts types = rule schemas operator parts

@@ -1,9 +1,10 @@
 // The static rules of the operators.
 
-ghost use Rattle.std.specs.Prelude.{◌≡◌, length, IfOk, IfErr};
-ghost use Rattle.gx_base.specs.declared.type_name.Builtin.TheVariants as builtins;
+ghost use Rattle.std.specs.Prelude.{◌≡◌, length, None, IfOk, IfErr};
 ghost use Rattle.gx_types.specs.Occurrence.{occurrence_of};
-ghost use Rattle.gx_static.specs.Rule.{rule, arity, has_type, binary_rule, arithmetic_type, number_type, is_number_or_empty, is_all_in, is_atomic_in, atomic};
+ghost use Rattle.gx_types.specs.TypeRules.{sequence_of};
+ghost use Rattle.gx_static.specs.Rule.{rule, arity, has_type, binary_rule, arithmetic_type, number_type, is_number_or_empty, is_all_in, is_atomic_in, atomic, literal_rule, shown_type, data_rule, all_items, is_atomic};
+ghost use Rattle.gx_static.specs.declared.error.RuleError.TheVariants as errors;
 ghost use Rattle.gx_static.specs.Refusal.{RefusesType};
 
 use crate::error::RuleError;
@@ -11,6 +12,8 @@ use gx_base::code::Code;
 use gx_base::type_name::{Builtin, TypeName};
 use gx_core::expression::BinaryOp;
 use gx_core::operator::Operator;
+use gx_facets::{AtomValue, Atomic};
+use gx_num::Number;
 use gx_types::derivation::derives;
 use gx_types::item_type::ItemType;
 use gx_types::occurrence::Occurrence;
@@ -32,22 +35,27 @@ pub fn operator_type(
     ensures refused { IfErr result (λ e. RefusesType e (rule schemas.now operator.now parts.now)) }
 {
     match (operator, parts) {
-        (Operator::Lit(_), []) => Ok(atomic(alloc, Builtin::Integer)?),
+        (Operator::Lit(value), []) => literal_type(alloc, value),
         (Operator::Var(_), [bound]) => Ok(bound.clone()?),
         (Operator::Empty, []) => Ok(Ty {
             node: TyNode::Empty,
         }),
-        (Operator::Seq, [first, second]) => {
-            let first = first.clone()?;
-            Ok(seq(alloc, first, second.clone()?)?)
-        }
+        (Operator::Seq, [first, second]) => Ok(sequence_type(alloc, first, second)?),
         (Operator::Let(_), [_, body]) => Ok(body.clone()?),
-        (Operator::DataOf, [operand]) => Ok(operand.clone()?),
+        (Operator::DataOf, [operand]) => data_type(operand),
         (Operator::Binary(operator), [left, right]) => {
             binary_type(alloc, schemas, *operator, left, right)
         }
         _ => unreachable!(),
     }
+}
+
+// The type of one value behind another one.
+pub(crate) fn sequence_type(alloc: Global, first: &Ty, second: &Ty) -> Result<Ty, AllocError>
+    ensures { IfOk result (λ t. t ≡ sequence_of first.now second.now) }
+{
+    let first = first.clone()?;
+    seq(alloc, first, second.clone()?)
 }
 
 // The type of an operator of two operands.
@@ -66,17 +74,80 @@ pub(crate) fn binary_type(
             if is_number_or_empty(schemas, left) && is_number_or_empty(schemas, right) {
                 Ok(arithmetic_type(alloc, schemas, left, right)?)
             } else {
-                Err(RuleError::NoType {
-                    code: Code::XPTY0004,
-                    part: None,
-                })
+                Err(no_type(Code::XPTY0004))
             }
         }
     }
 }
 
+// A literal has the type that its value shows.
+pub(crate) fn literal_type(alloc: Global, value: &Atomic) -> Result<Ty, RuleError>
+    ensures typed { IfOk result (λ t. literal_rule value.now ≡ has_type t) }
+    ensures refused { IfErr result (λ e. RefusesType e (literal_rule value.now)) }
+{
+    let kind = ItemType::Atom(value.kind.clone()?);
+    let shown = ItemType::Atom(TypeName::Builtin(shown_type(&value.value)));
+    if kind.same(&shown) {
+        Ok(Ty::of_item(alloc, kind)?)
+    } else {
+        Err(no_type(Code::XPTY0004))
+    }
+}
+
+// The type that an atomic value shows.
+fn shown_type(value: &AtomValue) -> Builtin
+    ensures { result ≡ shown_type value.now }
+{
+    match value {
+        AtomValue::Untyped(_) => Builtin::UntypedAtomic,
+        AtomValue::Str(_) => Builtin::Str,
+        AtomValue::Truth(_) => Builtin::Boolean,
+        AtomValue::Num(Number::Int(_)) => Builtin::Integer,
+        AtomValue::Num(Number::Dec(_)) => Builtin::Decimal,
+    }
+}
+
+// The type of typed values.
+pub(crate) fn data_type(operand: &Ty) -> Result<Ty, RuleError>
+    ensures typed { IfOk result (λ t. data_rule operand.now ≡ has_type t) }
+    ensures refused { IfErr result (λ e. RefusesType e (data_rule operand.now)) }
+{
+    if is_all_atomic(operand) {
+        Ok(operand.clone()?)
+    } else {
+        Err(no_type(Code::FOTY0012))
+    }
+}
+
+// Whether all items of a type are atomic values.
+fn is_all_atomic(t: &Ty) -> bool
+    ensures { result ≡ all_items is_atomic t.now }
+{
+    match &t.node {
+        TyNode::Never | TyNode::Empty => true,
+        TyNode::Item(kind) => is_atomic(kind),
+        TyNode::Seq(first, second) | TyNode::Alt(first, second) => {
+            is_all_atomic(first) && is_all_atomic(second)
+        }
+        TyNode::Optional(part) | TyNode::Star(part) | TyNode::Plus(part) => is_all_atomic(part),
+    }
+}
+
+fn is_atomic(kind: &ItemType) -> bool
+    ensures { result ≡ is_atomic kind.now }
+{
+    matches!(kind, ItemType::Atom(_))
+}
+
+// No type, with a code that stands at the operator itself.
+fn no_type(code: Code) -> RuleError
+    ensures { result ≡ errors.NoType code None }
+{
+    RuleError::NoType { code, part: None }
+}
+
 // The type of an atomic value of a built-in type.
-pub(crate) fn atomic(alloc: Global, builtin: Builtin) -> Result<Ty, AllocError>
+fn atomic(alloc: Global, builtin: Builtin) -> Result<Ty, AllocError>
     ensures { IfOk result (λ t. t ≡ atomic builtin) }
 {
     Ty::of_item(alloc, ItemType::Atom(TypeName::Builtin(builtin)))

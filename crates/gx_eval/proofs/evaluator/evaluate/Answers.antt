@@ -1,12 +1,13 @@
-use Rattle.std.proofs.Common.{[], ◌∙◌}
-use Rattle.gx_eval.proofs.Outcomes.{value_belongs}
+use Rattle.std.proofs.Common.{[], ◌∙◌, subst}
+use Rattle.gx_model.specs.Item.{Value}
+use Rattle.gx_core.specs.Outcome.{Outcome}
+use Rattle.gx_core.specs.QueryMeaning.{query_type}
+use Rattle.gx_core.specs.Soundness.{typed_setting, context_of, Keeps}
 use Rattle.gx_eval.proofs.evaluator.evaluate.Goals as goal
 
 pub returns-in-Ok-clause-belongs : goal.returns-in-Ok-clause-belongs
 returns-in-Ok-clause-belongs c = λ schemas sound.
-    let value = rw c.new-scope.ensures at c.in-Ok.ensures.value in value_belongs schemas c.args.core.now.body c.in-Ok.items.items sound value
-
-pub unreachable-requires : goal.unreachable-requires
-unreachable-requires c =
-    c.requires (c.meaning_looks_at_no_type.ensures c.args.core.now.body []
-    ∙ rw (c.in-Err-Wrong.field-0-is, c.new-scope.ensures) at c.in-Err-Wrong.ensures.failed)
+    let k = context_of (typed_setting schemas) in
+    let value = c.meaning_looks_at_no_type.ensures k c.args.core.now.body [] [] ∙ c.in-Ok.ensures.value k [] in
+    (subst (λ (o : Outcome Value). Keeps (typed_setting schemas) [] (query_type c.args.core.now) o) value
+    (c.sound_queries_keep_their_types.ensures schemas c.args.core.now [] tt sound)).fact

@@ -3,6 +3,6 @@ use Rattle.std.specs.Prelude.{map}
 use Rattle.gx_processor.specs.Serialisation.{serial_item}
 use Rattle.gx_processor.proofs.serialise.serial_items.Given as goal
 
--- the texts of the items so far
-abbrev pub invariant-loop-item : goal.invariant-loop-item
-invariant-loop-item l = l.texts.items ≡ map serial_item (take l.item-index l.items)
+-- the texts of the values so far
+abbrev pub invariant-loop-value : goal.invariant-loop-value
+invariant-loop-value l = l.items.items ≡ map serial_item (take l.value-index l.values)

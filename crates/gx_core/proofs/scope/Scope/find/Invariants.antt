@@ -1,5 +1,5 @@
 use Rattle.std.proofs.Common.{◌≡◌, reverse, length}
-use Rattle.gx_core.specs.Meaning.{look_up}
+use Rattle.gx_core.specs.Bindings.{look_up}
 use Rattle.gx_core.proofs.scope.Scope.find.Given as goal
 
 -- the variable is bound outside as it is in the whole scope

@@ -1,0 +1,59 @@
+-- Arithmetic on values (XQuery 1.0, section 3.4; Functions and Operators, section 6.2).
+use Rattle.std.specs.Prelude.{List, [], ◌∷◌, Option, None, Some, Result, Ok, Err}
+use Rattle.gx_base.specs.declared.code.Code.{Code}
+use Rattle.gx_base.specs.declared.code.Code.TheVariants.{FOAR0001, FOAR0002}
+use Rattle.gx_base.specs.declared.type_name.Builtin.{Builtin}
+use Rattle.gx_base.specs.declared.type_name.Builtin.TheVariants.{Integer, Decimal}
+use Rattle.gx_base.specs.declared.type_name.TypeName.TheVariants as names
+use Rattle.gx_num.specs.declared.Number.{Number}
+use Rattle.gx_num.specs.declared.Number.TheVariants.{Int, Dec}
+use Rattle.gx_num.specs.declared.NumFault.{NumFault}
+use Rattle.gx_num.specs.declared.NumFault.TheVariants.{Overflow, DivZero}
+use Rattle.gx_num.specs.Arithmetic.{sum_of}
+use Rattle.gx_facets.specs.declared.Atomic.{Atomic}
+use Rattle.gx_facets.specs.declared.AtomValue.{AtomValue}
+use Rattle.gx_facets.specs.declared.AtomValue.TheVariants.{Untyped, Str, Truth, Num}
+use Rattle.gx_model.specs.Forest.{Forest}
+use Rattle.gx_model.specs.Item.{Item, atom, node, Value}
+use Rattle.gx_core.specs.declared.expression.BinaryOp.{BinaryOp}
+use Rattle.gx_core.specs.declared.expression.BinaryOp.TheVariants.{Add}
+use Rattle.gx_core.specs.Outcome.{Outcome, gives, raises, wrong, given}
+
+abbrev pub number_of_value : AtomValue → Option Number
+number_of_value (Num n) = Some n
+number_of_value _ = None
+
+-- the number that an item is
+abbrev pub number_in : Item → Option Number
+number_in (atom a) = number_of_value a.value
+number_in (node place) = None
+
+abbrev pub type_of_number : Number → Builtin
+type_of_number (Int i) = Integer
+type_of_number (Dec d) = Decimal
+
+-- a number as an atomic value
+abbrev pub number_atom : Number → Atomic
+number_atom n = record { value = Num n; kind = names.Builtin (type_of_number n) }
+
+-- the codes of faults of arithmetic
+abbrev pub fault_code : NumFault → Code
+fault_code Overflow = FOAR0002
+fault_code DivZero = FOAR0001
+
+abbrev pub computed : Result Number NumFault → Forest → Outcome Value
+computed (Ok n) forest = gives (atom (number_atom n) ∷ []) forest
+computed (Err fault) forest = raises (fault_code fault)
+
+-- the operations
+abbrev pub result_of : BinaryOp → Number → Number → Result Number NumFault
+result_of Add = sum_of
+
+-- the result is empty where an operand is; an operand of more than one item, or one that is no number, is a type error
+abbrev pub arithmetic : BinaryOp → Value → Value → Forest → Outcome Value
+arithmetic operator [] [] forest = gives [] forest
+arithmetic operator [] (y ∷ []) forest = gives [] forest
+arithmetic operator (x ∷ []) [] forest = gives [] forest
+arithmetic operator (x ∷ []) (y ∷ []) forest =
+    given (number_in x) (λ m. given (number_in y) (λ n. computed (result_of operator m n) forest))
+arithmetic operator _ _ forest = wrong

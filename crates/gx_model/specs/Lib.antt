@@ -1,0 +1,4 @@
+pub mod Forest
+pub mod Item
+pub mod Belongs
+pub mod Growth

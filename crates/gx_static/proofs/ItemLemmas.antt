@@ -1,0 +1,162 @@
+-- What the item types of a type say of the items of its values.
+use Rattle.std.proofs.Common.{◌≡◌, ℕ, suc, ◌≤◌, Bool, true, false, ◌&&◌, List, [], ◌∷◌, ◌++◌, length, Option, None, Some, refl, sym, ◌∙◌, ap, subst, ◌⊎◌, inl, inr, nat_le}
+use Rattle.std.specs.Option.{option_map}
+use Rattle.std.proofs.Math.Dec.{T, leb→le}
+use Rattle.std.proofs.lemmas.Bool.{and_parts}
+use Rattle.gx_base.specs.declared.type_name.Builtin.{Builtin}
+use Rattle.gx_base.specs.declared.type_name.TypeName.{TypeName}
+use Rattle.gx_base.specs.declared.type_name.TypeName.TheVariants as names
+use Rattle.gx_facets.specs.declared.Atomic.{Atomic}
+use Rattle.gx_types.specs.declared.item_type.ItemType.{ItemType}
+use Rattle.gx_types.specs.declared.item_type.ItemType.TheVariants as items
+use Rattle.gx_types.specs.declared.shape.Shape.{Shape}
+use Rattle.gx_types.specs.declared.shape.Shape.TheVariants as shapes
+use Rattle.gx_types.specs.SchemaSet.{SchemaSet}
+use Rattle.gx_types.specs.Derivation.{DerivesFrom, is_derived}
+use Rattle.gx_types.specs.Occurrence.{occurrence_of}
+use Rattle.gx_types.specs.SequenceType.{SequenceType, never, nothing, item, both, either, optional, star, plus}
+use Rattle.gx_types.specs.Prime.{items_of}
+use Rattle.gx_types.specs.ItemTakes.{ItemTakes}
+use Rattle.gx_types.specs.Takes.{Takes, EachShape, SomeItemTakes}
+use Rattle.gx_types.specs.Laws.{Allows}
+use Rattle.gx_types.proofs.PublicLaws.{occurrence_bounds_length, items_take_each_shape}
+use Rattle.gx_types.proofs.DerivationOrder.{derivation_is_a_preorder}
+use Rattle.gx_types.proofs.DerivationTest.{derives_when_tested}
+use Rattle.gx_tree.specs.PlainTree.{PlainTree, document, element, attribute, text}
+use Rattle.gx_model.specs.Forest.{Forest, node_in}
+use Rattle.gx_model.specs.Item.{Item, atom, node, Value}
+use Rattle.gx_model.specs.Belongs.{shape_of, item_shape, ItemFits, HaveShapes, Belongs}
+use Rattle.gx_static.specs.Rule.{all_items, is_atomic, is_atomic_in, is_all_in}
+
+-- each item type of a list passes a test
+abbrev AllPass : (ItemType → Bool) → List ItemType → Type 0
+AllPass test [] = Unit {0}
+AllPass test (kind ∷ kinds) = (test kind ≡ true) × AllPass test kinds
+
+all_pass_joined : (test : ItemType → Bool) (ks ls : List ItemType) → AllPass test ks → AllPass test ls → AllPass test (ks ++ ls)
+all_pass_joined test [] ls h k = k
+all_pass_joined test (kind ∷ ks) ls h k = (h.0, all_pass_joined test ks ls h.1 k)
+
+all_pass : (test : ItemType → Bool) (t : SequenceType) → all_items test t ≡ true → AllPass test (items_of t)
+all_pass test never e = tt
+all_pass test nothing e = tt
+all_pass test (item kind) e = (e, tt)
+all_pass test (both a b) e =
+    let p = and_parts (all_items test a) (all_items test b) e in all_pass_joined test (items_of a) (items_of b) (all_pass test a p.0) (all_pass test b p.1)
+all_pass test (either a b) e =
+    let p = and_parts (all_items test a) (all_items test b) e in all_pass_joined test (items_of a) (items_of b) (all_pass test a p.0) (all_pass test b p.1)
+all_pass test (optional a) e = all_pass test a e
+all_pass test (star a) e = all_pass test a e
+all_pass test (plus a) e = all_pass test a e
+
+some_passed : (s : SchemaSet) (test : ItemType → Bool) (Fact : Shape → Type 0) (kinds : List ItemType) (shape : Shape)
+    → ((kind : ItemType) (shape : Shape) → test kind ≡ true → ItemTakes s kind shape → Fact shape) → AllPass test kinds → SomeItemTakes s kinds shape → Fact shape
+some_passed s test Fact [] shape f h k = absurd k
+some_passed s test Fact (kind ∷ kinds) shape f h (inl k) = f kind shape h.0 k
+some_passed s test Fact (kind ∷ kinds) shape f h (inr k) = some_passed s test Fact kinds shape f h.1 k
+
+each_shape : (P Q : Shape → Type 0) (ss : List Shape) → ((shape : Shape) → P shape → Q shape) → EachShape P ss → EachShape Q ss
+each_shape P Q [] f h = tt
+each_shape P Q (shape ∷ ss) f h = (f shape h.0, each_shape P Q ss f h.1)
+
+-- a fact of each shape, where each item type passes a test that gives the fact
+shapes_passed : (s : SchemaSet) (test : ItemType → Bool) (Fact : Shape → Type 0) (t : SequenceType) (ss : List Shape)
+    → ((kind : ItemType) (shape : Shape) → test kind ≡ true → ItemTakes s kind shape → Fact shape) → all_items test t ≡ true → Takes s t ss → EachShape Fact ss
+shapes_passed s test Fact t ss f e h =
+    each_shape (SomeItemTakes s (items_of t)) Fact ss (λ shape k. some_passed s test Fact (items_of t) shape f (all_pass test t e) k) (items_take_each_shape s t ss h)
+
+-- each item of a value
+abbrev pub EachItem : (Item → Type 0) → Value → Type 0
+EachItem Fact [] = Unit {0}
+EachItem Fact (x ∷ xs) = Fact x × EachItem Fact xs
+
+each_item : (s : SchemaSet) (forest : Forest) (P : Shape → Type 0) (Q : Item → Type 0) (xs : Value) (ss : List Shape)
+    → ((x : Item) (shape : Shape) → item_shape forest x ≡ Some shape → ItemFits s x → P shape → Q x) → HaveShapes s forest xs ss → EachShape P ss → EachItem Q xs
+each_item s forest P Q [] [] f h k = tt
+each_item s forest P Q [] (shape ∷ ss) f h k = absurd h
+each_item s forest P Q (x ∷ xs) [] f h k = absurd h
+each_item s forest P Q (x ∷ xs) (shape ∷ ss) f h k = (f x shape h.0 h.1 k.0, each_item s forest P Q xs ss f h.2 k.1)
+
+-- an item of an atomic shape is an atomic value
+abbrev IsAtomOf : TypeName → Shape → Type 0
+IsAtomOf kind shape = shape ≡ shapes.Atom kind
+
+no_node_is_atomic : (t : PlainTree) (kind : TypeName) → shape_of t ≡ shapes.Atom kind → ⊥
+no_node_is_atomic (document ts) kind e = cc
+no_node_is_atomic (element name k list ts) kind e = cc
+no_node_is_atomic (attribute a) kind e = cc
+no_node_is_atomic (text t) kind e = cc
+
+shown_is_atomic : (found : Option PlainTree) (kind : TypeName) → option_map shape_of found ≡ Some (shapes.Atom kind) → ⊥
+shown_is_atomic None kind e = cc
+shown_is_atomic (Some t) kind e = let same : shape_of t ≡ shapes.Atom kind = cc in no_node_is_atomic t kind same
+
+-- an atomic value with this type
+pub record IsAtomWith (kind : TypeName) (x : Item) : Type 0 where
+  pub value : Atomic
+  pub is : x ≡ atom value
+  pub typed : value.kind ≡ kind
+
+atom_of_shape : (forest : Forest) (x : Item) (shape : Shape) (kind : TypeName) → item_shape forest x ≡ Some shape → shape ≡ shapes.Atom kind → IsAtomWith kind x
+atom_of_shape forest (atom a) shape kind e h =
+    let same : Some (shapes.Atom a.kind) ≡ Some (shapes.Atom kind) = e ∙ ap Some h in
+    record { value = a; is = refl; typed = cc }
+atom_of_shape forest (node place) shape kind e h = absurd (shown_is_atomic (node_in forest place) kind (e ∙ ap Some h))
+
+-- values of atomic types
+abbrev IsAtomShape : Shape → Type 0
+IsAtomShape shape = (kind : TypeName) × (shape ≡ shapes.Atom kind)
+
+atomic_taken : (s : SchemaSet) (kind : ItemType) (shape : Shape) → is_atomic kind ≡ true → ItemTakes s kind shape → IsAtomShape shape
+atomic_taken s (items.Atom k) (shapes.Atom t) e h = (t, refl)
+atomic_taken s (items.Atom k) _ e h = absurd h
+atomic_taken s _ _ e h = absurd (cc)
+
+abbrev pub IsAtom : Item → Type 0
+IsAtom x = (a : Atomic) × (x ≡ atom a)
+
+pub items_are_atoms : (s : SchemaSet) (forest : Forest) (xs : Value) (t : SequenceType) → all_items is_atomic t ≡ true → Belongs s forest xs t → EachItem IsAtom xs
+items_are_atoms s forest xs t e b =
+    each_item s forest IsAtomShape IsAtom xs b.seen (λ x shape shown fits k. let a = atom_of_shape forest x shape k.0 shown k.1 in (a.value, a.is)) b.shaped
+    (shapes_passed s is_atomic IsAtomShape t b.seen (atomic_taken s) e b.taken)
+
+-- values of types that are derived from a built-in type
+abbrev IsShapeIn : SchemaSet → Builtin → Shape → Type 0
+IsShapeIn s b shape = (kind : TypeName) × (shape ≡ shapes.Atom kind) × DerivesFrom s kind (names.Builtin b)
+
+derived_taken : (s : SchemaSet) (b : Builtin) (kind : ItemType) (shape : Shape) → is_atomic_in s b kind ≡ true → ItemTakes s kind shape → IsShapeIn s b shape
+derived_taken s b (items.Atom k) (shapes.Atom t) e h =
+    (t, refl, derivation_is_a_preorder.transitive s t k (names.Builtin b) h (derives_when_tested s k (names.Builtin b) e))
+derived_taken s b (items.Atom k) _ e h = absurd h
+derived_taken s b _ _ e h = absurd (cc)
+
+-- an atomic value that fits its type, which is derived from a built-in type
+pub record IsAtomIn (s : SchemaSet) (b : Builtin) (x : Item) : Type 0 where
+  pub value : Atomic
+  pub is : x ≡ atom value
+  pub derived : DerivesFrom s value.kind (names.Builtin b)
+  pub fits : ItemFits s (atom value)
+
+pub items_are_in : (s : SchemaSet) (forest : Forest) (b : Builtin) (xs : Value) (t : SequenceType) → is_all_in s b t ≡ true → Belongs s forest xs t → EachItem (IsAtomIn s b) xs
+items_are_in s forest b xs t e belongs =
+    each_item s forest (IsShapeIn s b) (IsAtomIn s b) xs belongs.seen
+    (λ x shape shown fits k. let a = atom_of_shape forest x shape k.0 shown k.1 in record {
+      value = a.value;
+      is = a.is;
+      derived = subst (λ (kind : TypeName). DerivesFrom s kind (names.Builtin b)) (sym a.typed) k.2;
+      fits = subst (ItemFits s) a.is fits;
+    }) belongs.shaped (shapes_passed s (is_atomic_in s b) (IsShapeIn s b) t belongs.seen (derived_taken s b) e belongs.taken)
+
+-- how many items a value of a type has
+have_length : (s : SchemaSet) (forest : Forest) (xs : Value) (ss : List Shape) → HaveShapes s forest xs ss → length ss ≡ length xs
+have_length s forest [] [] h = refl
+have_length s forest [] (shape ∷ ss) h = absurd h
+have_length s forest (x ∷ xs) [] h = absurd h
+have_length s forest (x ∷ xs) (shape ∷ ss) h = ap suc (have_length s forest xs ss h.2)
+
+pub belongs_within : (s : SchemaSet) (forest : Forest) (t : SequenceType) (xs : Value) → Belongs s forest xs t → Allows (occurrence_of t) (length xs)
+belongs_within s forest t xs b =
+    subst (λ (n : ℕ). Allows (occurrence_of t) n) (have_length s forest xs b.seen b.shaped) (occurrence_bounds_length s t b.seen b.taken)
+
+pub at_most_one : (n : ℕ) → nat_le n 1 ≡ true → n ≤ 1
+at_most_one n e = leb→le n 1 (subst (λ (b : Bool). T b) (sym e) tt)
