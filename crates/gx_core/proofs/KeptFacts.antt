@@ -1,17 +1,16 @@
 -- What outcomes keep, in a forest that grows.
-use Rattle.std.proofs.Common.{◌≡◌, ℕ, Bool, true, false, List, [], ◌∷◌, Some, refl, ◌∙◌, ap, subst, nat_eq, if◌then◌else◌}
-use Rattle.gx_types.specs.SchemaSet.{SchemaSet}
+use Rattle.std.proofs.Common.{◌≡◌, Bool, true, false, [], ◌∷◌, Some, refl, subst, nat_eq, if◌then◌else◌}
 use Rattle.gx_types.specs.SequenceType.{SequenceType}
 use Rattle.gx_model.specs.Forest.{Forest, IsHonest}
-use Rattle.gx_model.specs.Item.{Value}
+use Rattle.gx_model.specs.Item.{Items}
 use Rattle.gx_model.specs.Belongs.{Belongs}
 use Rattle.gx_model.specs.Growth.{Extends}
 use Rattle.gx_model.proofs.PublicLaws.{growth_is_an_order, values_stay}
 use Rattle.gx_core.specs.Bindings.{look_up, Types}
 use Rattle.gx_core.specs.Outcome.{Outcome, gives, raises, wrong, after}
-use Rattle.gx_core.specs.Meaning.{Bindings, Denotation, all_of}
-use Rattle.gx_core.specs.Soundness.{Setting, KeepsFact, IsOfType, AreOfTypes, Keeps, IsBoundTo, Fits, Standing}
-use Rattle.gx_core.specs.Laws.{AfterKeeps, BindingsFitStill, BindingFits, AllKeep, OperandsKeepTheirTypes}
+use Rattle.gx_core.specs.Meaning.{all_of}
+use Rattle.gx_core.specs.Soundness.{Setting, KeepsFact, IsOfType, AreOfTypes, Situation}
+use Rattle.gx_core.specs.Laws.{AfterKeeps, BindingsFitStill, BindingFits, OperandsKeepTheirTypes}
 
 -- what an outcome keeps in a forest, it keeps in each one that this one has grown from
 keeps_from : {R : Type 0} (setting : Setting) (before now : Forest) (Fact : Forest → R → Type 0) (o : Outcome R) → Extends before now → KeepsFact setting now Fact o → KeepsFact setting before Fact o
@@ -40,28 +39,28 @@ bindings_fit_still setting types bindings before now e fits number t found =
 pub binding_fits : BindingFits
 binding_fits setting binder t xs types bindings forest fits belongs number u found =
     let b = elim (nat_eq binder.variable number) as (λ (same : Bool). (if same then Some t else look_up types number) ≡ Some u
-    → (value : Value) × ((if same then Some xs else look_up bindings number) ≡ Some value) × Belongs setting.schemas forest value u) [
+    → (value : Items) × ((if same then Some xs else look_up bindings number) ≡ Some value) × Belongs setting.schemas forest value u) [
       | true ↦ λ g. let same : t ≡ u = cc in (xs, refl, subst (λ (v : SequenceType). Belongs setting.schemas forest xs v) same belongs)
       | false ↦ λ g. let b = fits number u g in (b.value, b.bound, b.belongs)
     ] found in
     record { value = b.0; bound = b.1; belongs = b.2 }
 
 -- the same bindings, later
-abbrev pub later : (setting : Setting) (types : Types) (standing : Standing setting types) (now : Forest) → Extends standing.forest now → IsHonest setting.schemas now → Standing setting types
-later setting types standing now e honest = record {
-  bindings = standing.bindings;
+abbrev pub later : (setting : Setting) (types : Types) (situation : Situation setting types) (now : Forest) → Extends situation.forest now → IsHonest setting.schemas now → Situation setting types
+later setting types situation now e honest = record {
+  bindings = situation.bindings;
   forest = now;
   honest = honest;
-  fits = bindings_fit_still setting types standing.bindings standing.forest now e standing.fits;
+  fits = bindings_fit_still setting types situation.bindings situation.forest now e situation.fits;
 }
 
 pub operands_keep : OperandsKeepTheirTypes
-operands_keep setting types [] [] standing k = fact_at_once setting standing.forest (AreOfTypes setting.schemas []) [] standing.honest tt
-operands_keep setting types [] (t ∷ ts) standing k = absurd k
-operands_keep setting types (part ∷ parts) [] standing k = absurd k
-operands_keep setting types (part ∷ parts) (t ∷ ts) standing k =
-    fact_after setting standing.forest (IsOfType setting.schemas t) (AreOfTypes setting.schemas (t ∷ ts)) (part standing.bindings standing.forest)
-    (λ x now. after (all_of parts standing.bindings now) (λ xs last. gives (x ∷ xs) last)) (k.0 standing)
-    (λ x now e honest b. fact_after setting now (AreOfTypes setting.schemas ts) (AreOfTypes setting.schemas (t ∷ ts)) (all_of parts standing.bindings now) (λ xs last. gives (x ∷ xs) last)
-    (operands_keep setting types parts ts (later setting types standing now e honest) k.1)
+operands_keep setting types [] [] situation k = fact_at_once setting situation.forest (AreOfTypes setting.schemas []) [] situation.honest tt
+operands_keep setting types [] (t ∷ ts) situation k = absurd k
+operands_keep setting types (part ∷ parts) [] situation k = absurd k
+operands_keep setting types (part ∷ parts) (t ∷ ts) situation k =
+    fact_after setting situation.forest (IsOfType setting.schemas t) (AreOfTypes setting.schemas (t ∷ ts)) (part situation.bindings situation.forest)
+    (λ x now. after (all_of parts situation.bindings now) (λ xs last. gives (x ∷ xs) last)) (k.0 situation)
+    (λ x now e honest b. fact_after setting now (AreOfTypes setting.schemas ts) (AreOfTypes setting.schemas (t ∷ ts)) (all_of parts situation.bindings now) (λ xs last. gives (x ∷ xs) last)
+    (operands_keep setting types parts ts (later setting types situation now e honest) k.1)
     (λ xs last f honest bs. fact_at_once setting last (AreOfTypes setting.schemas (t ∷ ts)) (x ∷ xs) honest (values_stay setting.schemas now last x t f b, bs)))

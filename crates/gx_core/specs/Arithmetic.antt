@@ -1,5 +1,5 @@
 -- Arithmetic on values (XQuery 1.0, section 3.4; Functions and Operators, section 6.2).
-use Rattle.std.specs.Prelude.{List, [], ◌∷◌, Option, None, Some, Result, Ok, Err}
+use Rattle.std.specs.Prelude.{[], ◌∷◌, Option, None, Some, Result, Ok, Err}
 use Rattle.gx_base.specs.declared.code.Code.{Code}
 use Rattle.gx_base.specs.declared.code.Code.TheVariants.{FOAR0001, FOAR0002}
 use Rattle.gx_base.specs.declared.type_name.Builtin.{Builtin}
@@ -12,9 +12,9 @@ use Rattle.gx_num.specs.declared.NumFault.TheVariants.{Overflow, DivZero}
 use Rattle.gx_num.specs.Arithmetic.{sum_of}
 use Rattle.gx_facets.specs.declared.Atomic.{Atomic}
 use Rattle.gx_facets.specs.declared.AtomValue.{AtomValue}
-use Rattle.gx_facets.specs.declared.AtomValue.TheVariants.{Untyped, Str, Truth, Num}
+use Rattle.gx_facets.specs.declared.AtomValue.TheVariants.{Num}
 use Rattle.gx_model.specs.Forest.{Forest}
-use Rattle.gx_model.specs.Item.{Item, atom, node, Value}
+use Rattle.gx_model.specs.Item.{Item, atom, node, Items}
 use Rattle.gx_core.specs.declared.expression.BinaryOp.{BinaryOp}
 use Rattle.gx_core.specs.declared.expression.BinaryOp.TheVariants.{Add}
 use Rattle.gx_core.specs.Outcome.{Outcome, gives, raises, wrong, given}
@@ -24,9 +24,9 @@ number_of_value (Num n) = Some n
 number_of_value _ = None
 
 -- the number that an item is
-abbrev pub number_in : Item → Option Number
-number_in (atom a) = number_of_value a.value
-number_in (node place) = None
+abbrev pub number_of_item : Item → Option Number
+number_of_item (atom a) = number_of_value a.value
+number_of_item (node place) = None
 
 abbrev pub type_of_number : Number → Builtin
 type_of_number (Int i) = Integer
@@ -41,7 +41,7 @@ abbrev pub fault_code : NumFault → Code
 fault_code Overflow = FOAR0002
 fault_code DivZero = FOAR0001
 
-abbrev pub computed : Result Number NumFault → Forest → Outcome Value
+abbrev pub computed : Result Number NumFault → Forest → Outcome Items
 computed (Ok n) forest = gives (atom (number_atom n) ∷ []) forest
 computed (Err fault) forest = raises (fault_code fault)
 
@@ -50,10 +50,10 @@ abbrev pub result_of : BinaryOp → Number → Number → Result Number NumFault
 result_of Add = sum_of
 
 -- the result is empty where an operand is; an operand of more than one item, or one that is no number, is a type error
-abbrev pub arithmetic : BinaryOp → Value → Value → Forest → Outcome Value
+abbrev pub arithmetic : BinaryOp → Items → Items → Forest → Outcome Items
 arithmetic operator [] [] forest = gives [] forest
 arithmetic operator [] (y ∷ []) forest = gives [] forest
 arithmetic operator (x ∷ []) [] forest = gives [] forest
 arithmetic operator (x ∷ []) (y ∷ []) forest =
-    given (number_in x) (λ m. given (number_in y) (λ n. computed (result_of operator m n) forest))
+    given (number_of_item x) (λ m. given (number_of_item y) (λ n. computed (result_of operator m n) forest))
 arithmetic operator _ _ forest = wrong

@@ -2,16 +2,15 @@
 use Rattle.std.specs.Prelude.{◌≡◌, List, [], ◌∷◌}
 use Rattle.gx_types.specs.SequenceType.{SequenceType}
 use Rattle.gx_model.specs.Forest.{Forest, IsHonest}
-use Rattle.gx_model.specs.Item.{Value}
+use Rattle.gx_model.specs.Item.{Items}
 use Rattle.gx_model.specs.Belongs.{Belongs}
 use Rattle.gx_model.specs.Growth.{Extends}
 use Rattle.gx_core.specs.declared.expression.Binder.{Binder}
-use Rattle.gx_core.specs.declared.operator.Operator.{Operator}
 use Rattle.gx_core.specs.Expression.{plain}
 use Rattle.gx_core.specs.Bindings.{Types}
 use Rattle.gx_core.specs.Outcome.{Outcome, after}
 use Rattle.gx_core.specs.Meaning.{Context, Bindings, Denotation, all_of, meaning}
-use Rattle.gx_core.specs.Soundness.{TypedExpression, Setting, KeepsFact, IsOfType, AreOfTypes, Keeps, Fits, Standing}
+use Rattle.gx_core.specs.Soundness.{TypedExpression, Setting, KeepsFact, AreOfTypes, Keeps, Fits, Situation}
 
 -- the meaning of a typed expression is that of the same expression without its types
 abbrev pub MeaningLooksAtNoType : Type 0
@@ -20,8 +19,8 @@ MeaningLooksAtNoType = (context : Context) (e : TypedExpression) (bindings : Bin
 -- what is made of a value in each forest that has grown from this one
 abbrev pub AfterKeeps : Type 0
 AfterKeeps =
-    (setting : Setting) (before : Forest) (t u : SequenceType) (outcome : Outcome Value) (next : Value → Forest → Outcome Value) → Keeps setting before t outcome
-    → ((value : Value) (now : Forest) → Extends before now → IsHonest setting.schemas now → Belongs setting.schemas now value t → Keeps setting now u (next value now))
+    (setting : Setting) (before : Forest) (t u : SequenceType) (outcome : Outcome Items) (next : Items → Forest → Outcome Items) → Keeps setting before t outcome
+    → ((value : Items) (now : Forest) → Extends before now → IsHonest setting.schemas now → Belongs setting.schemas now value t → Keeps setting now u (next value now))
     → Keeps setting before u (after outcome next)
 
 -- bindings fit still where the forest has grown
@@ -33,7 +32,7 @@ BindingsFitStill =
 -- and with one more variable that is bound to a value of its type
 abbrev pub BindingFits : Type 0
 BindingFits =
-    (setting : Setting) (binder : Binder) (t : SequenceType) (value : Value) (types : Types) (bindings : Bindings) (forest : Forest)
+    (setting : Setting) (binder : Binder) (t : SequenceType) (value : Items) (types : Types) (bindings : Bindings) (forest : Forest)
     → Fits setting.schemas forest types bindings → Belongs setting.schemas forest value t
     → Fits setting.schemas forest ((binder.variable, t) ∷ types) ((binder.variable, value) ∷ bindings)
 
@@ -41,11 +40,11 @@ BindingFits =
 abbrev pub AllKeep : (setting : Setting) → Types → List Denotation → List SequenceType → Type 0
 AllKeep setting types [] [] = Unit {0}
 AllKeep setting types (part ∷ parts) (t ∷ ts) =
-    ((standing : Standing setting types) → Keeps setting standing.forest t (part standing.bindings standing.forest)) × AllKeep setting types parts ts
+    ((situation : Situation setting types) → Keeps setting situation.forest t (part situation.bindings situation.forest)) × AllKeep setting types parts ts
 AllKeep setting types _ _ = ⊥
 
 -- the values of all parts belong to their types, in the forest that the last part leaves
 abbrev pub OperandsKeepTheirTypes : Type 0
 OperandsKeepTheirTypes =
-    (setting : Setting) (types : Types) (parts : List Denotation) (ts : List SequenceType) (standing : Standing setting types) → AllKeep setting types parts ts
-    → KeepsFact setting standing.forest (AreOfTypes setting.schemas ts) (all_of parts standing.bindings standing.forest)
+    (setting : Setting) (types : Types) (parts : List Denotation) (ts : List SequenceType) (situation : Situation setting types) → AllKeep setting types parts ts
+    → KeepsFact setting situation.forest (AreOfTypes setting.schemas ts) (all_of parts situation.bindings situation.forest)

@@ -2,12 +2,12 @@
 use Rattle.std.specs.Prelude.{ℕ, List, [], ◌∷◌, ◌++◌, Option, Some, None}
 use Rattle.gx_types.specs.SchemaSet.{SchemaSet}
 use Rattle.gx_model.specs.Forest.{Forest}
-use Rattle.gx_model.specs.Item.{Item, atom, node, Value}
+use Rattle.gx_model.specs.Item.{Item, atom, node, Items}
 use Rattle.gx_core.specs.declared.operator.Operator.{Operator}
 use Rattle.gx_core.specs.declared.operator.Operator.TheVariants as operators
 use Rattle.gx_core.specs.Expression.{Expression, At, Parts, no_parts, a_part}
 use Rattle.gx_core.specs.Bindings.{look_up}
-use Rattle.gx_core.specs.Outcome.{Outcome, gives, raises, wrong, after, given}
+use Rattle.gx_core.specs.Outcome.{Outcome, gives, wrong, after, given}
 use Rattle.gx_core.specs.Arithmetic.{arithmetic}
 
 -- what an expression stands in
@@ -15,24 +15,24 @@ pub record Context : Type 0 where
   pub schemas : SchemaSet
 
 abbrev pub Bindings : Type 0
-Bindings = List (ℕ × Value)
+Bindings = List (ℕ × Items)
 
 -- what a part comes to, under bindings and in a forest
 abbrev pub Denotation : Type 0
-Denotation = Bindings → Forest → Outcome Value
+Denotation = Bindings → Forest → Outcome Items
 
-abbrev with_more : Item → Option Value → Option Value
+abbrev with_more : Item → Option Items → Option Items
 with_more item None = None
 with_more item (Some items) = Some (item ∷ items)
 
 -- the atomic values of items, if there are any: an atomic value is its own
-abbrev pub atomized : Forest → Value → Option Value
+abbrev pub atomized : Forest → Items → Option Items
 atomized forest [] = Some []
 atomized forest (atom a ∷ items) = with_more (atom a) (atomized forest items)
 atomized forest (node place ∷ items) = None
 
 -- what a strict operator makes of the values of its parts; a wrong number of them is a type error
-abbrev pub acts : Context → Operator → List Value → Forest → Outcome Value
+abbrev pub acts : Context → Operator → List Items → Forest → Outcome Items
 acts context (operators.Lit value) [] forest = gives (atom value ∷ []) forest
 acts context operators.Empty [] forest = gives [] forest
 acts context operators.Seq (xs ∷ ys ∷ []) forest = gives (xs ++ ys) forest
@@ -41,13 +41,13 @@ acts context (operators.Binary operator) (xs ∷ ys ∷ []) forest = arithmetic 
 acts context _ _ forest = wrong
 
 -- the values of parts, from the left, each in the forest that the part before it leaves
-abbrev pub all_of : List Denotation → Bindings → Forest → Outcome (List Value)
+abbrev pub all_of : List Denotation → Bindings → Forest → Outcome (List Items)
 all_of [] bindings forest = gives [] forest
 all_of (part ∷ parts) bindings forest =
     after (part bindings forest) (λ value left. after (all_of parts bindings left) (λ values last. gives (value ∷ values) last))
 
 -- an operator over its parts: those that choose, bind or repeat have a line each, and all others are strict
-abbrev pub denoted : Context → Operator → List Denotation → Bindings → Forest → Outcome Value
+abbrev pub denoted : Context → Operator → List Denotation → Bindings → Forest → Outcome Items
 denoted context (operators.Var number) [] bindings forest = given (look_up bindings number) (λ value. gives value forest)
 denoted context (operators.Let binder) (value ∷ body ∷ []) bindings forest =
     after (value bindings forest) (λ xs left. body ((binder.variable, xs) ∷ bindings) left)

@@ -1,5 +1,5 @@
 -- What an evaluation comes to (XQuery 1.0, section 2.3).
-use Rattle.std.specs.Prelude.{List, [], ◌∷◌, Option, None, Some}
+use Rattle.std.specs.Prelude.{Option, None, Some}
 use Rattle.gx_base.specs.declared.code.Code.{Code}
 use Rattle.gx_model.specs.Forest.{Forest}
 

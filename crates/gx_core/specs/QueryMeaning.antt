@@ -1,9 +1,9 @@
 -- Whole queries: what one means, and when one with its types is sound.
-use Rattle.std.specs.Prelude.{◌≡◌, []}
+use Rattle.std.specs.Prelude.{[]}
 use Rattle.gx_types.specs.SchemaSet.{SchemaSet}
 use Rattle.gx_types.specs.SequenceType.{SequenceType}
 use Rattle.gx_model.specs.Forest.{Forest, IsHonest}
-use Rattle.gx_model.specs.Item.{Value}
+use Rattle.gx_model.specs.Item.{Items}
 use Rattle.gx_core.specs.declared.expression.Core.{Core}
 use Rattle.gx_core.specs.declared.typed.TypedCore.{TypedCore}
 use Rattle.gx_core.specs.Expression.{plain, annotation_of}
@@ -20,7 +20,7 @@ abbrev pub query_type : TypedCore → SequenceType
 query_type query = annotation_of query.body
 
 -- what it comes to over these documents
-abbrev pub query_outcome : SchemaSet → Core → (documents : Forest) → Outcome Value
+abbrev pub query_outcome : SchemaSet → Core → (documents : Forest) → Outcome Items
 query_outcome schemas core documents = meaning (record { schemas = schemas }) core.body [] documents
 
 -- no expression of it goes wrong, and the value of each belongs to its type

@@ -3,7 +3,7 @@ use Rattle.std.specs.Prelude.{◌≡◌, ℕ, List, [], ◌∷◌, ◌++◌, Som
 use Rattle.gx_types.specs.SchemaSet.{SchemaSet}
 use Rattle.gx_types.specs.SequenceType.{SequenceType}
 use Rattle.gx_model.specs.Forest.{Forest, IsHonest}
-use Rattle.gx_model.specs.Item.{Value}
+use Rattle.gx_model.specs.Item.{Items}
 use Rattle.gx_model.specs.Belongs.{Belongs}
 use Rattle.gx_model.specs.Growth.{Extends}
 use Rattle.gx_core.specs.declared.operator.Operator.{Operator}
@@ -41,23 +41,23 @@ KeepsFact setting before Fact (raises code) = Unit {0}
 KeepsFact setting before Fact wrong = ⊥
 
 -- a value belongs to a type
-abbrev pub IsOfType : SchemaSet → SequenceType → Forest → Value → Type 0
+abbrev pub IsOfType : SchemaSet → SequenceType → Forest → Items → Type 0
 IsOfType schemas t forest value = Belongs schemas forest value t
 
 -- values belong to types, each to its own
-abbrev pub AreOfTypes : SchemaSet → List SequenceType → Forest → List Value → Type 0
+abbrev pub AreOfTypes : SchemaSet → List SequenceType → Forest → List Items → Type 0
 AreOfTypes schemas [] forest [] = Unit {0}
 AreOfTypes schemas (t ∷ types) forest (value ∷ values) = Belongs schemas forest value t × AreOfTypes schemas types forest values
 AreOfTypes schemas [] forest (value ∷ values) = ⊥
 AreOfTypes schemas (t ∷ types) forest [] = ⊥
 
 -- an outcome keeps a type
-abbrev pub Keeps : Setting → (before : Forest) → SequenceType → Outcome Value → Type 0
+abbrev pub Keeps : Setting → (before : Forest) → SequenceType → Outcome Items → Type 0
 Keeps setting before t outcome = KeepsFact setting before (IsOfType setting.schemas t) outcome
 
 -- a variable is bound to a value of this type
 pub record IsBoundTo (schemas : SchemaSet) (forest : Forest) (bindings : Bindings) (number : ℕ) (t : SequenceType) : Type 0 where
-  pub value : Value
+  pub value : Items
   pub bound : look_up bindings number ≡ Some value
   pub belongs : Belongs schemas forest value t
 
@@ -66,7 +66,7 @@ abbrev pub Fits : SchemaSet → Forest → Types → Bindings → Type 0
 Fits schemas forest types bindings = (number : ℕ) (t : SequenceType) → look_up types number ≡ Some t → IsBoundTo schemas forest bindings number t
 
 -- all that an evaluation stands in
-pub record Standing (setting : Setting) (types : Types) : Type 0 where
+pub record Situation (setting : Setting) (types : Types) : Type 0 where
   pub bindings : Bindings
   pub forest : Forest
   pub honest : IsHonest setting.schemas forest
@@ -75,7 +75,7 @@ pub record Standing (setting : Setting) (types : Types) : Type 0 where
 -- wherever it stands, the outcome of an expression keeps its type
 abbrev pub KeepsItsType : Setting → TypedExpression → Types → Type 0
 KeepsItsType setting e types =
-    (standing : Standing setting types) → Keeps setting standing.forest (annotation_of e) (meaning (context_of setting) e standing.bindings standing.forest)
+    (situation : Situation setting types) → Keeps setting situation.forest (annotation_of e) (meaning (context_of setting) e situation.bindings situation.forest)
 
 -- an expression and all that stand in it keep their types
 abbrev mutual

@@ -2,10 +2,10 @@
 use Rattle.std.specs.Prelude.{ℕ, zero, suc, List, [], ◌∷◌, ◌++◌, length, take, drop, map, Vec}
 use Rattle.gx_facets.specs.declared.Atomic.{Atomic}
 use Rattle.gx_model.specs.Forest.{Forest}
-use Rattle.gx_model.specs.Item.{Value, atoms}
+use Rattle.gx_model.specs.Item.{Items, atoms}
 use Rattle.gx_core.specs.declared.operator.Operator.{Operator}
 use Rattle.gx_core.specs.declared.operator.Operator.TheVariants as operators
-use Rattle.gx_core.specs.Outcome.{Outcome, gives, raises, wrong, after}
+use Rattle.gx_core.specs.Outcome.{Outcome, gives, wrong, after}
 use Rattle.gx_core.specs.Meaning.{Context, Bindings, acts, meaning}
 use Rattle.gx_eval.specs.declared.evaluation.Strict.{Strict}
 use Rattle.gx_eval.specs.declared.evaluation.Strict.TheVariants.{Data, Binary}
@@ -22,33 +22,33 @@ abbrev pub core_operator : Strict → Operator
 core_operator Data = operators.DataOf
 core_operator (Binary operator) = operators.Binary operator
 
-abbrev pub operands_of : Strict → ℕ
-operands_of Data = 1
-operands_of (Binary operator) = 2
+abbrev pub operand_count : Strict → ℕ
+operand_count Data = 1
+operand_count (Binary operator) = 2
 
 -- the operands between so many last marks, in order, and the marks and values below them
-abbrev pub applied : ℕ → (marks : List ℕ) → (values : Value) → (operands : List Value) → (List Value → List ℕ → Value → Outcome Value) → Outcome Value
+abbrev pub applied : ℕ → (marks : List ℕ) → (values : Items) → (operands : List Items) → (List Items → List ℕ → Items → Outcome Items) → Outcome Items
 applied zero marks values operands next = next operands marks values
 applied (suc n) [] values operands next = wrong
 applied (suc n) (mark ∷ marks) values operands next = applied n marks (take mark values) (drop mark values ∷ operands) next
 
 -- what is left to do, over the values and the marks that are there
-abbrev pub resume : Context → List Pending → (values : Value) → (marks : List ℕ) → Bindings → Forest → Outcome Value
+abbrev pub resume : Context → List Pending → (values : Items) → (marks : List ℕ) → Bindings → Forest → Outcome Items
 resume k [] values marks bindings forest = gives values forest
 resume k (Evaluate e ∷ work) values marks bindings forest =
     after (meaning k e.now bindings forest) (λ more left. resume k work (values ++ more) marks bindings left)
 resume k (Mark ∷ work) values marks bindings forest = resume k work values (length values ∷ marks) bindings forest
 resume k (Apply operator ∷ work) values marks bindings forest =
-    applied (operands_of operator) marks values [] (λ operands below rest.
+    applied (operand_count operator) marks values [] (λ operands below rest.
     after (acts k (core_operator operator) operands forest) (λ more left. resume k work (rest ++ more) below bindings left))
 resume k (Bind variable body outer ∷ work) values marks bindings forest =
     after (meaning k body.now ((variable, values) ∷ bindings) forest) (λ more left. resume k work (atoms outer.items ++ more) marks bindings left)
 resume k (Unbind ∷ work) values marks bindings forest = resume k work values marks (drop 1 bindings) forest
 
-abbrev pub outcome_of : Context → Forest → Evaluation → Outcome Value
+abbrev pub outcome_of : Context → Forest → Evaluation → Outcome Items
 outcome_of k forest evaluation = resume k evaluation.work (atoms evaluation.values.items) evaluation.marks (items_of evaluation.scope) forest
 
 -- with one more piece of work that comes first
-abbrev pub outcome_with : Context → Forest → Pending → Evaluation → Outcome Value
+abbrev pub outcome_with : Context → Forest → Pending → Evaluation → Outcome Items
 outcome_with k forest pending evaluation =
     resume k (pending ∷ evaluation.work) (atoms evaluation.values.items) evaluation.marks (items_of evaluation.scope) forest

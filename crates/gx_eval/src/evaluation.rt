@@ -51,7 +51,10 @@ pub(crate) struct Evaluation<'a> {
 
 impl<'a> Evaluation<'a> {
     // The evaluation of an expression, with no variable in scope.
-    pub(crate) fn new(alloc: Global, expression: &'a TypedExpr) -> Result<Evaluation<'a>, AllocError>
+    pub(crate) fn new(
+        alloc: Global,
+        expression: &'a TypedExpr,
+    ) -> Result<Evaluation<'a>, AllocError>
         ensures { (k : Context) (forest : Forest) → IfOk result (λ e. outcome_of k forest e ≡ meaning k expression.now [] forest) }
     {
         let mut work = Stack::new(alloc);
@@ -123,7 +126,7 @@ impl<'a> Evaluation<'a> {
     ) -> Result<(), AllocError>
         ensures { (k : Context) (forest : Forest) → OnOk result (outcome_of k forest self.new
             ≡ after (after (meaning k value.now (items_of self.old.scope) forest) (λ xs f. meaning k body.now ((variable, xs) ∷ items_of self.old.scope) f))
-              (λ more left. resume k self.old.work (atoms self.old.values.items ++ more) self.old.marks (items_of self.old.scope) left)) }
+            (λ more left. resume k self.old.work (atoms self.old.values.items ++ more) self.old.marks (items_of self.old.scope) left)) }
     {
         let outer = mem::replace(&mut self.values, Vec::new(alloc));
         self.work.push(Pending::Bind(variable, body, outer))?;
@@ -135,7 +138,7 @@ impl<'a> Evaluation<'a> {
     fn append_variable(&mut self, number: u32) -> Result<(), Failure>
         ensures value { (k : Context) (forest : Forest) → OnOk result (outcome_of k forest self.new
             ≡ after (given (look_up (items_of self.old.scope) number) (λ xs. gives xs forest))
-              (λ more left. resume k self.old.work (atoms self.old.values.items ++ more) self.old.marks (items_of self.old.scope) left)) }
+            (λ more left. resume k self.old.work (atoms self.old.values.items ++ more) self.old.marks (items_of self.old.scope) left)) }
         ensures failed { (forest : Forest) → IfErr result (λ e. FailsSo e (given (look_up (items_of self.old.scope) number) (λ xs. gives xs forest))) }
     {
         match self.scope.find(number) {
@@ -145,7 +148,12 @@ impl<'a> Evaluation<'a> {
     }
 
     // Binds a variable to all values in the body of a `let`.
-    fn bind(&mut self, variable: u32, body: &'a TypedExpr, outer: Vec<Atomic>) -> Result<(), AllocError>
+    fn bind(
+        &mut self,
+        variable: u32,
+        body: &'a TypedExpr,
+        outer: Vec<Atomic>,
+    ) -> Result<(), AllocError>
         ensures { (k : Context) (forest : Forest) → OnOk result (outcome_of k forest self.new ≡ outcome_with k forest (work.Bind variable body.entry outer) self.old) }
     {
         let value = mem::replace(&mut self.values, outer);

@@ -6,9 +6,9 @@ use Rattle.gx_types.specs.declared.shape.Shape.{Shape}
 use Rattle.gx_types.specs.SchemaSet.{SchemaSet}
 use Rattle.gx_tree.specs.PlainTree.{PlainTree}
 use Rattle.gx_model.specs.Forest.{Forest, PlainNode, then_found, tree_at, attribute_at, node_in}
-use Rattle.gx_model.specs.Item.{Item, atom, node, Value}
+use Rattle.gx_model.specs.Item.{Item, atom, node, Items}
 use Rattle.gx_model.specs.Belongs.{shape_of, item_shape, HaveShapes, Belongs}
-use Rattle.gx_model.specs.Growth.{Extends, GrowthIsAnOrder, ValuesStay}
+use Rattle.gx_model.specs.Growth.{GrowthIsAnOrder, ValuesStay}
 
 nothing_added : (forest : Forest) → forest ≡ forest ++ []
 nothing_added [] = refl
@@ -47,7 +47,7 @@ shape_stays : (before more : Forest) (x : Item) (s : Shape) → item_shape befor
 shape_stays before more (atom a) s e = e
 shape_stays before more (node place) s e = shown_stays before more place s (node_in before place) refl e
 
-shapes_stay : (schemas : SchemaSet) (before more : Forest) (xs : Value) (ss : List Shape) → HaveShapes schemas before xs ss → HaveShapes schemas (before ++ more) xs ss
+shapes_stay : (schemas : SchemaSet) (before more : Forest) (xs : Items) (ss : List Shape) → HaveShapes schemas before xs ss → HaveShapes schemas (before ++ more) xs ss
 shapes_stay schemas before more [] [] h = tt
 shapes_stay schemas before more [] (s ∷ ss) h = absurd h
 shapes_stay schemas before more (x ∷ xs) [] h = absurd h

@@ -6,7 +6,6 @@ use Rattle.gx_base.specs.declared.type_name.Builtin.TheVariants as types
 use Rattle.gx_base.specs.declared.type_name.TypeName.{TypeName}
 use Rattle.gx_base.specs.declared.type_name.TypeName.TheVariants.{Builtin}
 use Rattle.gx_num.specs.declared.Number.TheVariants.{Int, Dec}
-use Rattle.gx_facets.specs.declared.Atomic.{Atomic}
 use Rattle.gx_facets.specs.declared.AtomValue.{AtomValue}
 use Rattle.gx_facets.specs.declared.AtomValue.TheVariants.{Untyped, Str, Truth, Num}
 use Rattle.gx_types.specs.declared.shape.Shape.{Shape}
@@ -17,7 +16,7 @@ use Rattle.gx_types.specs.SequenceType.{SequenceType}
 use Rattle.gx_types.specs.Takes.{Takes}
 use Rattle.gx_tree.specs.PlainTree.{PlainTree, PlainTrees, document, element, attribute, text, no_trees, a_tree}
 use Rattle.gx_model.specs.Forest.{Forest, node_in}
-use Rattle.gx_model.specs.Item.{Item, atom, node, Value}
+use Rattle.gx_model.specs.Item.{Item, atom, node, Items}
 
 -- the name and the type of the one child of a document, where that is an element
 abbrev pub only_element : PlainTrees → Option (Name × TypeName)
@@ -50,14 +49,14 @@ ItemFits schemas (atom a) = ValueFits schemas a.value a.kind
 ItemFits schemas (node place) = Unit {0}
 
 -- the shapes of items that fit their types
-abbrev pub HaveShapes : SchemaSet → Forest → Value → List Shape → Type 0
+abbrev pub HaveShapes : SchemaSet → Forest → Items → List Shape → Type 0
 HaveShapes schemas forest [] [] = Unit {0}
 HaveShapes schemas forest (x ∷ xs) (s ∷ ss) = (item_shape forest x ≡ Some s) × ItemFits schemas x × HaveShapes schemas forest xs ss
 HaveShapes schemas forest [] (s ∷ ss) = ⊥
 HaveShapes schemas forest (x ∷ xs) [] = ⊥
 
 -- a value belongs to a type: its items fit their types, and the type takes their shapes
-pub record Belongs (schemas : SchemaSet) (forest : Forest) (value : Value) (type : SequenceType) : Type 0 where
+pub record Belongs (schemas : SchemaSet) (forest : Forest) (value : Items) (type : SequenceType) : Type 0 where
   pub seen : List Shape
   pub shaped : HaveShapes schemas forest value seen
   pub taken : Takes schemas type seen

@@ -4,7 +4,7 @@ use Rattle.std.specs.List.{slice_get}
 use Rattle.std.specs.Option.{option_map}
 use Rattle.gx_types.specs.SchemaSet.{SchemaSet}
 use Rattle.gx_tree.specs.declared.attribute.Attribute.{Attribute}
-use Rattle.gx_tree.specs.PlainTree.{PlainTree, PlainTrees, document, element, attribute, text, list_of, IsProper}
+use Rattle.gx_tree.specs.PlainTree.{PlainTree, document, element, attribute, text, list_of, IsProper}
 use Rattle.gx_tree.specs.Erasure.{IsUntyped}
 
 abbrev pub Forest : Type 0
@@ -27,9 +27,9 @@ children_of (element name kind attributes ts) = list_of ts
 children_of (attribute a) = []
 children_of (text t) = []
 
-abbrev pub attributes_of : PlainTree → List Attribute
-attributes_of (element name kind attributes ts) = attributes
-attributes_of _ = []
+abbrev pub own_attributes : PlainTree → List Attribute
+own_attributes (element name kind attributes ts) = attributes
+own_attributes _ = []
 
 -- the tree of a node that is so far down
 abbrev pub tree_at : PlainTree → List ℕ → Option PlainTree
@@ -39,7 +39,7 @@ tree_at t (position ∷ path) = then_found (slice_get (children_of t) position) 
 -- the tree itself, or that of its attribute
 abbrev pub attribute_at : Option ℕ → PlainTree → Option PlainTree
 attribute_at None t = Some t
-attribute_at (Some position) t = option_map attribute (slice_get (attributes_of t) position)
+attribute_at (Some position) t = option_map attribute (slice_get (own_attributes t) position)
 
 -- the tree of a node, if the forest has the node
 abbrev pub node_in : Forest → PlainNode → Option PlainTree

@@ -3,7 +3,7 @@ use Rattle.std.specs.Prelude.{◌≡◌, ◌++◌}
 use Rattle.gx_types.specs.SchemaSet.{SchemaSet}
 use Rattle.gx_types.specs.SequenceType.{SequenceType}
 use Rattle.gx_model.specs.Forest.{Forest}
-use Rattle.gx_model.specs.Item.{Value}
+use Rattle.gx_model.specs.Item.{Items}
 use Rattle.gx_model.specs.Belongs.{Belongs}
 
 -- trees were added behind those that were there
@@ -17,5 +17,5 @@ pub record GrowthIsAnOrder : Type 0 where
 
 abbrev pub ValuesStay : Type 0
 ValuesStay =
-    (schemas : SchemaSet) (before now : Forest) (value : Value) (t : SequenceType)
+    (schemas : SchemaSet) (before now : Forest) (value : Items) (t : SequenceType)
     → Extends before now → Belongs schemas before value t → Belongs schemas now value t

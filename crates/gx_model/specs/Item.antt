@@ -7,9 +7,9 @@ pub data Item : Type 0 where
   atom : (value : Atomic) → Item
   node : (place : PlainNode) → Item
 
-abbrev pub Value : Type 0
-Value = List Item
+abbrev pub Items : Type 0
+Items = List Item
 
 -- a value of atomic values alone
-abbrev pub atoms : List Atomic → Value
+abbrev pub atoms : List Atomic → Items
 atoms = map atom

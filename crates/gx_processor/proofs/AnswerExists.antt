@@ -1,5 +1,5 @@
 -- The words and the files have an answer.
-use Rattle.std.proofs.Common.{◌≡◌, ℕ, Bool, true, false, List, [], length, Option, Some, None, refl, sym, ◌∙◌, ap, subst, nat_le, ◌⊎◌, inl, inr}
+use Rattle.std.proofs.Common.{◌≡◌, ℕ, Bool, true, false, ◌&&◌, List, [], length, Option, Some, None, refl, sym, ◌∙◌, ap, subst, nat_le, ◌⊎◌, inl, inr}
 use Rattle.std.specs.Bool.{MatchBool}
 use Rattle.std.specs.Str.{IsUtf8, is_utf8}
 use Rattle.std.proofs.lemmas.Str.{IsUtf8-from_is_utf8, is_utf8-from_IsUtf8}
@@ -8,7 +8,7 @@ use Rattle.gx_base.specs.declared.limits.TheConstants.{FILE_BYTES}
 use Rattle.gx_types.specs.SchemaSet.{no_declarations}
 use Rattle.gx_core.specs.declared.expression.Core.{Core}
 use Rattle.gx_core.specs.declared.typed.TypedCore.{TypedCore}
-use Rattle.gx_model.specs.Item.{Value}
+use Rattle.gx_model.specs.Item.{Items}
 use Rattle.gx_core.specs.Outcome.{Outcome, gives, raises, wrong}
 use Rattle.gx_core.specs.Soundness.{typed_setting, Keeps}
 use Rattle.gx_core.specs.QueryMeaning.{query_outcome, query_type}
@@ -30,8 +30,8 @@ use Rattle.gx_processor.specs.TypeBytes.{type_bytes}
 use Rattle.gx_processor.specs.Answer.{Answer, writes, refuses, AnswersOutcome, AnswersTyped, AnswersJudged, AnswersNamed, AnswersTree, AnswersBytes, AnswersFile, AnswersCommand, AnAnswerExists}
 use Rattle.gx_processor.proofs.TextLemmas.{one_text}
 
-outcome_answers : (t : SequenceType) (o : Outcome Value) → Keeps (typed_setting no_declarations) [] t o → (a : Answer) × AnswersOutcome o a
-outcome_answers t (gives items forest) h = (writes (serialised items), refl)
+outcome_answers : (t : SequenceType) (o : Outcome Items) → Keeps (typed_setting no_declarations) [] t o → (a : Answer) × AnswersOutcome o a
+outcome_answers t (gives items forest) h = (writes (serialised forest items), refl)
 outcome_answers t (raises code) h = (refuses status.Dynamic (code_line code), refl)
 outcome_answers t wrong h = absurd h
 
@@ -40,8 +40,7 @@ typed_answers : (command : Command) (core : Core) (t : TypedCore) → query_judg
 typed_answers (run_file name) core t e =
     let sound = query_sound no_declarations core t e in
     outcome_answers (query_type t) (query_outcome no_declarations core [])
-    (subst (λ (c : Core). Keeps (typed_setting no_declarations) [] (query_type t) (query_outcome no_declarations c [])) sound.same
-    (sound_queries_keep no_declarations t [] tt sound.sound))
+    (subst (λ (c : Core). Keeps (typed_setting no_declarations) [] (query_type t) (query_outcome no_declarations c [])) sound.same (sound_queries_keep no_declarations t [] tt sound.sound))
 typed_answers (check_file name) core t e = (writes (type_bytes (query_type t)), refl)
 
 judged_answers : (command : Command) (core : Core) (j : QueryJudgement) → query_judged no_declarations core ≡ j → (a : Answer) × AnswersJudged command core j a

@@ -1,12 +1,12 @@
 -- The words and the files have one answer.
-use Rattle.std.proofs.Common.{◌≡◌, ℕ, arith, Bool, true, false, List, [], length, Option, Some, None, refl, sym, ◌∙◌, ap, subst, nat_le}
+use Rattle.std.proofs.Common.{◌≡◌, ℕ, arith, Bool, true, false, List, length, Option, Some, None, refl, sym, ◌∙◌, ap, subst, nat_le}
 use Rattle.std.specs.Prelude.{All}
 use Rattle.std.specs.Bool.{MatchBool}
 use Rattle.gx_base.specs.declared.code.Code.TheVariants.{GLXS0001}
 use Rattle.gx_types.specs.SchemaSet.{no_declarations}
 use Rattle.gx_core.specs.declared.expression.Core.{Core}
 use Rattle.gx_core.specs.declared.typed.TypedCore.{TypedCore}
-use Rattle.gx_model.specs.Item.{Value}
+use Rattle.gx_model.specs.Item.{Items}
 use Rattle.gx_core.specs.Outcome.{Outcome, gives, raises, wrong}
 use Rattle.gx_core.specs.QueryMeaning.{query_outcome}
 use Rattle.gx_static.specs.QueryJudgement.{QueryJudgement, query_typed, query_rejected, query_judged}
@@ -23,7 +23,7 @@ use Rattle.gx_parse.proofs.Verdict.{one_tree}
 use Rattle.gx_processor.specs.Query.{HasTree}
 use Rattle.gx_processor.proofs.TextLemmas.{one_text}
 
-outcome_unique : (o : Outcome Value) (a b : Answer) → AnswersOutcome o a → AnswersOutcome o b → a ≡ b
+outcome_unique : (o : Outcome Items) (a b : Answer) → AnswersOutcome o a → AnswersOutcome o b → a ≡ b
 outcome_unique (gives items forest) a b h k = h ∙ sym k
 outcome_unique (raises code) a b h k = h ∙ sym k
 outcome_unique wrong a b h k = absurd h

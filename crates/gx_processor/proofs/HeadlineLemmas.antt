@@ -1,12 +1,12 @@
 -- The headline, from the answer that a run ends with.
-use Rattle.std.proofs.Common.{◌≡◌, ℕ, ◌≤◌, Bool, true, false, List, [], ◌⊎◌, inl, inr, length, Option, Some, None, refl, sym, ◌∙◌, ap, subst, nat_le}
+use Rattle.std.proofs.Common.{◌≡◌, ℕ, ◌≤◌, Bool, true, false, List, [], inl, inr, length, Option, Some, None, refl, sym, ◌∙◌, ap, subst, nat_le}
 use Rattle.std.specs.Bool.{MatchBool}
 use Rattle.std.proofs.lemmas.Bool.{leb-true, le-leb}
 use Rattle.gx_base.specs.declared.code.Code.TheVariants.{GLXS0001}
 use Rattle.gx_types.specs.SchemaSet.{no_declarations}
 use Rattle.gx_core.specs.declared.expression.Core.{Core}
 use Rattle.gx_core.specs.declared.typed.TypedCore.{TypedCore}
-use Rattle.gx_model.specs.Item.{Value}
+use Rattle.gx_model.specs.Item.{Items}
 use Rattle.gx_core.specs.Outcome.{Outcome, gives, raises, wrong}
 use Rattle.gx_core.specs.QueryMeaning.{query_outcome, query_type, SoundQueriesKeepTheirTypes}
 use Rattle.gx_core.specs.Soundness.{typed_setting, Keeps}
@@ -52,7 +52,7 @@ types_are_kept sound keep core t j =
     let s = sound no_declarations core t j in
     subst (λ (c : Core). Keeps (typed_setting no_declarations) [] (query_type t) (query_outcome no_declarations c [])) s.same (keep no_declarations t [] tt s.sound)
 
-outcome_runs : (run : Run) (core : Core) (t : TypedCore) (o : Outcome Value) (a : Answer) → query_outcome no_declarations core [] ≡ o → Keeps (typed_setting no_declarations) [] (query_type t) o → AnswersOutcome o a → run.status ≡ status_of a → LeavesAnswer a run → RunEnds core t run
+outcome_runs : (run : Run) (core : Core) (t : TypedCore) (o : Outcome Items) (a : Answer) → query_outcome no_declarations core [] ≡ o → Keeps (typed_setting no_declarations) [] (query_type t) o → AnswersOutcome o a → run.status ≡ status_of a → LeavesAnswer a run → RunEnds core t run
 outcome_runs run core t (gives items forest) a m k is s l =
     let sinks = subst (λ (b : Answer). LeavesAnswer b run) is l in
     inl (record { items = items; forest = forest; value = m; belongs = k.fact; status = s ∙ ap status_of is; output = sinks.0; line = sinks.1 })

@@ -8,7 +8,7 @@ use Rattle.gx_core.specs.declared.operator.Operator.TheVariants as operators
 use Rattle.gx_core.specs.Expression.{CoreExpression, At, two_parts, core_at}
 use Rattle.gx_core.specs.Invariant.{is_among, IsScoped, numbers_bound, AreDistinct, HasVariablesInOrder}
 use Rattle.gx_parse.specs.SyntaxTree.{SyntaxTree, IntegerTree, VariableTree, ParenthesisedTree, EmptyTree, SequenceTree, SumTree, LetTree}
-use Rattle.gx_processor.specs.Normalisation.{Normalised, made, unknown, then_made, Names, number_of, variable_at, within, around, atomized, core_of, normalised}
+use Rattle.gx_processor.specs.Normalisation.{Normalised, made, unknown, then_made, Names, number_of, variable_at, within, around, data_around, core_of, normalised}
 
 -- numbers that rise from one on, below another
 abbrev Rise : ℕ → ℕ → List ℕ → Type 0
@@ -85,8 +85,8 @@ core_numbered (SequenceTree first second) names free =
     (λ a middle h. made_holds (core_of second names middle) (λ b. made (around a operators.Seq (two_parts a b))) (λ e next. IsNumbered (numbers_of names) middle next e) (λ e next. IsNumbered (numbers_of names) free next e) (core_numbered second names middle)
     (λ b next k. record { scoped = (tt, (h.scoped, (k.scoped, tt))); rising = rise_joined free middle next (numbers_bound a) (numbers_bound b ++ []) h.rising (rise_alone middle next (numbers_bound b) k.rising) }))
 core_numbered (SumTree place left right) names free =
-    made_holds (core_of left names free) (λ a middle. then_made (core_of right names middle) (λ b. made (core_at place place (operators.Binary Add) (two_parts (atomized a) (atomized b))))) (λ e next. IsNumbered (numbers_of names) free next e) (λ e next. IsNumbered (numbers_of names) free next e) (core_numbered left names free)
-    (λ a middle h. made_holds (core_of right names middle) (λ b. made (core_at place place (operators.Binary Add) (two_parts (atomized a) (atomized b)))) (λ e next. IsNumbered (numbers_of names) middle next e) (λ e next. IsNumbered (numbers_of names) free next e) (core_numbered right names middle)
+    made_holds (core_of left names free) (λ a middle. then_made (core_of right names middle) (λ b. made (core_at place place (operators.Binary Add) (two_parts (data_around a) (data_around b))))) (λ e next. IsNumbered (numbers_of names) free next e) (λ e next. IsNumbered (numbers_of names) free next e) (core_numbered left names free)
+    (λ a middle h. made_holds (core_of right names middle) (λ b. made (core_at place place (operators.Binary Add) (two_parts (data_around a) (data_around b)))) (λ e next. IsNumbered (numbers_of names) middle next e) (λ e next. IsNumbered (numbers_of names) free next e) (core_numbered right names middle)
     (λ b next k. record {
       scoped = (tt, ((tt, (h.scoped, tt)), ((tt, (k.scoped, tt)), tt)));
       rising = rise_joined free middle next (numbers_bound a ++ []) (numbers_bound b ++ [] ++ []) (rise_alone free middle (numbers_bound a) h.rising)

@@ -4,7 +4,7 @@ use Rattle.gx_base.specs.declared.code.Code.TheVariants.{GLXS0001, XPST0003}
 use Rattle.gx_types.specs.SchemaSet.{no_declarations}
 use Rattle.gx_core.specs.declared.expression.Core.{Core}
 use Rattle.gx_core.specs.declared.typed.TypedCore.{TypedCore}
-use Rattle.gx_model.specs.Item.{Value}
+use Rattle.gx_model.specs.Item.{Items}
 use Rattle.gx_core.specs.Outcome.{Outcome, gives, raises, wrong}
 use Rattle.gx_core.specs.QueryMeaning.{query_outcome, query_type}
 use Rattle.gx_static.specs.QueryJudgement.{QueryJudgement, query_typed, query_rejected, query_judged}
@@ -38,8 +38,8 @@ line_of (writes bytes) = []
 line_of (refuses status line) = line
 
 -- evaluation, and the writing of the value
-abbrev pub AnswersOutcome : Outcome Value → Answer → Type 0
-AnswersOutcome (gives items forest) answer = answer ≡ writes (serialised items)
+abbrev pub AnswersOutcome : Outcome Items → Answer → Type 0
+AnswersOutcome (gives items forest) answer = answer ≡ writes (serialised forest items)
 AnswersOutcome (raises code) answer = answer ≡ refuses status.Dynamic (code_line code)
 AnswersOutcome wrong answer = ⊥
 

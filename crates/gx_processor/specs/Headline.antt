@@ -9,7 +9,7 @@ use Rattle.gx_types.specs.SchemaSet.{no_declarations}
 use Rattle.gx_core.specs.declared.expression.Core.{Core}
 use Rattle.gx_core.specs.declared.typed.TypedCore.{TypedCore}
 use Rattle.gx_model.specs.Forest.{Forest}
-use Rattle.gx_model.specs.Item.{Value}
+use Rattle.gx_model.specs.Item.{Items}
 use Rattle.gx_model.specs.Belongs.{Belongs}
 use Rattle.gx_core.specs.Outcome.{gives, raises}
 use Rattle.gx_core.specs.QueryMeaning.{query_outcome, query_type}
@@ -26,12 +26,12 @@ use Rattle.gx_processor.specs.Run.{Run}
 
 -- the value that the query has, of the type, is written, and nothing else
 pub record WritesValue (core : Core) (typing : TypedCore) (run : Run) : Type 0 where
-  pub items : Value
+  pub items : Items
   pub forest : Forest
   pub value : query_outcome no_declarations core [] ≡ gives items forest
   pub belongs : Belongs no_declarations forest items (query_type typing)
   pub status : run.status ≡ Done
-  pub output : Took run.out (serialised items)
+  pub output : Took run.out (serialised forest items)
   pub line : IsUntouched run.err
 
 -- the dynamic error that the query raises is reported, and nothing else

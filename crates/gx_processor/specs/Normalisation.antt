@@ -42,9 +42,9 @@ within parentheses (At place outer annotation operator parts) = core_at place pa
 abbrev pub around : CoreExpression → Operator → Parts (Unit {0}) → CoreExpression
 around e operator parts = core_at (outer_of e) (outer_of e) operator parts
 
--- an operand is atomized
-abbrev pub atomized : CoreExpression → CoreExpression
-atomized e = around e operators.DataOf (one_part e)
+-- the atomization of an operand
+abbrev pub data_around : CoreExpression → CoreExpression
+data_around e = around e operators.DataOf (one_part e)
 
 -- variables are numbered in the order in which their scopes begin
 abbrev pub core_of : SyntaxTree → Names → ℕ → Normalised
@@ -56,7 +56,7 @@ core_of (SequenceTree first second) names free =
     then_made (core_of first names free) (λ a free. then_made (core_of second names free) (λ b. made (around a operators.Seq (two_parts a b))))
 core_of (SumTree place left right) names free =
     then_made (core_of left names free) (λ a free. then_made (core_of right names free)
-    (λ b. made (core_at place place (operators.Binary Add) (two_parts (atomized a) (atomized b)))))
+    (λ b. made (core_at place place (operators.Binary Add) (two_parts (data_around a) (data_around b)))))
 core_of (LetTree place dollar name bound body) names free =
     then_made (core_of bound names free) (λ value number. then_made (core_of body ((name, number) ∷ names) (number + 1))
     (λ result. made (core_at place place (operators.Let (record { variable = number; place = dollar })) (two_parts value result))))

@@ -1,7 +1,7 @@
 // From syntax trees to Core.
 
 ghost use Rattle.std.specs.Prelude.{◌≡◌, ℕ, ◌+◌, ◌<◌, ◌≤◌, ◌^◌, [], IfOk, IfErr, OnOk};
-ghost use Rattle.gx_processor.specs.Normalisation.{made, core_of, query_named, named_query, variable_at, number_of, within, around, atomized};
+ghost use Rattle.gx_processor.specs.Normalisation.{made, core_of, query_named, named_query, variable_at, number_of, within, around, data_around};
 ghost use Rattle.gx_processor.specs.NameRefusal.{RefusesName, RefusesQuery};
 ghost use Rattle.gx_parse.specs.SyntaxTree.{nodes};
 ghost use Rattle.gx_core.specs.Expression.{core_at, two_parts};
@@ -59,7 +59,7 @@ struct Normalised {
     free: u32,
 }
 
-/// The Core of a query: each variable has the number of its binder, and each operand of a sum is atomized (Formal
+/// The Core of a query: each variable has the number of its binder, and each operand of a sum is data_around (Formal
 /// Semantics, section 4; XQuery 1.0, section 3.4).
 pub fn normalise(alloc: Global, syntax: &Syntax) -> Result<Core, NameRefusal>
     requires { nodes syntax.now < 2 ^ 31 }
@@ -206,11 +206,11 @@ fn sum(
     right: Normalised,
 ) -> Result<Normalised, AllocFailed<CoreExpr>>
     ensures expression { IfOk result (λ n. n.expression.value ≡ core_at place place (operators.Binary arithmetic.Add)
-        (two_parts (atomized left.value) (atomized right.expression.value))) }
+        (two_parts (data_around left.value) (data_around right.expression.value))) }
     ensures free { IfOk result (λ n. n.free ≡ right.free) }
 {
-    let left = atomized(alloc, left)?;
-    let operand = atomized(alloc, right.expression)?;
+    let left = data_around(alloc, left)?;
+    let operand = data_around(alloc, right.expression)?;
     at(
         alloc,
         place,
@@ -219,8 +219,8 @@ fn sum(
     )
 }
 
-fn atomized(alloc: Global, operand: E) -> Result<E, AllocFailed<CoreExpr>>
-    ensures { IfOk result (λ e. e.value ≡ atomized operand.value) }
+fn data_around(alloc: Global, operand: E) -> Result<E, AllocFailed<CoreExpr>>
+    ensures { IfOk result (λ e. e.value ≡ data_around operand.value) }
 {
     let place = operand.outer;
     let expression = CoreExpr {

@@ -1,7 +1,6 @@
 -- Results of arithmetic belong to its type.
-use Rattle.std.proofs.Common.{◌≡◌, ℕ, ◌≤◌, min, ℤ, Bool, true, false, ◌&&◌, List, [], ◌∷◌, length, Option, None, Some, Result, Ok, Err, refl, sym, ◌∙◌, ap, subst, arith, nat_le, if◌then◌else◌}
+use Rattle.std.proofs.Common.{◌≡◌, ◌≤◌, min, ℤ, Bool, true, false, ◌&&◌, [], ◌∷◌, length, Option, Some, Result, Ok, Err, refl, sym, subst, arith, nat_le, if◌then◌else◌}
 use Rattle.std.proofs.lemmas.Bool.{and_parts}
-use Rattle.gx_base.specs.declared.code.Code.TheVariants.{XPTY0004}
 use Rattle.gx_base.specs.declared.type_name.Builtin.{Builtin}
 use Rattle.gx_base.specs.declared.type_name.Builtin.TheVariants.{Integer, Decimal}
 use Rattle.gx_base.specs.declared.type_name.TypeName.{TypeName}
@@ -9,9 +8,7 @@ use Rattle.gx_base.specs.declared.type_name.TypeName.TheVariants as names
 use Rattle.gx_num.specs.declared.Number.{Number}
 use Rattle.gx_num.specs.declared.Number.TheVariants.{Int, Dec}
 use Rattle.gx_num.specs.declared.NumFault.{NumFault}
-use Rattle.gx_num.specs.declared.NumFault.TheVariants.{Overflow}
 use Rattle.gx_num.specs.Arithmetic.{ranged}
-use Rattle.gx_facets.specs.declared.Atomic.{Atomic}
 use Rattle.gx_facets.specs.declared.AtomValue.{AtomValue}
 use Rattle.gx_facets.specs.declared.AtomValue.TheVariants as values
 use Rattle.gx_types.specs.declared.shape.Shape.TheVariants.{Atom}
@@ -25,16 +22,16 @@ use Rattle.gx_types.specs.TypeRules.{times_of}
 use Rattle.gx_types.specs.Laws.{Allows}
 use Rattle.gx_types.proofs.PublicLaws.{times_takes_joined, equal_types_take_the_same}
 use Rattle.gx_model.specs.Forest.{Forest, IsHonest}
-use Rattle.gx_model.specs.Item.{Item, atom, Value}
+use Rattle.gx_model.specs.Item.{Item, atom, Items}
 use Rattle.gx_model.specs.Belongs.{ValueFits, Belongs}
 use Rattle.gx_core.specs.declared.expression.BinaryOp.{BinaryOp}
 use Rattle.gx_core.specs.declared.expression.BinaryOp.TheVariants.{Add}
-use Rattle.gx_core.specs.Outcome.{Outcome, gives, raises, wrong, given}
-use Rattle.gx_core.specs.Arithmetic.{number_of_value, number_in, type_of_number, number_atom, computed, result_of, arithmetic}
+use Rattle.gx_core.specs.Outcome.{given}
+use Rattle.gx_core.specs.Arithmetic.{number_of_value, number_of_item, type_of_number, number_atom, computed, result_of, arithmetic}
 use Rattle.gx_core.specs.Soundness.{typed_setting, IsOfType, Keeps}
 use Rattle.gx_core.proofs.KeptFacts.{fact_at_once}
-use Rattle.gx_static.specs.Rule.{has_type, has_none, atomic, is_all_in, is_number_or_empty, number_type, arithmetic_type, binary_rule}
-use Rattle.gx_static.specs.Laws.{ActsKeepType, AddKeepsType}
+use Rattle.gx_static.specs.Rule.{atomic, is_all_in, is_number_or_empty, number_type, arithmetic_type}
+use Rattle.gx_static.specs.Laws.{AddKeepsType}
 use Rattle.gx_static.proofs.ItemLemmas.{EachItem, IsAtomIn, items_are_in, belongs_within, at_most_one}
 use Rattle.gx_static.proofs.LiteralLemmas.{string_is_no_number, boolean_is_no_number, untyped_is_no_number, number_fits}
 use Rattle.gx_static.proofs.Keeping.{tested}
@@ -47,7 +44,7 @@ value_is_number s (values.Truth b) kind f d = absurd (boolean_is_no_number s kin
 value_is_number s (values.Num n) kind f d = (n, refl)
 
 abbrev IsNumber : Item → Type 0
-IsNumber x = (n : Number) × (number_in x ≡ Some n)
+IsNumber x = (n : Number) × (number_of_item x ≡ Some n)
 
 item_is_number : (s : SchemaSet) (x : Item) → IsAtomIn s Decimal x → IsNumber x
 item_is_number s x a = subst IsNumber (sym a.is) (value_is_number s a.value.value a.value.kind a.fits a.derived)
@@ -60,8 +57,8 @@ value_is_integer s (values.Truth b) kind n f d e = absurd (cc)
 value_is_integer s (values.Num (Int i)) kind n f d e = let same : Int i ≡ n = cc in (i, sym same)
 value_is_integer s (values.Num (Dec u)) kind n f d e = absurd (f.1 d)
 
-item_is_integer : (s : SchemaSet) (x : Item) (n : Number) → IsAtomIn s Integer x → number_in x ≡ Some n → (i : ℤ) × (n ≡ Int i)
-item_is_integer s x n a e = value_is_integer s a.value.value a.value.kind n a.fits a.derived (subst (λ (y : Item). number_in y ≡ Some n) a.is e)
+item_is_integer : (s : SchemaSet) (x : Item) (n : Number) → IsAtomIn s Integer x → number_of_item x ≡ Some n → (i : ℤ) × (n ≡ Int i)
+item_is_integer s x n a e = value_is_integer s a.value.value a.value.kind n a.fits a.derived (subst (λ (y : Item). number_of_item y ≡ Some n) a.is e)
 
 number_is_decimal : (s : SchemaSet) (n : Number) → DerivesFrom s (names.Builtin (type_of_number n)) (names.Builtin Decimal)
 number_is_decimal s (Int i) = (1, (names.Builtin Decimal, refl, refl))
@@ -92,16 +89,16 @@ computed_keeps s forest t (Err fault) honest h = tt
 
 -- the result of two items
 pair_keeps : (s : SchemaSet) (forest : Forest) (operator : BinaryOp) (b : Builtin) (o : Occurs) (x y : Item) → IsHonest s forest → IsNumber x → IsNumber y
-    → ((m n r : Number) → number_in x ≡ Some m → number_in y ≡ Some n → result_of operator m n ≡ Ok r → DerivesFrom s (names.Builtin (type_of_number r)) (names.Builtin b)) → Allows o 1
+    → ((m n r : Number) → number_of_item x ≡ Some m → number_of_item y ≡ Some n → result_of operator m n ≡ Ok r → DerivesFrom s (names.Builtin (type_of_number r)) (names.Builtin b)) → Allows o 1
     → Keeps (typed_setting s) forest (times_of (atomic b) o) (arithmetic operator (x ∷ []) (y ∷ []) forest)
 pair_keeps s forest operator b o x y honest p q h w =
-    subst (λ (m : Option Number). Keeps (typed_setting s) forest (times_of (atomic b) o) (given m (λ m. given (number_in y) (λ n. computed (result_of operator m n) forest)))) (sym p.1)
+    subst (λ (m : Option Number). Keeps (typed_setting s) forest (times_of (atomic b) o) (given m (λ m. given (number_of_item y) (λ n. computed (result_of operator m n) forest)))) (sym p.1)
     (subst (λ (n : Option Number). Keeps (typed_setting s) forest (times_of (atomic b) o) (given n (λ n. computed (result_of operator p.0 n) forest))) (sym q.1)
     (computed_keeps s forest (times_of (atomic b) o) (result_of operator p.0 q.0) honest (λ r e. number_belongs s forest b o r (h p.0 q.0 r p.1 q.1 e) w)))
 
 -- the result has as many items as the shorter operand
-result_keeps : (s : SchemaSet) (forest : Forest) (operator : BinaryOp) (b : Builtin) (o : Occurs) (xs ys : Value) → IsHonest s forest → length xs ≤ 1 → length ys ≤ 1 → EachItem IsNumber xs → EachItem IsNumber ys
-    → ((x y : Item) → xs ≡ x ∷ [] → ys ≡ y ∷ [] → (m n r : Number) → number_in x ≡ Some m → number_in y ≡ Some n → result_of operator m n ≡ Ok r → DerivesFrom s (names.Builtin (type_of_number r)) (names.Builtin b))
+result_keeps : (s : SchemaSet) (forest : Forest) (operator : BinaryOp) (b : Builtin) (o : Occurs) (xs ys : Items) → IsHonest s forest → length xs ≤ 1 → length ys ≤ 1 → EachItem IsNumber xs → EachItem IsNumber ys
+    → ((x y : Item) → xs ≡ x ∷ [] → ys ≡ y ∷ [] → (m n r : Number) → number_of_item x ≡ Some m → number_of_item y ≡ Some n → result_of operator m n ≡ Ok r → DerivesFrom s (names.Builtin (type_of_number r)) (names.Builtin b))
     → Allows o (min (length xs) (length ys)) → Keeps (typed_setting s) forest (times_of (atomic b) o) (arithmetic operator xs ys forest)
 result_keeps s forest operator b o [] [] honest l k p q h w = fact_at_once (typed_setting s) forest (IsOfType s (times_of (atomic b) o)) [] honest (nothing_belongs s forest b o w)
 result_keeps s forest operator b o [] (y ∷ []) honest l k p q h w = fact_at_once (typed_setting s) forest (IsOfType s (times_of (atomic b) o)) [] honest (nothing_belongs s forest b o w)
@@ -111,16 +108,16 @@ result_keeps s forest operator b o [] (y ∷ z ∷ ys) honest l k p q h w = absu
 result_keeps s forest operator b o (x ∷ []) (y ∷ z ∷ ys) honest l k p q h w = absurd (omega (arith, k))
 result_keeps s forest operator b o (x ∷ z ∷ xs) ys honest l k p q h w = absurd (omega (arith, l))
 
-each_number : (s : SchemaSet) (xs : Value) → EachItem (IsAtomIn s Decimal) xs → EachItem IsNumber xs
+each_number : (s : SchemaSet) (xs : Items) → EachItem (IsAtomIn s Decimal) xs → EachItem IsNumber xs
 each_number s [] h = tt
 each_number s (x ∷ xs) h = (item_is_number s x h.0, each_number s xs h.1)
 
-first_is : (s : SchemaSet) (b : Builtin) (xs : Value) (x : Item) → xs ≡ x ∷ [] → EachItem (IsAtomIn s b) xs → IsAtomIn s b x
+first_is : (s : SchemaSet) (b : Builtin) (xs : Items) (x : Item) → xs ≡ x ∷ [] → EachItem (IsAtomIn s b) xs → IsAtomIn s b x
 first_is s b xs x e h = (subst (EachItem (IsAtomIn s b)) e h).0
 
 -- of two integers an integer, and else a decimal
-results_derive : (s : SchemaSet) (forest : Forest) (operator : BinaryOp) (t u : SequenceType) (xs ys : Value) (whole : Bool) → Belongs s forest xs t → Belongs s forest ys u → (is_all_in s Integer t && is_all_in s Integer u) ≡ whole
-    → (x y : Item) → xs ≡ x ∷ [] → ys ≡ y ∷ [] → (m n r : Number) → number_in x ≡ Some m → number_in y ≡ Some n → result_of operator m n ≡ Ok r → DerivesFrom s (names.Builtin (type_of_number r)) (names.Builtin (if whole then Integer else Decimal))
+results_derive : (s : SchemaSet) (forest : Forest) (operator : BinaryOp) (t u : SequenceType) (xs ys : Items) (whole : Bool) → Belongs s forest xs t → Belongs s forest ys u → (is_all_in s Integer t && is_all_in s Integer u) ≡ whole
+    → (x y : Item) → xs ≡ x ∷ [] → ys ≡ y ∷ [] → (m n r : Number) → number_of_item x ≡ Some m → number_of_item y ≡ Some n → result_of operator m n ≡ Ok r → DerivesFrom s (names.Builtin (type_of_number r)) (names.Builtin (if whole then Integer else Decimal))
 results_derive s forest operator t u xs ys true b c e x y f g m n r p q o =
     let both = and_parts (is_all_in s Integer t) (is_all_in s Integer u) e in
     let i = item_is_integer s x m (first_is s Integer xs x f (items_are_in s forest Integer xs t both.0 b)) p in
@@ -129,7 +126,7 @@ results_derive s forest operator t u xs ys true b c e x y f g m n r p q o =
     subst (λ (a : Number). DerivesFrom s (names.Builtin (type_of_number a)) (names.Builtin Integer)) (sym k.1) (0, refl)
 results_derive s forest operator t u xs ys false b c e x y f g m n r p q o = number_is_decimal s r
 
-arithmetic_keeps : (s : SchemaSet) (forest : Forest) (operator : BinaryOp) (t u : SequenceType) (xs ys : Value) → IsHonest s forest → is_number_or_empty s t ≡ true → is_number_or_empty s u ≡ true → Belongs s forest xs t → Belongs s forest ys u
+arithmetic_keeps : (s : SchemaSet) (forest : Forest) (operator : BinaryOp) (t u : SequenceType) (xs ys : Items) → IsHonest s forest → is_number_or_empty s t ≡ true → is_number_or_empty s u ≡ true → Belongs s forest xs t → Belongs s forest ys u
     → Keeps (typed_setting s) forest (arithmetic_type s t u) (arithmetic operator xs ys forest)
 arithmetic_keeps s forest operator t u xs ys honest few_t few_u b c =
     let p = and_parts (nat_le (occurrence_of t).greatest 1) (is_all_in s Decimal t) few_t in
@@ -145,9 +142,9 @@ arithmetic_keeps s forest operator t u xs ys honest few_t few_u b c =
     → Keeps (typed_setting s) forest (if none then never else times_of (atomic (number_type s t u)) o) (arithmetic operator xs ys forest)) [
       | true ↦ λ e. absurd (equal_types_take_the_same s never t b.seen e b.taken)
       | false ↦ λ _. result_keeps s forest operator (number_type s t u) o xs ys honest (omega (arith, l, g)) (omega (arith, m, h))
-        (each_number s xs (items_are_in s forest Decimal xs t p.1 b)) (each_number s ys (items_are_in s forest Decimal ys u q.1 c))
-        (results_derive s forest operator t u xs ys (is_all_in s Integer t && is_all_in s Integer u) b c refl)
-        (record { least = omega (arith, v.least, w.least); greatest = λ _. omega (arith, l, m) })
+          (each_number s xs (items_are_in s forest Decimal xs t p.1 b)) (each_number s ys (items_are_in s forest Decimal ys u q.1 c))
+          (results_derive s forest operator t u xs ys (is_all_in s Integer t && is_all_in s Integer u) b c refl)
+          (record { least = omega (arith, v.least, w.least); greatest = λ _. omega (arith, l, m) })
     ] refl
 
 pub sum_keeps : AddKeepsType

@@ -1,5 +1,5 @@
 -- What is judged to have no type has an expression that fails.
-use Rattle.std.proofs.Common.{◌≡◌, ℕ, List, [], ◌∷◌, ◌++◌, Option, inl, inr, refl, sym, ◌∙◌, subst}
+use Rattle.std.proofs.Common.{◌≡◌, ℕ, List, [], ◌∷◌, ◌++◌, Option, inl, inr, refl, subst}
 use Rattle.gx_base.specs.declared.place.Place.{Place}
 use Rattle.gx_base.specs.declared.code.Code.{Code}
 use Rattle.gx_types.specs.SchemaSet.{SchemaSet}
@@ -9,7 +9,7 @@ use Rattle.gx_core.specs.Expression.{CoreExpression, At, Parts, no_parts, a_part
 use Rattle.gx_core.specs.Bindings.{Types, types_bound}
 use Rattle.gx_static.specs.Rule.{Ruling, has_type, has_none, ruling}
 use Rattle.gx_static.specs.Judgement.{Judged, typed, rejected, with_typed, code_place, concluded, judged, parts_judged}
-use Rattle.gx_static.specs.Failure.{FailsItself, FailsFirst, PartFailsFirst}
+use Rattle.gx_static.specs.Failure.{FailsFirst, PartFailsFirst}
 use Rattle.gx_static.specs.declared.error.InferError.{InferError}
 use Rattle.gx_static.specs.declared.error.InferError.TheVariants.{NoType, Memory}
 use Rattle.gx_static.specs.Refusal.{Rejects, NamesFailure}

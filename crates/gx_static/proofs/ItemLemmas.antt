@@ -1,5 +1,5 @@
 -- What the item types of a type say of the items of its values.
-use Rattle.std.proofs.Common.{◌≡◌, ℕ, suc, ◌≤◌, Bool, true, false, ◌&&◌, List, [], ◌∷◌, ◌++◌, length, Option, None, Some, refl, sym, ◌∙◌, ap, subst, ◌⊎◌, inl, inr, nat_le}
+use Rattle.std.proofs.Common.{◌≡◌, ℕ, suc, ◌≤◌, Bool, true, List, [], ◌∷◌, ◌++◌, length, Option, None, Some, refl, sym, ◌∙◌, ap, subst, inl, inr, nat_le}
 use Rattle.std.specs.Option.{option_map}
 use Rattle.std.proofs.Math.Dec.{T, leb→le}
 use Rattle.std.proofs.lemmas.Bool.{and_parts}
@@ -12,7 +12,7 @@ use Rattle.gx_types.specs.declared.item_type.ItemType.TheVariants as items
 use Rattle.gx_types.specs.declared.shape.Shape.{Shape}
 use Rattle.gx_types.specs.declared.shape.Shape.TheVariants as shapes
 use Rattle.gx_types.specs.SchemaSet.{SchemaSet}
-use Rattle.gx_types.specs.Derivation.{DerivesFrom, is_derived}
+use Rattle.gx_types.specs.Derivation.{DerivesFrom}
 use Rattle.gx_types.specs.Occurrence.{occurrence_of}
 use Rattle.gx_types.specs.SequenceType.{SequenceType, never, nothing, item, both, either, optional, star, plus}
 use Rattle.gx_types.specs.Prime.{items_of}
@@ -24,7 +24,7 @@ use Rattle.gx_types.proofs.DerivationOrder.{derivation_is_a_preorder}
 use Rattle.gx_types.proofs.DerivationTest.{derives_when_tested}
 use Rattle.gx_tree.specs.PlainTree.{PlainTree, document, element, attribute, text}
 use Rattle.gx_model.specs.Forest.{Forest, node_in}
-use Rattle.gx_model.specs.Item.{Item, atom, node, Value}
+use Rattle.gx_model.specs.Item.{Item, atom, node, Items}
 use Rattle.gx_model.specs.Belongs.{shape_of, item_shape, ItemFits, HaveShapes, Belongs}
 use Rattle.gx_static.specs.Rule.{all_items, is_atomic, is_atomic_in, is_all_in}
 
@@ -66,11 +66,11 @@ shapes_passed s test Fact t ss f e h =
     each_shape (SomeItemTakes s (items_of t)) Fact ss (λ shape k. some_passed s test Fact (items_of t) shape f (all_pass test t e) k) (items_take_each_shape s t ss h)
 
 -- each item of a value
-abbrev pub EachItem : (Item → Type 0) → Value → Type 0
+abbrev pub EachItem : (Item → Type 0) → Items → Type 0
 EachItem Fact [] = Unit {0}
 EachItem Fact (x ∷ xs) = Fact x × EachItem Fact xs
 
-each_item : (s : SchemaSet) (forest : Forest) (P : Shape → Type 0) (Q : Item → Type 0) (xs : Value) (ss : List Shape)
+each_item : (s : SchemaSet) (forest : Forest) (P : Shape → Type 0) (Q : Item → Type 0) (xs : Items) (ss : List Shape)
     → ((x : Item) (shape : Shape) → item_shape forest x ≡ Some shape → ItemFits s x → P shape → Q x) → HaveShapes s forest xs ss → EachShape P ss → EachItem Q xs
 each_item s forest P Q [] [] f h k = tt
 each_item s forest P Q [] (shape ∷ ss) f h k = absurd h
@@ -115,7 +115,7 @@ atomic_taken s _ _ e h = absurd (cc)
 abbrev pub IsAtom : Item → Type 0
 IsAtom x = (a : Atomic) × (x ≡ atom a)
 
-pub items_are_atoms : (s : SchemaSet) (forest : Forest) (xs : Value) (t : SequenceType) → all_items is_atomic t ≡ true → Belongs s forest xs t → EachItem IsAtom xs
+pub items_are_atoms : (s : SchemaSet) (forest : Forest) (xs : Items) (t : SequenceType) → all_items is_atomic t ≡ true → Belongs s forest xs t → EachItem IsAtom xs
 items_are_atoms s forest xs t e b =
     each_item s forest IsAtomShape IsAtom xs b.seen (λ x shape shown fits k. let a = atom_of_shape forest x shape k.0 shown k.1 in (a.value, a.is)) b.shaped
     (shapes_passed s is_atomic IsAtomShape t b.seen (atomic_taken s) e b.taken)
@@ -137,7 +137,7 @@ pub record IsAtomIn (s : SchemaSet) (b : Builtin) (x : Item) : Type 0 where
   pub derived : DerivesFrom s value.kind (names.Builtin b)
   pub fits : ItemFits s (atom value)
 
-pub items_are_in : (s : SchemaSet) (forest : Forest) (b : Builtin) (xs : Value) (t : SequenceType) → is_all_in s b t ≡ true → Belongs s forest xs t → EachItem (IsAtomIn s b) xs
+pub items_are_in : (s : SchemaSet) (forest : Forest) (b : Builtin) (xs : Items) (t : SequenceType) → is_all_in s b t ≡ true → Belongs s forest xs t → EachItem (IsAtomIn s b) xs
 items_are_in s forest b xs t e belongs =
     each_item s forest (IsShapeIn s b) (IsAtomIn s b) xs belongs.seen
     (λ x shape shown fits k. let a = atom_of_shape forest x shape k.0 shown k.1 in record {
@@ -148,13 +148,13 @@ items_are_in s forest b xs t e belongs =
     }) belongs.shaped (shapes_passed s (is_atomic_in s b) (IsShapeIn s b) t belongs.seen (derived_taken s b) e belongs.taken)
 
 -- how many items a value of a type has
-have_length : (s : SchemaSet) (forest : Forest) (xs : Value) (ss : List Shape) → HaveShapes s forest xs ss → length ss ≡ length xs
+have_length : (s : SchemaSet) (forest : Forest) (xs : Items) (ss : List Shape) → HaveShapes s forest xs ss → length ss ≡ length xs
 have_length s forest [] [] h = refl
 have_length s forest [] (shape ∷ ss) h = absurd h
 have_length s forest (x ∷ xs) [] h = absurd h
 have_length s forest (x ∷ xs) (shape ∷ ss) h = ap suc (have_length s forest xs ss h.2)
 
-pub belongs_within : (s : SchemaSet) (forest : Forest) (t : SequenceType) (xs : Value) → Belongs s forest xs t → Allows (occurrence_of t) (length xs)
+pub belongs_within : (s : SchemaSet) (forest : Forest) (t : SequenceType) (xs : Items) → Belongs s forest xs t → Allows (occurrence_of t) (length xs)
 belongs_within s forest t xs b =
     subst (λ (n : ℕ). Allows (occurrence_of t) n) (have_length s forest xs b.seen b.shaped) (occurrence_bounds_length s t b.seen b.taken)
 

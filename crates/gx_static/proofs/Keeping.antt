@@ -2,10 +2,7 @@
 use Rattle.std.proofs.Common.{◌≡◌, ℕ, Bool, true, false, List, [], ◌∷◌, ◌++◌, Option, None, Some, refl, sym, ◌∙◌, ap, subst, if◌then◌else◌}
 use Rattle.std.specs.Option.{option_map}
 use Rattle.gx_base.specs.declared.code.Code.{Code}
-use Rattle.gx_base.specs.declared.type_name.Builtin.{Builtin}
-use Rattle.gx_base.specs.declared.type_name.TypeName.{TypeName}
 use Rattle.gx_base.specs.declared.type_name.TypeName.TheVariants as names
-use Rattle.gx_facets.specs.declared.Atomic.{Atomic}
 use Rattle.gx_types.specs.declared.item_type.ItemType.TheVariants as items
 use Rattle.gx_types.specs.declared.shape.Shape.{Shape}
 use Rattle.gx_types.specs.declared.shape.Shape.TheVariants as shapes
@@ -16,19 +13,17 @@ use Rattle.gx_types.specs.TypeRules.{sequence_of}
 use Rattle.gx_types.proofs.EqualNames.{type_name_itself}
 use Rattle.gx_types.proofs.PublicLaws.{sequence_takes_parts}
 use Rattle.gx_model.specs.Forest.{Forest, IsHonest}
-use Rattle.gx_model.specs.Item.{Item, atom, Value}
+use Rattle.gx_model.specs.Item.{Item, atom, Items}
 use Rattle.gx_model.specs.Belongs.{HaveShapes, Belongs}
-use Rattle.gx_model.proofs.PublicLaws.{values_stay}
 use Rattle.gx_core.specs.declared.operator.Operator.{Operator}
-use Rattle.gx_core.specs.declared.operator.Operator.TheVariants as operators
-use Rattle.gx_core.specs.Expression.{At, Parts, no_parts, a_part, each_of, annotation_of}
+use Rattle.gx_core.specs.Expression.{Parts, no_parts, a_part, each_of, annotation_of}
 use Rattle.gx_core.specs.Bindings.{look_up, Types, types_bound}
-use Rattle.gx_core.specs.Outcome.{Outcome, gives, raises, wrong, after, given}
+use Rattle.gx_core.specs.Outcome.{Outcome, gives, after, given}
 use Rattle.gx_core.specs.Meaning.{Context, Bindings, Denotation, atomized, acts, all_of, denoted, meaning, meanings}
-use Rattle.gx_core.specs.Soundness.{Setting, typed_setting, context_of, KeepsFact, IsOfType, AreOfTypes, Keeps, IsBoundTo, Standing}
+use Rattle.gx_core.specs.Soundness.{Setting, typed_setting, context_of, IsOfType, AreOfTypes, Keeps, Situation}
 use Rattle.gx_core.specs.Laws.{AllKeep}
 use Rattle.gx_core.proofs.KeptFacts.{fact_after, fact_at_once, binding_fits, bindings_fit_still, operands_keep}
-use Rattle.gx_static.specs.Rule.{Ruling, has_type, has_none, literal_rule, data_rule, shown_type, all_items, is_atomic, rule, ruling, variable_ruling}
+use Rattle.gx_static.specs.Rule.{has_type, has_none, shown_type, all_items, is_atomic, rule, ruling, variable_ruling}
 use Rattle.gx_static.specs.Laws.{ActsKeepType, PartsKeepTypes, OperatorKeepsType, LiteralKeepsType, VariableKeepsType, EmptyKeepsType, SequenceKeepsType, LetKeepsType, DataKeepsType}
 use Rattle.gx_static.proofs.ItemLemmas.{EachItem, IsAtom, items_are_atoms}
 use Rattle.gx_static.proofs.LiteralLemmas.{literal_fits}
@@ -43,7 +38,7 @@ tested true t u code part e = (refl, ruled t u e)
 tested false t u code part e = absurd (cc)
 
 -- a value of the type that a rule gives, in the forest as it is
-pub value_keeps : (s : SchemaSet) (t u : SequenceType) (forest : Forest) (xs : Value) → t ≡ u → IsHonest s forest → Belongs s forest xs t → Keeps (typed_setting s) forest u (gives xs forest)
+pub value_keeps : (s : SchemaSet) (t u : SequenceType) (forest : Forest) (xs : Items) → t ≡ u → IsHonest s forest → Belongs s forest xs t → Keeps (typed_setting s) forest u (gives xs forest)
 value_keeps s t u forest xs e honest b =
     fact_at_once (typed_setting s) forest (IsOfType s u) xs honest (subst (λ (v : SequenceType). Belongs s forest xs v) e b)
 
@@ -60,13 +55,13 @@ empty_keeps s [] t forest [] e honest b = value_keeps s nothing t forest [] (rul
 empty_keeps s [] t forest (x ∷ xs) e honest b = absurd b
 empty_keeps s (p ∷ ps) t forest xs e honest b = absurd (cc)
 
-have_joined : (s : SchemaSet) (forest : Forest) (xs ys : Value) (ss us : List Shape) → HaveShapes s forest xs ss → HaveShapes s forest ys us → HaveShapes s forest (xs ++ ys) (ss ++ us)
+have_joined : (s : SchemaSet) (forest : Forest) (xs ys : Items) (ss us : List Shape) → HaveShapes s forest xs ss → HaveShapes s forest ys us → HaveShapes s forest (xs ++ ys) (ss ++ us)
 have_joined s forest [] ys [] us h k = k
 have_joined s forest [] ys (shape ∷ ss) us h k = absurd h
 have_joined s forest (x ∷ xs) ys [] us h k = absurd h
 have_joined s forest (x ∷ xs) ys (shape ∷ ss) us h k = (h.0, h.1, have_joined s forest xs ys ss us h.2 k)
 
-pub joined_belongs : (s : SchemaSet) (forest : Forest) (t u : SequenceType) (xs ys : Value) → Belongs s forest xs t → Belongs s forest ys u → Belongs s forest (xs ++ ys) (sequence_of t u)
+pub joined_belongs : (s : SchemaSet) (forest : Forest) (t u : SequenceType) (xs ys : Items) → Belongs s forest xs t → Belongs s forest ys u → Belongs s forest (xs ++ ys) (sequence_of t u)
 joined_belongs s forest t u xs ys b c = record {
   seen = b.seen ++ c.seen;
   shaped = have_joined s forest xs ys b.seen c.seen b.shaped c.shaped;
@@ -83,7 +78,7 @@ sequence_keeps s [] t forest values e honest h = absurd (cc)
 sequence_keeps s (a ∷ []) t forest values e honest h = absurd (cc)
 sequence_keeps s (a ∷ b ∷ c ∷ ps) t forest values e honest h = absurd (cc)
 
-atoms_are_atomized : (forest : Forest) (xs : Value) → EachItem IsAtom xs → atomized forest xs ≡ Some xs
+atoms_are_atomized : (forest : Forest) (xs : Items) → EachItem IsAtom xs → atomized forest xs ≡ Some xs
 atoms_are_atomized forest [] h = refl
 atoms_are_atomized forest (x ∷ xs) h =
     subst (λ (y : Item). atomized forest (y ∷ xs) ≡ Some (y ∷ xs)) (sym h.0.1) (ap (option_map (λ ys. atom h.0.0 ∷ ys)) (atoms_are_atomized forest xs h.1))
@@ -91,7 +86,7 @@ atoms_are_atomized forest (x ∷ xs) h =
 pub data_keeps : DataKeepsType
 data_keeps s (a ∷ []) t forest (xs ∷ []) e honest h =
     let r = tested (all_items is_atomic a) a t _ _ e in
-    subst (λ (found : Option Value). Keeps (typed_setting s) forest t (given found (λ ys. gives ys forest))) (sym (atoms_are_atomized forest xs (items_are_atoms s forest xs a r.0 h.0)))
+    subst (λ (found : Option Items). Keeps (typed_setting s) forest t (given found (λ ys. gives ys forest))) (sym (atoms_are_atomized forest xs (items_are_atoms s forest xs a r.0 h.0)))
     (value_keeps s a t forest xs r.1 honest h.0)
 data_keeps s (a ∷ []) t forest [] e honest h = absurd h
 data_keeps s (a ∷ []) t forest (xs ∷ ys ∷ values) e honest h = absurd h.1
@@ -100,44 +95,45 @@ data_keeps s (a ∷ b ∷ ps) t forest values e honest h = absurd (cc)
 
 -- a variable, where it stands
 
-bound_keeps : (s : SchemaSet) (number : ℕ) (types : Types) (standing : Standing (typed_setting s) types) (t : SequenceType) (found : Option SequenceType)
+bound_keeps : (s : SchemaSet) (number : ℕ) (types : Types) (situation : Situation (typed_setting s) types) (t : SequenceType) (found : Option SequenceType)
     → look_up types number ≡ found → variable_ruling s number found ≡ has_type t
-    → Keeps (typed_setting s) standing.forest t (given (look_up standing.bindings number) (λ value. gives value standing.forest))
-bound_keeps s number types standing t None found e = absurd (cc)
-bound_keeps s number types standing t (Some u) found e =
-    let b = standing.fits number u found in
-    subst (λ (o : Option Value). Keeps (typed_setting s) standing.forest t (given o (λ value. gives value standing.forest))) (sym b.bound)
-    (value_keeps s u t standing.forest b.value (ruled u t e) standing.honest b.belongs)
+    → Keeps (typed_setting s) situation.forest t (given (look_up situation.bindings number) (λ value. gives value situation.forest))
+bound_keeps s number types situation t None found e = absurd (cc)
+bound_keeps s number types situation t (Some u) found e =
+    let b = situation.fits number u found in
+    subst (λ (o : Option Items). Keeps (typed_setting s) situation.forest t (given o (λ value. gives value situation.forest))) (sym b.bound)
+    (value_keeps s u t situation.forest b.value (ruled u t e) situation.honest b.belongs)
 
 pub variable_keeps : VariableKeepsType
-variable_keeps s number no_parts types place outer t e h standing = bound_keeps s number types standing t (look_up types number) refl e
-variable_keeps s number (a_part first others) types place outer t e h standing = absurd (cc)
+variable_keeps s number no_parts types place outer t e h situation = bound_keeps s number types situation t (look_up types number) refl e
+variable_keeps s number (a_part first others) types place outer t e h situation = absurd (cc)
 
 pub let_keeps : LetKeepsType
-let_keeps s binder (a_part a (a_part b no_parts)) types place outer t e h standing =
+let_keeps s binder (a_part a (a_part b no_parts)) types place outer t e h situation =
     let setting : Setting = typed_setting s in
     let k : Context = context_of setting in
-    fact_after setting standing.forest (IsOfType s (annotation_of a)) (IsOfType s t) (meaning k a standing.bindings standing.forest)
-    (λ xs left. meaning k b ((binder.variable, xs) ∷ standing.bindings) left) (h.0 standing)
-    (λ xs now grown honest belongs. subst (λ (u : SequenceType). Keeps setting now u (meaning k b ((binder.variable, xs) ∷ standing.bindings) now)) (ruled (annotation_of b) t e)
+    fact_after setting situation.forest (IsOfType s (annotation_of a)) (IsOfType s t) (meaning k a situation.bindings situation.forest)
+    (λ xs left. meaning k b ((binder.variable, xs) ∷ situation.bindings) left) (h.0 situation)
+    (λ xs now grown honest belongs. subst (λ (u : SequenceType). Keeps setting now u (meaning k b ((binder.variable, xs) ∷ situation.bindings) now)) (ruled (annotation_of b) t e)
     (h.1.0 (record {
-      bindings = (binder.variable, xs) ∷ standing.bindings;
+      bindings = (binder.variable, xs) ∷ situation.bindings;
       forest = now;
       honest = honest;
-      fits = binding_fits setting binder (annotation_of a) xs types standing.bindings now (bindings_fit_still setting types standing.bindings standing.forest now grown standing.fits) belongs;
+      fits = binding_fits setting binder (annotation_of a) xs types situation.bindings now (bindings_fit_still setting types situation.bindings situation.forest now grown situation.fits) belongs;
     })))
-let_keeps s binder no_parts types place outer t e h standing = absurd (cc)
-let_keeps s binder (a_part a no_parts) types place outer t e h standing = absurd (cc)
-let_keeps s binder (a_part a (a_part b (a_part c others))) types place outer t e h standing = absurd (cc)
+let_keeps s binder no_parts types place outer t e h situation = absurd (cc)
+let_keeps s binder (a_part a no_parts) types place outer t e h situation = absurd (cc)
+let_keeps s binder (a_part a (a_part b (a_part c others))) types place outer t e h situation = absurd (cc)
 
 -- a strict operator keeps its type, since what it makes of values does
 
 parts_all_keep : (s : SchemaSet) (operator : Operator) → ((before : List SequenceType) → types_bound operator before ≡ []) → (before : List SequenceType) (parts : Parts SequenceType) (types : Types)
     → PartsKeepTypes s operator before parts types → AllKeep (typed_setting s) types (meanings (context_of (typed_setting s)) parts) (each_of annotation_of parts)
 parts_all_keep s operator none before no_parts types h = tt
-parts_all_keep s operator none before (a_part a others) types h =
-    (subst (λ (bound : Types). (standing : Standing (typed_setting s) (bound ++ types)) → Keeps (typed_setting s) standing.forest (annotation_of a) (meaning (context_of (typed_setting s)) a standing.bindings standing.forest)) (none before) h.0,
-    parts_all_keep s operator none (before ++ annotation_of a ∷ []) others types h.1)
+parts_all_keep s operator none before (a_part a others) types h = (
+  subst (λ (bound : Types). (situation : Situation (typed_setting s) (bound ++ types)) → Keeps (typed_setting s) situation.forest (annotation_of a) (meaning (context_of (typed_setting s)) a situation.bindings situation.forest)) (none before) h.0,
+  parts_all_keep s operator none (before ++ annotation_of a ∷ []) others types h.1,
+)
 
 pub record IsStrict (operator : Operator) : Type 0 where
   pub denotes : (context : Context) (parts : List Denotation) (bindings : Bindings) (forest : Forest) → denoted context operator parts bindings forest ≡ after (all_of parts bindings forest) (acts context operator)
@@ -145,10 +141,10 @@ pub record IsStrict (operator : Operator) : Type 0 where
   pub ruled : (s : SchemaSet) (parts : List SequenceType) (types : Types) → ruling s operator parts types ≡ rule s operator parts
 
 pub strict_keeps : (s : SchemaSet) (operator : Operator) → IsStrict operator → ActsKeepType s operator → OperatorKeepsType s operator
-strict_keeps s operator strict keeps parts types place outer t e h standing =
+strict_keeps s operator strict keeps parts types place outer t e h situation =
     let setting : Setting = typed_setting s in
     let k : Context = context_of setting in
-    subst (λ (o : Outcome Value). Keeps setting standing.forest t o) (sym (strict.denotes k (meanings k parts) standing.bindings standing.forest))
-    (fact_after setting standing.forest (AreOfTypes s (each_of annotation_of parts)) (IsOfType s t) (all_of (meanings k parts) standing.bindings standing.forest) (acts k operator)
-    (operands_keep setting types (meanings k parts) (each_of annotation_of parts) standing (parts_all_keep s operator strict.binds_nothing [] parts types h))
+    subst (λ (o : Outcome Items). Keeps setting situation.forest t o) (sym (strict.denotes k (meanings k parts) situation.bindings situation.forest))
+    (fact_after setting situation.forest (AreOfTypes s (each_of annotation_of parts)) (IsOfType s t) (all_of (meanings k parts) situation.bindings situation.forest) (acts k operator)
+    (operands_keep setting types (meanings k parts) (each_of annotation_of parts) situation (parts_all_keep s operator strict.binds_nothing [] parts types h))
     (λ values now grown honest belong. keeps (each_of annotation_of parts) t now values (sym (strict.ruled s (each_of annotation_of parts) types) ∙ e) honest belong))

@@ -3,10 +3,9 @@ use Rattle.std.proofs.Common.{◌≡◌, [], ap}
 use Rattle.gx_base.specs.declared.place.Place.{Place}
 use Rattle.gx_base.specs.declared.code.Code.{Code}
 use Rattle.gx_core.specs.Expression.{CoreExpression}
-use Rattle.gx_core.specs.declared.expression.Core.{Core}
 use Rattle.gx_core.specs.declared.typed.TypedCore.{TypedCore}
 use Rattle.gx_static.specs.Judgement.{Judgement, typed, rejected, judged}
-use Rattle.gx_static.specs.QueryJudgement.{QueryJudgement, query_typed, query_rejected, whole_judgement, QueryTypingIsSound, QueryRejectionNamesFailure}
+use Rattle.gx_static.specs.QueryJudgement.{query_typed, query_rejected, whole_judgement, QueryTypingIsSound, QueryRejectionNamesFailure}
 use Rattle.gx_static.proofs.SoundTyping.{sound}
 use Rattle.gx_static.proofs.Failing.{rejection_names_failure}
 

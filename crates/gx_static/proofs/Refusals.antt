@@ -1,5 +1,5 @@
 -- How an expression is refused whose rule gives no type.
-use Rattle.std.proofs.Common.{◌≡◌, ap}
+use Rattle.std.proofs.Common.{ap}
 use Rattle.gx_base.specs.declared.place.Place.{Place}
 use Rattle.gx_types.specs.SequenceType.{SequenceType}
 use Rattle.gx_core.specs.declared.operator.Operator.{Operator}

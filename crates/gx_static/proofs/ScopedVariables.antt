@@ -11,7 +11,7 @@ use Rattle.gx_core.specs.declared.operator.Operator.TheVariants as operators
 use Rattle.gx_core.specs.Expression.{CoreExpression, At, Parts, no_parts, a_part, each_of, annotation_of}
 use Rattle.gx_core.specs.Bindings.{look_up, Types, types_bound, numbers_bound_by}
 use Rattle.gx_core.specs.Invariant.{is_among, IsInScope, IsScoped, ArePartsScoped}
-use Rattle.gx_static.specs.Rule.{Ruling, has_type, has_none, rule, ruling, variable_ruling}
+use Rattle.gx_static.specs.Rule.{has_type, has_none, ruling, variable_ruling}
 use Rattle.gx_static.specs.Judgement.{typed, with_typed, concluded, judged, parts_judged}
 use Rattle.gx_static.specs.Laws.{ScopedVariablesHaveTypes}
 use Rattle.gx_static.proofs.Failing.{IfRejected, made_fails, own_fails}

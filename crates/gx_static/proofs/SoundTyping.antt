@@ -6,14 +6,14 @@ use Rattle.gx_types.specs.SequenceType.{SequenceType}
 use Rattle.gx_core.specs.declared.expression.BinaryOp.TheVariants.{Add}
 use Rattle.gx_core.specs.declared.operator.Operator.{Operator}
 use Rattle.gx_core.specs.declared.operator.Operator.TheVariants as operators
-use Rattle.gx_core.specs.Expression.{CoreExpression, At, Parts, no_parts, a_part, each_of, annotation_of, plain, plain_parts}
+use Rattle.gx_core.specs.Expression.{CoreExpression, At, Parts, no_parts, a_part, each_of, annotation_of, plain_parts}
 use Rattle.gx_core.specs.Bindings.{Types, types_bound}
-use Rattle.gx_core.specs.Soundness.{TypedExpression, typed_setting, KeepsItsType, IsSound, PartsAreSound}
+use Rattle.gx_core.specs.Soundness.{typed_setting, PartsAreSound}
 use Rattle.gx_core.proofs.SoundQueries.{keeps_its_type}
 use Rattle.gx_static.specs.Rule.{Ruling, has_type, has_none, ruling}
 use Rattle.gx_static.specs.Judgement.{Judged, typed, rejected, with_typed, concluded, judged, parts_judged}
 use Rattle.gx_static.specs.Laws.{PartsKeepTypes, OperatorKeepsType, IsTypedSoundly, TypingIsSound}
-use Rattle.gx_static.proofs.Keeping.{literal_keeps, variable_keeps, empty_keeps, sequence_keeps, let_keeps, data_keeps, IsStrict, strict_keeps}
+use Rattle.gx_static.proofs.Keeping.{literal_keeps, variable_keeps, empty_keeps, sequence_keeps, let_keeps, data_keeps, strict_keeps}
 use Rattle.gx_static.proofs.Arithmetic.{sum_keeps}
 
 -- the laws of all operators

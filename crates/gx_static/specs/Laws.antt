@@ -7,7 +7,7 @@ use Rattle.gx_facets.specs.declared.Atomic.{Atomic}
 use Rattle.gx_types.specs.SchemaSet.{SchemaSet}
 use Rattle.gx_types.specs.SequenceType.{SequenceType}
 use Rattle.gx_model.specs.Forest.{Forest, IsHonest}
-use Rattle.gx_model.specs.Item.{Value}
+use Rattle.gx_model.specs.Item.{Items}
 use Rattle.gx_core.specs.declared.expression.Binder.{Binder}
 use Rattle.gx_core.specs.declared.expression.BinaryOp.TheVariants.{Add}
 use Rattle.gx_core.specs.declared.operator.Operator.{Operator}
@@ -24,7 +24,7 @@ use Rattle.gx_static.specs.Failure.{FailsFirst}
 -- what a strict operator makes of values keeps the type of its rule, where the values belong to the types of the parts
 abbrev pub ActsKeepType : SchemaSet → Operator → Type 0
 ActsKeepType schemas operator =
-    (parts : List SequenceType) (t : SequenceType) (forest : Forest) (values : List Value) → rule schemas operator parts ≡ has_type t
+    (parts : List SequenceType) (t : SequenceType) (forest : Forest) (values : List Items) → rule schemas operator parts ≡ has_type t
     → IsHonest schemas forest → AreOfTypes schemas parts forest values
     → Keeps (typed_setting schemas) forest t (acts (context_of (typed_setting schemas)) operator values forest)
 

@@ -137,13 +137,7 @@ fn variable(
     }
 }
 
-fn sequence(
-    alloc: Global,
-    place: Place,
-    outer: Place,
-    first: T,
-    second: T,
-) -> Result<T, InferError>
+fn sequence(alloc: Global, place: Place, outer: Place, first: T, second: T) -> Result<T, InferError>
     ensures typed { IfOk result (λ t. t.value ≡ At place outer (sequence_of (annotation_of first.value) (annotation_of second.value)) operators.Seq (two_parts first.value second.value)) }
     ensures rejected { IfErr result (λ e. e ≡ errors.Memory) }
 {
@@ -163,7 +157,13 @@ fn let_expression(
     ensures rejected { IfErr result (λ e. e ≡ errors.Memory) }
 {
     let kind = body.kind.clone()?;
-    typed(alloc, place, outer, kind, TypedForm::Let(binder, value, body))
+    typed(
+        alloc,
+        place,
+        outer,
+        kind,
+        TypedForm::Let(binder, value, body),
+    )
 }
 
 #[tactic(auto, using(crate::proofs::Refusals::refused_there))]
@@ -204,7 +204,13 @@ fn binary(
         (binary_rule schemas.now operator (annotation_of left.value) (annotation_of right.value)))) }
 {
     match binary_type(alloc, schemas, operator, &left.kind, &right.kind) {
-        Ok(kind) => typed(alloc, place, outer, kind, TypedForm::Binary(operator, left, right)),
+        Ok(kind) => typed(
+            alloc,
+            place,
+            outer,
+            kind,
+            TypedForm::Binary(operator, left, right),
+        ),
         Err(error) => Err(refusal(place, &[left.outer, right.outer], error)),
     }
 }

@@ -1,6 +1,6 @@
 use Rattle.std.proofs.Common.{[], subst}
 use Rattle.gx_types.specs.SchemaSet.{no_declarations}
-use Rattle.gx_model.specs.Item.{Value}
+use Rattle.gx_model.specs.Item.{Items}
 use Rattle.gx_core.specs.Outcome.{Outcome}
 use Rattle.gx_core.specs.QueryMeaning.{query_type}
 use Rattle.gx_core.specs.Soundness.{typed_setting, Keeps}
@@ -9,6 +9,6 @@ use Rattle.gx_processor.proofs.output.value_text.Goals as goal
 pub evaluate-requires : goal.evaluate-requires
 evaluate-requires c = (
   no_declarations,
-  λ goes_wrong. subst (λ (o : Outcome Value). Keeps (typed_setting no_declarations) [] (query_type c.args.core.now) o) goes_wrong
+  λ goes_wrong. subst (λ (o : Outcome Items). Keeps (typed_setting no_declarations) [] (query_type c.args.core.now) o) goes_wrong
       (c.sound_queries_keep_their_types.ensures no_declarations c.args.core.now [] tt c.requires),
 )
