@@ -28,12 +28,7 @@ fn row_answer(alloc: Global, row: &str) -> Result<String, AllocError> {
     answer_text(alloc, words, query, fault)
 }
 
-fn answer_text(
-    alloc: Global,
-    words: &str,
-    query: &str,
-    fault: &str,
-) -> Result<String, AllocError> {
+fn answer_text(alloc: Global, words: &str, query: &str, fault: &str) -> Result<String, AllocError> {
     let words = words_of(alloc, words)?;
     let bytes = file_of(alloc, query, fault.parse::<usize>().unwrap_or(0))?;
     let mut library = MemoryLibrary::new(alloc);
@@ -47,7 +42,11 @@ fn answer_text(
         _ => {}
     }
     let status = galax(alloc, words.as_slice(), &mut library, &mut out, &mut err);
-    format!(in alloc; "{status:?} {:?} {:?}", shown(out.bytes()), shown(err.bytes()))
+    format!(in alloc;
+        "{status:?} {:?} {:?}",
+        shown(out.bytes()),
+        shown(err.bytes())
+    )
 }
 
 // The words of a row, with single spaces between them.
