@@ -1,5 +1,5 @@
 -- The words and the files have an answer.
-use Rattle.std.proofs.Common.{◌≡◌, ℕ, Bool, true, false, ◌&&◌, List, [], length, Option, Some, None, refl, sym, ◌∙◌, ap, subst, nat_le, ◌⊎◌, inl, inr}
+use Rattle.std.proofs.Common.{◌≡◌, ℕ, Bool, true, false, List, [], length, Option, Some, None, refl, subst, nat_le, ◌⊎◌, inl, inr}
 use Rattle.std.specs.Bool.{MatchBool}
 use Rattle.std.specs.Str.{IsUtf8, is_utf8}
 use Rattle.std.proofs.lemmas.Str.{IsUtf8-from_is_utf8, is_utf8-from_IsUtf8}
@@ -19,7 +19,7 @@ use Rattle.gx_types.specs.SequenceType.{SequenceType}
 use Rattle.gx_io.specs.Load.{file_of}
 use Rattle.gx_parse.specs.SyntaxTree.{SyntaxTree}
 use Rattle.gx_parse.specs.Query.{IsQuery}
-use Rattle.gx_parse.proofs.Verdict.{one_tree, tree_or_none}
+use Rattle.gx_parse.proofs.Verdict.{tree_or_none}
 use Rattle.gx_processor.specs.declared.status.Status.TheVariants as status
 use Rattle.gx_processor.specs.Query.{has_comment, IsText, IsPlainQuery, HasTree}
 use Rattle.gx_processor.specs.Normalisation.{NamedQuery, named_query, unknown_name, query_named}

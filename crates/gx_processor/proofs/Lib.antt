@@ -8,3 +8,4 @@ pub mod HeadlineLemmas
 pub mod Promised
 pub mod NumberedVariables
 pub mod AnswerExists
+pub mod NormalisingLemmas

@@ -13,3 +13,4 @@ pub mod Ending
 pub mod Replies
 pub mod Headline
 pub mod Promises
+pub mod Normalising

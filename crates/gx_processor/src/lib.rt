@@ -5,6 +5,7 @@ mod command;
 pub mod laws;
 mod names;
 mod normalise;
+mod normalising;
 mod output;
 pub mod processor;
 mod query;

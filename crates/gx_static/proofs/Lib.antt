@@ -7,3 +7,4 @@ pub mod Failing
 pub mod ScopedVariables
 pub mod Refusals
 pub mod QueryLaws
+pub mod Continuing

@@ -4,3 +4,4 @@ pub mod Refusal
 pub mod Failure
 pub mod Laws
 pub mod QueryJudgement
+pub mod Typing

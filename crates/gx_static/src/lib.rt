@@ -5,3 +5,4 @@ pub mod error;
 pub mod infer;
 pub mod laws;
 pub mod rules;
+mod typing;

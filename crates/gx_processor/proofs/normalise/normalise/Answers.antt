@@ -4,9 +4,7 @@ use Rattle.gx_processor.proofs.NumberedVariables.{normalised_in_order}
 use Rattle.gx_processor.proofs.normalise.normalise.Goals as goal
 
 pub returns-clause-core : goal.returns-clause-core
-returns-clause-core c = rw c.into_inner.ensures (ap whole_query (rw c.new-names.ensures at c.in_ok-normalised.ensures.made))
+returns-clause-core c = ap whole_query c.in_ok-body.ensures.made.1
 
 pub returns-clause-variables : goal.returns-clause-variables
-returns-clause-variables c =
-    rw c.into_inner.ensures
-    (normalised_in_order c.args.syntax.now c.in_ok-normalised.normalised.expression.value c.in_ok-normalised.normalised.free (rw c.new-names.ensures at c.in_ok-normalised.ensures.made))
+returns-clause-variables c = normalised_in_order c.args.syntax.now c.in_ok-body.body c.in_ok-body.ensures.made.0 c.in_ok-body.ensures.made.1

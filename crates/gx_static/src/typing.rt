@@ -1,0 +1,332 @@
+// A typing in its midst: the tasks that are left, and the typed parts that are there.
+
+ghost use Rattle.std.specs.Prelude.{◌≡◌, ◌≢◌, ◌≤◌, List, [], ◌∷◌, length, Option, None, Some, IfOk, IfErr, OnOk};
+ghost use Rattle.gx_types.specs.SchemaSet.{SchemaSet};
+ghost use Rattle.gx_types.specs.SequenceType.{SequenceType};
+ghost use Rattle.gx_core.specs.declared.operator.Operator.TheVariants as operators;
+ghost use Rattle.gx_core.specs.Expression.{Parts, no_parts, each_of, annotation_of, outer_of};
+ghost use Rattle.gx_core.specs.Bindings.{look_up};
+ghost use Rattle.gx_core.specs.Soundness.{TypedExpression};
+ghost use Rattle.gx_core.specs.TypedView.{typed_operator_of, typed_parts_of};
+ghost use Rattle.gx_static.specs.Judgement.{Judgement, judged, typed, code_place};
+ghost use Rattle.gx_static.specs.Refusal.{RefusesType, refusal_at};
+ghost use Rattle.gx_static.specs.Rule.{has_type, ruling, variable_ruling};
+ghost use Rattle.gx_static.specs.Typing.{continued, then_typed, part_count, last_parts, judgement_of, judgement_with, EndsRejected};
+ghost use Rattle.gx_static.specs.declared.typing.Task.TheVariants as tasks;
+
+use crate::error::{InferError, RuleError};
+use crate::rules::{binary_type, data_type, literal_type, sequence_type};
+use gx_base::code::Code;
+use gx_base::place::Place;
+use gx_core::expression::{Binder, CoreExpr, CoreForm, E};
+use gx_core::operator::Operator;
+use gx_core::scope::Scope;
+use gx_core::stack::Stack;
+use gx_core::typed::{T, TypedExpr, TypedForm};
+use gx_types::schemas::Schemas;
+use gx_types::sequence_type::{Ty, TyNode};
+use std::alloc::{AllocError, Global};
+
+// A task: to infer the type of an expression, whose typed form goes on top of the parts; to bind a variable to the type of the part on
+// top; to take the innermost binding away; or to make the expression of an operator, at its place and that of its outermost
+// parentheses, of the parts on top.
+#[derive(Drop)]
+pub(crate) enum Task {
+    Infer(E),
+    Bind(u32),
+    Unbind,
+    Finish(Place, Place, Operator),
+}
+
+#[derive(Drop)]
+pub(crate) struct Typing {
+    pub(crate) tasks: Stack<Task>,
+    parts: Stack<TypedExpr>,
+    scope: Scope<Ty>,
+}
+
+impl Typing {
+    // The typing of an expression, with no variable in scope.
+    pub(crate) fn new(alloc: Global, expression: E) -> Result<Typing, AllocError>
+        ensures { (schemas : SchemaSet) → IfOk result (λ t. judgement_of schemas t ≡ Some (judged schemas expression.value [])) }
+    {
+        let mut tasks = Stack::new(alloc);
+        tasks.push(Task::Infer(expression))?;
+        Ok(Typing {
+            tasks,
+            parts: Stack::new(alloc),
+            scope: Scope::new(alloc),
+        })
+    }
+
+    // The typed expression, where no task is left.
+    pub(crate) fn result(mut self) -> TypedExpr
+        requires { self.parts ≢ [] }
+        ensures { (schemas : SchemaSet) → continued schemas [] self.parts self.scope ≡ Some (typed result) }
+    {
+        match self.parts.pop() {
+            Some(part) => part,
+            None => unreachable!(),
+        }
+    }
+
+    // Does a task.
+    pub(crate) fn step(
+        &mut self,
+        alloc: Global,
+        schemas: &Schemas,
+        task: Task,
+    ) -> Result<(), InferError>
+        requires { judgement_with schemas.now task self.now ≢ None }
+        ensures typed { OnOk result (judgement_of schemas.now self.new ≡ judgement_with schemas.now task self.old) }
+        ensures rejected { IfErr result (λ e. EndsRejected e (judgement_with schemas.now task self.old)) }
+    {
+        match task {
+            Task::Infer(expression) => Ok(self.open(expression)?),
+            Task::Bind(variable) => Ok(self.bind(variable)?),
+            Task::Unbind => {
+                self.scope.unbind();
+                Ok(())
+            }
+            Task::Finish(place, outer, operator) => {
+                self.finish(alloc, schemas, place, outer, operator)
+            }
+        }
+    }
+
+    // Puts down the tasks of an expression: to type its parts, and then to make it.
+    fn open(&mut self, expression: E) -> Result<(), AllocError>
+        ensures { (schemas : SchemaSet) → OnOk result (judgement_of schemas self.new ≡ judgement_with schemas (tasks.Infer expression) self.old) }
+    {
+        let CoreExpr { place, outer, form } = Box::into_inner(expression);
+        match form {
+            CoreForm::Lit(value) => self.open_leaf(place, outer, Operator::Lit(value)),
+            CoreForm::Var(number) => self.open_leaf(place, outer, Operator::Var(number)),
+            CoreForm::Empty => self.open_leaf(place, outer, Operator::Empty),
+            CoreForm::Seq(first, second) => self.open_pair(
+                place,
+                outer,
+                Operator::Seq,
+                first,
+                second,
+            ),
+            CoreForm::Let(binder, value, body) => self.open_let(place, outer, binder, value, body),
+            CoreForm::DataOf(operand) => {
+                self.tasks
+                    .push(Task::Finish(place, outer, Operator::DataOf))?;
+                self.tasks.push(Task::Infer(operand))
+            }
+            CoreForm::Binary(operator, left, right) => {
+                self.open_pair(place, outer, Operator::Binary(operator), left, right)
+            }
+        }
+    }
+
+    fn open_leaf(
+        &mut self,
+        place: Place,
+        outer: Place,
+        operator: Operator,
+    ) -> Result<(), AllocError>
+        ensures { (schemas : SchemaSet) → OnOk result (judgement_of schemas self.new ≡ judgement_with schemas (tasks.Finish place outer operator) self.old) }
+    {
+        self.tasks.push(Task::Finish(place, outer, operator))
+    }
+
+    // An operator of two parts that binds nothing.
+    fn open_pair(
+        &mut self,
+        place: Place,
+        outer: Place,
+        operator: Operator,
+        first: E,
+        second: E,
+    ) -> Result<(), AllocError>
+        ensures { (schemas : SchemaSet) → OnOk result (judgement_of schemas self.new
+            ≡ then_typed (judged schemas first.value self.old.scope) (λ t. then_typed (judged schemas second.value self.old.scope)
+            (λ u. continued schemas (tasks.Finish place outer operator ∷ self.old.tasks) (u ∷ t ∷ self.old.parts) self.old.scope))) }
+    {
+        self.tasks.push(Task::Finish(place, outer, operator))?;
+        self.tasks.push(Task::Infer(second))?;
+        self.tasks.push(Task::Infer(first))
+    }
+
+    // The body is typed with the variable in scope.
+    fn open_let(
+        &mut self,
+        place: Place,
+        outer: Place,
+        binder: Binder,
+        value: E,
+        body: E,
+    ) -> Result<(), AllocError>
+        ensures { (schemas : SchemaSet) → OnOk result (judgement_of schemas self.new
+            ≡ then_typed (judged schemas value.value self.old.scope) (λ t. then_typed (judged schemas body.value ((binder.variable, annotation_of t) ∷ self.old.scope))
+            (λ u. continued schemas (tasks.Finish place outer (operators.Let binder) ∷ self.old.tasks) (u ∷ t ∷ self.old.parts) self.old.scope))) }
+    {
+        self.tasks
+            .push(Task::Finish(place, outer, Operator::Let(binder)))?;
+        self.tasks.push(Task::Unbind)?;
+        self.tasks.push(Task::Infer(body))?;
+        self.tasks.push(Task::Bind(binder.variable))?;
+        self.tasks.push(Task::Infer(value))
+    }
+
+    // Binds a variable to the type of the part on top.
+    fn bind(&mut self, variable: u32) -> Result<(), AllocError>
+        requires { self.now.parts ≢ [] }
+        ensures { (schemas : SchemaSet) → OnOk result (judgement_of schemas self.new ≡ judgement_with schemas (tasks.Bind variable) self.old) }
+    {
+        let Some(value) = self.parts.pop() else {
+            unreachable!();
+        };
+        self.scope.bind(variable, value.kind.clone()?)?;
+        self.parts.push(value)
+    }
+
+    // Makes the expression of an operator of the parts on top.
+    #[tactic(auto, using(crate::proofs::Continuing::parts_are_there))]
+    fn finish(
+        &mut self,
+        alloc: Global,
+        schemas: &Schemas,
+        place: Place,
+        outer: Place,
+        operator: Operator,
+    ) -> Result<(), InferError>
+        requires { judgement_with schemas.now (tasks.Finish place outer operator) self.now ≢ None }
+        ensures typed { OnOk result (judgement_of schemas.now self.new ≡ judgement_with schemas.now (tasks.Finish place outer operator) self.old) }
+        ensures rejected { IfErr result (λ e. EndsRejected e (judgement_with schemas.now (tasks.Finish place outer operator) self.old)) }
+    {
+        let form = self.form(alloc, operator)?;
+        match form_type(alloc, schemas, &form, &self.scope) {
+            Ok(kind) => Ok(
+                self.parts.push(TypedExpr {
+                    place,
+                    outer,
+                    kind,
+                    form,
+                })?,
+            ),
+            Err(error) => Err(refusal(place, &form, error)),
+        }
+    }
+
+    // An operator over the parts on top.
+    fn form(&mut self, alloc: Global, operator: Operator) -> Result<TypedForm, AllocError>
+        requires { part_count operator ≤ length self.now.parts }
+        ensures operator { IfOk result (λ form. typed_operator_of form ≡ operator) }
+        ensures parts { (next : Parts SequenceType → List TypedExpression → Option Judgement)
+            → IfOk result (λ form. last_parts (part_count operator) self.old.parts no_parts next ≡ next (typed_parts_of form) self.new.parts) }
+        ensures tasks { self.new.tasks ≡ self.old.tasks }
+        ensures scope { self.new.scope ≡ self.old.scope }
+    {
+        match operator {
+            Operator::Lit(value) => Ok(TypedForm::Lit(value)),
+            Operator::Var(number) => Ok(TypedForm::Var(number)),
+            Operator::Empty => Ok(TypedForm::Empty),
+            Operator::Seq => {
+                let second = self.part(alloc)?;
+                Ok(TypedForm::Seq(self.part(alloc)?, second))
+            }
+            Operator::Let(binder) => {
+                let body = self.part(alloc)?;
+                Ok(TypedForm::Let(binder, self.part(alloc)?, body))
+            }
+            Operator::DataOf => Ok(TypedForm::DataOf(self.part(alloc)?)),
+            Operator::Binary(operator) => {
+                let right = self.part(alloc)?;
+                Ok(TypedForm::Binary(operator, self.part(alloc)?, right))
+            }
+        }
+    }
+
+    // Takes the part on top.
+    fn part(&mut self, alloc: Global) -> Result<T, AllocError>
+        requires { self.now.parts ≢ [] }
+        ensures part { IfOk result (λ part. self.old.parts ≡ part.value ∷ self.new.parts) }
+        ensures tasks { self.new.tasks ≡ self.old.tasks }
+        ensures scope { self.new.scope ≡ self.old.scope }
+    {
+        match self.parts.pop() {
+            Some(part) => Ok(Box::new(alloc, part)?),
+            None => unreachable!(),
+        }
+    }
+}
+
+// The type of a form, by the rule of its operator.
+fn form_type(
+    alloc: Global,
+    schemas: &Schemas,
+    form: &TypedForm,
+    scope: &Scope<Ty>,
+) -> Result<Ty, RuleError>
+    ensures typed { IfOk result (λ t. ruling schemas.now (typed_operator_of form.now) (each_of annotation_of (typed_parts_of form.now)) scope.now ≡ has_type t) }
+    ensures refused { IfErr result (λ e. RefusesType e (ruling schemas.now (typed_operator_of form.now) (each_of annotation_of (typed_parts_of form.now)) scope.now)) }
+{
+    match form {
+        TypedForm::Lit(value) => literal_type(alloc, value),
+        TypedForm::Var(number) => variable_type(*number, scope),
+        TypedForm::Empty => Ok(Ty {
+            node: TyNode::Empty,
+        }),
+        TypedForm::Seq(first, second) => Ok(sequence_type(alloc, &first.kind, &second.kind)?),
+        TypedForm::Let(_, _, body) => Ok(body.kind.clone()?),
+        TypedForm::DataOf(operand) => data_type(&operand.kind),
+        TypedForm::Binary(operator, left, right) => {
+            binary_type(alloc, schemas, *operator, &left.kind, &right.kind)
+        }
+    }
+}
+
+// The type of a variable.
+fn variable_type(number: u32, scope: &Scope<Ty>) -> Result<Ty, RuleError>
+    ensures typed { (schemas : SchemaSet) → IfOk result (λ t. variable_ruling schemas number (look_up scope.now number) ≡ has_type t) }
+    ensures refused { (schemas : SchemaSet) → IfErr result (λ e. RefusesType e (variable_ruling schemas number (look_up scope.now number))) }
+{
+    match scope.find(number) {
+        Some(bound) => Ok(bound.clone()?),
+        None => Err(RuleError::NoType {
+            code: Code::XPST0008,
+            part: None,
+        }),
+    }
+}
+
+// Why the operator of a form has no type.
+fn refusal(place: Place, form: &TypedForm, error: RuleError) -> InferError
+    ensures { result ≡ refusal_at place (each_of outer_of (typed_parts_of form.now)) error }
+{
+    match error {
+        RuleError::NoType { code, part } => InferError::NoType {
+            place: form_place(place, form, part),
+            code,
+        },
+        RuleError::Memory => InferError::Memory,
+    }
+}
+
+// Where the code of an operator stands: at a part, or at the operator itself.
+fn form_place(place: Place, form: &TypedForm, part: Option<u32>) -> Place
+    ensures { result ≡ code_place place (each_of outer_of (typed_parts_of form.now)) part }
+{
+    match form {
+        TypedForm::Lit(_) | TypedForm::Var(_) | TypedForm::Empty => code_place(place, &[], part),
+        TypedForm::DataOf(operand) => code_place(place, &[operand.outer], part),
+        TypedForm::Seq(first, second)
+        | TypedForm::Let(_, first, second)
+        | TypedForm::Binary(_, first, second) => {
+            code_place(place, &[first.outer, second.outer], part)
+        }
+    }
+}
+
+fn code_place(place: Place, parts: &[Place], part: Option<u32>) -> Place
+    ensures { result ≡ code_place place parts.now part }
+{
+    match part {
+        Some(number) => parts.get(number as usize).copied().unwrap_or(place),
+        None => place,
+    }
+}
