@@ -1,6 +1,6 @@
 // Stacks.
 
-ghost use Rattle.std.specs.Prelude.{◌≡◌, [], ◌∷◌, OnOk};
+ghost use Rattle.std.specs.Prelude.{◌≡◌, [], ◌∷◌, OnOk, reverse};
 ghost use Rattle.std.specs.Option.{MatchOption};
 
 use std::alloc::{AllocError, Global};
@@ -45,5 +45,12 @@ impl<T> Stack<T> {
         ensures { MatchOption result (self.old ≡ []) (λ item. self.old ≡ item ∷ self.new) }
     {
         self.items.pop()
+    }
+
+    /// All items, the lowest first.
+    pub fn into_items(self) -> Vec<T>
+        ensures { self ≡ reverse result.items }
+    {
+        self.items
     }
 }

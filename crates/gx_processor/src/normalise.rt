@@ -64,7 +64,12 @@ fn expression(alloc: Global, syntax: &Syntax) -> Result<CoreExpr, NameRefusal>
     for _ in 0..u64::MAX {
         match normalising.tasks.pop() {
             None => return Ok(normalising.result()),
-            Some(task) => normalising.step(alloc, task)?,
+            Some(task) => {
+                if let Err(refusal) = normalising.step(alloc, task) {
+                    normalising.dismantle(alloc);
+                    return Err(refusal);
+                }
+            }
         }
     }
     Err(NameRefusal::Memory)

@@ -18,6 +18,7 @@ use gx_base::code::Code;
 use gx_base::place::Place;
 use gx_base::text::Text;
 use gx_base::type_name::{Builtin, TypeName};
+use gx_core::dismantle::dismantle;
 use gx_core::expression::{BinaryOp, Binder, CoreExpr, CoreForm, E};
 use gx_core::stack::Stack;
 use gx_facets::{AtomValue, Atomic};
@@ -78,6 +79,13 @@ impl<'a> Normalising<'a> {
         match self.parts.pop() {
             Some(part) => part,
             None => unreachable!(),
+        }
+    }
+
+    // Drops the parts that a refusal leaves, each tree by a loop.
+    pub(crate) fn dismantle(self, alloc: Global) {
+        for part in self.parts.into_items() {
+            dismantle(alloc, part.form);
         }
     }
 

@@ -15,9 +15,10 @@ use crate::command::Command;
 use crate::query::typed_query;
 use crate::refusal::Refusal;
 use crate::serialise::serialise;
+use gx_core::dismantle::dismantle_typed;
 use gx_core::dyn_error::DynError;
 use gx_core::laws::sound_queries_keep_their_types;
-use gx_core::typed::TypedCore;
+use gx_core::typed::{TypedCore, TypedExpr};
 use gx_eval::evaluator::evaluate;
 use gx_io::Library;
 use gx_typetext::print::print_type;
@@ -40,32 +41,37 @@ pub fn output<L: Library>(
 {
     let query = typed_query(alloc, command.file(), library)?;
     match command {
-        Command::Run(_) => value_text(alloc, &query),
-        Command::Check(_) => Ok(type_text(alloc, &query)?),
+        Command::Run(_) => value_text(alloc, query),
+        Command::Check(_) => Ok(type_text(alloc, query)?),
     }
 }
 
-// The serialisation of the value of a query that is typed soundly.
+// The serialisation of the value of a query that is typed soundly, which ends here.
 #[tactic(auto, using(crate::proofs::ValueTexts::value_is_answered, crate::proofs::ValueTexts::error_is_answered))]
-fn value_text(alloc: Global, core: &TypedCore) -> Result<String, Refusal>
-    requires { IsSoundQuery no_declarations core.now }
-    ensures output { IfOk result (λ text. AnswersOutcome (query_outcome no_declarations (plain_query core.now) []) (writes (string_bytes text))) }
-    ensures refused { IfErr result (λ refusal. RefusesSo refusal (AnswersOutcome (query_outcome no_declarations (plain_query core.now) []))) }
+fn value_text(alloc: Global, core: TypedCore) -> Result<String, Refusal>
+    requires { IsSoundQuery no_declarations core }
+    ensures output { IfOk result (λ text. AnswersOutcome (query_outcome no_declarations (plain_query core) []) (writes (string_bytes text))) }
+    ensures refused { IfErr result (λ refusal. RefusesSo refusal (AnswersOutcome (query_outcome no_declarations (plain_query core) []))) }
     ensures cause { IfErr result (HasCause ⊥ (Unit {0})) }
 {
     sound_queries_keep_their_types();
-    match evaluate(alloc, core) {
+    let value = evaluate(alloc, &core);
+    let body = core.body;
+    dismantle_typed(alloc, body.form);
+    match value {
         Ok(items) => Ok(serialise(alloc, items.as_slice())?),
         Err(DynError::Raised(code)) => Err(Refusal::Dynamic(code)),
         Err(DynError::Memory) => Err(Refusal::Memory),
     }
 }
 
-// The text of the type of a query, and a line feed.
-fn type_text(alloc: Global, core: &TypedCore) -> Result<String, AllocError>
-    ensures { IfOk result (λ text. string_bytes text ≡ type_bytes (query_type core.now)) }
+// The text of the type of a query, which ends here, and a line feed.
+fn type_text(alloc: Global, core: TypedCore) -> Result<String, AllocError>
+    ensures { IfOk result (λ text. string_bytes text ≡ type_bytes (query_type core)) }
 {
-    let text = print_type(alloc, &core.body.kind)?;
+    let TypedExpr { kind, form, .. } = core.body;
+    dismantle_typed(alloc, form);
+    let text = print_type(alloc, &kind)?;
     let mut line = String::from_str(alloc, text.as_str())?;
     line.push('\n')?;
     Ok(line)

@@ -22,6 +22,7 @@ use gx_core::expression::Core;
 use gx_core::typed::TypedCore;
 use gx_grammar::decode::{DecodeError, decode};
 use gx_io::{Library, LoadError};
+use gx_parse::dismantle::dismantle;
 use gx_parse::parser::{ParseError, parse};
 use gx_parse::syntax::Syntax;
 use gx_static::error::InferError;
@@ -46,7 +47,7 @@ pub fn typed_query<L: Library>(
 {
     let bytes = bytes_of(alloc, file, library)?;
     let syntax = syntax_of(alloc, bytes.as_slice())?;
-    let core = core_of(alloc, &syntax)?;
+    let core = core_of(alloc, syntax)?;
     typed_core(alloc, core)
 }
 
@@ -126,14 +127,16 @@ fn has_comment(text: &[char]) -> bool
     false
 }
 
-// The Core of a tree.
-fn core_of(alloc: Global, syntax: &Syntax) -> Result<Core, Refusal>
-    requires { nodes syntax.now < 2 ^ 31 }
-    ensures core { IfOk result (λ core. query_named syntax.now ≡ named_query core) }
-    ensures refused { IfErr result (λ refusal. (command : Command) → RefusesSo refusal (AnswersNamed command (query_named syntax.now))) }
+// The Core of a tree, which ends here.
+fn core_of(alloc: Global, syntax: Syntax) -> Result<Core, Refusal>
+    requires { nodes syntax < 2 ^ 31 }
+    ensures core { IfOk result (λ core. query_named syntax ≡ named_query core) }
+    ensures refused { IfErr result (λ refusal. (command : Command) → RefusesSo refusal (AnswersNamed command (query_named syntax))) }
     ensures cause { IfErr result (HasCause ⊥ ⊥) }
 {
-    match normalise(alloc, syntax) {
+    let core = normalise(alloc, &syntax);
+    dismantle(alloc, syntax);
+    match core {
         Ok(core) => Ok(core),
         Err(NameRefusal::Refused { code, .. }) => Err(Refusal::Query(code)),
         Err(NameRefusal::Memory) => Err(Refusal::Memory),

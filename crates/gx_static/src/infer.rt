@@ -43,7 +43,12 @@ fn typed_expression(
     for _ in 0..u64::MAX {
         match typing.tasks.pop() {
             None => return Ok(typing.result()),
-            Some(task) => typing.step(alloc, schemas, task)?,
+            Some(task) => {
+                if let Err(error) = typing.step(alloc, schemas, task) {
+                    typing.dismantle(alloc);
+                    return Err(error);
+                }
+            }
         }
     }
     Err(InferError::Memory)

@@ -18,6 +18,7 @@ use crate::error::{InferError, RuleError};
 use crate::rules::{binary_type, data_type, literal_type, sequence_type};
 use gx_base::code::Code;
 use gx_base::place::Place;
+use gx_core::dismantle::{dismantle, dismantle_typed};
 use gx_core::expression::{Binder, CoreExpr, CoreForm, E};
 use gx_core::operator::Operator;
 use gx_core::scope::Scope;
@@ -27,9 +28,9 @@ use gx_types::schemas::Schemas;
 use gx_types::sequence_type::{Ty, TyNode};
 use std::alloc::{AllocError, Global};
 
-// A task: to infer the type of an expression, whose typed form goes on top of the parts; to bind a variable to the type of the part on
-// top; to take the innermost binding away; or to make the expression of an operator, at its place and that of its outermost
-// parentheses, of the parts on top.
+// A task: to infer the type of an expression, whose typed form goes on top of the parts; to bind a variable to the type of the
+// part on top; to take the innermost binding away; or to make the expression of an operator, at its place and that of its
+// outermost parentheses, of the parts on top.
 #[derive(Drop)]
 pub(crate) enum Task {
     Infer(E),
@@ -67,6 +68,18 @@ impl Typing {
         match self.parts.pop() {
             Some(part) => part,
             None => unreachable!(),
+        }
+    }
+
+    // Drops the tasks and the parts that a refusal leaves, each tree by a loop.
+    pub(crate) fn dismantle(self, alloc: Global) {
+        for task in self.tasks.into_items() {
+            if let Task::Infer(expression) = task {
+                dismantle(alloc, Box::into_inner(expression).form);
+            }
+        }
+        for part in self.parts.into_items() {
+            dismantle_typed(alloc, part.form);
         }
     }
 
@@ -208,7 +221,11 @@ impl Typing {
                     form,
                 })?,
             ),
-            Err(error) => Err(refusal(place, &form, error)),
+            Err(error) => {
+                let refusal = refusal(place, &form, error);
+                dismantle_typed(alloc, form);
+                Err(refusal)
+            }
         }
     }
 
