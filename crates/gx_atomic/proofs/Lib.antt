@@ -2,6 +2,7 @@ pub mod Decisions
 pub mod Deciding
 pub mod BooleanText
 pub mod FailingComparisons
+pub mod FailingCasts
 pub mod Comparing
 pub mod Fitting
 pub mod OwnType

@@ -1,9 +1,10 @@
 -- The public laws as terms, for the proofs of the crates above.
-use Rattle.gx_atomic.specs.Laws.{ValuesAreEqualToThemselves, EmptyListsCompareFalse, FirstPairDecides, ComparableByFamilies, ComparisonsFailInOneWay, CastsFitTheirTarget}
+use Rattle.gx_atomic.specs.Laws.{ValuesAreEqualToThemselves, EmptyListsCompareFalse, FirstPairDecides, ComparableByFamilies, ComparisonsFailInOneWay, CastsFitTheirTarget, CastsFailWithCodes}
 use Rattle.gx_atomic.proofs.Comparing.{equal_to_themselves, empty_lists, comparable}
 use Rattle.gx_atomic.proofs.Deciding as deciding
 use Rattle.gx_atomic.proofs.FailingComparisons.{fails_in_one_way}
 use Rattle.gx_atomic.proofs.Fitting.{casts_fit}
+use Rattle.gx_atomic.proofs.FailingCasts.{fail_with_codes}
 
 pub values_are_equal_to_themselves : ValuesAreEqualToThemselves
 values_are_equal_to_themselves = equal_to_themselves
@@ -22,3 +23,6 @@ comparisons_fail_in_one_way = fails_in_one_way
 
 pub casts_fit_their_target : CastsFitTheirTarget
 casts_fit_their_target = casts_fit
+
+pub casts_fail_with_codes : CastsFailWithCodes
+casts_fail_with_codes = fail_with_codes

@@ -2,6 +2,7 @@
 use Rattle.std.specs.Prelude.{◌≡◌, ◌≢◌, ◌↔◌, Bool, true, false, not, ◌||◌, List, [], ◌∷◌, ◌++◌, All, Some, is_some, Ok, Err, IsSome}
 use Rattle.std.specs.declared.cmp.Ordering.{Ordering}
 use Rattle.std.specs.declared.cmp.Ordering.TheVariants.{Equal}
+use Rattle.gx_base.specs.declared.code.Code.{Code}
 use Rattle.gx_base.specs.declared.type_name.Builtin.{Builtin}
 use Rattle.gx_base.specs.declared.type_name.TypeName.{TypeName}
 use Rattle.gx_base.specs.declared.type_name.TypeName.TheVariants as names
@@ -16,7 +17,7 @@ use Rattle.gx_atomic.specs.declared.casting.CastError.{CastError}
 use Rattle.gx_atomic.specs.declared.casting.CastError.TheVariants.{FORG0001}
 use Rattle.gx_atomic.specs.declared.comparison.Op.{Op}
 use Rattle.gx_atomic.specs.declared.comparison.Op.TheVariants.{Eq, Ne, Lt, Le, Gt, Ge}
-use Rattle.gx_atomic.specs.Cast.{cast_value, cast_of}
+use Rattle.gx_atomic.specs.Cast.{cast_value, cast_of, code_of}
 use Rattle.gx_atomic.specs.Comparison.{Decision, holds, value_comparison, pair_comparison, pairs_of, pair_decision, general_comparison}
 use Rattle.gx_atomic.specs.Fit.{FitsItsType}
 
@@ -76,6 +77,14 @@ ComparisonsFailInOneWay = (op : Op) (a b : List Atomic) (error : CastError) → 
 abbrev pub CastsFitTheirTarget : Type 0
 CastsFitTheirTarget =
     (schemas : SchemaSet) (a b : Atomic) (to : TypeName) → cast_of schemas a to ≡ Ok b → (b.kind ≡ to) × FitsItsType schemas b
+
+-- a fault that has a code
+abbrev pub HasCode : CastError → Type 0
+HasCode error = (code : Code) × (code_of error ≡ Some code)
+
+-- a cast that fails has a code: it wants no memory
+abbrev pub CastsFailWithCodes : Type 0
+CastsFailWithCodes = (schemas : SchemaSet) (a : Atomic) (to : TypeName) (error : CastError) → cast_of schemas a to ≡ Err error → HasCode error
 
 -- a number within the limits of its type
 abbrev pub HasNumberInRange : AtomValue → Type 0

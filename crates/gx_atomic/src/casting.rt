@@ -1,6 +1,7 @@
 // Casts of atomic values.
 ghost use Rattle.std.specs.Prelude.{◌≡◌, ◌&&◌, int_le, ℤ, Result, Option, Some, None};
 ghost use Rattle.gx_facets.specs.Value.{printed_value, value_of};
+ghost use Rattle.gx_types.specs.SchemaSet.{SchemaSet};
 ghost use Rattle.gx_atomic.specs.Cast.{Casts, CastsValue, cast_of, cast_value, in_type_range, fault_at, read_at, integer_to_decimal, to_boolean, to_decimal, to_integer, within_type, code_of};
 
 use gx_base::code::Code;
@@ -64,6 +65,13 @@ pub fn cast(
     to: &TypeName,
 ) -> Result<Atomic, CastError>
     ensures { Casts result (cast_of schemas.now a.now to.now) }
+{
+    cast_in_any_schemas(alloc, a, to)
+}
+
+/// The value cast to the type, as `cast` has it, which is the same in all schemas as yet.
+pub fn cast_in_any_schemas(alloc: Global, a: &Atomic, to: &TypeName) -> Result<Atomic, CastError>
+    ensures { (schemas : SchemaSet) → Casts result (cast_of schemas a.now to.now) }
 {
     match to {
         TypeName::Builtin(kind) => {

@@ -1,6 +1,6 @@
 // Laws of the definitions that the contracts cite.
 ghost use Rattle.gx_atomic.specs.Laws.{OperatorsAreContraries, ValuesAreEqualToThemselves, EmptyListsCompareFalse, FirstPairDecides, ComparableByFamilies, ComparisonsFailInOneWay};
-ghost use Rattle.gx_atomic.specs.Laws.{CastsFitTheirTarget, CastsGiveValuesOfTheirTarget, CastsToTheOwnTypeChangeNothing, CastsOfPrintedValuesGoBack};
+ghost use Rattle.gx_atomic.specs.Laws.{CastsFitTheirTarget, CastsFailWithCodes, CastsGiveValuesOfTheirTarget, CastsToTheOwnTypeChangeNothing, CastsOfPrintedValuesGoBack};
 
 use gx_facets::laws::{printed_values_read_back, read_values_fit};
 
@@ -33,6 +33,11 @@ pub fn values_are_comparable_by_families()
 /// A general comparison fails with FORG0001 alone.
 pub fn comparisons_fail_in_one_way()
     ensures { ComparisonsFailInOneWay }
+{}
+
+/// The fault of a cast is that of a dynamic error: it wants no memory.
+pub fn casts_fail_with_codes()
+    ensures { CastsFailWithCodes }
 {}
 
 /// What a cast gives has the target as its type, and fits it.

@@ -29,12 +29,19 @@ CoreExpression = Expression (Unit {0})
 abbrev pub core_at : (place outer : Place) → Operator → Parts (Unit {0}) → CoreExpression
 core_at place outer operator parts = At place outer tt operator parts
 
--- the parts of operators of one and of two parts
+-- the parts of operators of one, two and three parts, and of any number
 abbrev pub one_part : {A : Type 0} → Expression A → Parts A
 one_part first = a_part first no_parts
 
 abbrev pub two_parts : {A : Type 0} → Expression A → Expression A → Parts A
 two_parts first second = a_part first (a_part second no_parts)
+
+abbrev pub three_parts : {A : Type 0} → Expression A → Expression A → Expression A → Parts A
+three_parts first second third = a_part first (a_part second (a_part third no_parts))
+
+abbrev pub all_parts : {A : Type 0} → List (Expression A) → Parts A
+all_parts [] = no_parts
+all_parts (e ∷ es) = a_part e (all_parts es)
 
 abbrev pub annotation_of : {A : Type 0} → Expression A → A
 annotation_of (At place outer annotation operator parts) = annotation

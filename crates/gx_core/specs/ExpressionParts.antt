@@ -1,11 +1,16 @@
 -- The parts of an expression are smaller than it.
-use Rattle.std.specs.Prelude.{◌+◌, ◌≤◌, max}
+use Rattle.std.specs.Prelude.{◌+◌, ◌≤◌, max, List, [], ◌∷◌}
 use Rattle.std.proofs.Common.{arith}
+use denote.Param.Weighed.{most}
 use Rattle.gx_core.specs.declared.expression.CoreForm.{CoreForm}
-use Rattle.gx_core.specs.declared.expression.CoreForm.TheVariants.{Lit, Var, Empty, Seq, Let, DataOf, Binary}
+use Rattle.gx_core.specs.declared.expression.CoreForm.TheVariants.{Lit, Var, Empty, Seq, Let, If, Cast, Castable, DataOf, Call, Neg, Binary}
 use Rattle.gx_core.specs.declared.expression.CoreExpr.TheDeep.{deep-CoreForm}
-use Rattle.gx_core.specs.Expression.{parts_size}
+use Rattle.gx_core.specs.Expression.{Expression, expression_size, parts_size, all_parts}
 use Rattle.gx_core.specs.ExpressionView.{parts_of}
+
+most_parts : (es : List (Expression (Unit {0}))) → most (λ e. expression_size e + 1) es ≤ 1 + parts_size (all_parts es)
+most_parts [] = omega arith
+most_parts (e ∷ es) = omega (arith, most_parts es)
 
 -- each part of an expression is smaller than the expression
 pub parts_are_smaller : (f : CoreForm) → max (deep-CoreForm f) 0 ≤ 1 + parts_size (parts_of f)
@@ -14,5 +19,10 @@ parts_are_smaller (Var n) = omega arith
 parts_are_smaller Empty = omega arith
 parts_are_smaller (Seq a b) = omega arith
 parts_are_smaller (Let v a b) = omega arith
+parts_are_smaller (If a b c) = omega arith
+parts_are_smaller (Cast a kind optional) = omega arith
+parts_are_smaller (Castable a kind optional) = omega arith
 parts_are_smaller (DataOf a) = omega arith
+parts_are_smaller (Call function es) = omega (arith, most_parts es.items)
+parts_are_smaller (Neg a) = omega arith
 parts_are_smaller (Binary o a b) = omega arith

@@ -7,7 +7,13 @@ pub mod TypedParts
 pub mod Bindings
 pub mod Invariant
 pub mod Outcome
+pub mod BinaryOperators
+pub mod Operands
 pub mod Arithmetic
+pub mod Comparing
+pub mod Ranging
+pub mod Casting
+pub mod Calling
 pub mod Meaning
 pub mod Soundness
 pub mod QueryMeaning

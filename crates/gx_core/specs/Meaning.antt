@@ -1,5 +1,5 @@
 -- What a Core expression means (XQuery 1.0 and XPath 2.0 Formal Semantics, section 4; XQuery 1.0, section 3).
-use Rattle.std.specs.Prelude.{ℕ, List, [], ◌∷◌, ◌++◌, Option, Some, None}
+use Rattle.std.specs.Prelude.{ℕ, Bool, true, false, List, [], ◌∷◌, ◌++◌, Option, Some, None}
 use Rattle.gx_types.specs.SchemaSet.{SchemaSet}
 use Rattle.gx_model.specs.Forest.{Forest}
 use Rattle.gx_model.specs.Item.{Item, atom, node, Items}
@@ -8,7 +8,14 @@ use Rattle.gx_core.specs.declared.operator.Operator.TheVariants as operators
 use Rattle.gx_core.specs.Expression.{Expression, At, Parts, no_parts, a_part}
 use Rattle.gx_core.specs.Bindings.{look_up}
 use Rattle.gx_core.specs.Outcome.{Outcome, gives, wrong, after, given}
-use Rattle.gx_core.specs.Arithmetic.{arithmetic}
+use Rattle.gx_core.specs.declared.expression.BinaryClass.{BinaryClass}
+use Rattle.gx_core.specs.declared.expression.BinaryClass.TheVariants.{Arithmetic, Value, General, Range}
+use Rattle.gx_core.specs.BinaryOperators.{class_of}
+use Rattle.gx_core.specs.Arithmetic.{arithmetic, negation}
+use Rattle.gx_core.specs.Comparing.{condition_of, value_compared, generally_compared}
+use Rattle.gx_core.specs.Ranging.{range}
+use Rattle.gx_core.specs.Casting.{cast_items, castable_items}
+use Rattle.gx_core.specs.Calling.{called}
 
 -- what an expression stands in
 pub record Context : Type 0 where
@@ -31,13 +38,24 @@ atomized forest [] = Some []
 atomized forest (atom a ∷ items) = with_more (atom a) (atomized forest items)
 atomized forest (node place ∷ items) = None
 
+-- what an operator makes of its two operands
+abbrev pub binary_meaning : BinaryClass → Items → Items → Forest → Outcome Items
+binary_meaning (Arithmetic operation) xs ys forest = arithmetic operation xs ys forest
+binary_meaning (Value op) xs ys forest = value_compared op xs ys forest
+binary_meaning (General op) xs ys forest = generally_compared op xs ys forest
+binary_meaning Range xs ys forest = range xs ys forest
+
 -- what a strict operator makes of the values of its parts; a wrong number of them is a type error
 abbrev pub acts : Context → Operator → List Items → Forest → Outcome Items
 acts context (operators.Lit value) [] forest = gives (atom value ∷ []) forest
 acts context operators.Empty [] forest = gives [] forest
 acts context operators.Seq (xs ∷ ys ∷ []) forest = gives (xs ++ ys) forest
 acts context operators.DataOf (xs ∷ []) forest = given (atomized forest xs) (λ ys. gives ys forest)
-acts context (operators.Binary operator) (xs ∷ ys ∷ []) forest = arithmetic operator xs ys forest
+acts context (operators.Cast kind optional) (xs ∷ []) forest = cast_items context.schemas kind optional xs forest
+acts context (operators.Castable kind optional) (xs ∷ []) forest = castable_items context.schemas kind optional xs forest
+acts context (operators.Call function) values forest = called function values forest
+acts context operators.Neg (xs ∷ []) forest = negation xs forest
+acts context (operators.Binary operator) (xs ∷ ys ∷ []) forest = binary_meaning (class_of operator) xs ys forest
 acts context _ _ forest = wrong
 
 -- the values of parts, from the left, each in the forest that the part before it leaves
@@ -46,11 +64,18 @@ all_of [] bindings forest = gives [] forest
 all_of (part ∷ parts) bindings forest =
     after (part bindings forest) (λ value left. after (all_of parts bindings left) (λ values last. gives (value ∷ values) last))
 
+-- the branch of a conditional
+abbrev pub branch : Bool → (chosen otherwise : Denotation) → Denotation
+branch true chosen otherwise = chosen
+branch false chosen otherwise = otherwise
+
 -- an operator over its parts: those that choose, bind or repeat have a line each, and all others are strict
 abbrev pub denoted : Context → Operator → List Denotation → Bindings → Forest → Outcome Items
 denoted context (operators.Var number) [] bindings forest = given (look_up bindings number) (λ value. gives value forest)
 denoted context (operators.Let binder) (value ∷ body ∷ []) bindings forest =
     after (value bindings forest) (λ xs left. body ((binder.variable, xs) ∷ bindings) left)
+denoted context operators.If (condition ∷ chosen ∷ otherwise ∷ []) bindings forest =
+    after (condition bindings forest) (λ xs left. given (condition_of xs) (λ truth. branch truth chosen otherwise bindings left))
 denoted context operator parts bindings forest = after (all_of parts bindings forest) (acts context operator)
 
 -- the meaning looks at no place and at no annotation

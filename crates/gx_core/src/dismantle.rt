@@ -1,16 +1,16 @@
 // Trees taken apart by a loop, so that dropping one takes no stack in proportion to its depth.
 
-use crate::expression::{CoreForm, E};
-use crate::typed::{T, TypedForm};
+use crate::expression::{CoreExpr, CoreForm, E};
+use crate::typed::{T, TypedExpr, TypedForm};
 use std::alloc::Global;
 
 /// Drops an expression of this form part by part. What finds no memory is dropped as it is.
 pub fn dismantle(alloc: Global, form: CoreForm) {
     let mut parts = Vec::new(alloc);
-    set_aside(form, &mut parts);
+    set_aside(alloc, form, &mut parts);
     for _ in 0..u64::MAX {
         match parts.pop() {
-            Some(part) => set_aside(Box::into_inner(part).form, &mut parts),
+            Some(part) => set_aside(alloc, Box::into_inner(part).form, &mut parts),
             None => return,
         }
     }
@@ -19,19 +19,22 @@ pub fn dismantle(alloc: Global, form: CoreForm) {
 /// Drops a typed expression of this form part by part. What finds no memory is dropped as it is.
 pub fn dismantle_typed(alloc: Global, form: TypedForm) {
     let mut parts = Vec::new(alloc);
-    set_typed_aside(form, &mut parts);
+    set_typed_aside(alloc, form, &mut parts);
     for _ in 0..u64::MAX {
         match parts.pop() {
-            Some(part) => set_typed_aside(Box::into_inner(part).form, &mut parts),
+            Some(part) => set_typed_aside(alloc, Box::into_inner(part).form, &mut parts),
             None => return,
         }
     }
 }
 
-fn set_aside(form: CoreForm, parts: &mut Vec<E>) {
+fn set_aside(alloc: Global, form: CoreForm, parts: &mut Vec<E>) {
     match form {
         CoreForm::Lit(_) | CoreForm::Var(_) | CoreForm::Empty => {}
-        CoreForm::DataOf(operand) => {
+        CoreForm::DataOf(operand) | CoreForm::Neg(operand) => {
+            let _kept = parts.push(operand);
+        }
+        CoreForm::Cast(operand, _target, _) | CoreForm::Castable(operand, _target, _) => {
             let _kept = parts.push(operand);
         }
         CoreForm::Seq(first, second)
@@ -40,13 +43,32 @@ fn set_aside(form: CoreForm, parts: &mut Vec<E>) {
             let _first_kept = parts.push(first);
             let _second_kept = parts.push(second);
         }
+        CoreForm::If(condition, chosen, otherwise) => {
+            let _condition_kept = parts.push(condition);
+            let _chosen_kept = parts.push(chosen);
+            let _otherwise_kept = parts.push(otherwise);
+        }
+        CoreForm::Call(_, arguments) => set_arguments_aside(alloc, arguments, parts),
     }
 }
 
-fn set_typed_aside(form: TypedForm, parts: &mut Vec<T>) {
+fn set_arguments_aside(alloc: Global, mut arguments: Vec<CoreExpr>, parts: &mut Vec<E>) {
+    for _ in 0..arguments.len() {
+        if let Some(argument) = arguments.pop() {
+            if let Ok(part) = Box::new(alloc, argument) {
+                let _kept = parts.push(part);
+            }
+        }
+    }
+}
+
+fn set_typed_aside(alloc: Global, form: TypedForm, parts: &mut Vec<T>) {
     match form {
         TypedForm::Lit(_) | TypedForm::Var(_) | TypedForm::Empty => {}
-        TypedForm::DataOf(operand) => {
+        TypedForm::DataOf(operand) | TypedForm::Neg(operand) => {
+            let _kept = parts.push(operand);
+        }
+        TypedForm::Cast(operand, _target, _) | TypedForm::Castable(operand, _target, _) => {
             let _kept = parts.push(operand);
         }
         TypedForm::Seq(first, second)
@@ -54,6 +76,22 @@ fn set_typed_aside(form: TypedForm, parts: &mut Vec<T>) {
         | TypedForm::Binary(_, first, second) => {
             let _first_kept = parts.push(first);
             let _second_kept = parts.push(second);
+        }
+        TypedForm::If(condition, chosen, otherwise) => {
+            let _condition_kept = parts.push(condition);
+            let _chosen_kept = parts.push(chosen);
+            let _otherwise_kept = parts.push(otherwise);
+        }
+        TypedForm::Call(_, arguments) => set_typed_arguments_aside(alloc, arguments, parts),
+    }
+}
+
+fn set_typed_arguments_aside(alloc: Global, mut arguments: Vec<TypedExpr>, parts: &mut Vec<T>) {
+    for _ in 0..arguments.len() {
+        if let Some(argument) = arguments.pop() {
+            if let Ok(part) = Box::new(alloc, argument) {
+                let _kept = parts.push(part);
+            }
         }
     }
 }

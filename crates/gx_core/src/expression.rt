@@ -1,7 +1,13 @@
 // Core expressions.
 
+ghost use Rattle.std.specs.Prelude.{◌≡◌};
+ghost use Rattle.gx_core.specs.BinaryOperators.{class_of};
+
+use gx_atomic::Op;
 use gx_base::place::Place;
+use gx_base::type_name::TypeName;
 use gx_facets::Atomic;
+use gx_funcs::function::Function;
 use std::marker::Model;
 
 /// A Core expression inside another one.
@@ -20,10 +26,81 @@ pub struct Binder {
     pub place: Place,
 }
 
-/// The operators of two operands.
+/// The operators of two operands (XQuery 1.0, sections 3.3.1, 3.4 and 3.5).
 #[derive(Clone, Copy, Debug, PartialEq, Eq)]
 pub enum BinaryOp {
     Add,
+    Sub,
+    Mul,
+    /// `div`.
+    Div,
+    /// `idiv`.
+    IDiv,
+    Mod,
+    /// `eq`, and so on.
+    Eq,
+    Ne,
+    Lt,
+    Le,
+    Gt,
+    Ge,
+    /// `=`, and so on.
+    AnyEq,
+    AnyNe,
+    AnyLt,
+    AnyLe,
+    AnyGt,
+    AnyGe,
+    To,
+}
+
+/// The operators of arithmetic (XQuery 1.0, section 3.4).
+#[derive(Clone, Copy, Debug, PartialEq, Eq)]
+pub enum ArithmeticOp {
+    Add,
+    Sub,
+    Mul,
+    Div,
+    IDiv,
+    Mod,
+}
+
+/// What an operator of two operands does: arithmetic, a value comparison, a general comparison, or a range of integers.
+#[derive(Clone, Copy, Debug, PartialEq, Eq)]
+pub enum BinaryClass {
+    Arithmetic(ArithmeticOp),
+    Value(Op),
+    General(Op),
+    Range,
+}
+
+impl BinaryOp {
+    /// What the operator does.
+    pub fn class(self) -> BinaryClass
+        ensures { result ≡ class_of self }
+    {
+        match self {
+            BinaryOp::Add => BinaryClass::Arithmetic(ArithmeticOp::Add),
+            BinaryOp::Sub => BinaryClass::Arithmetic(ArithmeticOp::Sub),
+            BinaryOp::Mul => BinaryClass::Arithmetic(ArithmeticOp::Mul),
+            BinaryOp::Div => BinaryClass::Arithmetic(ArithmeticOp::Div),
+            BinaryOp::IDiv => BinaryClass::Arithmetic(ArithmeticOp::IDiv),
+            BinaryOp::Mod => BinaryClass::Arithmetic(ArithmeticOp::Mod),
+            BinaryOp::Eq => BinaryClass::Value(Op::Eq),
+            BinaryOp::Ne => BinaryClass::Value(Op::Ne),
+            BinaryOp::Lt => BinaryClass::Value(Op::Lt),
+            BinaryOp::Le => BinaryClass::Value(Op::Le),
+            BinaryOp::Gt => BinaryClass::Value(Op::Gt),
+            BinaryOp::Ge => BinaryClass::Value(Op::Ge),
+            BinaryOp::AnyEq => BinaryClass::General(Op::Eq),
+            BinaryOp::AnyNe => BinaryClass::General(Op::Ne),
+            BinaryOp::AnyLt => BinaryClass::General(Op::Lt),
+            BinaryOp::AnyLe => BinaryClass::General(Op::Le),
+            BinaryOp::AnyGt => BinaryClass::General(Op::Gt),
+            BinaryOp::AnyGe => BinaryClass::General(Op::Ge),
+            BinaryOp::To => BinaryClass::Range,
+        }
+    }
 }
 
 /// A Core expression. `place` is its own place, `outer` that of its outermost parentheses as they were written; the two
@@ -36,8 +113,9 @@ pub struct CoreExpr {
     pub form: CoreForm,
 }
 
-/// What a Core expression is: a literal, a variable by its number, the empty sequence, a sequence of two parts, a `let`,
-/// the atomization of its operand, or an operator of two operands.
+/// What a Core expression is: a literal, a variable by its number, the empty sequence, a sequence of two parts, a `let`, a
+/// conditional, a cast or a test whether there is one, to a type and of an empty operand where that is true, the atomization of
+/// its operand, a call of a built-in function, the negation of a number, or an operator of two operands.
 #[cycle(core_tree)]
 #[derive(Debug, Drop)]
 pub enum CoreForm {
@@ -46,7 +124,12 @@ pub enum CoreForm {
     Empty,
     Seq(E, E),
     Let(Binder, E, E),
+    If(E, E, E),
+    Cast(E, TypeName, bool),
+    Castable(E, TypeName, bool),
     DataOf(E),
+    Call(Function, Vec<CoreExpr>),
+    Neg(E),
     Binary(BinaryOp, E, E),
 }
 

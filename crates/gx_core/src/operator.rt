@@ -1,7 +1,9 @@
 // Core operators.
 
 use crate::expression::{BinaryOp, Binder};
+use gx_base::type_name::TypeName;
 use gx_facets::Atomic;
+use gx_funcs::function::Function;
 
 /// One operator of Core, with what it has beside its parts: one variant for each form of an expression. The parts of an
 /// operator are its expressions in the order written.
@@ -12,6 +14,11 @@ pub enum Operator {
     Empty,
     Seq,
     Let(Binder),
+    If,
+    Cast(TypeName, bool),
+    Castable(TypeName, bool),
     DataOf,
+    Call(Function),
+    Neg,
     Binary(BinaryOp),
 }

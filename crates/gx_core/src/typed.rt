@@ -2,7 +2,9 @@
 
 use crate::expression::{BinaryOp, Binder};
 use gx_base::place::Place;
+use gx_base::type_name::TypeName;
 use gx_facets::Atomic;
+use gx_funcs::function::Function;
 use gx_types::sequence_type::Ty;
 use std::marker::Model;
 
@@ -26,8 +28,9 @@ pub struct TypedExpr {
     pub form: TypedForm,
 }
 
-/// What a typed expression is: a literal, a variable by its number, the empty sequence, a sequence of two parts, a `let`,
-/// the atomization of its operand, or an operator of two operands.
+/// What a typed expression is: a literal, a variable by its number, the empty sequence, a sequence of two parts, a `let`, a
+/// conditional, a cast or a test whether there is one, to a type and of an empty operand where that is true, the atomization of
+/// its operand, a call of a built-in function, the negation of a number, or an operator of two operands.
 #[cycle(typed_tree)]
 #[derive(Debug, Drop)]
 pub enum TypedForm {
@@ -36,7 +39,12 @@ pub enum TypedForm {
     Empty,
     Seq(T, T),
     Let(Binder, T, T),
+    If(T, T, T),
+    Cast(T, TypeName, bool),
+    Castable(T, TypeName, bool),
     DataOf(T),
+    Call(Function, Vec<TypedExpr>),
+    Neg(T),
     Binary(BinaryOp, T, T),
 }
 

@@ -1,42 +1,53 @@
 // An evaluation in its midst: the work that is left, and the values that are there.
 
-ghost use Rattle.std.specs.Prelude.{◌≡◌, ◌++◌, ◌∷◌, [], IfOk, OnOk, IfErr, take, drop};
+ghost use Rattle.std.specs.Prelude.{◌≡◌, ◌++◌, ◌∷◌, [], length, map, IfOk, OnOk, IfErr, take, drop};
 ghost use Rattle.gx_facets.specs.declared.Atomic.{Atomic};
 ghost use Rattle.gx_model.specs.Forest.{Forest};
 ghost use Rattle.gx_model.specs.Item.{atoms};
 ghost use Rattle.gx_core.specs.Bindings.{look_up};
+ghost use Rattle.gx_core.specs.Comparing.{condition_of};
 ghost use Rattle.gx_core.specs.Outcome.{gives, after, given};
 ghost use Rattle.gx_core.specs.Meaning.{Context, meaning};
 ghost use Rattle.gx_eval.specs.Failing.{FailsSo};
-ghost use Rattle.gx_eval.specs.Resume.{resume, outcome_of, outcome_with, items_of};
+ghost use Rattle.gx_eval.specs.Resume.{resume, in_order, outcome_of, outcome_with, items_of};
 ghost use Rattle.gx_eval.specs.declared.evaluation.Pending.TheVariants as work;
 ghost use Rattle.gx_eval.specs.declared.evaluation.Strict.TheVariants as strict;
 
-use crate::arithmetic::arithmetic;
+use crate::answer::{of_two, put};
+use crate::calling::{called_with_none, called_with_one};
 use crate::failure::Failure;
+use crate::single::{cast, castable, negation};
+use gx_base::type_name::TypeName;
 use gx_core::expression::BinaryOp;
 use gx_core::scope::Scope;
 use gx_core::stack::Stack;
 use gx_core::typed::{TypedExpr, TypedForm};
-use gx_facets::Atomic;
+use gx_facets::{AtomValue, Atomic};
+use gx_funcs::function::Function;
 use std::alloc::{AllocError, Global};
 use std::mem;
 
-// A strict operator whose operands are marked.
-#[derive(Clone, Copy)]
+// A strict operator whose operands are marked; a call has so many.
+#[derive(Drop)]
 pub(crate) enum Strict {
     Data,
+    Neg,
+    Cast(TypeName, bool),
+    Castable(TypeName, bool),
+    Call(Function, usize),
     Binary(BinaryOp),
 }
 
 // A piece of work: to evaluate an expression, behind the values that are there; to mark where an operand begins; to apply
-// an operator to the operands behind the last marks; to bind a variable to all values in the body of a `let`, whose own value
+// an operator to the operands behind the last marks; to choose the first of two branches where the values behind the last mark
+// are true, and else the second; to bind a variable to all values in the body of a `let`, whose own value
 // goes behind those that were there before; or to take the innermost binding away.
 #[derive(Drop)]
 pub(crate) enum Pending<'a> {
     Evaluate(&'a TypedExpr),
     Mark,
     Apply(Strict),
+    Choose(&'a TypedExpr, &'a TypedExpr),
     Bind(u32, &'a TypedExpr, Vec<Atomic>),
     Unbind,
 }
@@ -75,7 +86,8 @@ impl<'a> Evaluation<'a> {
         match pending {
             Pending::Evaluate(expression) => self.open(alloc, expression),
             Pending::Mark => Ok(self.marks.push(self.values.len())?),
-            Pending::Apply(operator) => self.apply(operator),
+            Pending::Apply(operator) => self.apply(alloc, operator),
+            Pending::Choose(chosen, otherwise) => self.choose(chosen, otherwise),
             Pending::Bind(variable, body, outer) => Ok(self.bind(variable, body, outer)?),
             Pending::Unbind => {
                 self.scope.unbind();
@@ -100,11 +112,22 @@ impl<'a> Evaluation<'a> {
             TypedForm::Let(binder, value, body) => {
                 Ok(self.open_let(alloc, binder.variable, value, body)?)
             }
-            TypedForm::DataOf(operand) => {
-                self.work.push(Pending::Apply(Strict::Data))?;
-                self.work.push(Pending::Evaluate(operand))?;
+            TypedForm::If(condition, chosen, otherwise) => {
+                self.work.push(Pending::Choose(chosen, otherwise))?;
+                self.work.push(Pending::Evaluate(condition))?;
                 Ok(self.work.push(Pending::Mark)?)
             }
+            TypedForm::Cast(operand, kind, allows_empty) => {
+                Ok(self.open_cast(kind, *allows_empty, operand)?)
+            }
+            TypedForm::Castable(operand, kind, allows_empty) => {
+                Ok(self.open_castable(kind, *allows_empty, operand)?)
+            }
+            TypedForm::DataOf(operand) => Ok(self.open_single(Strict::Data, operand)?),
+            TypedForm::Call(function, arguments) => {
+                Ok(self.open_call(*function, arguments.as_slice())?)
+            }
+            TypedForm::Neg(operand) => Ok(self.open_single(Strict::Neg, operand)?),
             TypedForm::Binary(operator, left, right) => {
                 self.work.push(Pending::Apply(Strict::Binary(*operator)))?;
                 self.work.push(Pending::Evaluate(right))?;
@@ -113,6 +136,64 @@ impl<'a> Evaluation<'a> {
                 Ok(self.work.push(Pending::Mark)?)
             }
         }
+    }
+
+    // The one operand of a strict operator is marked.
+    fn open_single(&mut self, operator: Strict, operand: &'a TypedExpr) -> Result<(), AllocError>
+        ensures { (k : Context) (forest : Forest) → OnOk result (outcome_of k forest self.new
+            ≡ in_order (meaning k operand.now ∷ []) (resume k (work.Apply operator ∷ self.old.work)) (atoms self.old.values.items) self.old.marks (items_of self.old.scope) forest) }
+    {
+        self.work.push(Pending::Apply(operator))?;
+        self.work.push(Pending::Evaluate(operand))?;
+        self.work.push(Pending::Mark)
+    }
+
+    fn open_cast(
+        &mut self,
+        kind: &TypeName,
+        allows_empty: bool,
+        operand: &'a TypedExpr,
+    ) -> Result<(), AllocError>
+        ensures { (k : Context) (forest : Forest) → OnOk result (outcome_of k forest self.new
+            ≡ in_order (meaning k operand.now ∷ []) (resume k (work.Apply (strict.Cast kind.now allows_empty) ∷ self.old.work)) (atoms self.old.values.items) self.old.marks (items_of self.old.scope) forest) }
+    {
+        let operator = Strict::Cast(kind.clone()?, allows_empty);
+        self.open_single(operator, operand)
+    }
+
+    fn open_castable(
+        &mut self,
+        kind: &TypeName,
+        allows_empty: bool,
+        operand: &'a TypedExpr,
+    ) -> Result<(), AllocError>
+        ensures { (k : Context) (forest : Forest) → OnOk result (outcome_of k forest self.new
+            ≡ in_order (meaning k operand.now ∷ []) (resume k (work.Apply (strict.Castable kind.now allows_empty) ∷ self.old.work)) (atoms self.old.values.items) self.old.marks (items_of self.old.scope) forest) }
+    {
+        let operator = Strict::Castable(kind.clone()?, allows_empty);
+        self.open_single(operator, operand)
+    }
+
+    // Each argument of a call is marked.
+    #[tactic(auto, using(crate::proofs::Resuming::last_in_order))]
+    fn open_call(
+        &mut self,
+        function: Function,
+        arguments: &'a [TypedExpr],
+    ) -> Result<(), AllocError>
+        ensures { (k : Context) (forest : Forest) → OnOk result (outcome_of k forest self.new
+            ≡ in_order (map (meaning k) arguments.now) (resume k (work.Apply (strict.Call function (length arguments.now)) ∷ self.old.work))
+            (atoms self.old.values.items) self.old.marks (items_of self.old.scope) forest) }
+    {
+        self.work
+            .push(Pending::Apply(Strict::Call(function, arguments.len())))?;
+        let mut rest = arguments;
+        while let Some((argument, front)) = rest.split_last() {
+            self.work.push(Pending::Evaluate(argument))?;
+            self.work.push(Pending::Mark)?;
+            rest = front;
+        }
+        Ok(())
     }
 
     // The value of the variable is put together by itself.
@@ -162,13 +243,38 @@ impl<'a> Evaluation<'a> {
         self.work.push(Pending::Evaluate(body))
     }
 
+    // Puts the branch to the work that the values behind the last mark choose.
+    #[tactic(auto, using(crate::proofs::Resuming::chosen_is, crate::proofs::Resuming::none_is_chosen))]
+    fn choose(&mut self, chosen: &'a TypedExpr, otherwise: &'a TypedExpr) -> Result<(), Failure>
+        ensures value { (k : Context) (forest : Forest) → OnOk result (outcome_of k forest self.new ≡ outcome_with k forest (work.Choose chosen.entry otherwise.entry) self.old) }
+        ensures failed { (k : Context) (forest : Forest) → IfErr result (λ e. FailsSo e (outcome_with k forest (work.Choose chosen.entry otherwise.entry) self.old)) }
+    {
+        let Some(mark) = self.marks.pop() else {
+            return Err(Failure::Wrong);
+        };
+        let (_, condition) = cut_at(self.values.as_slice(), mark);
+        let Some(truth) = condition_of(condition) else {
+            return Err(Failure::Wrong);
+        };
+        self.values.truncate(mark);
+        if truth {
+            Ok(self.work.push(Pending::Evaluate(chosen))?)
+        } else {
+            Ok(self.work.push(Pending::Evaluate(otherwise))?)
+        }
+    }
+
     // Applies an operator to the operands behind the last marks.
-    fn apply(&mut self, operator: Strict) -> Result<(), Failure>
+    fn apply(&mut self, alloc: Global, operator: Strict) -> Result<(), Failure>
         ensures value { (k : Context) (forest : Forest) → OnOk result (outcome_of k forest self.new ≡ outcome_with k forest (work.Apply operator) self.old) }
         ensures failed { (k : Context) (forest : Forest) → IfErr result (λ e. FailsSo e (outcome_with k forest (work.Apply operator) self.old)) }
     {
         match operator {
             Strict::Data => self.apply_data(),
+            Strict::Neg => self.apply_negation(),
+            Strict::Cast(kind, allows_empty) => self.apply_cast(alloc, &kind, allows_empty),
+            Strict::Castable(kind, allows_empty) => self.apply_castable(alloc, &kind, allows_empty),
+            Strict::Call(function, count) => self.apply_call(function, count),
             Strict::Binary(operator) => self.apply_binary(operator),
         }
     }
@@ -185,7 +291,83 @@ impl<'a> Evaluation<'a> {
         }
     }
 
-    #[tactic(auto, using(crate::proofs::Resuming::binary_applies, crate::proofs::Resuming::binary_empties, crate::proofs::Resuming::binary_fails))]
+    #[tactic(auto, using(crate::proofs::Resuming::negation_applies, crate::proofs::Resuming::negation_fails))]
+    fn apply_negation(&mut self) -> Result<(), Failure>
+        ensures value { (k : Context) (forest : Forest) → OnOk result (outcome_of k forest self.new ≡ outcome_with k forest (work.Apply strict.Neg) self.old) }
+        ensures failed { (k : Context) (forest : Forest) → IfErr result (λ e. FailsSo e (outcome_with k forest (work.Apply strict.Neg) self.old)) }
+    {
+        let Some(mark) = self.marks.pop() else {
+            return Err(Failure::Wrong);
+        };
+        let (_, operand) = cut_at(self.values.as_slice(), mark);
+        let answer = negation(operand)?;
+        self.values.truncate(mark);
+        Ok(put(answer, &mut self.values)?)
+    }
+
+    #[tactic(auto, using(crate::proofs::Resuming::cast_applies, crate::proofs::Resuming::cast_fails))]
+    fn apply_cast(
+        &mut self,
+        alloc: Global,
+        kind: &TypeName,
+        allows_empty: bool,
+    ) -> Result<(), Failure>
+        ensures value { (k : Context) (forest : Forest) → OnOk result (outcome_of k forest self.new ≡ outcome_with k forest (work.Apply (strict.Cast kind.now allows_empty)) self.old) }
+        ensures failed { (k : Context) (forest : Forest) → IfErr result (λ e. FailsSo e (outcome_with k forest (work.Apply (strict.Cast kind.now allows_empty)) self.old)) }
+    {
+        let Some(mark) = self.marks.pop() else {
+            return Err(Failure::Wrong);
+        };
+        let (_, operand) = cut_at(self.values.as_slice(), mark);
+        let answer = cast(alloc, kind, allows_empty, operand)?;
+        self.values.truncate(mark);
+        Ok(put(answer, &mut self.values)?)
+    }
+
+    #[tactic(auto, using(crate::proofs::Resuming::castable_applies, crate::proofs::Resuming::castable_fails))]
+    fn apply_castable(
+        &mut self,
+        alloc: Global,
+        kind: &TypeName,
+        allows_empty: bool,
+    ) -> Result<(), Failure>
+        ensures value { (k : Context) (forest : Forest) → OnOk result (outcome_of k forest self.new ≡ outcome_with k forest (work.Apply (strict.Castable kind.now allows_empty)) self.old) }
+        ensures failed { (k : Context) (forest : Forest) → IfErr result (λ e. FailsSo e (outcome_with k forest (work.Apply (strict.Castable kind.now allows_empty)) self.old)) }
+    {
+        let Some(mark) = self.marks.pop() else {
+            return Err(Failure::Wrong);
+        };
+        let (_, operand) = cut_at(self.values.as_slice(), mark);
+        let answer = castable(alloc, kind, allows_empty, operand)?;
+        self.values.truncate(mark);
+        Ok(put(answer, &mut self.values)?)
+    }
+
+    // No function has more than one argument as yet.
+    #[tactic(auto, using(crate::proofs::Resuming::none_applies, crate::proofs::Resuming::none_fails, crate::proofs::Resuming::call_applies, crate::proofs::Resuming::call_fails, crate::proofs::Resuming::more_are_wrong))]
+    fn apply_call(&mut self, function: Function, count: usize) -> Result<(), Failure>
+        ensures value { (k : Context) (forest : Forest) → OnOk result (outcome_of k forest self.new ≡ outcome_with k forest (work.Apply (strict.Call function count)) self.old) }
+        ensures failed { (k : Context) (forest : Forest) → IfErr result (λ e. FailsSo e (outcome_with k forest (work.Apply (strict.Call function count)) self.old)) }
+    {
+        match count {
+            0 => {
+                let answer = called_with_none(function)?;
+                Ok(put(answer, &mut self.values)?)
+            }
+            1 => {
+                let Some(mark) = self.marks.pop() else {
+                    return Err(Failure::Wrong);
+                };
+                let (_, argument) = cut_at(self.values.as_slice(), mark);
+                let answer = called_with_one(function, argument)?;
+                self.values.truncate(mark);
+                Ok(put(answer, &mut self.values)?)
+            }
+            _ => Err(Failure::Wrong),
+        }
+    }
+
+    #[tactic(auto, using(crate::proofs::Resuming::binary_applies, crate::proofs::Resuming::binary_fails))]
     fn apply_binary(&mut self, operator: BinaryOp) -> Result<(), Failure>
         ensures value { (k : Context) (forest : Forest) → OnOk result (outcome_of k forest self.new ≡ outcome_with k forest (work.Apply (strict.Binary operator)) self.old) }
         ensures failed { (k : Context) (forest : Forest) → IfErr result (λ e. FailsSo e (outcome_with k forest (work.Apply (strict.Binary operator)) self.old)) }
@@ -198,13 +380,24 @@ impl<'a> Evaluation<'a> {
         };
         let (left, right) = cut_at(self.values.as_slice(), second);
         let (_, left) = cut_at(left, first);
-        let result = arithmetic(operator, left, right)?;
+        let answer = of_two(operator.class(), left, right)?;
         self.values.truncate(second);
         self.values.truncate(first);
-        if let Some(atomic) = result {
-            self.values.push(atomic)?;
-        }
-        Ok(())
+        Ok(put(answer, &mut self.values)?)
+    }
+}
+
+// The boolean that a value of one item is.
+#[tactic(auto, using(crate::proofs::Operands::many_are_no_condition))]
+fn condition_of(values: &[Atomic]) -> Option<bool>
+    ensures { result ≡ condition_of (atoms values.now) }
+{
+    match values {
+        [single] => match &single.value {
+            AtomValue::Truth(truth) => Some(*truth),
+            _ => None,
+        },
+        _ => None,
     }
 }
 

@@ -1,20 +1,139 @@
 -- Typing the parts of an expression and then making it comes to the judgement of the expression.
-use Rattle.std.proofs.Common.{◌≡◌, ◌≢◌, ◌≤◌, ℕ, zero, suc, List, [], ◌∷◌, length, Option, None, Some, refl, arith}
+use Rattle.std.proofs.Common.{◌≡◌, ◌≢◌, ◌≤◌, ◌+◌, ℕ, zero, suc, List, [], ◌∷◌, ◌++◌, length, map, reverse, Option, None, Some, refl, sym, ◌∙◌, ap, subst, append_assoc, arith}
+use Rattle.std.proofs.lemmas.List.{append-nil, reverse-append}
 use Rattle.gx_base.specs.declared.place.Place.{Place}
 use Rattle.gx_types.specs.SchemaSet.{SchemaSet}
 use Rattle.gx_types.specs.SequenceType.{SequenceType}
-use Rattle.gx_core.specs.declared.expression.BinaryOp.{BinaryOp}
+use Rattle.gx_funcs.specs.declared.function.Function.{Function}
 use Rattle.gx_core.specs.declared.expression.Binder.{Binder}
+use Rattle.gx_core.specs.declared.operator.Operator.{Operator}
 use Rattle.gx_core.specs.declared.operator.Operator.TheVariants as operators
-use Rattle.gx_core.specs.Expression.{CoreExpression, core_at, Parts, no_parts, a_part, two_parts, each_of, annotation_of}
-use Rattle.gx_core.specs.Bindings.{Types}
+use Rattle.gx_core.specs.Expression.{CoreExpression, core_at, Parts, no_parts, a_part, one_part, two_parts, three_parts, all_parts, each_of, annotation_of}
+use Rattle.gx_core.specs.Bindings.{Types, types_bound}
 use Rattle.gx_core.specs.Soundness.{TypedExpression}
 use Rattle.gx_static.specs.Rule.{ruling}
-use Rattle.gx_static.specs.Judgement.{Judgement, typed, rejected, with_typed, judged, concluded}
+use Rattle.gx_static.specs.Judgement.{Judged, Judgement, typed, rejected, with_typed, judged, parts_judged, concluded}
 use Rattle.gx_static.specs.declared.typing.Task.{Task}
-use Rattle.gx_static.specs.declared.typing.Task.TheVariants.{Finish}
-use Rattle.gx_static.specs.Typing.{then_typed, last_parts, continued}
+use Rattle.gx_static.specs.declared.typing.Task.TheVariants.{Finish, FinishCall}
+use Rattle.gx_static.specs.Typing.{part_count, then_typed, finished, typed_in_order, last_parts, continued}
 
+-- what is made of all parts, made of each
+made_typed : {R : Type 0} (j : Judged R) (make : R → Judgement) (next : TypedExpression → Option Judgement) → then_typed j (λ x. then_typed (make x) next) ≡ then_typed (with_typed j make) next
+made_typed (typed x) make next = refl
+made_typed (rejected place code) make next = refl
+
+put_in_front : (t : TypedExpression) (j : Judged (Parts SequenceType)) (next : Parts SequenceType → Option Judgement)
+    → then_typed j (λ ts. next (a_part t ts)) ≡ then_typed (with_typed j (λ ts. typed (a_part t ts))) next
+put_in_front t (typed ts) next = refl
+put_in_front t (rejected place code) next = refl
+
+one_more : (j : Judgement) (others : TypedExpression → Judged (Parts SequenceType)) (rest : TypedExpression → Option Judgement) (next : Parts SequenceType → Option Judgement)
+    → ((t : TypedExpression) → rest t ≡ then_typed (others t) (λ ts. next (a_part t ts)))
+    → then_typed j rest ≡ then_typed (with_typed j (λ t. with_typed (others t) (λ ts. typed (a_part t ts)))) next
+one_more (typed t) others rest next h = h t ∙ put_in_front t (others t) next
+one_more (rejected place code) others rest next h = refl
+
+-- how many expressions there are, besides some
+abbrev count_with : List CoreExpression → ℕ → ℕ
+count_with [] n = n
+count_with (e ∷ es) n = count_with es (suc n)
+
+-- typing expressions in order and taking them is judging the parts
+parts_in_order : (schemas : SchemaSet) (operator : Operator) (types : Types) → ((before : List SequenceType) → types_bound operator before ≡ [])
+    → (next : Parts SequenceType → List TypedExpression → Option Judgement) (below : List TypedExpression) (es : List CoreExpression) (before : List SequenceType) (n : ℕ) (there : List TypedExpression)
+    (behind : Parts SequenceType → Parts SequenceType) → ((parts : Parts SequenceType) → last_parts n there parts next ≡ next (behind parts) below)
+    → typed_in_order schemas es types (λ parts. last_parts (count_with es n) parts no_parts next) there
+    ≡ then_typed (parts_judged schemas operator before (all_parts es) types) (λ ts. next (behind ts) below)
+parts_in_order schemas operator types none next below [] before n there behind h = h no_parts
+parts_in_order schemas operator types none next below (e ∷ es) before n there behind h =
+    subst (λ (bound : Types). then_typed (judged schemas e types) (λ t. typed_in_order schemas es types (λ parts. last_parts (count_with es (suc n)) parts no_parts next) (t ∷ there))
+    ≡ then_typed (with_typed (judged schemas e (bound ++ types)) (λ t. with_typed (parts_judged schemas operator (before ++ annotation_of t ∷ []) (all_parts es) types) (λ ts. typed (a_part t ts)))) (λ ts. next (behind ts) below))
+    (sym (none before))
+    (one_more (judged schemas e types) (λ t. parts_judged schemas operator (before ++ annotation_of t ∷ []) (all_parts es) types)
+    (λ t. typed_in_order schemas es types (λ parts. last_parts (count_with es (suc n)) parts no_parts next) (t ∷ there)) (λ ts. next (behind ts) below)
+    (λ t. parts_in_order schemas operator types none next below es (before ++ annotation_of t ∷ []) (suc n) (t ∷ there) (λ ts. behind (a_part t ts)) (λ parts. h (a_part t parts))))
+
+counted : (es : List CoreExpression) (n : ℕ) → count_with es n ≡ length es + n
+counted [] n = omega arith
+counted (e ∷ es) n = omega (arith, counted es (suc n))
+
+-- so does an operator that binds nothing
+operator_opens : (schemas : SchemaSet) (operator : Operator) → ((before : List SequenceType) → types_bound operator before ≡ [])
+    → (place outer : Place) (types : Types) (next : TypedExpression → List TypedExpression → Option Judgement) (below : List TypedExpression) (es : List CoreExpression)
+    → typed_in_order schemas es types (λ parts. last_parts (count_with es 0) parts no_parts (finished schemas place outer operator types next)) below
+    ≡ then_typed (judged schemas (core_at place outer operator (all_parts es)) types) (λ t. next t below)
+operator_opens schemas operator none place outer types next below es =
+    parts_in_order schemas operator types none (finished schemas place outer operator types next) below es [] 0 below (λ ts. ts) (λ parts. refl)
+    ∙ made_typed (parts_judged schemas operator [] (all_parts es) types) (λ ts. concluded place outer operator ts (ruling schemas operator (each_of annotation_of ts) types)) (λ t. next t below)
+
+pub single_opens : (schemas : SchemaSet) (operator : Operator) → ((before : List SequenceType) → types_bound operator before ≡ []) → part_count operator ≡ 1
+    → (tasks : List Task) (parts : List TypedExpression) (types : Types) (place outer : Place) (operand : CoreExpression)
+    → typed_in_order schemas (operand ∷ []) types (λ parts. continued schemas (Finish place outer operator ∷ tasks) parts types) parts
+    ≡ then_typed (judged schemas (core_at place outer operator (one_part operand)) types) (λ t. continued schemas tasks (t ∷ parts) types)
+single_opens schemas operator none one tasks parts types place outer operand =
+    subst (λ (n : ℕ). typed_in_order schemas (operand ∷ []) types (λ parts. last_parts n parts no_parts (finished schemas place outer operator types (λ t below. continued schemas tasks (t ∷ below) types))) parts
+    ≡ then_typed (judged schemas (core_at place outer operator (one_part operand)) types) (λ t. continued schemas tasks (t ∷ parts) types)) (sym one)
+    (operator_opens schemas operator none place outer types (λ t below. continued schemas tasks (t ∷ below) types) parts (operand ∷ []))
+
+pub pair_opens : (schemas : SchemaSet) (operator : Operator) → ((before : List SequenceType) → types_bound operator before ≡ []) → part_count operator ≡ 2
+    → (tasks : List Task) (parts : List TypedExpression) (types : Types) (place outer : Place) (first second : CoreExpression)
+    → typed_in_order schemas (first ∷ second ∷ []) types (λ parts. continued schemas (Finish place outer operator ∷ tasks) parts types) parts
+    ≡ then_typed (judged schemas (core_at place outer operator (two_parts first second)) types) (λ t. continued schemas tasks (t ∷ parts) types)
+pair_opens schemas operator none two tasks parts types place outer first second =
+    subst (λ (n : ℕ). typed_in_order schemas (first ∷ second ∷ []) types (λ parts. last_parts n parts no_parts (finished schemas place outer operator types (λ t below. continued schemas tasks (t ∷ below) types))) parts
+    ≡ then_typed (judged schemas (core_at place outer operator (two_parts first second)) types) (λ t. continued schemas tasks (t ∷ parts) types)) (sym two)
+    (operator_opens schemas operator none place outer types (λ t below. continued schemas tasks (t ∷ below) types) parts (first ∷ second ∷ []))
+
+pub conditional_opens : (schemas : SchemaSet) (tasks : List Task) (parts : List TypedExpression) (types : Types) (place outer : Place) (condition chosen otherwise : CoreExpression)
+    → typed_in_order schemas (condition ∷ chosen ∷ otherwise ∷ []) types (λ parts. continued schemas (Finish place outer operators.If ∷ tasks) parts types) parts
+    ≡ then_typed (judged schemas (core_at place outer operators.If (three_parts condition chosen otherwise)) types) (λ t. continued schemas tasks (t ∷ parts) types)
+conditional_opens schemas tasks parts types place outer condition chosen otherwise =
+    operator_opens schemas operators.If (λ before. refl) place outer types (λ t below. continued schemas tasks (t ∷ below) types) parts (condition ∷ chosen ∷ otherwise ∷ [])
+
+pub call_opens : (schemas : SchemaSet) (tasks : List Task) (parts : List TypedExpression) (types : Types) (place outer : Place) (function : Function) (arguments : List CoreExpression)
+    → typed_in_order schemas arguments types (λ parts. continued schemas (FinishCall place outer function (length arguments) ∷ tasks) parts types) parts
+    ≡ then_typed (judged schemas (core_at place outer (operators.Call function) (all_parts arguments)) types) (λ t. continued schemas tasks (t ∷ parts) types)
+call_opens schemas tasks parts types place outer function arguments =
+    let count : count_with arguments 0 ≡ length arguments = omega (arith, counted arguments 0) in
+    subst (λ (n : ℕ). typed_in_order schemas arguments types (λ parts. last_parts n parts no_parts (finished schemas place outer (operators.Call function) types (λ t below. continued schemas tasks (t ∷ below) types))) parts
+    ≡ then_typed (judged schemas (core_at place outer (operators.Call function) (all_parts arguments)) types) (λ t. continued schemas tasks (t ∷ parts) types)) count
+    (operator_opens schemas (operators.Call function) (λ before. refl) place outer types (λ t below. continued schemas tasks (t ∷ below) types) parts arguments)
+
+also_behind : (j : Judgement) (f g : TypedExpression → Option Judgement) → ((t : TypedExpression) → f t ≡ g t) → then_typed j f ≡ then_typed j g
+also_behind (typed t) f g h = h t
+also_behind (rejected place code) f g h = refl
+
+-- the last of several expressions is typed behind the others
+pub last_typed : (schemas : SchemaSet) (es : List CoreExpression) (e : CoreExpression) (types : Types) (next : List TypedExpression → Option Judgement) (parts : List TypedExpression)
+    → typed_in_order schemas (es ++ e ∷ []) types next parts ≡ typed_in_order schemas es types (λ there. then_typed (judged schemas e types) (λ t. next (t ∷ there))) parts
+last_typed schemas [] e types next parts = refl
+last_typed schemas (d ∷ es) e types next parts =
+    also_behind (judged schemas d types) (λ t. typed_in_order schemas (es ++ e ∷ []) types next (t ∷ parts))
+    (λ t. typed_in_order schemas es types (λ there. then_typed (judged schemas e types) (λ u. next (u ∷ there))) (t ∷ parts)) (λ t. last_typed schemas es e types next (t ∷ parts))
+
+-- parts that are taken from the top, the last first
+arguments_taken : (taken : List TypedExpression) (below : List TypedExpression) (there : List TypedExpression) (next : Parts SequenceType → List TypedExpression → Option Judgement)
+    → last_parts (length taken) (taken ++ below) (all_parts there) next ≡ next (all_parts (reverse taken ++ there)) below
+arguments_taken [] below there next = refl
+arguments_taken (t ∷ taken) below there next =
+    arguments_taken taken below (t ∷ there) next ∙ ap (λ (ts : List TypedExpression). next (all_parts ts) below) (reverse_onto t taken there)
+  where
+    reverse_onto : (t : TypedExpression) (taken there : List TypedExpression) → reverse taken ++ (t ∷ there) ≡ reverse (t ∷ taken) ++ there
+    reverse_onto t taken there = sym (ap (λ (ts : List TypedExpression). ts ++ there) (reverse-append (t ∷ []) taken) ∙ append_assoc (reverse taken) (t ∷ []) there)
+
+pub last_are_arguments : (count : ℕ) (taken there below : List TypedExpression) (next : Parts SequenceType → List TypedExpression → Option Judgement) → length taken ≡ count → taken ++ below ≡ there
+    → last_parts count there no_parts next ≡ next (all_parts (reverse taken)) below
+last_are_arguments count taken there below next n e =
+    subst (λ (m : ℕ). last_parts m there no_parts next ≡ next (all_parts (reverse taken)) below) n
+    (subst (λ (ts : List TypedExpression). last_parts (length taken) ts no_parts next ≡ next (all_parts (reverse taken)) below) e
+    (arguments_taken taken below [] next ∙ ap (λ (ts : List TypedExpression). next (all_parts ts) below) (append-nil (reverse taken))))
+
+-- something of each argument
+pub each_of_arguments : {B : Type 0} (look : TypedExpression → B) (es : List TypedExpression) → each_of look (all_parts es) ≡ map look es
+each_of_arguments look [] = refl
+each_of_arguments look (e ∷ es) = ap (λ bs. look e ∷ bs) (each_of_arguments look es)
+
+-- a `let`, whose body is typed under the type of its value
 second_typed : (t : TypedExpression) (j : Judgement) (conclude : Parts SequenceType → Judgement) (next : TypedExpression → Option Judgement)
     → then_typed j (λ u. then_typed (conclude (two_parts t u)) next)
     ≡ then_typed (with_typed (with_typed (with_typed j (λ u. typed (a_part u no_parts))) (λ ts. typed (a_part t ts))) conclude) next
@@ -26,20 +145,6 @@ both_typed : (j : Judgement) (second : TypedExpression → Judgement) (conclude 
     ≡ then_typed (with_typed (with_typed j (λ t. with_typed (with_typed (second t) (λ u. typed (a_part u no_parts))) (λ ts. typed (a_part t ts)))) conclude) next
 both_typed (typed t) second conclude next = second_typed t (second t) conclude next
 both_typed (rejected place code) second conclude next = refl
-
-pub sequence_opens : (schemas : SchemaSet) (tasks : List Task) (parts : List TypedExpression) (types : Types) (place outer : Place) (first second : CoreExpression)
-    → then_typed (judged schemas first types) (λ t. then_typed (judged schemas second types) (λ u. continued schemas (Finish place outer operators.Seq ∷ tasks) (u ∷ t ∷ parts) types))
-    ≡ then_typed (judged schemas (core_at place outer operators.Seq (two_parts first second)) types) (λ t. continued schemas tasks (t ∷ parts) types)
-sequence_opens schemas tasks parts types place outer first second =
-    both_typed (judged schemas first types) (λ t. judged schemas second types)
-    (λ ts. concluded place outer operators.Seq ts (ruling schemas operators.Seq (each_of annotation_of ts) types)) (λ t. continued schemas tasks (t ∷ parts) types)
-
-pub binary_opens : (schemas : SchemaSet) (tasks : List Task) (parts : List TypedExpression) (types : Types) (place outer : Place) (operator : BinaryOp) (left right : CoreExpression)
-    → then_typed (judged schemas left types) (λ t. then_typed (judged schemas right types) (λ u. continued schemas (Finish place outer (operators.Binary operator) ∷ tasks) (u ∷ t ∷ parts) types))
-    ≡ then_typed (judged schemas (core_at place outer (operators.Binary operator) (two_parts left right)) types) (λ t. continued schemas tasks (t ∷ parts) types)
-binary_opens schemas tasks parts types place outer operator left right =
-    both_typed (judged schemas left types) (λ t. judged schemas right types)
-    (λ ts. concluded place outer (operators.Binary operator) ts (ruling schemas (operators.Binary operator) (each_of annotation_of ts) types)) (λ t. continued schemas tasks (t ∷ parts) types)
 
 pub let_opens : (schemas : SchemaSet) (tasks : List Task) (parts : List TypedExpression) (types : Types) (place outer : Place) (binder : Binder) (value body : CoreExpression)
     → then_typed (judged schemas value types) (λ t. then_typed (judged schemas body ((binder.variable, annotation_of t) ∷ types)) (λ u. continued schemas (Finish place outer (operators.Let binder) ∷ tasks) (u ∷ t ∷ parts) types))

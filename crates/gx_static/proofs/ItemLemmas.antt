@@ -1,5 +1,5 @@
 -- What the item types of a type say of the items of its values.
-use Rattle.std.proofs.Common.{◌≡◌, ℕ, suc, ◌≤◌, Bool, true, List, [], ◌∷◌, ◌++◌, length, Option, None, Some, refl, sym, ◌∙◌, ap, subst, inl, inr, nat_le}
+use Rattle.std.proofs.Common.{◌≡◌, ℕ, suc, ◌≤◌, Bool, true, List, [], ◌∷◌, ◌++◌, length, Option, None, Some, refl, sym, ◌∙◌, ap, subst, inl, inr, nat_le, arith}
 use Rattle.std.specs.Option.{option_map}
 use Rattle.std.proofs.Math.Dec.{T, leb→le}
 use Rattle.std.proofs.lemmas.Bool.{and_parts}
@@ -26,7 +26,7 @@ use Rattle.gx_tree.specs.PlainTree.{PlainTree, document, element, attribute, tex
 use Rattle.gx_model.specs.Forest.{Forest, node_in}
 use Rattle.gx_model.specs.Item.{Item, atom, node, Items}
 use Rattle.gx_model.specs.Belongs.{shape_of, item_shape, ItemFits, HaveShapes, Belongs}
-use Rattle.gx_static.specs.Rule.{all_items, is_atomic, is_atomic_in, is_all_in}
+use Rattle.gx_static.specs.Rule.{all_items, is_atomic, is_atomic_in, is_all_in, is_at_least_one, is_at_most_one}
 
 -- each item type of a list passes a test
 abbrev AllPass : (ItemType → Bool) → List ItemType → Type 0
@@ -69,6 +69,14 @@ shapes_passed s test Fact t ss f e h =
 abbrev pub EachItem : (Item → Type 0) → Items → Type 0
 EachItem Fact [] = Unit {0}
 EachItem Fact (x ∷ xs) = Fact x × EachItem Fact xs
+
+pub each_so : (P Q : Item → Type 0) (xs : Items) → ((x : Item) → P x → Q x) → EachItem P xs → EachItem Q xs
+each_so P Q [] f h = tt
+each_so P Q (x ∷ xs) f h = (f x h.0, each_so P Q xs f h.1)
+
+-- the one item of a value
+pub the_item : (P : Item → Type 0) (xs : Items) (x : Item) → xs ≡ x ∷ [] → EachItem P xs → P x
+the_item P xs x e h = (subst (EachItem P) e h).0
 
 each_item : (s : SchemaSet) (forest : Forest) (P : Shape → Type 0) (Q : Item → Type 0) (xs : Items) (ss : List Shape)
     → ((x : Item) (shape : Shape) → item_shape forest x ≡ Some shape → ItemFits s x → P shape → Q x) → HaveShapes s forest xs ss → EachShape P ss → EachItem Q xs
@@ -137,15 +145,37 @@ pub record IsAtomIn (s : SchemaSet) (b : Builtin) (x : Item) : Type 0 where
   pub derived : DerivesFrom s value.kind (names.Builtin b)
   pub fits : ItemFits s (atom value)
 
-pub items_are_in : (s : SchemaSet) (forest : Forest) (b : Builtin) (xs : Items) (t : SequenceType) → is_all_in s b t ≡ true → Belongs s forest xs t → EachItem (IsAtomIn s b) xs
-items_are_in s forest b xs t e belongs =
-    each_item s forest (IsShapeIn s b) (IsAtomIn s b) xs belongs.seen
-    (λ x shape shown fits k. let a = atom_of_shape forest x shape k.0 shown k.1 in record {
+pub atom_in : (s : SchemaSet) (forest : Forest) (b : Builtin) (x : Item) (shape : Shape) (kind : ItemType) → is_atomic_in s b kind ≡ true → ItemTakes s kind shape → item_shape forest x ≡ Some shape → ItemFits s x → IsAtomIn s b x
+atom_in s forest b x shape kind passes takes shown fits =
+    let k = derived_taken s b kind shape passes takes in
+    let a = atom_of_shape forest x shape k.0 shown k.1 in record {
       value = a.value;
       is = a.is;
       derived = subst (λ (kind : TypeName). DerivesFrom s kind (names.Builtin b)) (sym a.typed) k.2;
       fits = subst (ItemFits s) a.is fits;
-    }) belongs.shaped (shapes_passed s (is_atomic_in s b) (IsShapeIn s b) t belongs.seen (derived_taken s b) e belongs.taken)
+    }
+
+-- an item that an item type takes which passes a test
+pub record Meets (s : SchemaSet) (forest : Forest) (test : ItemType → Bool) (x : Item) : Type 0 where
+  pub kind : ItemType
+  pub shape : Shape
+  pub passes : test kind ≡ true
+  pub takes : ItemTakes s kind shape
+  pub shown : item_shape forest x ≡ Some shape
+  pub fits : ItemFits s x
+
+abbrev IsTaken : SchemaSet → (ItemType → Bool) → Shape → Type 0
+IsTaken s test shape = (kind : ItemType) × (test kind ≡ true) × ItemTakes s kind shape
+
+pub items_meet : (s : SchemaSet) (forest : Forest) (test : ItemType → Bool) (xs : Items) (t : SequenceType) → all_items test t ≡ true → Belongs s forest xs t → EachItem (Meets s forest test) xs
+items_meet s forest test xs t e belongs =
+    each_item s forest (IsTaken s test) (Meets s forest test) xs belongs.seen
+    (λ x shape shown fits k. record { kind = k.0; shape = shape; passes = k.1; takes = k.2; shown = shown; fits = fits })
+    belongs.shaped (shapes_passed s test (IsTaken s test) t belongs.seen (λ kind shape passes takes. (kind, passes, takes)) e belongs.taken)
+
+pub items_are_in : (s : SchemaSet) (forest : Forest) (b : Builtin) (xs : Items) (t : SequenceType) → is_all_in s b t ≡ true → Belongs s forest xs t → EachItem (IsAtomIn s b) xs
+items_are_in s forest b xs t e belongs = each_so (Meets s forest (is_atomic_in s b)) (IsAtomIn s b) xs
+    (λ x m. atom_in s forest b x m.shape m.kind m.passes m.takes m.shown m.fits) (items_meet s forest (is_atomic_in s b) xs t e belongs)
 
 -- how many items a value of a type has
 have_length : (s : SchemaSet) (forest : Forest) (xs : Items) (ss : List Shape) → HaveShapes s forest xs ss → length ss ≡ length xs
@@ -160,3 +190,20 @@ belongs_within s forest t xs b =
 
 pub at_most_one : (n : ℕ) → nat_le n 1 ≡ true → n ≤ 1
 at_most_one n e = leb→le n 1 (subst (λ (b : Bool). T b) (sym e) tt)
+
+pub at_least_one : (n : ℕ) → nat_le 1 n ≡ true → 1 ≤ n
+at_least_one n e = leb→le 1 n (subst (λ (b : Bool). T b) (sym e) tt)
+
+-- the item of a value of exactly one
+pub one_item : (s : SchemaSet) (forest : Forest) (t : SequenceType) (xs : Items) → is_at_least_one t ≡ true → is_at_most_one t ≡ true → Belongs s forest xs t → (x : Item) × (xs ≡ x ∷ [])
+one_item s forest t xs low high b =
+    let v = belongs_within s forest t xs b in
+    let g = at_most_one (occurrence_of t).greatest high in
+    let l = at_least_one (occurrence_of t).least low in
+    let w = v.greatest (omega (arith, g)) in
+    alone xs (omega (arith, v.least, l)) (omega (arith, w, g))
+  where
+    alone : (ys : Items) → 1 ≤ length ys → length ys ≤ 1 → (x : Item) × (ys ≡ x ∷ [])
+    alone [] l h = absurd (omega (arith, l))
+    alone (x ∷ []) l h = (x, refl)
+    alone (x ∷ y ∷ ys) l h = absurd (omega (arith, h))

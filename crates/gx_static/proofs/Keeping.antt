@@ -15,15 +15,19 @@ use Rattle.gx_types.proofs.PublicLaws.{sequence_takes_parts}
 use Rattle.gx_model.specs.Forest.{Forest, IsHonest}
 use Rattle.gx_model.specs.Item.{Item, atom, Items}
 use Rattle.gx_model.specs.Belongs.{HaveShapes, Belongs}
+use Rattle.gx_core.specs.declared.expression.BinaryOp.{BinaryOp}
+use Rattle.gx_core.specs.declared.expression.BinaryClass.{BinaryClass}
+use Rattle.gx_core.specs.BinaryOperators.{class_of}
 use Rattle.gx_core.specs.declared.operator.Operator.{Operator}
+use Rattle.gx_core.specs.declared.operator.Operator.TheVariants as operators
 use Rattle.gx_core.specs.Expression.{Parts, no_parts, a_part, each_of, annotation_of}
 use Rattle.gx_core.specs.Bindings.{look_up, Types, types_bound}
 use Rattle.gx_core.specs.Outcome.{Outcome, gives, after, given}
-use Rattle.gx_core.specs.Meaning.{Context, Bindings, Denotation, atomized, acts, all_of, denoted, meaning, meanings}
+use Rattle.gx_core.specs.Meaning.{Context, Bindings, Denotation, atomized, binary_meaning, acts, all_of, denoted, meaning, meanings}
 use Rattle.gx_core.specs.Soundness.{Setting, typed_setting, context_of, IsOfType, AreOfTypes, Keeps, Situation}
 use Rattle.gx_core.specs.Laws.{AllKeep}
 use Rattle.gx_core.proofs.KeptFacts.{fact_after, fact_at_once, binding_fits, bindings_fit_still, operands_keep}
-use Rattle.gx_static.specs.Rule.{has_type, has_none, shown_type, all_items, is_atomic, rule, ruling, variable_ruling}
+use Rattle.gx_static.specs.Rule.{has_type, has_none, type_if, shown_type, all_items, is_atomic, binary_rule, rule, ruling, variable_ruling}
 use Rattle.gx_static.specs.Laws.{ActsKeepType, PartsKeepTypes, OperatorKeepsType, LiteralKeepsType, VariableKeepsType, EmptyKeepsType, SequenceKeepsType, LetKeepsType, DataKeepsType}
 use Rattle.gx_static.proofs.ItemLemmas.{EachItem, IsAtom, items_are_atoms}
 use Rattle.gx_static.proofs.LiteralLemmas.{literal_fits}
@@ -36,6 +40,33 @@ ruled t u e = cc
 pub tested : (test : Bool) (t u : SequenceType) (code : Code) (part : Option ℕ) → (if test then has_type t else has_none code part) ≡ has_type u → (test ≡ true) × (t ≡ u)
 tested true t u code part e = (refl, ruled t u e)
 tested false t u code part e = absurd (cc)
+
+pub type_so : (test : Bool) (t u : SequenceType) → type_if test t ≡ has_type u → (test ≡ true) × (t ≡ u)
+type_so test t u e = tested test t u _ _ e
+
+-- a strict operator of one part, and one of two
+pub single_keeps : (s : SchemaSet) (operator : Operator)
+    → ((a t : SequenceType) (forest : Forest) (xs : Items) → rule s operator (a ∷ []) ≡ has_type t → IsHonest s forest → Belongs s forest xs a
+    → Keeps (typed_setting s) forest t (acts (context_of (typed_setting s)) operator (xs ∷ []) forest))
+    → ((t : SequenceType) → rule s operator [] ≡ has_type t → ⊥) → ((a b t : SequenceType) (ps : List SequenceType) → rule s operator (a ∷ b ∷ ps) ≡ has_type t → ⊥) → ActsKeepType s operator
+single_keeps s operator keeps none more (a ∷ []) t forest (xs ∷ []) e honest h = keeps a t forest xs e honest h.0
+single_keeps s operator keeps none more (a ∷ []) t forest [] e honest h = absurd h
+single_keeps s operator keeps none more (a ∷ []) t forest (xs ∷ ys ∷ values) e honest h = absurd h.1
+single_keeps s operator keeps none more [] t forest values e honest h = absurd (none t e)
+single_keeps s operator keeps none more (a ∷ b ∷ ps) t forest values e honest h = absurd (more a b t ps e)
+
+pub pair_keeps : (s : SchemaSet) (operator : BinaryOp) (class : BinaryClass) → class_of operator ≡ class
+    → ((a b t : SequenceType) (forest : Forest) (xs ys : Items) → binary_rule s class a b ≡ has_type t → IsHonest s forest → Belongs s forest xs a → Belongs s forest ys b
+    → Keeps (typed_setting s) forest t (binary_meaning class xs ys forest)) → ActsKeepType s (operators.Binary operator)
+pair_keeps s operator class is keeps (a ∷ b ∷ []) t forest (xs ∷ ys ∷ []) e honest h =
+    subst (λ (c : BinaryClass). Keeps (typed_setting s) forest t (binary_meaning c xs ys forest)) (sym is)
+    (keeps a b t forest xs ys (subst (λ (c : BinaryClass). binary_rule s c a b ≡ has_type t) is e) honest h.0 h.1.0)
+pair_keeps s operator class is keeps (a ∷ b ∷ []) t forest [] e honest h = absurd h
+pair_keeps s operator class is keeps (a ∷ b ∷ []) t forest (xs ∷ []) e honest h = absurd h.1
+pair_keeps s operator class is keeps (a ∷ b ∷ []) t forest (xs ∷ ys ∷ zs ∷ values) e honest h = absurd h.1.1
+pair_keeps s operator class is keeps [] t forest values e honest h = absurd (cc)
+pair_keeps s operator class is keeps (a ∷ []) t forest values e honest h = absurd (cc)
+pair_keeps s operator class is keeps (a ∷ b ∷ c ∷ ps) t forest values e honest h = absurd (cc)
 
 -- a value of the type that a rule gives, in the forest as it is
 pub value_keeps : (s : SchemaSet) (t u : SequenceType) (forest : Forest) (xs : Items) → t ≡ u → IsHonest s forest → Belongs s forest xs t → Keeps (typed_setting s) forest u (gives xs forest)

@@ -1,7 +1,14 @@
 pub mod LiteralLemmas
 pub mod ItemLemmas
 pub mod Keeping
+pub mod Singles
 pub mod Arithmetic
+pub mod Families
+pub mod Comparisons
+pub mod Ranges
+pub mod Conditionals
+pub mod Casts
+pub mod Calls
 pub mod SoundTyping
 pub mod Failing
 pub mod ScopedVariables

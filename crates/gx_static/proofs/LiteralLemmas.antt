@@ -17,7 +17,7 @@ use Rattle.gx_types.specs.SchemaSet.{SchemaSet}
 use Rattle.gx_types.specs.Derivation.{DerivesFrom}
 use Rattle.gx_types.proofs.EqualNames.{builtins_are_one}
 use Rattle.gx_types.proofs.DerivationLemmas.{from_base, baseless}
-use Rattle.gx_types.proofs.DerivationOrder.{derivation_is_linear}
+use Rattle.gx_types.proofs.DerivationOrder.{derivation_is_linear, derivation_is_a_preorder}
 use Rattle.gx_model.specs.Belongs.{ValueFits}
 use Rattle.gx_core.specs.Arithmetic.{type_of_number}
 use Rattle.gx_static.specs.Rule.{shown_type}
@@ -48,6 +48,32 @@ boolean_is_no_number s t = both_apart s t Boolean Decimal (apart s Boolean Decim
 pub untyped_is_no_number : (s : SchemaSet) (t : TypeName) → t ≡ names.Builtin UntypedAtomic → DerivesFrom s t (names.Builtin Decimal) → ⊥
 untyped_is_no_number s t e d =
     apart s UntypedAtomic Decimal refl refl refl refl refl (subst (λ (u : TypeName). DerivesFrom s u (names.Builtin Decimal)) e d)
+
+pub string_is_no_boolean : (s : SchemaSet) (t : TypeName) → DerivesFrom s t (names.Builtin Str) → DerivesFrom s t (names.Builtin Boolean) → ⊥
+string_is_no_boolean s t = both_apart s t Str Boolean (apart s Str Boolean refl refl refl refl refl) (apart s Boolean Str refl refl refl refl refl)
+
+pub untyped_is_no_boolean : (s : SchemaSet) (t : TypeName) → t ≡ names.Builtin UntypedAtomic → DerivesFrom s t (names.Builtin Boolean) → ⊥
+untyped_is_no_boolean s t e d =
+    apart s UntypedAtomic Boolean refl refl refl refl refl (subst (λ (u : TypeName). DerivesFrom s u (names.Builtin Boolean)) e d)
+
+-- no type is derived from xs:untypedAtomic and from xs:boolean, or a number
+pub from_untyped_is_no_boolean : (s : SchemaSet) (t : TypeName) → DerivesFrom s t (names.Builtin UntypedAtomic) → DerivesFrom s t (names.Builtin Boolean) → ⊥
+from_untyped_is_no_boolean s t = both_apart s t UntypedAtomic Boolean (apart s UntypedAtomic Boolean refl refl refl refl refl) (apart s Boolean UntypedAtomic refl refl refl refl refl)
+
+pub from_untyped_is_no_number : (s : SchemaSet) (t : TypeName) → DerivesFrom s t (names.Builtin UntypedAtomic) → DerivesFrom s t (names.Builtin Decimal) → ⊥
+from_untyped_is_no_number s t = both_apart s t UntypedAtomic Decimal (apart s UntypedAtomic Decimal refl refl refl refl refl) (apart s Decimal UntypedAtomic refl refl refl refl refl)
+
+pub from_untyped_is_no_string : (s : SchemaSet) (t : TypeName) → DerivesFrom s t (names.Builtin UntypedAtomic) → DerivesFrom s t (names.Builtin Str) → ⊥
+from_untyped_is_no_string s t = both_apart s t UntypedAtomic Str (apart s UntypedAtomic Str refl refl refl refl refl) (apart s Str UntypedAtomic refl refl refl refl refl)
+
+-- a type that is derived from xs:integer is derived from xs:decimal
+pub from_integer_is_a_number : (s : SchemaSet) (t : TypeName) → DerivesFrom s t (names.Builtin Integer) → DerivesFrom s t (names.Builtin Decimal)
+from_integer_is_a_number s t d = derivation_is_a_preorder.transitive s t (names.Builtin Integer) (names.Builtin Decimal) d (1, (names.Builtin Decimal, refl, refl))
+
+-- the type of a number is derived from xs:decimal
+pub integer_is_a_number : (s : SchemaSet) (n : Number) (t : TypeName) → ValueFits s (values.Num n) t → DerivesFrom s t (names.Builtin Decimal)
+integer_is_a_number s (Int i) t f = from_integer_is_a_number s t f
+integer_is_a_number s (Dec d) t f = f.0
 
 -- a type that equals a built-in type is that one
 same_as_builtin : (t : TypeName) (b : Builtin) → same_type_name t (names.Builtin b) ≡ true → t ≡ names.Builtin b

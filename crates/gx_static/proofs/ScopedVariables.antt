@@ -2,16 +2,20 @@
 use Rattle.std.proofs.Common.{◌≡◌, ◌≢◌, ℕ, Bool, true, false, ◌||◌, List, [], ◌∷◌, ◌++◌, map, Option, Some, None, refl, sym, ◌∙◌, ap, subst, nat_eq, if◌then◌else◌}
 use Rattle.gx_base.specs.declared.place.Place.{Place}
 use Rattle.gx_base.specs.declared.code.Code.{Code}
-use Rattle.gx_base.specs.declared.code.Code.TheVariants.{XPST0008, XPTY0004, FOTY0012}
+use Rattle.gx_base.specs.declared.code.Code.TheVariants.{XPST0008, XPTY0004, FOTY0012, FORG0006}
 use Rattle.gx_types.specs.SchemaSet.{SchemaSet}
 use Rattle.gx_types.specs.SequenceType.{SequenceType}
-use Rattle.gx_core.specs.declared.expression.BinaryOp.TheVariants.{Add}
+use Rattle.gx_funcs.specs.declared.function.Function.{Function}
+use Rattle.gx_funcs.specs.declared.function.Function.TheVariants as functions
+use Rattle.gx_core.specs.declared.expression.BinaryClass.{BinaryClass}
+use Rattle.gx_core.specs.declared.expression.BinaryClass.TheVariants as classes
+use Rattle.gx_core.specs.BinaryOperators.{class_of}
 use Rattle.gx_core.specs.declared.operator.Operator.{Operator}
 use Rattle.gx_core.specs.declared.operator.Operator.TheVariants as operators
 use Rattle.gx_core.specs.Expression.{CoreExpression, At, Parts, no_parts, a_part, each_of, annotation_of}
 use Rattle.gx_core.specs.Bindings.{look_up, Types, types_bound, numbers_bound_by}
 use Rattle.gx_core.specs.Invariant.{is_among, IsInScope, IsScoped, ArePartsScoped}
-use Rattle.gx_static.specs.Rule.{has_type, has_none, ruling, variable_ruling}
+use Rattle.gx_static.specs.Rule.{has_type, has_none, binary_rule, call_rule, ruling, variable_ruling}
 use Rattle.gx_static.specs.Judgement.{typed, with_typed, concluded, judged, parts_judged}
 use Rattle.gx_static.specs.Laws.{ScopedVariablesHaveTypes}
 use Rattle.gx_static.proofs.Failing.{IfRejected, made_fails, own_fails}
@@ -42,6 +46,29 @@ variable_code s number types (Some t) code part e h r = absurd (cc)
 other_code : (code : Code) (part : Option ℕ) → has_none XPTY0004 None ≡ has_none code part → code ≢ XPST0008
 other_code code part e h = cc
 
+-- a test decides whether there is a type, with a code that may stand at a part
+tested_part_code : (test : Bool) (t : SequenceType) (given code : Code) (there part : Option ℕ) → given ≢ XPST0008 → (if test then has_type t else has_none given there) ≡ has_none code part → code ≢ XPST0008
+tested_part_code true t given code there part n e = absurd (cc)
+tested_part_code false t given code there part n e = let same : given ≡ code = cc in subst (λ (c : Code). c ≢ XPST0008) same n
+
+binary_code : (s : SchemaSet) (class : BinaryClass) (t u : SequenceType) (code : Code) (part : Option ℕ) → binary_rule s class t u ≡ has_none code part → code ≢ XPST0008
+binary_code s (classes.Arithmetic operation) t u code part e = tested_code _ _ XPTY0004 code part (λ x. cc) e
+binary_code s (classes.Value op) t u code part e = tested_code _ _ XPTY0004 code part (λ x. cc) e
+binary_code s (classes.General op) t u code part e = tested_code _ _ XPTY0004 code part (λ x. cc) e
+binary_code s classes.Range t u code part e = tested_code _ _ XPTY0004 code part (λ x. cc) e
+
+call_code : (s : SchemaSet) (function : Function) (ts : List SequenceType) (code : Code) (part : Option ℕ) → call_rule s function ts ≡ has_none code part → code ≢ XPST0008
+call_code s functions.True [] code part e = absurd (cc)
+call_code s functions.True (t ∷ ts) code part e = other_code code part e
+call_code s functions.False [] code part e = absurd (cc)
+call_code s functions.False (t ∷ ts) code part e = other_code code part e
+call_code s functions.Boolean [] code part e = other_code code part e
+call_code s functions.Boolean (t ∷ []) code part e = tested_part_code _ _ FORG0006 code (Some 0) part (λ x. cc) e
+call_code s functions.Boolean (t ∷ u ∷ ts) code part e = other_code code part e
+call_code s functions.Not [] code part e = other_code code part e
+call_code s functions.Not (t ∷ []) code part e = tested_part_code _ _ FORG0006 code (Some 0) part (λ x. cc) e
+call_code s functions.Not (t ∷ u ∷ ts) code part e = other_code code part e
+
 -- no rule but that of a variable has the code
 ruling_code : (s : SchemaSet) (operator : Operator) (ts : List SequenceType) (types : Types) (code : Code) (part : Option ℕ) → IsInScope (in_scope types) operator → ruling s operator ts types ≡ has_none code part → code ≢ XPST0008
 ruling_code s (operators.Var number) [] types code part h e = variable_code s number types (look_up types number) code part refl h e
@@ -56,8 +83,17 @@ ruling_code s (operators.Let binder) (t ∷ u ∷ []) types code part h e = absu
 ruling_code s (operators.Let binder) _ types code part h e = other_code code part e
 ruling_code s operators.DataOf (t ∷ []) types code part h e = tested_code _ _ FOTY0012 code part (λ x. cc) e
 ruling_code s operators.DataOf _ types code part h e = other_code code part e
-ruling_code s (operators.Binary Add) (t ∷ u ∷ []) types code part h e = tested_code _ _ XPTY0004 code part (λ x. cc) e
-ruling_code s (operators.Binary Add) _ types code part h e = other_code code part e
+ruling_code s operators.If (t ∷ u ∷ v ∷ []) types code part h e = tested_code _ _ XPTY0004 code part (λ x. cc) e
+ruling_code s operators.If _ types code part h e = other_code code part e
+ruling_code s (operators.Cast kind allows_empty) (t ∷ []) types code part h e = tested_code _ _ XPTY0004 code part (λ x. cc) e
+ruling_code s (operators.Cast kind allows_empty) _ types code part h e = other_code code part e
+ruling_code s (operators.Castable kind allows_empty) (t ∷ []) types code part h e = tested_code _ _ XPTY0004 code part (λ x. cc) e
+ruling_code s (operators.Castable kind allows_empty) _ types code part h e = other_code code part e
+ruling_code s (operators.Call function) ts types code part h e = call_code s function ts code part e
+ruling_code s operators.Neg (t ∷ []) types code part h e = tested_code _ _ XPTY0004 code part (λ x. cc) e
+ruling_code s operators.Neg _ types code part h e = other_code code part e
+ruling_code s (operators.Binary operator) (t ∷ u ∷ []) types code part h e = binary_code s (class_of operator) t u code part e
+ruling_code s (operators.Binary operator) _ types code part h e = other_code code part e
 
 -- what is bound for a part has the numbers that its operator binds there
 abbrev places_of : List SequenceType → List (Unit {0})

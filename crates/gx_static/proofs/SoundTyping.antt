@@ -3,7 +3,10 @@ use Rattle.std.proofs.Common.{◌≡◌, List, [], ◌∷◌, ◌++◌, refl, �
 use Rattle.gx_base.specs.declared.place.Place.{Place}
 use Rattle.gx_types.specs.SchemaSet.{SchemaSet}
 use Rattle.gx_types.specs.SequenceType.{SequenceType}
-use Rattle.gx_core.specs.declared.expression.BinaryOp.TheVariants.{Add}
+use Rattle.gx_core.specs.declared.expression.BinaryOp.{BinaryOp}
+use Rattle.gx_core.specs.declared.expression.BinaryClass.{BinaryClass}
+use Rattle.gx_core.specs.declared.expression.BinaryClass.TheVariants as classes
+use Rattle.gx_core.specs.BinaryOperators.{class_of}
 use Rattle.gx_core.specs.declared.operator.Operator.{Operator}
 use Rattle.gx_core.specs.declared.operator.Operator.TheVariants as operators
 use Rattle.gx_core.specs.Expression.{CoreExpression, At, Parts, no_parts, a_part, each_of, annotation_of, plain_parts}
@@ -12,9 +15,20 @@ use Rattle.gx_core.specs.Soundness.{typed_setting, PartsAreSound}
 use Rattle.gx_core.proofs.SoundQueries.{keeps_its_type}
 use Rattle.gx_static.specs.Rule.{Ruling, has_type, has_none, ruling}
 use Rattle.gx_static.specs.Judgement.{Judged, typed, rejected, with_typed, concluded, judged, parts_judged}
-use Rattle.gx_static.specs.Laws.{PartsKeepTypes, OperatorKeepsType, IsTypedSoundly, TypingIsSound}
+use Rattle.gx_static.specs.Laws.{ActsKeepType, PartsKeepTypes, OperatorKeepsType, IsTypedSoundly, TypingIsSound}
 use Rattle.gx_static.proofs.Keeping.{literal_keeps, variable_keeps, empty_keeps, sequence_keeps, let_keeps, data_keeps, strict_keeps}
-use Rattle.gx_static.proofs.Arithmetic.{sum_keeps}
+use Rattle.gx_static.proofs.Arithmetic.{arithmetic_keeps, negation_keeps}
+use Rattle.gx_static.proofs.Comparisons.{value_comparison_keeps, general_comparison_keeps}
+use Rattle.gx_static.proofs.Ranges.{range_keeps}
+use Rattle.gx_static.proofs.Conditionals.{conditional_keeps}
+use Rattle.gx_static.proofs.Casts.{cast_keeps, castable_keeps}
+use Rattle.gx_static.proofs.Calls.{call_keeps}
+
+binary_keeps : (s : SchemaSet) (operator : BinaryOp) (class : BinaryClass) → class_of operator ≡ class → ActsKeepType s (operators.Binary operator)
+binary_keeps s operator (classes.Arithmetic operation) e = arithmetic_keeps operation s operator e
+binary_keeps s operator (classes.Value op) e = value_comparison_keeps op s operator e
+binary_keeps s operator (classes.General op) e = general_comparison_keeps op s operator e
+binary_keeps s operator classes.Range e = range_keeps s operator e
 
 -- the laws of all operators
 operator_keeps : (s : SchemaSet) (operator : Operator) → OperatorKeepsType s operator
@@ -28,8 +42,17 @@ operator_keeps s operators.Seq =
     strict_keeps s operators.Seq (record { denotes = λ k ps bs f. refl; binds_nothing = λ before. refl; ruled = λ s ps types. refl }) (sequence_keeps s)
 operator_keeps s operators.DataOf =
     strict_keeps s operators.DataOf (record { denotes = λ k ps bs f. refl; binds_nothing = λ before. refl; ruled = λ s ps types. refl }) (data_keeps s)
-operator_keeps s (operators.Binary Add) =
-    strict_keeps s (operators.Binary Add) (record { denotes = λ k ps bs f. refl; binds_nothing = λ before. refl; ruled = λ s ps types. refl }) (sum_keeps s)
+operator_keeps s operators.If = conditional_keeps s
+operator_keeps s (operators.Cast kind allows_empty) =
+    strict_keeps s (operators.Cast kind allows_empty) (record { denotes = λ k ps bs f. refl; binds_nothing = λ before. refl; ruled = λ s ps types. refl }) (cast_keeps s kind allows_empty)
+operator_keeps s (operators.Castable kind allows_empty) =
+    strict_keeps s (operators.Castable kind allows_empty) (record { denotes = λ k ps bs f. refl; binds_nothing = λ before. refl; ruled = λ s ps types. refl }) (castable_keeps s kind allows_empty)
+operator_keeps s (operators.Call function) =
+    strict_keeps s (operators.Call function) (record { denotes = λ k ps bs f. refl; binds_nothing = λ before. refl; ruled = λ s ps types. refl }) (call_keeps s function)
+operator_keeps s operators.Neg =
+    strict_keeps s operators.Neg (record { denotes = λ k ps bs f. refl; binds_nothing = λ before. refl; ruled = λ s ps types. refl }) (negation_keeps s)
+operator_keeps s (operators.Binary operator) =
+    strict_keeps s (operators.Binary operator) (record { denotes = λ k ps bs f. refl; binds_nothing = λ before. refl; ruled = λ s ps types. refl }) (binary_keeps s operator (class_of operator) refl)
 
 -- what holds of what has types, if there is something
 abbrev IfTyped : {R : Type 0} → (R → Type 0) → Judged R → Type 0

@@ -1,5 +1,5 @@
 -- The laws of typing: each operator keeps its type where its parts keep theirs, and so every typed Core is sound.
-use Rattle.std.specs.Prelude.{◌≡◌, ◌≢◌, ℕ, List, [], ◌∷◌, ◌++◌, map}
+use Rattle.std.specs.Prelude.{◌≡◌, ◌≢◌, ℕ, Bool, List, [], ◌∷◌, ◌++◌, map}
 use Rattle.gx_base.specs.declared.place.Place.{Place}
 use Rattle.gx_base.specs.declared.code.Code.{Code}
 use Rattle.gx_base.specs.declared.code.Code.TheVariants.{XPST0008}
@@ -9,7 +9,14 @@ use Rattle.gx_types.specs.SequenceType.{SequenceType}
 use Rattle.gx_model.specs.Forest.{Forest, IsHonest}
 use Rattle.gx_model.specs.Item.{Items}
 use Rattle.gx_core.specs.declared.expression.Binder.{Binder}
-use Rattle.gx_core.specs.declared.expression.BinaryOp.TheVariants.{Add}
+use Rattle.gx_base.specs.declared.type_name.TypeName.{TypeName}
+use Rattle.gx_atomic.specs.declared.comparison.Op.{Op}
+use Rattle.gx_funcs.specs.declared.function.Function.{Function}
+use Rattle.gx_core.specs.declared.expression.ArithmeticOp.{ArithmeticOp}
+use Rattle.gx_core.specs.declared.expression.BinaryOp.{BinaryOp}
+use Rattle.gx_core.specs.declared.expression.BinaryClass.{BinaryClass}
+use Rattle.gx_core.specs.declared.expression.BinaryClass.TheVariants as classes
+use Rattle.gx_core.specs.BinaryOperators.{class_of}
 use Rattle.gx_core.specs.declared.operator.Operator.{Operator}
 use Rattle.gx_core.specs.declared.operator.Operator.TheVariants as operators
 use Rattle.gx_core.specs.Expression.{CoreExpression, At, Parts, no_parts, a_part, each_of, annotation_of, plain}
@@ -60,8 +67,36 @@ LetKeepsType = (schemas : SchemaSet) (binder : Binder) → OperatorKeepsType sch
 abbrev pub DataKeepsType : Type 0
 DataKeepsType = (schemas : SchemaSet) → ActsKeepType schemas operators.DataOf
 
-abbrev pub AddKeepsType : Type 0
-AddKeepsType = (schemas : SchemaSet) → ActsKeepType schemas (operators.Binary Add)
+-- the operators of two operands that do the same keep the type of their one rule
+abbrev pub ClassKeepsType : BinaryClass → Type 0
+ClassKeepsType class = (schemas : SchemaSet) (operator : BinaryOp) → class_of operator ≡ class → ActsKeepType schemas (operators.Binary operator)
+
+abbrev pub ArithmeticKeepsType : Type 0
+ArithmeticKeepsType = (operation : ArithmeticOp) → ClassKeepsType (classes.Arithmetic operation)
+
+abbrev pub NegationKeepsType : Type 0
+NegationKeepsType = (schemas : SchemaSet) → ActsKeepType schemas operators.Neg
+
+abbrev pub ValueComparisonKeepsType : Type 0
+ValueComparisonKeepsType = (op : Op) → ClassKeepsType (classes.Value op)
+
+abbrev pub GeneralComparisonKeepsType : Type 0
+GeneralComparisonKeepsType = (op : Op) → ClassKeepsType (classes.General op)
+
+abbrev pub RangeKeepsType : Type 0
+RangeKeepsType = ClassKeepsType classes.Range
+
+abbrev pub ConditionalKeepsType : Type 0
+ConditionalKeepsType = (schemas : SchemaSet) → OperatorKeepsType schemas operators.If
+
+abbrev pub CastKeepsType : Type 0
+CastKeepsType = (schemas : SchemaSet) (kind : TypeName) (allows_empty : Bool) → ActsKeepType schemas (operators.Cast kind allows_empty)
+
+abbrev pub CastableKeepsType : Type 0
+CastableKeepsType = (schemas : SchemaSet) (kind : TypeName) (allows_empty : Bool) → ActsKeepType schemas (operators.Castable kind allows_empty)
+
+abbrev pub CallKeepsType : Type 0
+CallKeepsType = (schemas : SchemaSet) (function : Function) → ActsKeepType schemas (operators.Call function)
 
 -- what is judged to have a type is the same tree with its types, and it is sound
 pub record IsTypedSoundly (schemas : SchemaSet) (e : CoreExpression) (types : Types) (t : TypedExpression) : Type 0 where

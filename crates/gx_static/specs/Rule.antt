@@ -1,10 +1,11 @@
 -- The static rules: the type that an operator has, from the types of its parts (XQuery 1.0 and XPath 2.0 Formal Semantics, section 4).
-use Rattle.std.specs.Prelude.{ℕ, min, nat_le, Bool, true, false, ◌&&◌, List, [], ◌∷◌, Option, None, Some, if◌then◌else◌}
+use Rattle.std.specs.Prelude.{ℕ, min, nat_le, Bool, true, false, ◌&&◌, ◌||◌, List, [], ◌∷◌, Option, None, Some, if◌then◌else◌}
 use Rattle.gx_base.specs.declared.code.Code.{Code}
-use Rattle.gx_base.specs.declared.code.Code.TheVariants.{XPTY0004, XPST0008, FOTY0012}
+use Rattle.gx_base.specs.declared.code.Code.TheVariants.{XPTY0004, XPST0008, FOTY0012, FORG0006}
 use Rattle.gx_base.specs.declared.type_name.Builtin.{Builtin}
 use Rattle.gx_base.specs.declared.type_name.Builtin.TheVariants.{Integer, Decimal, UntypedAtomic, Boolean}
 use Rattle.gx_base.specs.declared.type_name.Builtin.TheVariants as builtins
+use Rattle.gx_base.specs.declared.type_name.TypeName.{TypeName}
 use Rattle.gx_base.specs.declared.type_name.TypeName.TheVariants as names
 use Rattle.gx_facets.specs.declared.Atomic.{Atomic}
 use Rattle.gx_facets.specs.declared.AtomValue.{AtomValue}
@@ -16,13 +17,22 @@ use Rattle.gx_types.specs.Derivation.{is_derived}
 use Rattle.gx_types.specs.SequenceType.{SequenceType, never, nothing, item, both, either, optional, star, plus}
 use Rattle.gx_types.specs.SameItemType.{same_type_name}
 use Rattle.gx_types.specs.SameType.{same_type}
+use Rattle.gx_types.specs.Occurs.{Occurs}
 use Rattle.gx_types.specs.Occurrence.{occurrence_of, occurs}
-use Rattle.gx_types.specs.TypeRules.{sequence_of, times_of}
-use Rattle.gx_core.specs.declared.expression.BinaryOp.{BinaryOp}
-use Rattle.gx_core.specs.declared.expression.BinaryOp.TheVariants.{Add}
+use Rattle.gx_types.specs.TypeRules.{sequence_of, choice_of, times_of}
+use Rattle.gx_funcs.specs.declared.function.Function.{Function}
+use Rattle.gx_funcs.specs.declared.function.Function.TheVariants as functions
+use Rattle.gx_funcs.specs.Function.{arity_of}
+use Rattle.gx_core.specs.declared.expression.ArithmeticOp.{ArithmeticOp}
+use Rattle.gx_core.specs.declared.expression.ArithmeticOp.TheVariants.{Div, IDiv}
+use Rattle.gx_core.specs.declared.expression.BinaryClass.{BinaryClass}
+use Rattle.gx_core.specs.declared.expression.BinaryClass.TheVariants.{Arithmetic, Value, General, Range}
 use Rattle.gx_core.specs.declared.operator.Operator.{Operator}
 use Rattle.gx_core.specs.declared.operator.Operator.TheVariants as operators
 use Rattle.gx_core.specs.Arithmetic.{type_of_number}
+use Rattle.gx_core.specs.BinaryOperators.{class_of}
+use Rattle.gx_static.specs.declared.rules.Family.{Family}
+use Rattle.gx_static.specs.declared.rules.Family.TheVariants as families
 use Rattle.gx_core.specs.Bindings.{look_up, Types}
 
 -- a type, or none: then a code, which stands at a part, counted from 0, or at the operator itself
@@ -54,25 +64,111 @@ all_items test (plus part) = all_items test part
 abbrev pub is_all_in : SchemaSet → Builtin → SequenceType → Bool
 is_all_in schemas builtin t = all_items (is_atomic_in schemas builtin) t
 
--- a type of at most one number
-abbrev pub is_number_or_empty : SchemaSet → SequenceType → Bool
-is_number_or_empty schemas t = nat_le (occurrence_of t).greatest 1 && is_all_in schemas Decimal t
+-- its values have at most one item, and at least one
+abbrev pub is_at_most_one : SequenceType → Bool
+is_at_most_one t = nat_le (occurrence_of t).greatest 1
 
--- the type of a number made of two: an integer where both are
-abbrev pub number_type : SchemaSet → SequenceType → SequenceType → Builtin
-number_type schemas left right = if is_all_in schemas Integer left && is_all_in schemas Integer right then Integer else Decimal
+abbrev pub is_at_least_one : SequenceType → Bool
+is_at_least_one t = nat_le 1 (occurrence_of t).least
+
+-- a type of at most one item, which is of a built-in type
+abbrev pub is_optional_in : SchemaSet → Builtin → SequenceType → Bool
+is_optional_in schemas builtin t = is_at_most_one t && is_all_in schemas builtin t
+
+-- as often as the shorter of two operands
+abbrev pub both_occur : SequenceType → SequenceType → Occurs
+both_occur left right = occurs (min (occurrence_of left).least (occurrence_of right).least) (min (occurrence_of left).greatest (occurrence_of right).greatest)
+
+-- a type, where a test holds
+abbrev pub type_if : Bool → SequenceType → Ruling
+type_if test t = if test then has_type t else has_none XPTY0004 None
+
+-- ---- arithmetic
+
+-- an integer where all operands are
+abbrev pub integer_if : Bool → Builtin
+integer_if whole = if whole then Integer else Decimal
+
+-- the type of a number made of two: `div` gives a decimal, and `idiv` an integer
+abbrev pub number_type : SchemaSet → ArithmeticOp → SequenceType → SequenceType → Builtin
+number_type schemas Div left right = Decimal
+number_type schemas IDiv left right = Integer
+number_type schemas operation left right = integer_if (is_all_in schemas Integer left && is_all_in schemas Integer right)
 
 -- the type of arithmetic: none where the left operand has none, empty where an operand is, and optional where an operand may be empty
-abbrev pub arithmetic_type : SchemaSet → SequenceType → SequenceType → SequenceType
-arithmetic_type schemas left right =
-    if same_type never left then never
-    else times_of (atomic (number_type schemas left right))
-    (occurs (min (occurrence_of left).least (occurrence_of right).least) (min (occurrence_of left).greatest (occurrence_of right).greatest))
+abbrev pub arithmetic_type : SchemaSet → ArithmeticOp → SequenceType → SequenceType → SequenceType
+arithmetic_type schemas operation left right =
+    if same_type never left then never else times_of (atomic (number_type schemas operation left right)) (both_occur left right)
+
+abbrev pub arithmetic_rule : SchemaSet → ArithmeticOp → (left right : SequenceType) → Ruling
+arithmetic_rule schemas operation left right =
+    type_if (is_optional_in schemas Decimal left && is_optional_in schemas Decimal right) (arithmetic_type schemas operation left right)
+
+abbrev pub negation_rule : SchemaSet → SequenceType → Ruling
+negation_rule schemas operand =
+    type_if (is_optional_in schemas Decimal operand) (times_of (atomic (integer_if (is_all_in schemas Integer operand))) (occurrence_of operand))
+
+-- ---- comparisons
+
+-- an item type whose items are of a family of values that compare with one another
+abbrev pub is_of_family : SchemaSet → Family → ItemType → Bool
+is_of_family schemas families.Number kind = is_atomic_in schemas Decimal kind
+is_of_family schemas families.Text kind = is_atomic_in schemas builtins.Str kind || is_atomic_in schemas UntypedAtomic kind
+is_of_family schemas families.Truth kind = is_atomic_in schemas Boolean kind
+
+abbrev pub are_of_family : SchemaSet → SequenceType → SequenceType → Family → Bool
+are_of_family schemas left right family = all_items (is_of_family schemas family) left && all_items (is_of_family schemas family) right
+
+abbrev pub are_of_one_family : SchemaSet → SequenceType → SequenceType → Bool
+are_of_one_family schemas left right =
+    are_of_family schemas left right families.Number || are_of_family schemas left right families.Text || are_of_family schemas left right families.Truth
+
+-- once, or at most once where an operand may be empty
+abbrev pub compared_occur : SequenceType → SequenceType → Occurs
+compared_occur left right = occurs (min (occurrence_of left).least (occurrence_of right).least) 1
+
+-- the type of a value comparison: none where the left operand has none
+abbrev pub value_comparison_type : SequenceType → SequenceType → SequenceType
+value_comparison_type left right = if same_type never left then never else times_of (atomic Boolean) (compared_occur left right)
+
+abbrev pub value_comparison_rule : SchemaSet → (left right : SequenceType) → Ruling
+value_comparison_rule schemas left right =
+    type_if (is_at_most_one left && is_at_most_one right && are_of_one_family schemas left right) (value_comparison_type left right)
+
+-- the items of two item types can be compared: they are of one family, or the one is untyped and the other a boolean
+abbrev pub are_comparable_items : SchemaSet → ItemType → ItemType → Bool
+are_comparable_items schemas a b =
+    (is_of_family schemas families.Number a && is_of_family schemas families.Number b)
+    || (is_of_family schemas families.Text a && is_of_family schemas families.Text b)
+    || (is_of_family schemas families.Truth a && is_of_family schemas families.Truth b)
+    || (is_atomic_in schemas UntypedAtomic a && is_of_family schemas families.Truth b)
+    || (is_of_family schemas families.Truth a && is_atomic_in schemas UntypedAtomic b)
+
+abbrev pub are_comparable_types : SchemaSet → SequenceType → SequenceType → Bool
+are_comparable_types schemas left right = all_items (λ a. all_items (are_comparable_items schemas a) right) left
+
+abbrev pub general_comparison_rule : SchemaSet → (left right : SequenceType) → Ruling
+general_comparison_rule schemas left right =
+    type_if (are_comparable_types schemas left right) (if same_type never left then never else atomic Boolean)
+
+-- ---- ranges
+
+abbrev pub range_rule : SchemaSet → (left right : SequenceType) → Ruling
+range_rule schemas left right = type_if (is_optional_in schemas Integer left && is_optional_in schemas Integer right) (star (atomic Integer))
 
 -- an operator of two operands
-abbrev pub binary_rule : SchemaSet → BinaryOp → (left right : SequenceType) → Ruling
-binary_rule schemas Add left right =
-    if is_number_or_empty schemas left && is_number_or_empty schemas right then has_type (arithmetic_type schemas left right) else has_none XPTY0004 None
+abbrev pub binary_rule : SchemaSet → BinaryClass → (left right : SequenceType) → Ruling
+binary_rule schemas (Arithmetic operation) left right = arithmetic_rule schemas operation left right
+binary_rule schemas (Value op) left right = value_comparison_rule schemas left right
+binary_rule schemas (General op) left right = general_comparison_rule schemas left right
+binary_rule schemas Range left right = range_rule schemas left right
+
+-- ---- conditionals
+
+-- the condition is one boolean
+abbrev pub conditional_rule : SchemaSet → (condition chosen otherwise : SequenceType) → Ruling
+conditional_rule schemas condition chosen otherwise =
+    type_if (is_at_least_one condition && is_optional_in schemas Boolean condition) (choice_of chosen otherwise)
 
 -- the type that an atomic value shows
 abbrev pub shown_type : AtomValue → Builtin
@@ -94,6 +190,35 @@ is_atomic _ = false
 abbrev pub data_rule : SequenceType → Ruling
 data_rule operand = if all_items is_atomic operand then has_type operand else has_none FOTY0012 None
 
+-- ---- casts
+
+-- an operand of one atomic value, or of none where that is allowed
+abbrev pub cast_rule : TypeName → (allows_empty : Bool) → SequenceType → Ruling
+cast_rule kind allows_empty operand =
+    type_if ((allows_empty || is_at_least_one operand) && is_at_most_one operand && all_items is_atomic operand) (times_of (item (items.Atom kind)) (occurrence_of operand))
+
+abbrev pub castable_rule : SequenceType → Ruling
+castable_rule operand = type_if (is_at_most_one operand && all_items is_atomic operand) (atomic Boolean)
+
+-- ---- calls of built-in functions
+
+-- an item type whose items have an effective boolean value
+abbrev pub has_effective_boolean : SchemaSet → ItemType → Bool
+has_effective_boolean schemas kind =
+    is_of_family schemas families.Truth kind || is_of_family schemas families.Text kind || is_of_family schemas families.Number kind
+
+-- an argument with an effective boolean value: at most one atomic value
+abbrev pub truth_call_rule : SchemaSet → SequenceType → Ruling
+truth_call_rule schemas argument =
+    if is_at_most_one argument && all_items (has_effective_boolean schemas) argument then has_type (atomic Boolean) else has_none FORG0006 (Some 0)
+
+abbrev pub call_rule : SchemaSet → Function → List SequenceType → Ruling
+call_rule schemas functions.True [] = has_type (atomic Boolean)
+call_rule schemas functions.False [] = has_type (atomic Boolean)
+call_rule schemas functions.Boolean (argument ∷ []) = truth_call_rule schemas argument
+call_rule schemas functions.Not (argument ∷ []) = truth_call_rule schemas argument
+call_rule schemas _ _ = has_none XPTY0004 None
+
 -- how many parts an operator has
 abbrev pub arity : Operator → ℕ
 arity (operators.Lit value) = 0
@@ -101,7 +226,12 @@ arity (operators.Var number) = 1
 arity operators.Empty = 0
 arity operators.Seq = 2
 arity (operators.Let binder) = 2
+arity operators.If = 3
+arity (operators.Cast kind allows_empty) = 1
+arity (operators.Castable kind allows_empty) = 1
 arity operators.DataOf = 1
+arity (operators.Call function) = arity_of function
+arity operators.Neg = 1
 arity (operators.Binary operator) = 2
 
 -- each operator, from the types of its parts; the one part of a variable is what it is bound to
@@ -112,7 +242,12 @@ rule schemas operators.Empty [] = has_type nothing
 rule schemas operators.Seq (first ∷ second ∷ []) = has_type (sequence_of first second)
 rule schemas (operators.Let binder) (value ∷ body ∷ []) = has_type body
 rule schemas operators.DataOf (operand ∷ []) = data_rule operand
-rule schemas (operators.Binary operator) (left ∷ right ∷ []) = binary_rule schemas operator left right
+rule schemas operators.If (condition ∷ chosen ∷ otherwise ∷ []) = conditional_rule schemas condition chosen otherwise
+rule schemas (operators.Cast kind allows_empty) (operand ∷ []) = cast_rule kind allows_empty operand
+rule schemas (operators.Castable kind allows_empty) (operand ∷ []) = castable_rule operand
+rule schemas (operators.Call function) arguments = call_rule schemas function arguments
+rule schemas operators.Neg (operand ∷ []) = negation_rule schemas operand
+rule schemas (operators.Binary operator) (left ∷ right ∷ []) = binary_rule schemas (class_of operator) left right
 rule schemas _ _ = has_none XPTY0004 None
 
 -- the rule of a variable, where its number has a type in scope

@@ -9,7 +9,7 @@ ghost use Rattle.gx_static.specs.Refusal.{Rejects, NamesFailure};
 use crate::error::InferError;
 use crate::laws::{rejection_names_a_failure, typing_is_sound};
 use crate::typing::Typing;
-use gx_core::expression::{Core, E};
+use gx_core::expression::{Core, CoreExpr};
 use gx_core::typed::{TypedCore, TypedExpr};
 use gx_types::schemas::Schemas;
 use std::alloc::Global;
@@ -26,7 +26,7 @@ pub fn infer(alloc: Global, schemas: &Schemas, core: Core) -> Result<TypedCore, 
 {
     typing_is_sound();
     rejection_names_a_failure();
-    let body = typed_expression(alloc, schemas, Box::new(alloc, core.body)?)?;
+    let body = typed_expression(alloc, schemas, core.body)?;
     Ok(TypedCore { body })
 }
 
@@ -34,10 +34,10 @@ pub fn infer(alloc: Global, schemas: &Schemas, core: Core) -> Result<TypedCore, 
 fn typed_expression(
     alloc: Global,
     schemas: &Schemas,
-    expression: E,
+    expression: CoreExpr,
 ) -> Result<TypedExpr, InferError>
-    ensures typed { IfOk result (λ t. judged schemas.now expression.value [] ≡ typed t) }
-    ensures rejected { IfErr result (λ e. Rejects e (judged schemas.now expression.value [])) }
+    ensures typed { IfOk result (λ t. judged schemas.now expression [] ≡ typed t) }
+    ensures rejected { IfErr result (λ e. Rejects e (judged schemas.now expression [])) }
 {
     let mut typing = Typing::new(alloc, expression)?;
     for _ in 0..u64::MAX {

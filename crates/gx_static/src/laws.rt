@@ -1,6 +1,6 @@
 // Laws of typing: one for each operator, and the one that is joined of them.
 
-ghost use Rattle.gx_static.specs.Laws.{LiteralKeepsType, VariableKeepsType, EmptyKeepsType, SequenceKeepsType, LetKeepsType, DataKeepsType, AddKeepsType, TypingIsSound, RejectionNamesFailure, ScopedVariablesHaveTypes};
+ghost use Rattle.gx_static.specs.Laws.{LiteralKeepsType, VariableKeepsType, EmptyKeepsType, SequenceKeepsType, LetKeepsType, DataKeepsType, ArithmeticKeepsType, NegationKeepsType, ValueComparisonKeepsType, GeneralComparisonKeepsType, RangeKeepsType, ConditionalKeepsType, CastKeepsType, CastableKeepsType, CallKeepsType, TypingIsSound, RejectionNamesFailure, ScopedVariablesHaveTypes};
 ghost use Rattle.gx_static.specs.QueryJudgement.{QueryTypingIsSound, QueryRejectionNamesFailure};
 
 /// A literal has the type of its value.
@@ -34,9 +34,49 @@ pub fn data_keeps_its_type()
     ensures { DataKeepsType }
 {}
 
-/// A sum belongs to its type where the operands belong to theirs, and it is no type error.
-pub fn sum_keeps_its_type()
-    ensures { AddKeepsType }
+/// The result of arithmetic belongs to its type where the operands belong to theirs, and it is no type error.
+pub fn arithmetic_keeps_its_type()
+    ensures { ArithmeticKeepsType }
+{}
+
+/// A negation belongs to its type where the operand belongs to its own.
+pub fn negation_keeps_its_type()
+    ensures { NegationKeepsType }
+{}
+
+/// A value comparison belongs to its type where the operands belong to theirs: the operands are of one family.
+pub fn value_comparison_keeps_its_type()
+    ensures { ValueComparisonKeepsType }
+{}
+
+/// A general comparison belongs to its type where the operands belong to theirs: each pair of items can be compared.
+pub fn general_comparison_keeps_its_type()
+    ensures { GeneralComparisonKeepsType }
+{}
+
+/// A range belongs to its type where the operands belong to theirs.
+pub fn range_keeps_its_type()
+    ensures { RangeKeepsType }
+{}
+
+/// The value of a conditional belongs to its type where the condition is one boolean and those of the branches belong to theirs.
+pub fn conditional_keeps_its_type()
+    ensures { ConditionalKeepsType }
+{}
+
+/// A cast belongs to its type where the operand is of atomic values.
+pub fn cast_keeps_its_type()
+    ensures { CastKeepsType }
+{}
+
+/// A test whether there is a cast is a boolean where the operand is of atomic values.
+pub fn castable_keeps_its_type()
+    ensures { CastableKeepsType }
+{}
+
+/// What a built-in function answers belongs to its type where the arguments belong to those of its parameters.
+pub fn call_keeps_its_type()
+    ensures { CallKeepsType }
 {}
 
 /// What is judged to have a type is the same tree with its types; no expression in it goes wrong, and the value of each

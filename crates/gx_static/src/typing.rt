@@ -1,21 +1,24 @@
 // A typing in its midst: the tasks that are left, and the typed parts that are there.
 
-ghost use Rattle.std.specs.Prelude.{◌≡◌, ◌≢◌, ◌≤◌, List, [], ◌∷◌, length, Option, None, Some, IfOk, IfErr, OnOk};
+ghost use Rattle.std.specs.Prelude.{◌≡◌, ◌≢◌, ◌≤◌, List, [], ◌∷◌, length, map, Option, None, Some, IfOk, IfErr, OnOk};
 ghost use Rattle.gx_types.specs.SchemaSet.{SchemaSet};
 ghost use Rattle.gx_types.specs.SequenceType.{SequenceType};
 ghost use Rattle.gx_core.specs.declared.operator.Operator.TheVariants as operators;
-ghost use Rattle.gx_core.specs.Expression.{Parts, no_parts, each_of, annotation_of, outer_of};
+ghost use Rattle.gx_core.specs.Expression.{Parts, no_parts, all_parts, each_of, annotation_of, outer_of};
 ghost use Rattle.gx_core.specs.Bindings.{look_up};
 ghost use Rattle.gx_core.specs.Soundness.{TypedExpression};
 ghost use Rattle.gx_core.specs.TypedView.{typed_operator_of, typed_parts_of};
 ghost use Rattle.gx_static.specs.Judgement.{Judgement, judged, typed, code_place};
 ghost use Rattle.gx_static.specs.Refusal.{RefusesType, refusal_at};
 ghost use Rattle.gx_static.specs.Rule.{has_type, ruling, variable_ruling};
-ghost use Rattle.gx_static.specs.Typing.{continued, then_typed, part_count, last_parts, judgement_of, judgement_with, EndsRejected};
+ghost use Rattle.gx_static.specs.Typing.{continued, then_typed, typed_in_order, finished, part_count, last_parts, judgement_of, judgement_with, EndsRejected};
 ghost use Rattle.gx_static.specs.declared.typing.Task.TheVariants as tasks;
 
 use crate::error::{InferError, RuleError};
-use crate::rules::{binary_type, data_type, literal_type, sequence_type};
+use crate::rules::{
+    binary_type, call_type, cast_type, castable_type, conditional_type, data_type, literal_type,
+    negation_type, sequence_type,
+};
 use gx_base::code::Code;
 use gx_base::place::Place;
 use gx_core::dismantle::{dismantle, dismantle_typed};
@@ -24,19 +27,21 @@ use gx_core::operator::Operator;
 use gx_core::scope::Scope;
 use gx_core::stack::Stack;
 use gx_core::typed::{T, TypedExpr, TypedForm};
+use gx_funcs::function::Function;
 use gx_types::schemas::Schemas;
 use gx_types::sequence_type::{Ty, TyNode};
 use std::alloc::{AllocError, Global};
 
 // A task: to infer the type of an expression, whose typed form goes on top of the parts; to bind a variable to the type of the
-// part on top; to take the innermost binding away; or to make the expression of an operator, at its place and that of its
-// outermost parentheses, of the parts on top.
+// part on top; to take the innermost binding away; or to make the expression of an operator, or of a call with so many
+// arguments, at its place and that of its outermost parentheses, of the parts on top.
 #[derive(Drop)]
 pub(crate) enum Task {
-    Infer(E),
+    Infer(CoreExpr),
     Bind(u32),
     Unbind,
     Finish(Place, Place, Operator),
+    FinishCall(Place, Place, Function, usize),
 }
 
 #[derive(Drop)]
@@ -48,8 +53,8 @@ pub(crate) struct Typing {
 
 impl Typing {
     // The typing of an expression, with no variable in scope.
-    pub(crate) fn new(alloc: Global, expression: E) -> Result<Typing, AllocError>
-        ensures { (schemas : SchemaSet) → IfOk result (λ t. judgement_of schemas t ≡ Some (judged schemas expression.value [])) }
+    pub(crate) fn new(alloc: Global, expression: CoreExpr) -> Result<Typing, AllocError>
+        ensures { (schemas : SchemaSet) → IfOk result (λ t. judgement_of schemas t ≡ Some (judged schemas expression [])) }
     {
         let mut tasks = Stack::new(alloc);
         tasks.push(Task::Infer(expression))?;
@@ -75,7 +80,7 @@ impl Typing {
     pub(crate) fn dismantle(self, alloc: Global) {
         for task in self.tasks.into_items() {
             if let Task::Infer(expression) = task {
-                dismantle(alloc, Box::into_inner(expression).form);
+                dismantle(alloc, expression.form);
             }
         }
         for part in self.parts.into_items() {
@@ -104,14 +109,17 @@ impl Typing {
             Task::Finish(place, outer, operator) => {
                 self.finish(alloc, schemas, place, outer, operator)
             }
+            Task::FinishCall(place, outer, function, count) => {
+                self.finish_call(alloc, schemas, place, outer, function, count)
+            }
         }
     }
 
     // Puts down the tasks of an expression: to type its parts, and then to make it.
-    fn open(&mut self, expression: E) -> Result<(), AllocError>
+    fn open(&mut self, expression: CoreExpr) -> Result<(), AllocError>
         ensures { (schemas : SchemaSet) → OnOk result (judgement_of schemas self.new ≡ judgement_with schemas (tasks.Infer expression) self.old) }
     {
-        let CoreExpr { place, outer, form } = Box::into_inner(expression);
+        let CoreExpr { place, outer, form } = expression;
         match form {
             CoreForm::Lit(value) => self.open_leaf(place, outer, Operator::Lit(value)),
             CoreForm::Var(number) => self.open_leaf(place, outer, Operator::Var(number)),
@@ -124,11 +132,20 @@ impl Typing {
                 second,
             ),
             CoreForm::Let(binder, value, body) => self.open_let(place, outer, binder, value, body),
-            CoreForm::DataOf(operand) => {
-                self.tasks
-                    .push(Task::Finish(place, outer, Operator::DataOf))?;
-                self.tasks.push(Task::Infer(operand))
+            CoreForm::If(condition, chosen, otherwise) => {
+                self.open_conditional(place, outer, condition, chosen, otherwise)
             }
+            CoreForm::Cast(operand, kind, optional) => {
+                self.open_single(place, outer, Operator::Cast(kind, optional), operand)
+            }
+            CoreForm::Castable(operand, kind, optional) => {
+                self.open_single(place, outer, Operator::Castable(kind, optional), operand)
+            }
+            CoreForm::DataOf(operand) => self.open_single(place, outer, Operator::DataOf, operand),
+            CoreForm::Call(function, arguments) => {
+                self.open_call(place, outer, function, arguments)
+            }
+            CoreForm::Neg(operand) => self.open_single(place, outer, Operator::Neg, operand),
             CoreForm::Binary(operator, left, right) => {
                 self.open_pair(place, outer, Operator::Binary(operator), left, right)
             }
@@ -146,6 +163,22 @@ impl Typing {
         self.tasks.push(Task::Finish(place, outer, operator))
     }
 
+    // An operator of one part.
+    fn open_single(
+        &mut self,
+        place: Place,
+        outer: Place,
+        operator: Operator,
+        operand: E,
+    ) -> Result<(), AllocError>
+        ensures { (schemas : SchemaSet) → OnOk result (judgement_of schemas self.new
+            ≡ typed_in_order schemas (operand.value ∷ []) self.old.scope
+            (λ parts. continued schemas (tasks.Finish place outer operator ∷ self.old.tasks) parts self.old.scope) self.old.parts) }
+    {
+        self.tasks.push(Task::Finish(place, outer, operator))?;
+        self.tasks.push(Task::Infer(Box::into_inner(operand)))
+    }
+
     // An operator of two parts that binds nothing.
     fn open_pair(
         &mut self,
@@ -156,12 +189,51 @@ impl Typing {
         second: E,
     ) -> Result<(), AllocError>
         ensures { (schemas : SchemaSet) → OnOk result (judgement_of schemas self.new
-            ≡ then_typed (judged schemas first.value self.old.scope) (λ t. then_typed (judged schemas second.value self.old.scope)
-            (λ u. continued schemas (tasks.Finish place outer operator ∷ self.old.tasks) (u ∷ t ∷ self.old.parts) self.old.scope))) }
+            ≡ typed_in_order schemas (first.value ∷ second.value ∷ []) self.old.scope
+            (λ parts. continued schemas (tasks.Finish place outer operator ∷ self.old.tasks) parts self.old.scope) self.old.parts) }
     {
         self.tasks.push(Task::Finish(place, outer, operator))?;
-        self.tasks.push(Task::Infer(second))?;
-        self.tasks.push(Task::Infer(first))
+        self.tasks.push(Task::Infer(Box::into_inner(second)))?;
+        self.tasks.push(Task::Infer(Box::into_inner(first)))
+    }
+
+    fn open_conditional(
+        &mut self,
+        place: Place,
+        outer: Place,
+        condition: E,
+        chosen: E,
+        otherwise: E,
+    ) -> Result<(), AllocError>
+        ensures { (schemas : SchemaSet) → OnOk result (judgement_of schemas self.new
+            ≡ typed_in_order schemas (condition.value ∷ chosen.value ∷ otherwise.value ∷ []) self.old.scope
+            (λ parts. continued schemas (tasks.Finish place outer operators.If ∷ self.old.tasks) parts self.old.scope) self.old.parts) }
+    {
+        self.tasks.push(Task::Finish(place, outer, Operator::If))?;
+        self.tasks.push(Task::Infer(Box::into_inner(otherwise)))?;
+        self.tasks.push(Task::Infer(Box::into_inner(chosen)))?;
+        self.tasks.push(Task::Infer(Box::into_inner(condition)))
+    }
+
+    // A call of so many arguments as there are.
+    #[tactic(auto, using(crate::proofs::Continuing::last_typed))]
+    fn open_call(
+        &mut self,
+        place: Place,
+        outer: Place,
+        function: Function,
+        mut arguments: Vec<CoreExpr>,
+    ) -> Result<(), AllocError>
+        ensures { (schemas : SchemaSet) → OnOk result (judgement_of schemas self.new
+            ≡ typed_in_order schemas arguments.items self.old.scope
+            (λ parts. continued schemas (tasks.FinishCall place outer function (length arguments.items) ∷ self.old.tasks) parts self.old.scope) self.old.parts) }
+    {
+        self.tasks
+            .push(Task::FinishCall(place, outer, function, arguments.len()))?;
+        while let Some(argument) = arguments.pop() {
+            self.tasks.push(Task::Infer(argument))?;
+        }
+        Ok(())
     }
 
     // The body is typed with the variable in scope.
@@ -180,9 +252,9 @@ impl Typing {
         self.tasks
             .push(Task::Finish(place, outer, Operator::Let(binder)))?;
         self.tasks.push(Task::Unbind)?;
-        self.tasks.push(Task::Infer(body))?;
+        self.tasks.push(Task::Infer(Box::into_inner(body)))?;
         self.tasks.push(Task::Bind(binder.variable))?;
-        self.tasks.push(Task::Infer(value))
+        self.tasks.push(Task::Infer(Box::into_inner(value)))
     }
 
     // Binds a variable to the type of the part on top.
@@ -212,6 +284,49 @@ impl Typing {
         ensures rejected { IfErr result (λ e. EndsRejected e (judgement_with schemas.now (tasks.Finish place outer operator) self.old)) }
     {
         let form = self.form(alloc, operator)?;
+        self.conclude(alloc, schemas, place, outer, form)
+    }
+
+    // Makes the call of a function of so many parts on top.
+    #[tactic(auto, using(crate::proofs::Continuing::parts_are_there))]
+    fn finish_call(
+        &mut self,
+        alloc: Global,
+        schemas: &Schemas,
+        place: Place,
+        outer: Place,
+        function: Function,
+        count: usize,
+    ) -> Result<(), InferError>
+        requires { judgement_with schemas.now (tasks.FinishCall place outer function count) self.now ≢ None }
+        ensures typed { OnOk result (judgement_of schemas.now self.new ≡ judgement_with schemas.now (tasks.FinishCall place outer function count) self.old) }
+        ensures rejected { IfErr result (λ e. EndsRejected e (judgement_with schemas.now (tasks.FinishCall place outer function count) self.old)) }
+    {
+        let arguments = self.last(alloc, count)?;
+        self.conclude(
+            alloc,
+            schemas,
+            place,
+            outer,
+            TypedForm::Call(function, arguments),
+        )
+    }
+
+    // Makes the expression of this form, whose parts have been taken.
+    fn conclude(
+        &mut self,
+        alloc: Global,
+        schemas: &Schemas,
+        place: Place,
+        outer: Place,
+        form: TypedForm,
+    ) -> Result<(), InferError>
+        ensures typed { OnOk result (judgement_of schemas.now self.new
+            ≡ finished schemas.now place outer (typed_operator_of form) self.old.scope
+            (λ t below. continued schemas.now self.old.tasks (t ∷ below) self.old.scope) (typed_parts_of form) self.old.parts) }
+        ensures rejected { IfErr result (λ e. EndsRejected e (finished schemas.now place outer (typed_operator_of form) self.old.scope
+            (λ t below. continued schemas.now self.old.tasks (t ∷ below) self.old.scope) (typed_parts_of form) self.old.parts)) }
+    {
         match form_type(alloc, schemas, &form, &self.scope) {
             Ok(kind) => Ok(
                 self.parts.push(TypedExpr {
@@ -250,12 +365,47 @@ impl Typing {
                 let body = self.part(alloc)?;
                 Ok(TypedForm::Let(binder, self.part(alloc)?, body))
             }
+            Operator::If => {
+                let otherwise = self.part(alloc)?;
+                let chosen = self.part(alloc)?;
+                Ok(TypedForm::If(self.part(alloc)?, chosen, otherwise))
+            }
+            Operator::Cast(kind, optional) => {
+                Ok(TypedForm::Cast(self.part(alloc)?, kind, optional))
+            }
+            Operator::Castable(kind, optional) => {
+                Ok(TypedForm::Castable(self.part(alloc)?, kind, optional))
+            }
             Operator::DataOf => Ok(TypedForm::DataOf(self.part(alloc)?)),
+            Operator::Call(function) => {
+                Ok(TypedForm::Call(function, self.last(alloc, function.arity())?))
+            }
+            Operator::Neg => Ok(TypedForm::Neg(self.part(alloc)?)),
             Operator::Binary(operator) => {
                 let right = self.part(alloc)?;
                 Ok(TypedForm::Binary(operator, self.part(alloc)?, right))
             }
         }
+    }
+
+    // Takes so many parts on top, in order.
+    #[tactic(auto, using(crate::proofs::Continuing::last_are_arguments))]
+    fn last(&mut self, alloc: Global, count: usize) -> Result<Vec<TypedExpr>, AllocError>
+        requires { count ≤ length self.now.parts }
+        ensures parts { (next : Parts SequenceType → List TypedExpression → Option Judgement)
+            → IfOk result (λ taken. last_parts count self.old.parts no_parts next ≡ next (all_parts taken.items) self.new.parts) }
+        ensures tasks { self.new.tasks ≡ self.old.tasks }
+        ensures scope { self.new.scope ≡ self.old.scope }
+    {
+        let mut taken = Vec::new(alloc);
+        for _ in 0..count {
+            match self.parts.pop() {
+                Some(part) => taken.push(part)?,
+                None => unreachable!(),
+            }
+        }
+        taken.reverse();
+        Ok(taken)
     }
 
     // Takes the part on top.
@@ -272,7 +422,19 @@ impl Typing {
     }
 }
 
+// The types of expressions.
+fn kinds(alloc: Global, expressions: &[TypedExpr]) -> Result<Vec<Ty>, AllocError>
+    ensures { IfOk result (λ kinds. kinds.items ≡ map annotation_of expressions.now) }
+{
+    let mut kinds = Vec::new(alloc);
+    for expression in expressions {
+        kinds.push(expression.kind.clone()?)?;
+    }
+    Ok(kinds)
+}
+
 // The type of a form, by the rule of its operator.
+#[tactic(auto, using(crate::proofs::Continuing::each_of_arguments))]
 fn form_type(
     alloc: Global,
     schemas: &Schemas,
@@ -290,7 +452,23 @@ fn form_type(
         }),
         TypedForm::Seq(first, second) => Ok(sequence_type(alloc, &first.kind, &second.kind)?),
         TypedForm::Let(_, _, body) => Ok(body.kind.clone()?),
+        TypedForm::If(condition, chosen, otherwise) => conditional_type(
+            alloc,
+            schemas,
+            &condition.kind,
+            &chosen.kind,
+            &otherwise.kind,
+        ),
+        TypedForm::Cast(operand, kind, optional) => {
+            cast_type(alloc, kind, *optional, &operand.kind)
+        }
+        TypedForm::Castable(operand, _, _) => castable_type(alloc, &operand.kind),
         TypedForm::DataOf(operand) => data_type(&operand.kind),
+        TypedForm::Call(function, arguments) => {
+            let kinds = kinds(alloc, arguments.as_slice())?;
+            call_type(alloc, schemas, *function, kinds.as_slice())
+        }
+        TypedForm::Neg(operand) => negation_type(alloc, schemas, &operand.kind),
         TypedForm::Binary(operator, left, right) => {
             binary_type(alloc, schemas, *operator, &left.kind, &right.kind)
         }
@@ -325,17 +503,40 @@ fn refusal(place: Place, form: &TypedForm, error: RuleError) -> InferError
 }
 
 // Where the code of an operator stands: at a part, or at the operator itself.
+#[tactic(auto, using(crate::proofs::Continuing::each_of_arguments))]
 fn form_place(place: Place, form: &TypedForm, part: Option<u32>) -> Place
     ensures { result ≡ code_place place (each_of outer_of (typed_parts_of form.now)) part }
 {
     match form {
         TypedForm::Lit(_) | TypedForm::Var(_) | TypedForm::Empty => code_place(place, &[], part),
-        TypedForm::DataOf(operand) => code_place(place, &[operand.outer], part),
+        TypedForm::DataOf(operand)
+        | TypedForm::Neg(operand)
+        | TypedForm::Cast(operand, _, _)
+        | TypedForm::Castable(operand, _, _) => code_place(place, &[operand.outer], part),
         TypedForm::Seq(first, second)
         | TypedForm::Let(_, first, second)
         | TypedForm::Binary(_, first, second) => {
             code_place(place, &[first.outer, second.outer], part)
         }
+        TypedForm::If(condition, chosen, otherwise) => code_place(
+            place,
+            &[condition.outer, chosen.outer, otherwise.outer],
+            part,
+        ),
+        TypedForm::Call(_, arguments) => argument_place(place, arguments.as_slice(), part),
+    }
+}
+
+// Where the code of a call stands: at an argument, or at the call itself.
+fn argument_place(place: Place, arguments: &[TypedExpr], part: Option<u32>) -> Place
+    ensures { result ≡ code_place place (map outer_of arguments.now) part }
+{
+    match part {
+        Some(number) => match arguments.get(number as usize) {
+            Some(argument) => argument.outer,
+            None => place,
+        },
+        None => place,
     }
 }
 

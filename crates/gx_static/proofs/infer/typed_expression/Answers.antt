@@ -5,9 +5,9 @@ use Rattle.gx_static.proofs.infer.typed_expression.Goals as goal
 
 pub result-requires : goal.result-requires
 result-requires c =
-    part_is_there c.args.schemas.now c.loop.typing.parts c.loop.typing.scope (judged c.args.schemas.now c.args.expression.value []) (rw c.in-None.ensures at c.loop.invariant)
+    part_is_there c.args.schemas.now c.loop.typing.parts c.loop.typing.scope (judged c.args.schemas.now c.args.expression []) (rw c.in-None.ensures at c.loop.invariant)
 
 pub returns-in-None-clause-typed : goal.returns-in-None-clause-typed
 returns-in-None-clause-typed c =
-    judgement_is c.args.schemas.now c.loop.typing.parts c.loop.typing.scope (judged c.args.schemas.now c.args.expression.value []) c.result.result
+    judgement_is c.args.schemas.now c.loop.typing.parts c.loop.typing.scope (judged c.args.schemas.now c.args.expression []) c.result.result
     (rw c.in-None.ensures at c.loop.invariant) (c.result.ensures c.args.schemas.now)

@@ -5,4 +5,4 @@ use Rattle.gx_static.proofs.infer.typed_expression.Given as goal
 
 -- what is left to do comes to the judgement of the expression
 abbrev pub invariant-loop : goal.invariant-loop
-invariant-loop l = judgement_of l.schemas l.typing ≡ Some (judged l.schemas l.fn.expression.value [])
+invariant-loop l = judgement_of l.schemas l.typing ≡ Some (judged l.schemas l.fn.expression [])

@@ -9,6 +9,22 @@ pub returns-in-Data-clause-failed : goal.returns-in-Data-clause-failed
 returns-in-Data-clause-failed c = λ k forest.
     subst (λ (o : Strict). IfErr c.apply_data.result (λ e. FailsSo e (outcome_with k forest (Apply o) c.args.self.now))) (sym c.in-Data.is) (c.apply_data.ensures.failed k forest)
 
+pub returns-in-Neg-clause-failed : goal.returns-in-Neg-clause-failed
+returns-in-Neg-clause-failed c = λ k forest.
+    subst (λ (o : Strict). IfErr c.apply_negation.result (λ e. FailsSo e (outcome_with k forest (Apply o) c.args.self.now))) (sym c.in-Neg.is) (c.apply_negation.ensures.failed k forest)
+
+pub returns-in-Cast-clause-failed : goal.returns-in-Cast-clause-failed
+returns-in-Cast-clause-failed c = λ k forest.
+    subst (λ (o : Strict). IfErr c.apply_cast.result (λ e. FailsSo e (outcome_with k forest (Apply o) c.args.self.now))) (sym c.in-Cast.is) (c.apply_cast.ensures.failed k forest)
+
+pub returns-in-Castable-clause-failed : goal.returns-in-Castable-clause-failed
+returns-in-Castable-clause-failed c = λ k forest.
+    subst (λ (o : Strict). IfErr c.apply_castable.result (λ e. FailsSo e (outcome_with k forest (Apply o) c.args.self.now))) (sym c.in-Castable.is) (c.apply_castable.ensures.failed k forest)
+
+pub returns-in-Call-clause-failed : goal.returns-in-Call-clause-failed
+returns-in-Call-clause-failed c = λ k forest.
+    subst (λ (o : Strict). IfErr c.apply_call.result (λ e. FailsSo e (outcome_with k forest (Apply o) c.args.self.now))) (sym c.in-Call.is) (c.apply_call.ensures.failed k forest)
+
 pub returns-in-Binary-clause-failed : goal.returns-in-Binary-clause-failed
 returns-in-Binary-clause-failed c = λ k forest.
     subst (λ (o : Strict). IfErr c.apply_binary.result (λ e. FailsSo e (outcome_with k forest (Apply o) c.args.self.now))) (sym c.in-Binary.is) (c.apply_binary.ensures.failed k forest)

@@ -1,0 +1,45 @@
+-- What a strict operator makes of operands of atomic values.
+use Rattle.std.specs.Prelude.{ℕ, ◌<◌, ℤ, ◌+ℤ◌, pos, FitsSigned, List, [], ◌∷◌}
+use Rattle.std.specs.Int.{w128}
+use Rattle.gx_base.specs.declared.code.Code.TheVariants as codes
+use Rattle.gx_facets.specs.declared.Atomic.{Atomic}
+use Rattle.gx_atomic.specs.declared.casting.CastError.{CastError}
+use Rattle.gx_atomic.specs.declared.casting.CastError.TheVariants as casts
+use Rattle.gx_model.specs.Forest.{Forest}
+use Rattle.gx_model.specs.Item.{Item, Items}
+use Rattle.gx_core.specs.Outcome.{Outcome}
+use Rattle.gx_core.specs.Arithmetic.{computed_of_items}
+use Rattle.gx_core.specs.Comparing.{compared_items}
+use Rattle.gx_core.specs.Ranging.{integers_from, range_of_items}
+use Rattle.gx_eval.specs.declared.failure.Failure.{Failure}
+use Rattle.gx_eval.specs.declared.failure.Failure.TheVariants.{Raised, Memory}
+use Rattle.gx_eval.specs.declared.answer.Answer.{Answer}
+use Rattle.gx_eval.specs.declared.answer.Answer.TheVariants.{Nothing, One, Integers}
+use Rattle.gx_eval.specs.declared.answer.Paired.{Paired}
+use Rattle.gx_eval.specs.declared.answer.Paired.TheVariants.{Arithmetic, Value, Range}
+
+abbrev pub answer_items : Answer → List Atomic
+answer_items Nothing = []
+answer_items (One a) = a ∷ []
+answer_items (Integers first count) = integers_from first count
+
+-- each of so many integers is within the limits of xs:integer
+abbrev pub IntegersFit : (first : ℤ) → (count : ℕ) → Type 0
+IntegersFit first count = (k : ℕ) → k < count → FitsSigned w128 (first +ℤ pos k)
+
+abbrev pub AnswerFits : Answer → Type 0
+AnswerFits (Integers first count) = IntegersFit first count
+AnswerFits _ = Unit {0}
+
+abbrev pub paired_meaning : Paired → Item → Item → Forest → Outcome Items
+paired_meaning (Arithmetic operation) x y forest = computed_of_items operation x y forest
+paired_meaning (Value op) x y forest = compared_items op x y forest
+paired_meaning Range x y forest = range_of_items x y forest
+
+-- how the evaluation fails where a cast does
+abbrev pub failure_of : CastError → Failure
+failure_of casts.FORG0001 = Raised codes.FORG0001
+failure_of casts.FOCA0001 = Raised codes.FOCA0001
+failure_of casts.FOCA0003 = Raised codes.FOCA0003
+failure_of casts.FOCA0006 = Raised codes.FOCA0006
+failure_of casts.Memory = Memory

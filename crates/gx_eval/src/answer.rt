@@ -1,0 +1,133 @@
+// What a strict operator makes of its operands.
+
+ghost use Rattle.std.specs.Prelude.{◌≡◌, ◌++◌, ◌∷◌, [], IfOk, IfErr, OnOk};
+ghost use Rattle.gx_model.specs.Forest.{Forest};
+ghost use Rattle.gx_model.specs.Item.{atom, atoms};
+ghost use Rattle.gx_core.specs.Outcome.{gives};
+ghost use Rattle.gx_core.specs.Operands.{on_two};
+ghost use Rattle.gx_core.specs.Meaning.{binary_meaning};
+ghost use Rattle.gx_core.specs.Ranging.{range_of_items, range_between};
+ghost use Rattle.gx_eval.specs.Answering.{answer_items, AnswerFits, paired_meaning};
+ghost use Rattle.gx_eval.specs.Failing.{FailsSo};
+
+use crate::arithmetic::computed;
+use crate::comparison::{compared, generally_compared};
+use crate::failure::Failure;
+use crate::range::{integer_of, put_integers, range_count};
+use gx_atomic::Op;
+use gx_base::code::Code;
+use gx_core::expression::{ArithmeticOp, BinaryClass};
+use gx_facets::Atomic;
+use std::alloc::AllocError;
+
+// Nothing, one atomic value, or so many integers from the first on.
+#[derive(Drop)]
+pub(crate) enum Answer {
+    Nothing,
+    One(Atomic),
+    Integers(i128, u32),
+}
+
+// An operation on one value of each of two operands.
+#[derive(Clone, Copy)]
+enum Paired {
+    Arithmetic(ArithmeticOp),
+    Value(Op),
+    Range,
+}
+
+// What an operator of two operands makes of them.
+pub(crate) fn of_two(
+    class: BinaryClass,
+    left: &[Atomic],
+    right: &[Atomic],
+) -> Result<Answer, Failure>
+    ensures value { (forest : Forest) → IfOk result (λ r. binary_meaning class (atoms left.now) (atoms right.now) forest ≡ gives (atoms (answer_items r)) forest) }
+    ensures fits { IfOk result (λ r. AnswerFits r) }
+    ensures failed { (forest : Forest) → IfErr result (λ e. FailsSo e (binary_meaning class (atoms left.now) (atoms right.now) forest)) }
+{
+    match class {
+        BinaryClass::Arithmetic(operation) => {
+            Ok(on_two(Paired::Arithmetic(operation), left, right)?)
+        }
+        BinaryClass::Value(op) => Ok(on_two(Paired::Value(op), left, right)?),
+        BinaryClass::General(op) => Ok(Answer::One(generally_compared(op, left, right)?)),
+        BinaryClass::Range => Ok(on_two(Paired::Range, left, right)?),
+    }
+}
+
+// Nothing where an operand is empty.
+#[tactic(auto, using(crate::proofs::Operands::many_on_the_left, crate::proofs::Operands::many_on_the_right))]
+fn on_two(operation: Paired, left: &[Atomic], right: &[Atomic]) -> Result<Answer, Failure>
+    ensures value { (forest : Forest) → IfOk result (λ r.
+        on_two (atoms left.now) (atoms right.now) forest (paired_meaning operation) ≡ gives (atoms (answer_items r)) forest) }
+    ensures fits { IfOk result (λ r. AnswerFits r) }
+    ensures failed { (forest : Forest) → IfErr result (λ e. FailsSo e (on_two (atoms left.now) (atoms right.now) forest (paired_meaning operation))) }
+{
+    match left {
+        [] => match right {
+            [] => Ok(Answer::Nothing),
+            [_] => Ok(Answer::Nothing),
+            _ => Err(Failure::Wrong),
+        },
+        [x] => match right {
+            [] => Ok(Answer::Nothing),
+            [y] => Ok(of_pair(operation, x, y)?),
+            _ => Err(Failure::Wrong),
+        },
+        _ => Err(Failure::Wrong),
+    }
+}
+
+fn of_pair(operation: Paired, left: &Atomic, right: &Atomic) -> Result<Answer, Failure>
+    ensures value { (forest : Forest) → IfOk result (λ r.
+        paired_meaning operation (atom left.now) (atom right.now) forest ≡ gives (atoms (answer_items r)) forest) }
+    ensures fits { IfOk result (λ r. AnswerFits r) }
+    ensures failed { (forest : Forest) → IfErr result (λ e. FailsSo e (paired_meaning operation (atom left.now) (atom right.now) forest)) }
+{
+    match operation {
+        Paired::Arithmetic(operation) => Ok(Answer::One(computed(operation, left, right)?)),
+        Paired::Value(op) => Ok(Answer::One(compared(op, left, right)?)),
+        Paired::Range => Ok(ranged(left, right)?),
+    }
+}
+
+// All integers from one to another.
+fn ranged(left: &Atomic, right: &Atomic) -> Result<Answer, Failure>
+    ensures value { (forest : Forest) → IfOk result (λ r. range_of_items (atom left.now) (atom right.now) forest ≡ gives (atoms (answer_items r)) forest) }
+    ensures fits { IfOk result (λ r. AnswerFits r) }
+    ensures failed { (forest : Forest) → IfErr result (λ e. FailsSo e (range_of_items (atom left.now) (atom right.now) forest)) }
+{
+    match integer_of(left) {
+        Some(first) => match integer_of(right) {
+            Some(last) => between(first, last),
+            None => Err(Failure::Wrong),
+        },
+        None => Err(Failure::Wrong),
+    }
+}
+
+// All integers from the first to the last.
+#[tactic(auto, using(crate::proofs::Ranges::few_between, crate::proofs::Ranges::many_between))]
+fn between(first: i128, last: i128) -> Result<Answer, Failure>
+    ensures value { (forest : Forest) → IfOk result (λ r. range_between first last forest ≡ gives (atoms (answer_items r)) forest) }
+    ensures fits { IfOk result (λ r. AnswerFits r) }
+    ensures failed { (forest : Forest) → IfErr result (λ e. FailsSo e (range_between first last forest)) }
+{
+    match range_count(first, last) {
+        Some(count) => Ok(Answer::Integers(first, count)),
+        None => Err(Failure::Raised(Code::GLXD0002)),
+    }
+}
+
+// Puts an answer behind the values.
+pub(crate) fn put(answer: Answer, values: &mut Vec<Atomic>) -> Result<(), AllocError>
+    requires { AnswerFits answer }
+    ensures { OnOk result (values.new.items ≡ values.old.items ++ answer_items answer) }
+{
+    match answer {
+        Answer::Nothing => Ok(()),
+        Answer::One(atomic) => Ok(values.push(atomic)?),
+        Answer::Integers(first, count) => put_integers(first, count, values),
+    }
+}

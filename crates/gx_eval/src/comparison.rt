@@ -1,0 +1,56 @@
+// Comparisons of atomic values.
+
+ghost use Rattle.std.specs.Prelude.{◌≡◌, IfOk, IfErr, ◌∷◌, []};
+ghost use Rattle.gx_model.specs.Forest.{Forest};
+ghost use Rattle.gx_model.specs.Item.{atom, atoms};
+ghost use Rattle.gx_core.specs.Outcome.{gives};
+ghost use Rattle.gx_core.specs.Comparing.{compared_items, generally_compared};
+ghost use Rattle.gx_eval.specs.Answering.{failure_of};
+ghost use Rattle.gx_eval.specs.Failing.{FailsSo};
+
+use crate::failure::Failure;
+use gx_atomic::{CastError, Op, compare_single, try_compare_any};
+use gx_base::code::Code;
+use gx_facets::Atomic;
+use gx_funcs::function::truth_atom;
+
+// A value comparison of two values.
+pub(crate) fn compared(op: Op, left: &Atomic, right: &Atomic) -> Result<Atomic, Failure>
+    ensures value { (forest : Forest) → IfOk result (λ r. compared_items op (atom left.now) (atom right.now) forest ≡ gives (atom r ∷ []) forest) }
+    ensures failed { (forest : Forest) → IfErr result (λ e. FailsSo e (compared_items op (atom left.now) (atom right.now) forest)) }
+{
+    match compare_single(op, &left.value, &right.value) {
+        Some(truth) => Ok(truth_atom(truth)),
+        None => Err(Failure::Wrong),
+    }
+}
+
+// A general comparison.
+#[tactic(auto, using(crate::proofs::Operands::atoms_are_among))]
+pub(crate) fn generally_compared(
+    op: Op,
+    left: &[Atomic],
+    right: &[Atomic],
+) -> Result<Atomic, Failure>
+    ensures value { (forest : Forest) → IfOk result (λ r. generally_compared op (atoms left.now) (atoms right.now) forest ≡ gives (atom r ∷ []) forest) }
+    ensures failed { (forest : Forest) → IfErr result (λ e. FailsSo e (generally_compared op (atoms left.now) (atoms right.now) forest)) }
+{
+    match try_compare_any(op, left, right) {
+        Some(Ok(truth)) => Ok(truth_atom(truth)),
+        Some(Err(error)) => Err(cast_failure(error)),
+        None => Err(Failure::Wrong),
+    }
+}
+
+// The failure of a cast.
+pub(crate) fn cast_failure(error: CastError) -> Failure
+    ensures { result ≡ failure_of error }
+{
+    match error {
+        CastError::FORG0001 => Failure::Raised(Code::FORG0001),
+        CastError::FOCA0001 => Failure::Raised(Code::FOCA0001),
+        CastError::FOCA0003 => Failure::Raised(Code::FOCA0003),
+        CastError::FOCA0006 => Failure::Raised(Code::FOCA0006),
+        CastError::Memory => Failure::Memory,
+    }
+}

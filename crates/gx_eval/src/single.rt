@@ -1,0 +1,119 @@
+// Operators of one operand.
+
+ghost use Rattle.std.specs.Prelude.{◌≡◌, ◌∷◌, [], Result, Err, IfOk, IfErr, is_ok, true};
+ghost use Rattle.gx_types.specs.SchemaSet.{SchemaSet};
+ghost use Rattle.gx_facets.specs.declared.Atomic.{Atomic};
+ghost use Rattle.gx_atomic.specs.declared.casting.CastError.{CastError};
+ghost use Rattle.gx_atomic.specs.Cast.{Casts, cast_of};
+ghost use Rattle.gx_funcs.specs.Function.{truth_atom};
+ghost use Rattle.gx_model.specs.Forest.{Forest};
+ghost use Rattle.gx_model.specs.Item.{atom, atoms};
+ghost use Rattle.gx_core.specs.Outcome.{gives};
+ghost use Rattle.gx_core.specs.Arithmetic.{negation};
+ghost use Rattle.gx_core.specs.Casting.{cast_outcome, cast_items, castable_items};
+ghost use Rattle.gx_eval.specs.Answering.{answer_items, AnswerFits};
+ghost use Rattle.gx_eval.specs.Failing.{FailsSo};
+ghost use Rattle.gx_eval.specs.declared.failure.Failure.TheVariants.{Memory};
+
+use crate::answer::Answer;
+use crate::arithmetic::negated;
+use crate::comparison::cast_failure;
+use crate::failure::Failure;
+use gx_atomic::{CastError, cast_in_any_schemas};
+use gx_base::type_name::TypeName;
+use gx_facets::Atomic;
+use gx_funcs::function::truth_atom;
+use std::alloc::Global;
+
+// The negation of a number.
+#[tactic(auto, using(crate::proofs::Operands::many))]
+pub(crate) fn negation(operand: &[Atomic]) -> Result<Answer, Failure>
+    ensures value { (forest : Forest) → IfOk result (λ r. negation (atoms operand.now) forest ≡ gives (atoms (answer_items r)) forest) }
+    ensures fits { IfOk result (λ r. AnswerFits r) }
+    ensures failed { (forest : Forest) → IfErr result (λ e. FailsSo e (negation (atoms operand.now) forest)) }
+{
+    match operand {
+        [] => Ok(Answer::Nothing),
+        [x] => Ok(Answer::One(negated(x)?)),
+        _ => Err(Failure::Wrong),
+    }
+}
+
+// The cast of an operand, which stays empty where that is allowed.
+#[tactic(auto, using(crate::proofs::Operands::many_are_not_cast))]
+pub(crate) fn cast(
+    alloc: Global,
+    kind: &TypeName,
+    allows_empty: bool,
+    operand: &[Atomic],
+) -> Result<Answer, Failure>
+    ensures value { (schemas : SchemaSet) (forest : Forest) → IfOk result (λ r. cast_items schemas kind.now allows_empty (atoms operand.now) forest ≡ gives (atoms (answer_items r)) forest) }
+    ensures fits { IfOk result (λ r. AnswerFits r) }
+    ensures failed { (schemas : SchemaSet) (forest : Forest) → IfErr result (λ e. FailsSo e (cast_items schemas kind.now allows_empty (atoms operand.now) forest)) }
+{
+    match operand {
+        [] if allows_empty => Ok(Answer::Nothing),
+        [x] => match cast_of(alloc, kind, x) {
+            Ok(atomic) => Ok(Answer::One(atomic)),
+            Err(failure) => Err(failure),
+        },
+        _ => Err(Failure::Wrong),
+    }
+}
+
+// Whether an operand has a cast.
+#[tactic(auto, using(crate::proofs::Operands::many_are_not_castable))]
+pub(crate) fn castable(
+    alloc: Global,
+    kind: &TypeName,
+    allows_empty: bool,
+    operand: &[Atomic],
+) -> Result<Answer, Failure>
+    ensures value { (schemas : SchemaSet) (forest : Forest) → IfOk result (λ r. castable_items schemas kind.now allows_empty (atoms operand.now) forest ≡ gives (atoms (answer_items r)) forest) }
+    ensures fits { IfOk result (λ r. AnswerFits r) }
+    ensures failed { (schemas : SchemaSet) (forest : Forest) → IfErr result (λ e. FailsSo e (castable_items schemas kind.now allows_empty (atoms operand.now) forest)) }
+{
+    match operand {
+        [] => Ok(Answer::One(truth_atom(allows_empty))),
+        [x] => Ok(Answer::One(castability(alloc, kind, x)?)),
+        _ => Err(Failure::Wrong),
+    }
+}
+
+fn cast_of(alloc: Global, kind: &TypeName, value: &Atomic) -> Result<Atomic, Failure>
+    ensures value { (schemas : SchemaSet) (forest : Forest) → IfOk result (λ r. cast_outcome (cast_of schemas value.now kind.now) forest ≡ gives (atom r ∷ []) forest) }
+    ensures failed { (schemas : SchemaSet) (forest : Forest) → IfErr result (λ e. FailsSo e (cast_outcome (cast_of schemas value.now kind.now) forest)) }
+{
+    match cast_in_any_schemas(alloc, value, kind) {
+        Ok(atomic) => Ok(atomic),
+        Err(error) => Err(cast_failure(error)),
+    }
+}
+
+fn castability(alloc: Global, kind: &TypeName, value: &Atomic) -> Result<Atomic, Failure>
+    ensures value { (schemas : SchemaSet) → IfOk result (λ a. a ≡ truth_atom (is_ok (cast_of schemas value.now kind.now))) }
+    ensures failed { IfErr result (λ e. e ≡ Memory) }
+{
+    match cast_in_any_schemas(alloc, value, kind) {
+        Ok(given) => Ok(with_cast(given)),
+        Err(error) => without_cast(error),
+    }
+}
+
+// What is said of a cast that gives a value.
+fn with_cast(_given: Atomic) -> Atomic
+    ensures { result ≡ truth_atom true }
+{
+    truth_atom(true)
+}
+
+// What is said of a cast that fails.
+fn without_cast(error: CastError) -> Result<Atomic, Failure>
+    ensures value { (expected : Result Atomic CastError) → Casts (Err error) expected → IfOk result (λ a. a ≡ truth_atom (is_ok expected)) }
+    ensures failed { IfErr result (λ e. e ≡ Memory) }
+{
+    match error.code() {
+        Some(_) => Ok(truth_atom(false)),
+        None => Err(Failure::Memory),
+    }
+}

@@ -1,0 +1,4 @@
+//! The built-in functions: their parameters, the types of their results, and their values.
+#![tactic(auto)]
+
+pub mod function;
