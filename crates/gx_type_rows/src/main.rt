@@ -2,6 +2,7 @@
 //! with its answer.
 #![tactic(auto)]
 
+mod operators;
 mod rows;
 mod types;
 

@@ -1,12 +1,10 @@
 // Rows of types.
 
+use crate::operators::operator_row;
 use crate::types::{item_type, shape, types};
 use gx_base::type_name::TypeName;
-use gx_core::expression::BinaryOp;
-use gx_core::operator::Operator;
 use gx_row::names::type_name;
 use gx_row::not_a_row;
-use gx_static::rules::operator_type;
 use gx_types::derivation::{derives, item_takes};
 use gx_types::item_type::ItemType;
 use gx_types::schemas::Schemas;
@@ -24,30 +22,17 @@ pub fn type_row(alloc: Global, call: &str, words: &[&str]) -> Result<String, All
         ("prime", [t]) => shown(alloc, &prime(alloc, t)?),
         ("occurrence", [t]) => occurrence_row(alloc, t),
         ("same", [t, u]) => format!(in alloc; "{}", t.same(u)),
-        ("sum", parts) => sum_row(alloc, parts),
-        _ => not_a_row(alloc),
+        (operator, parts) => operator_row(alloc, operator, parts),
     }
 }
 
-fn shown(alloc: Global, t: &Ty) -> Result<String, AllocError> {
+pub(crate) fn shown(alloc: Global, t: &Ty) -> Result<String, AllocError> {
     String::from_str(alloc, print_type(alloc, t)?.as_str())
 }
 
 fn occurrence_row(alloc: Global, t: &Ty) -> Result<String, AllocError> {
     let occurrence = occurrence(t);
     format!(in alloc; "{} {}", occurrence.least, occurrence.greatest)
-}
-
-// The type of a sum of operands of these types.
-fn sum_row(alloc: Global, parts: &[Ty]) -> Result<String, AllocError> {
-    let [_, _] = parts else {
-        return not_a_row(alloc);
-    };
-    let schemas = Schemas::empty(alloc)?;
-    match operator_type(alloc, &schemas, &Operator::Binary(BinaryOp::Add), parts) {
-        Ok(t) => shown(alloc, &t),
-        Err(fault) => format!(in alloc; "{fault:?}"),
-    }
 }
 
 /// Whether a type is derived from another one.

@@ -5,3 +5,4 @@ mod builtin_name;
 mod context;
 mod item_text;
 pub mod print;
+pub mod shapes;

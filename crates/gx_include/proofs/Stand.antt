@@ -1,0 +1,271 @@
+-- The shape that stands for another one: with a tried name and a listed type, the same item types take it.
+use Rattle.std.proofs.Common.{◌≡◌, ℕ, zero, suc, Bool, true, false, ◌&&◌, ◌||◌, List, [], ◌∷◌, ◌++◌, map, inl, inr, Option, None, Some, refl, sym, ◌∙◌, ap, length, ◌+◌, if◌then◌else◌}
+use Rattle.std.specs.List.{list_any}
+use Rattle.std.proofs.lemmas.Bool.{or_cases}
+use Rattle.std.proofs.lemmas.List.Folds.{list_any-append}
+use Rattle.gx_base.specs.Name.{same_name}
+use Rattle.gx_base.specs.declared.name.Name.{Name}
+use Rattle.gx_base.specs.declared.type_name.TypeName.{TypeName}
+use Rattle.gx_types.specs.declared.item_type.ItemType.{ItemType}
+use Rattle.gx_types.specs.declared.item_type.ItemType.TheVariants as items
+use Rattle.gx_types.specs.declared.shape.Shape.{Shape}
+use Rattle.gx_types.specs.declared.shape.Shape.TheVariants as shapes
+use Rattle.gx_types.specs.SameItemType.{same_type_name}
+use Rattle.gx_types.specs.SchemaSet.{SchemaSet}
+use Rattle.gx_types.specs.Derivation.{Bases, base_of, of_base, leads_within, is_derived}
+use Rattle.gx_types.specs.ItemTakes.{name_fits}
+use Rattle.gx_types.specs.SequenceType.{SequenceType, never, nothing, item, both, either, optional, star, plus}
+use Rattle.gx_types.proofs.EqualNames.{names_are_equivalent, type_names_are_equivalent}
+use Rattle.gx_types.proofs.DerivationOrder.{bases_agree}
+use Rattle.gx_include.specs.declared.trial.Sort.{Sort}
+use Rattle.gx_include.specs.declared.trial.Sort.TheVariants.{Element, Attribute, Document}
+use Rattle.gx_include.specs.Positions.{tests_of}
+use Rattle.gx_include.specs.Test.{is_taken}
+use Rattle.gx_include.specs.Inclusion.{plain_types, element_types, IsWellFormed}
+use Rattle.gx_include.specs.Trials.{name_of, is_named, with_name, with_names, made, named_shapes, trial_shapes}
+use Rattle.gx_include.proofs.MarksTake.{or_left, or_right}
+use Rattle.gx_include.proofs.Lists.{In, in_left, in_right, in_map, in_flat}
+
+-- tests of lists
+
+found : {X : Type 0} (test : X → Bool) (xs : List X) → list_any test xs ≡ true → (x : X) × In x xs × (test x ≡ true)
+found test [] h = absurd (cc)
+found test (x ∷ xs) h =
+    elim (or_cases (test x) (list_any test xs) h) [ inl k ↦ (x, inl refl, k) | inr k ↦ let q = found test xs k in (q.0, inr q.1, q.2) ]
+
+any_alike : {X : Type 0} (one other : X → Bool) → ((x : X) → one x ≡ other x) → (xs : List X) → list_any one xs ≡ list_any other xs
+any_alike one other f [] = refl
+any_alike one other f (x ∷ xs) = ap (λ b. b || list_any one xs) (f x) ∙ ap (λ b. other x || b) (any_alike one other f xs)
+
+-- names
+
+-- the name that is asked for, if any, is in a list
+abbrev pub IsKnown : List Name → Option Name → Type 0
+IsKnown names None = Unit {0}
+IsKnown names (Some name) = is_named names name ≡ true
+
+abbrev pub AreKnown : List Name → SequenceType → Type 0
+AreKnown names never = Unit {0}
+AreKnown names nothing = Unit {0}
+AreKnown names (item kind) = IsKnown names (name_of kind)
+AreKnown names (both a b) = AreKnown names a × AreKnown names b
+AreKnown names (either a b) = AreKnown names a × AreKnown names b
+AreKnown names (optional a) = AreKnown names a
+AreKnown names (star a) = AreKnown names a
+AreKnown names (plus a) = AreKnown names a
+
+abbrev Grows : List Name → List Name → Type 0
+Grows names more = (name : Name) → is_named names name ≡ true → is_named more name ≡ true
+
+grows_by_one : (names : List Name) (name : Name) (b : Bool) → Grows names (if b then names else names ++ name ∷ [])
+grows_by_one names name true n h = h
+grows_by_one names name false n h = list_any-append (same_name n) names (name ∷ []) ∙ or_left (is_named names n) (list_any (same_name n) (name ∷ [])) h
+
+grows_name : (names : List Name) (name : Option Name) → Grows names (with_name names name)
+grows_name names None n h = h
+grows_name names (Some name) n h = grows_by_one names name (is_named names name) n h
+
+known_one : (names : List Name) (name : Name) (b : Bool) → is_named names name ≡ b → is_named (if b then names else names ++ name ∷ []) name ≡ true
+known_one names name true e = e
+known_one names name false e =
+    list_any-append (same_name name) names (name ∷ [])
+    ∙ or_right (is_named names name) (list_any (same_name name) (name ∷ [])) (or_left (same_name name name) false (names_are_equivalent.refl name))
+
+known_name : (names : List Name) (name : Option Name) → IsKnown (with_name names name) name
+known_name names None = tt
+known_name names (Some name) = known_one names name (is_named names name) refl
+
+grows_all : (names : List Name) (t : SequenceType) → Grows names (with_names names t)
+grows_all names never n h = h
+grows_all names nothing n h = h
+grows_all names (item kind) n h = grows_name names (name_of kind) n h
+grows_all names (both a b) n h = grows_all (with_names names a) b n (grows_all names a n h)
+grows_all names (either a b) n h = grows_all (with_names names a) b n (grows_all names a n h)
+grows_all names (optional a) n h = grows_all names a n h
+grows_all names (star a) n h = grows_all names a n h
+grows_all names (plus a) n h = grows_all names a n h
+
+known_more : (names more : List Name) → Grows names more → (name : Option Name) → IsKnown names name → IsKnown more name
+known_more names more g None h = tt
+known_more names more g (Some name) h = g name h
+
+pub all_known_more : (names more : List Name) → Grows names more → (t : SequenceType) → AreKnown names t → AreKnown more t
+all_known_more names more g never h = tt
+all_known_more names more g nothing h = tt
+all_known_more names more g (item kind) h = known_more names more g (name_of kind) h
+all_known_more names more g (both a b) h = (all_known_more names more g a h.0, all_known_more names more g b h.1)
+all_known_more names more g (either a b) h = (all_known_more names more g a h.0, all_known_more names more g b h.1)
+all_known_more names more g (optional a) h = all_known_more names more g a h
+all_known_more names more g (star a) h = all_known_more names more g a h
+all_known_more names more g (plus a) h = all_known_more names more g a h
+
+pub all_known : (names : List Name) (t : SequenceType) → AreKnown (with_names names t) t
+all_known names never = tt
+all_known names nothing = tt
+all_known names (item kind) = known_name names (name_of kind)
+all_known names (both a b) = (all_known_more (with_names names a) (with_names (with_names names a) b) (grows_all (with_names names a) b) a (all_known names a), all_known (with_names names a) b)
+all_known names (either a b) = (all_known_more (with_names names a) (with_names (with_names names a) b) (grows_all (with_names names a) b) a (all_known names a), all_known (with_names names a) b)
+all_known names (optional a) = all_known names a
+all_known names (star a) = all_known names a
+all_known names (plus a) = all_known names a
+
+pub both_known : (a b : SequenceType) → AreKnown (with_names (with_names [] a) b) a × AreKnown (with_names (with_names [] a) b) b
+both_known a b = (all_known_more (with_names [] a) (with_names (with_names [] a) b) (grows_all (with_names [] a) b) a (all_known [] a), all_known (with_names [] a) b)
+
+-- a name that is not in the list fits no name of it
+unlike : (names : List Name) (name known : Name) → is_named names name ≡ false → is_named names known ≡ true → same_name known name ≡ false
+unlike names name known lacks has =
+    elim (same_name known name) as (λ (b : Bool). same_name known name ≡ b → b ≡ false) [
+      | true ↦ λ e. let same = any_alike (same_name known) (same_name name) (λ m. names_are_equivalent.congr known name m e) names in cc
+      | false ↦ λ _. refl
+    ] refl
+
+-- the name that stands for another one
+abbrev NameStands : List Name → List Name → Name → Type 0
+NameStands names tried name = (stand : Name) × In stand tried × ((wanted : Option Name) → IsKnown names wanted → name_fits wanted stand ≡ name_fits wanted name)
+
+listed_fits : (names : List Name) (name stand : Name) → same_name name stand ≡ true → (wanted : Option Name) → IsKnown names wanted → name_fits wanted stand ≡ name_fits wanted name
+listed_fits names name stand e None h = refl
+listed_fits names name stand e (Some wanted) h = names_are_equivalent.symm wanted stand ∙ sym (names_are_equivalent.congr name stand wanted e) ∙ names_are_equivalent.symm name wanted
+
+other_fits : (names : List Name) (name other : Name) → is_named names name ≡ false → is_named names other ≡ false
+    → (wanted : Option Name) → IsKnown names wanted → name_fits wanted other ≡ name_fits wanted name
+other_fits names name other e f None h = refl
+other_fits names name other e f (Some wanted) h = unlike names other wanted f h ∙ sym (unlike names name wanted e h)
+
+name_stands : (names : List Name) (other : Name) → is_named names other ≡ false → (name : Name) → NameStands names (names ++ other ∷ []) name
+name_stands names other f name =
+    elim (is_named names name) as (λ (b : Bool). is_named names name ≡ b → NameStands names (names ++ other ∷ []) name) [
+      | true ↦ λ e. let q = found (same_name name) names e in (q.0, in_left q.0 names (other ∷ []) q.1, listed_fits names name q.0 q.2)
+      | false ↦ λ e. (other, in_right other names (other ∷ []) (inl refl), other_fits names name other e f)
+    ] refl
+
+-- types
+
+derived_alike : (bases : Bases) (steps : ℕ) (t u kind : TypeName) → same_type_name t u ≡ true → leads_within bases steps u kind ≡ leads_within bases steps t kind
+derived_alike bases zero t u kind e = sym (type_names_are_equivalent.congr t u kind e)
+derived_alike bases (suc n) t u kind e =
+    ap (λ b. b || of_base (base_of bases u) (λ base. leads_within bases n base kind)) (sym (type_names_are_equivalent.congr t u kind e))
+    ∙ ap (λ o. same_type_name t kind || of_base o (λ base. leads_within bases n base kind)) (sym (bases_agree bases t u e))
+
+-- shapes
+
+module _ (s : SchemaSet) (names : List Name) where
+  -- the item types whose names are in the list take both shapes or neither
+  abbrev pub Alike : Shape → Shape → Type 0
+  Alike x y = (kind : ItemType) → IsKnown names (name_of kind) → is_taken s x kind ≡ is_taken s y kind
+
+  both_alike : (wanted : Option Name) (n m : Name) (t u kind : TypeName) → ((w : Option Name) → IsKnown names w → name_fits w m ≡ name_fits w n) → same_type_name t u ≡ true → IsKnown names wanted
+      → (name_fits wanted m && is_derived s u kind) ≡ (name_fits wanted n && is_derived s t kind)
+  both_alike wanted n m t u kind f e k =
+      ap (λ b. b && is_derived s u kind) (f wanted k) ∙ ap (λ b. name_fits wanted n && b) (derived_alike s.bases (length s.bases + 23) t u kind e)
+
+  elements_alike : (n m : Name) (t u : TypeName) → ((w : Option Name) → IsKnown names w → name_fits w m ≡ name_fits w n) → same_type_name t u ≡ true → Alike (shapes.Elem m u) (shapes.Elem n t)
+  elements_alike n m t u f e (items.Element wanted kind) k = both_alike wanted n m t u kind f e k
+  elements_alike n m t u f e _ k = refl
+
+  attributes_alike : (n m : Name) (t u : TypeName) → ((w : Option Name) → IsKnown names w → name_fits w m ≡ name_fits w n) → same_type_name t u ≡ true → Alike (shapes.Attr m u) (shapes.Attr n t)
+  attributes_alike n m t u f e (items.Attribute wanted kind) k = both_alike wanted n m t u kind f e k
+  attributes_alike n m t u f e _ k = refl
+
+  documents_alike : (n m : Name) (t u : TypeName) → ((w : Option Name) → IsKnown names w → name_fits w m ≡ name_fits w n) → same_type_name t u ≡ true
+      → Alike (shapes.Doc (Some (m, u))) (shapes.Doc (Some (n, t)))
+  documents_alike n m t u f e (items.Document (Some element)) k = both_alike element.0 n m t u element.1 f e k
+  documents_alike n m t u f e (items.Document None) k = refl
+  documents_alike n m t u f e _ k = refl
+
+  atoms_alike : (t u : TypeName) → same_type_name t u ≡ true → Alike (shapes.Atom u) (shapes.Atom t)
+  atoms_alike t u e (items.Atom kind) k = derived_alike s.bases (length s.bases + 23) t u kind e
+  atoms_alike t u e _ k = refl
+
+  -- what is tried
+  in_named : (sort : Sort) (types : List TypeName) (tried : List Name) (n : Name) (t : TypeName) → In n tried → In t types → In (made sort n t) (named_shapes sort types tried)
+  in_named sort types tried n t h k = in_flat (λ name. map (λ u. made sort name u) types) n (made sort n t) tried h (in_map (λ u. made sort n u) t types k)
+
+  -- the tried shape that stands for a shape
+  abbrev pub ShapeStands : List Shape → Shape → Type 0
+  ShapeStands tried x = (stand : Shape) × In stand tried × Alike stand x
+
+  -- the five parts of what is tried
+  in_first : (x : Shape) (one two three four five : List Shape) → In x one → In x (one ++ two ++ three ++ four ++ five)
+  in_first x one two three four five h =
+      in_left x (one ++ two ++ three ++ four) five (in_left x (one ++ two ++ three) four (in_left x (one ++ two) three (in_left x one two h)))
+
+  in_second : (x : Shape) (one two three four five : List Shape) → In x two → In x (one ++ two ++ three ++ four ++ five)
+  in_second x one two three four five h =
+      in_left x (one ++ two ++ three ++ four) five (in_left x (one ++ two ++ three) four (in_left x (one ++ two) three (in_right x one two h)))
+
+  in_third : (x : Shape) (one two three four five : List Shape) → In x three → In x (one ++ two ++ three ++ four ++ five)
+  in_third x one two three four five h = in_left x (one ++ two ++ three ++ four) five (in_left x (one ++ two ++ three) four (in_right x (one ++ two) three h))
+
+  in_fourth : (x : Shape) (one two three four five : List Shape) → In x four → In x (one ++ two ++ three ++ four ++ five)
+  in_fourth x one two three four five h = in_left x (one ++ two ++ three ++ four) five (in_right x (one ++ two ++ three) four h)
+
+  in_fifth : (x : Shape) (one two three four five : List Shape) → In x five → In x (one ++ two ++ three ++ four ++ five)
+  in_fifth x one two three four five h = in_right x (one ++ two ++ three ++ four) five h
+
+  module _ (tried : List Name) where
+    abbrev atoms : List Shape
+    atoms = map shapes.Atom (plain_types s)
+
+    abbrev elements : List Shape
+    elements = named_shapes Element (element_types s) tried
+
+    abbrev attributes : List Shape
+    attributes = named_shapes Attribute (plain_types s) tried
+
+    abbrev rest : List Shape
+    rest = shapes.Text ∷ shapes.Doc None ∷ []
+
+    abbrev documents : List Shape
+    documents = named_shapes Document (element_types s) tried
+
+    tried_atom : (x : Shape) → In x atoms → In x (trial_shapes (plain_types s) tried)
+    tried_atom x h = in_first x atoms elements attributes rest documents h
+
+    tried_element : (x : Shape) → In x elements → In x (trial_shapes (plain_types s) tried)
+    tried_element x h = in_second x atoms elements attributes rest documents h
+
+    tried_attribute : (x : Shape) → In x attributes → In x (trial_shapes (plain_types s) tried)
+    tried_attribute x h = in_third x atoms elements attributes rest documents h
+
+    tried_other : (x : Shape) → In x rest → In x (trial_shapes (plain_types s) tried)
+    tried_other x h = in_fourth x atoms elements attributes rest documents h
+
+    tried_document : (x : Shape) → In x documents → In x (trial_shapes (plain_types s) tried)
+    tried_document x h = in_fifth x atoms elements attributes rest documents h
+
+  module _ (other : Name) (fresh : is_named names other ≡ false) where
+    abbrev all_names : List Name
+    all_names = names ++ other ∷ []
+
+    pub shape_stands : (x : Shape) → IsWellFormed s x → ShapeStands (trial_shapes (plain_types s) (names ++ other ∷ [])) x
+    shape_stands (shapes.Atom t) w =
+        let u = found (same_type_name t) (plain_types s) w in
+        (shapes.Atom u.0, tried_atom all_names (shapes.Atom u.0) (in_map shapes.Atom u.0 (plain_types s) u.1), atoms_alike t u.0 u.2)
+    shape_stands (shapes.Elem n t) w =
+        let u = found (same_type_name t) (element_types s) w in
+        let m = name_stands names other fresh n in
+        (shapes.Elem m.0 u.0, tried_element all_names (shapes.Elem m.0 u.0) (in_named Element (element_types s) all_names m.0 u.0 m.1 u.1), elements_alike n m.0 t u.0 m.2 u.2)
+    shape_stands (shapes.Attr n t) w =
+        let u = found (same_type_name t) (plain_types s) w in
+        let m = name_stands names other fresh n in
+        (shapes.Attr m.0 u.0, tried_attribute all_names (shapes.Attr m.0 u.0) (in_named Attribute (plain_types s) all_names m.0 u.0 m.1 u.1), attributes_alike n m.0 t u.0 m.2 u.2)
+    shape_stands shapes.Text w = (shapes.Text, tried_other all_names shapes.Text (inl refl), λ kind k. refl)
+    shape_stands (shapes.Doc None) w = (shapes.Doc None, tried_other all_names (shapes.Doc None) (inr (inl refl)), λ kind k. refl)
+    shape_stands (shapes.Doc (Some c)) w =
+        let u = found (same_type_name c.1) (element_types s) w in
+        let m = name_stands names other fresh c.0 in
+        (shapes.Doc (Some (m.0, u.0)), tried_document all_names (shapes.Doc (Some (m.0, u.0))) (in_named Document (element_types s) all_names m.0 u.0 m.1 u.1), documents_alike c.0 m.0 c.1 u.0 m.2 u.2)
+
+  pub tests_alike : (x y : Shape) → Alike x y → (t : SequenceType) → AreKnown names t → tests_of t (is_taken s x) ≡ tests_of t (is_taken s y)
+  tests_alike x y f never k = refl
+  tests_alike x y f nothing k = refl
+  tests_alike x y f (item kind) k = ap (λ b. b ∷ []) (f kind k)
+  tests_alike x y f (both a b) k =
+      ap (λ xs. xs ++ tests_of b (is_taken s x)) (tests_alike x y f a k.0) ∙ ap (λ ys. tests_of a (is_taken s y) ++ ys) (tests_alike x y f b k.1)
+  tests_alike x y f (either a b) k =
+      ap (λ xs. xs ++ tests_of b (is_taken s x)) (tests_alike x y f a k.0) ∙ ap (λ ys. tests_of a (is_taken s y) ++ ys) (tests_alike x y f b k.1)
+  tests_alike x y f (optional a) k = tests_alike x y f a k
+  tests_alike x y f (star a) k = tests_alike x y f a k
+  tests_alike x y f (plus a) k = tests_alike x y f a k

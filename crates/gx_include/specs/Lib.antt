@@ -1,0 +1,17 @@
+pub mod Positions
+pub mod Test
+pub mod Step
+pub mod Walk
+pub mod PairOrder
+pub mod Pairs
+pub mod Origins
+pub mod Traced
+pub mod Outcome
+pub mod Runs
+pub mod Inclusion
+pub mod Letters
+pub mod Verdict
+pub mod Trials
+pub mod Alphabet
+pub mod Answer
+pub mod Laws

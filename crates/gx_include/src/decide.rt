@@ -1,0 +1,83 @@
+// The answer of a walk.
+
+ghost use Rattle.std.specs.Prelude.{◌≡◌, ◌≤◌, ◌++◌, ℕ, List, IfOk, OnOk, length, slice_get};
+ghost use Rattle.gx_types.specs.SchemaSet.{SchemaSet};
+ghost use Rattle.gx_include.specs.Letters.{AreLetters, ServeAll};
+ghost use Rattle.gx_include.specs.Origins.{AreRuns};
+ghost use Rattle.gx_include.specs.Outcome.{IsOutcome};
+ghost use Rattle.gx_include.specs.Runs.{shape_of, shapes_of};
+ghost use Rattle.gx_include.specs.Verdict.{IsVerdict};
+ghost use Rattle.gx_include.specs.Walk.{run_at};
+
+use crate::letter::Letter;
+use crate::pair::Pair;
+use crate::step::only;
+use crate::verdict::Verdict;
+use crate::walk::{Origin, Outcome, walk};
+use gx_types::sequence_type::Ty;
+use gx_types::shape::Shape;
+use indexmap::IndexSet;
+use std::alloc::{AllocError, Global};
+
+// Whether a type is included in another one, by letters of their positions.
+pub(crate) fn decide(
+    alloc: Global,
+    left: &Ty,
+    right: &Ty,
+    letters: &[Letter],
+    limit: Option<usize>,
+) -> Result<Verdict, AllocError>
+    ensures { IfOk result (λ verdict. (schemas : SchemaSet) → AreLetters schemas left.now right.now letters.now → ServeAll schemas left.now right.now letters.now → IsVerdict schemas left.now right.now letters.now limit verdict) }
+{
+    let mut pairs = IndexSet::new(alloc);
+    let mut origins = Vec::new(alloc);
+    let set = only(alloc, 0)?;
+    pairs.insert_full(Pair { place: 0, set })?;
+    let outcome = walk(alloc, left, right, letters, limit, &mut pairs, &mut origins)?;
+    match outcome {
+        Outcome::Safe => Ok(Verdict::Yes),
+        Outcome::TooMany => Ok(Verdict::TooManyPairs),
+        Outcome::Bad(place) => {
+            let run = run_of(alloc, origins.as_slice(), place)?;
+            Ok(Verdict::No(spell(alloc, letters, run)?))
+        }
+    }
+}
+
+// The numbers of the letters by which a pair was found, the newest first.
+fn run_of(alloc: Global, origins: &[Origin], place: usize) -> Result<Vec<usize>, AllocError>
+    requires runs { (runs : List (List ℕ)) × AreRuns origins.now runs }
+    requires within { place ≤ length origins.now }
+    ensures { IfOk result (λ run. (runs : List (List ℕ)) → AreRuns origins.now runs → run.items ≡ run_at runs place) }
+{
+    let mut run = Vec::new(alloc);
+    let mut at = place;
+    while at > 0 {
+        let origin = origins[at - 1];
+        run.push(origin.letter)?;
+        at = origin.from;
+    }
+    Ok(run)
+}
+
+// The shapes of the letters of a run, the oldest first.
+fn spell(alloc: Global, letters: &[Letter], run: Vec<usize>) -> Result<Vec<Shape>, AllocError>
+    ensures { IfOk result (λ list. list.items ≡ shapes_of letters.now run.items) }
+{
+    let mut pending = run;
+    let mut list = Vec::new(alloc);
+    while let Some(number) = pending.pop() {
+        add_shape(letters, number, &mut list)?;
+    }
+    Ok(list)
+}
+
+// Puts the shape of a letter behind those of a list.
+fn add_shape(letters: &[Letter], number: usize, list: &mut Vec<Shape>) -> Result<(), AllocError>
+    ensures { OnOk result (list.new.items ≡ list.old.items ++ shape_of (slice_get letters.now number)) }
+{
+    if number < letters.len() {
+        list.push(letters[number].shape.clone()?)?;
+    }
+    Ok(())
+}

@@ -1,0 +1,19 @@
+// Laws over the definitions.
+
+ghost use Rattle.gx_include.specs.Laws.{PastIsNotWithin, FewPairsAreReached, NoExcludesInclusion};
+
+/// The pairs that are reached are not both past a limit and within it, so `TooManyPairs` comes exactly where they are past it.
+pub fn past_is_not_within()
+    ensures { PastIsNotWithin }
+{}
+
+/// Where no shape is taken by two positions of the right type that begin it or that follow one position, the pairs that are
+/// reached are at most the start, and each position of the left type with a position of the right type or with none.
+pub fn few_pairs_are_reached()
+    ensures { FewPairsAreReached }
+{}
+
+/// A list that is answered with No has well-formed shapes, so a type that is included in another one is never answered with No.
+pub fn no_excludes_inclusion()
+    ensures { NoExcludesInclusion }
+{}

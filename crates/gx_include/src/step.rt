@@ -1,0 +1,68 @@
+// Sets of the start and the positions of a type, and what they come to behind a shape.
+
+ghost use Rattle.std.specs.Prelude.{◌≡◌, [], ◌∷◌, IfOk, OnOk, true, drop, slice_index_or, false};
+ghost use Rattle.gx_include.specs.Positions.{both_set};
+ghost use Rattle.gx_include.specs.Step.{single, has_start, all_next, all_tests, is_end};
+ghost use Rattle.gx_include.specs.Test.{is_taken, IsDecided};
+
+use crate::places::{end_of, follow, test_positions};
+use gx_types::schemas::Schemas;
+use gx_types::sequence_type::Ty;
+use gx_types::shape::Shape;
+use std::alloc::{AllocError, Global};
+
+// The set of one number alone: 0 for the start, and then the positions in the order of the text.
+pub(crate) fn only(alloc: Global, place: usize) -> Result<Vec<bool>, AllocError>
+    ensures { IfOk result (λ set. set.items ≡ single place) }
+{
+    let mut set = vec![in alloc; false; place]?;
+    set.push(true)?;
+    Ok(set)
+}
+
+// Whether the start is in a set, and the positions of the set.
+fn split(set: &[bool]) -> (bool, &[bool])
+    ensures start { result.0 ≡ has_start set.now }
+    ensures positions { result.1.now ≡ drop 1 set.now }
+{
+    match set.split_first() {
+        Some((start, positions)) => (*start, positions),
+        None => (false, set),
+    }
+}
+
+// The positions that may come next behind a set.
+pub(crate) fn next_positions(alloc: Global, t: &Ty, set: &[bool]) -> Result<Vec<bool>, AllocError>
+    ensures { IfOk result (λ next. next.items ≡ all_next t.now set.now) }
+{
+    let mut next = Vec::new(alloc);
+    next.push(false)?;
+    let (start, positions) = split(set);
+    follow(t, start, positions, &mut next)?;
+    Ok(next)
+}
+
+// The positions whose item type takes a shape.
+pub(crate) fn taking_positions(
+    alloc: Global,
+    schemas: &Schemas,
+    t: &Ty,
+    shape: &Shape,
+) -> Result<Vec<bool>, AllocError>
+    ensures tests { IfOk result (λ tests. tests.items ≡ all_tests t.now (is_taken schemas.now shape.now)) }
+    ensures decided { OnOk result (IsDecided schemas.now shape.now t.now) }
+{
+    let mut tests = Vec::new(alloc);
+    tests.push(false)?;
+    test_positions(schemas, shape, t, &mut tests)?;
+    Ok(tests)
+}
+
+// Whether a list of the type may end at a member of a set.
+pub(crate) fn ends_at(t: &Ty, set: &[bool]) -> bool
+    ensures { result ≡ is_end t.now set.now }
+{
+    let (start, positions) = split(set);
+    let end = end_of(t, positions);
+    (start && end.nullable) || end.ends
+}

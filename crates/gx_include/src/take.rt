@@ -1,0 +1,41 @@
+// What a type takes.
+
+ghost use Rattle.std.specs.Prelude.{◌≡◌, IfOk, OnOk, IsTrue, ◌↔◌};
+ghost use Rattle.gx_types.specs.Takes.{Takes};
+ghost use Rattle.gx_include.specs.Step.{step_over};
+ghost use Rattle.gx_include.specs.Test.{is_taken, IsDecided};
+
+use crate::places::meet;
+use crate::step::{ends_at, next_positions, only, taking_positions};
+use gx_types::schemas::Schemas;
+use gx_types::sequence_type::Ty;
+use gx_types::shape::Shape;
+use std::alloc::{AllocError, Global};
+
+/// Whether a type takes a list of shapes (XQuery 1.0 and XPath 2.0 Formal Semantics, section 8.3). The work is linear in the
+/// length of the list.
+pub fn takes(alloc: Global, schemas: &Schemas, t: &Ty, list: &[Shape]) -> Result<bool, AllocError>
+    ensures { IfOk result (λ answer. IsTrue answer ↔ Takes schemas.now t.now list.now) }
+{
+    let mut set = only(alloc, 0)?;
+    for shape in list {
+        set = behind(alloc, schemas, t, shape, set.as_slice())?;
+    }
+    Ok(ends_at(t, set.as_slice()))
+}
+
+// The positions that a set comes to behind a shape.
+fn behind(
+    alloc: Global,
+    schemas: &Schemas,
+    t: &Ty,
+    shape: &Shape,
+    set: &[bool],
+) -> Result<Vec<bool>, AllocError>
+    ensures step { IfOk result (λ next. next.items ≡ step_over t.now (is_taken schemas.now shape.now) set.now) }
+    ensures decided { OnOk result (IsDecided schemas.now shape.now t.now) }
+{
+    let next = next_positions(alloc, t, set)?;
+    let taking = taking_positions(alloc, schemas, t, shape)?;
+    meet(alloc, next.as_slice(), taking.as_slice())
+}

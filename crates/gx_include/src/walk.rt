@@ -1,0 +1,221 @@
+// A walk in breadth over the pairs that letters lead to.
+
+ghost use Rattle.std.specs.Prelude.{◌≡◌, ◌+◌, ◌<◌, ◌≤◌, [], ◌∷◌, IfOk, OnOk, Some, length, slice_index_or, false, reverse};
+ghost use Rattle.gx_include.specs.Step.{single, all_next};
+ghost use Rattle.gx_include.specs.Pairs.{start_pair, moved, is_bad};
+ghost use Rattle.gx_include.specs.Origins.{AreRuns, IsNoted, IsNotedIfFound};
+ghost use Rattle.gx_include.specs.Traced.{Traced};
+ghost use Rattle.gx_include.specs.Outcome.{IsOutcome, outcome_at, exceeds, judged, is_settled};
+ghost use Rattle.gx_include.specs.Walk.{IsKept};
+
+use crate::letter::Letter;
+use crate::pair::Pair;
+use crate::places::meet;
+use crate::step::{ends_at, next_positions, only};
+use gx_types::sequence_type::Ty;
+use indexmap::IndexSet;
+use std::alloc::{AllocError, Global};
+
+// By which letter of which earlier pair a pair was found.
+#[derive(Clone, Copy)]
+pub struct Origin {
+    pub from: usize,
+    pub letter: usize,
+}
+
+// The positions that may come next behind a pair.
+fn nexts(
+    alloc: Global,
+    left: &Ty,
+    right: &Ty,
+    pair: &Pair,
+) -> Result<(Vec<bool>, Vec<bool>), AllocError>
+    ensures left { IfOk result (λ next. next.0.items ≡ all_next left.now (single pair.now.0)) }
+    ensures right { IfOk result (λ next. next.1.items ≡ all_next right.now pair.now.1) }
+{
+    let place = only(alloc, pair.place)?;
+    let left = next_positions(alloc, left, place.as_slice())?;
+    let right = next_positions(alloc, right, pair.set.as_slice())?;
+    Ok((left, right))
+}
+
+// Whether a list may end at a pair on the left and not on the right.
+fn refuses(alloc: Global, left: &Ty, right: &Ty, pair: &Pair) -> Result<bool, AllocError>
+    ensures { IfOk result (λ bad. bad ≡ is_bad left.now right.now pair.now) }
+{
+    let place = only(alloc, pair.place)?;
+    Ok(ends_at(left, place.as_slice()) && !ends_at(right, pair.set.as_slice()))
+}
+
+// Where a letter leads, from the positions that may come next on either side.
+fn target(
+    alloc: Global,
+    left: &[bool],
+    right: &[bool],
+    letter: &Letter,
+) -> Result<Option<Pair>, AllocError>
+    ensures { IfOk result (λ pair. pair ≡ moved left.now right.now letter.now) }
+{
+    if !is_set(left, letter.place) {
+        return Ok(None);
+    }
+    let set = meet(alloc, right, letter.takers.as_slice())?;
+    Ok(Some(Pair {
+        place: letter.place,
+        set,
+    }))
+}
+
+// Whether a number is in a set.
+pub(crate) fn is_set(set: &[bool], place: usize) -> bool
+    ensures { result ≡ slice_index_or set.now place false }
+{
+    match set.get(place) {
+        Some(marked) => *marked,
+        None => false,
+    }
+}
+
+// Puts a pair with its origin behind those that are found, unless it is among them.
+fn note(
+    pairs: &mut IndexSet<Pair>,
+    origins: &mut Vec<Origin>,
+    pair: Pair,
+    origin: Origin,
+) -> Result<(), AllocError>
+    ensures { OnOk result (IsNoted pairs.old.keys origins.old.items pair origin pairs.new.keys origins.new.items) }
+{
+    let (_, added) = pairs.insert_full(pair)?;
+    if added {
+        origins.push(origin)?;
+    }
+    Ok(())
+}
+
+// Puts a pair, if there is one, behind those that are found, unless it is among them.
+fn note_found(
+    pairs: &mut IndexSet<Pair>,
+    origins: &mut Vec<Origin>,
+    found: Option<Pair>,
+    origin: Origin,
+) -> Result<(), AllocError>
+    ensures { OnOk result (IsNotedIfFound pairs.old.keys origins.old.items found origin pairs.new.keys origins.new.items) }
+{
+    match found {
+        Some(pair) => note(pairs, origins, pair, origin),
+        None => Ok(()),
+    }
+}
+
+// Looks at all letters of a pair.
+fn expand(
+    alloc: Global,
+    left: &Ty,
+    right: &Ty,
+    letters: &[Letter],
+    at: usize,
+    pairs: &mut IndexSet<Pair>,
+    origins: &mut Vec<Origin>,
+) -> Result<(), AllocError>
+    requires traced { Traced left.now right.now letters.now pairs.old.keys origins.old.items at 0 }
+    requires within { at < length pairs.old.keys }
+    ensures traced { OnOk result (Traced left.now right.now letters.now pairs.new.keys origins.new.items (at + 1) 0) }
+    ensures kept { OnOk result (IsKept pairs.old.keys pairs.new.keys) }
+{
+    let (next_left, next_right) = nexts(alloc, left, right, &pairs[at])?;
+    for (number, letter) in letters.iter().enumerate() {
+        let found = target(alloc, next_left.as_slice(), next_right.as_slice(), letter)?;
+        let origin = Origin {
+            from: at,
+            letter: number,
+        };
+        note_found(pairs, origins, found, origin)?;
+    }
+    Ok(())
+}
+
+/// What a walk comes to: no pair is bad, the pair at this place is the first bad one, or more pairs than the limit were found.
+#[derive(Clone, Copy)]
+pub enum Outcome {
+    Safe,
+    Bad(usize),
+    TooMany,
+}
+
+// Walks over the pairs that the letters lead to from the start. Without a limit the walk ends at the first bad pair.
+pub(crate) fn walk(
+    alloc: Global,
+    left: &Ty,
+    right: &Ty,
+    letters: &[Letter],
+    limit: Option<usize>,
+    pairs: &mut IndexSet<Pair>,
+    origins: &mut Vec<Origin>,
+) -> Result<Outcome, AllocError>
+    requires pairs { pairs.old.keys ≡ start_pair ∷ [] }
+    requires origins { origins.old.items ≡ [] }
+    ensures { IfOk result (λ outcome. IsOutcome left.now right.now letters.now limit pairs.new.keys origins.new.items outcome) }
+{
+    let mut bad = None;
+    let mut at = 0;
+    while at < pairs.len() {
+        bad = judge(alloc, left, right, &pairs[at], at, bad)?;
+        if ends_early(limit, bad) {
+            return Ok(outcome_of(bad));
+        }
+        expand(alloc, left, right, letters, at, pairs, origins)?;
+        if is_past(limit, pairs.len()) {
+            return Ok(Outcome::TooMany);
+        }
+        at += 1;
+    }
+    Ok(outcome_of(bad))
+}
+
+// The first bad pair so far, where the pairs before this one were judged.
+fn judge(
+    alloc: Global,
+    left: &Ty,
+    right: &Ty,
+    pair: &Pair,
+    at: usize,
+    bad: Option<usize>,
+) -> Result<Option<usize>, AllocError>
+    ensures { IfOk result (λ first. first ≡ judged bad (is_bad left.now right.now pair.now) at) }
+{
+    if bad.is_some() {
+        return Ok(bad);
+    }
+    if refuses(alloc, left, right, pair)? {
+        Ok(Some(at))
+    } else {
+        Ok(None)
+    }
+}
+
+// Whether nothing more is to be known: a bad pair was found, and pairs are not counted.
+fn ends_early(limit: Option<usize>, bad: Option<usize>) -> bool
+    ensures { result ≡ is_settled limit bad }
+{
+    limit.is_none() && bad.is_some()
+}
+
+// The outcome of a walk that was not cut off.
+fn outcome_of(bad: Option<usize>) -> Outcome
+    ensures { result ≡ outcome_at bad }
+{
+    match bad {
+        Some(at) => Outcome::Bad(at),
+        None => Outcome::Safe,
+    }
+}
+
+// Whether there are more than a limit allows.
+fn is_past(limit: Option<usize>, count: usize) -> bool
+    ensures { result ≡ exceeds limit count }
+{
+    match limit {
+        Some(limit) => limit < count,
+        None => false,
+    }
+}

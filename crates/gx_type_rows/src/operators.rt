@@ -1,0 +1,107 @@
+// Rows of the static rules of operators.
+
+ghost use Rattle.std.specs.Prelude.{◌≡◌, length};
+ghost use Rattle.gx_static.specs.Rule.{arity};
+
+use crate::rows::shown;
+use gx_core::expression::BinaryOp;
+use gx_core::operator::Operator;
+use gx_funcs::function::Function;
+use gx_row::names::type_name;
+use gx_row::not_a_row;
+use gx_static::rules::operator_type;
+use gx_types::schemas::Schemas;
+use gx_types::sequence_type::Ty;
+use std::alloc::{AllocError, Global};
+
+/// The type of an operator, or of a call of a function, over parts of these types. Operators are written as in a query, but
+/// a negation as `neg`, a cast as `cast:TYPE` or `cast?:TYPE`, and a test for one as `castable:TYPE`.
+pub fn operator_row(alloc: Global, word: &str, parts: &[Ty]) -> Result<String, AllocError> {
+    match (word, parts) {
+        ("true", []) => ruled(alloc, &Operator::Call(Function::True), parts),
+        ("false", []) => ruled(alloc, &Operator::Call(Function::False), parts),
+        ("boolean", [_]) => ruled(alloc, &Operator::Call(Function::Boolean), parts),
+        ("not", [_]) => ruled(alloc, &Operator::Call(Function::Not), parts),
+        ("neg", [_]) => ruled(alloc, &Operator::Neg, parts),
+        ("data", [_]) => ruled(alloc, &Operator::DataOf, parts),
+        (word, [_]) => cast_row(alloc, word, parts),
+        (word, [_, _]) => binary_row(alloc, word, parts),
+        ("if", [_, _, _]) => ruled(alloc, &Operator::If, parts),
+        _ => not_a_row(alloc),
+    }
+}
+
+fn cast_row(alloc: Global, word: &str, parts: &[Ty]) -> Result<String, AllocError>
+    requires { length parts.now ≡ 1 }
+{
+    match word.split_once(':') {
+        Some(("cast", kind)) => cast_type(alloc, kind, false, parts),
+        Some(("cast?", kind)) => cast_type(alloc, kind, true, parts),
+        Some(("castable", kind)) => castable_type(alloc, kind, parts),
+        _ => not_a_row(alloc),
+    }
+}
+
+fn cast_type(
+    alloc: Global,
+    kind: &str,
+    allows_empty: bool,
+    parts: &[Ty],
+) -> Result<String, AllocError>
+    requires { length parts.now ≡ 1 }
+{
+    let operator = Operator::Cast(type_name(alloc, kind)?, allows_empty);
+    ruled(alloc, &operator, parts)
+}
+
+fn castable_type(alloc: Global, kind: &str, parts: &[Ty]) -> Result<String, AllocError>
+    requires { length parts.now ≡ 1 }
+{
+    let operator = Operator::Castable(type_name(alloc, kind)?, false);
+    ruled(alloc, &operator, parts)
+}
+
+fn binary_row(alloc: Global, word: &str, parts: &[Ty]) -> Result<String, AllocError>
+    requires { length parts.now ≡ 2 }
+{
+    match binary_operator(word) {
+        Some(operator) => ruled(alloc, &Operator::Binary(operator), parts),
+        None => not_a_row(alloc),
+    }
+}
+
+fn binary_operator(word: &str) -> Option<BinaryOp> {
+    match word {
+        "+" => Some(BinaryOp::Add),
+        "-" => Some(BinaryOp::Sub),
+        "*" => Some(BinaryOp::Mul),
+        "div" => Some(BinaryOp::Div),
+        "idiv" => Some(BinaryOp::IDiv),
+        "mod" => Some(BinaryOp::Mod),
+        "eq" => Some(BinaryOp::Eq),
+        "ne" => Some(BinaryOp::Ne),
+        "lt" => Some(BinaryOp::Lt),
+        "le" => Some(BinaryOp::Le),
+        "gt" => Some(BinaryOp::Gt),
+        "ge" => Some(BinaryOp::Ge),
+        "=" => Some(BinaryOp::AnyEq),
+        "!=" => Some(BinaryOp::AnyNe),
+        "<" => Some(BinaryOp::AnyLt),
+        "<=" => Some(BinaryOp::AnyLe),
+        ">" => Some(BinaryOp::AnyGt),
+        ">=" => Some(BinaryOp::AnyGe),
+        "to" => Some(BinaryOp::To),
+        _ => None,
+    }
+}
+
+// What the rule of an operator answers.
+fn ruled(alloc: Global, operator: &Operator, parts: &[Ty]) -> Result<String, AllocError>
+    requires { length parts.now ≡ arity operator.now }
+{
+    let schemas = Schemas::empty(alloc)?;
+    match operator_type(alloc, &schemas, operator, parts) {
+        Ok(t) => shown(alloc, &t),
+        Err(fault) => format!(in alloc; "{fault:?}"),
+    }
+}
