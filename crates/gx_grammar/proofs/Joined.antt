@@ -1,6 +1,7 @@
-use Rattle.std.proofs.Common.{◌≡◌, ℕ, ◌≤◌, List, [], ◌∷◌, ◌++◌, ◌⊎◌, inl, inr, length, length-append, refl, sym, ap, subst, ◌∙◌, append_assoc, append-nil, Option, Some, None, drop, arith}
+use Rattle.std.proofs.Common.{◌≡◌, ℕ, ◌≤◌, Bool, true, false, if◌then◌else◌, List, [], ◌∷◌, ◌++◌, ◌⊎◌, inl, inr, length, length-append, refl, sym, ap, ap₂, subst, ◌∙◌, append_assoc, append-nil, Option, Some, None, drop, arith}
+use Rattle.std.proofs.lemmas.List.{append_cancel_right}
 use Rattle.gx_grammar.specs.Tokens.{LawfulToken, SeesUpTo, no_fault}
-use Rattle.gx_grammar.specs.Joined.{AreJoined, OpensJoined, with_front, scan_behind, scan_joined, seen_behind, seen_joined}
+use Rattle.gx_grammar.specs.Joined.{AreJoined, OpensJoined, with_front, scan_behind, scan_joined, seen_behind, seen_joined, IsOptional, scan_optional, Tells}
 use Rattle.gx_grammar.proofs.Readings.{min_is}
 use Rattle.gx_grammar.proofs.Unique.{same_some}
 
@@ -127,6 +128,51 @@ module _ {V : Type 0} (first : V → List ℕ → List ℕ → Type 0) (opens1 :
     fronts = joined_fronts;
     sees = joined_sees;
     longest = joined_longest;
+    firm = λ v x y d. refl;
+    faultless = refl;
+  }
+
+module _ {V : Type 0} (derives : V → List ℕ → List ℕ → Type 0) (opens : List ℕ → Type 0) (scan : List ℕ → Option (V × List ℕ)) (seen : List ℕ → ℕ) (base : LawfulToken derives opens scan seen no_fault) (starts : List ℕ → Bool) (value : V)
+    (tells : Tells derives opens starts) where
+  optional_sound : (v : V) (x y : List ℕ) → scan_optional scan starts value x ≡ Some (v, y) → IsOptional derives starts value v x y
+  optional_sound v x y e = go (starts x) refl e
+    where
+      go : (b : Bool) → starts x ≡ b → (if b then (scan x) else (Some (value, x))) ≡ Some (v, y) → IsOptional derives starts value v x y
+      go true f g = inl (base.sound v x y g)
+      go false f g = let s = same_some (value, x) (v, y) g in inr (f, sym s.0, sym s.1)
+
+  optional_complete : (v : V) (x y : List ℕ) → IsOptional derives starts value v x y → scan_optional scan starts value x ≡ Some (v, y)
+  optional_complete v x y (inl d) = ap (λ b. if b then (scan x) else (Some (value, x))) (tells.begins v x y d) ∙ base.complete v x y d
+  optional_complete v x y (inr d) = ap (λ b. if b then (scan x) else (Some (value, x))) d.0 ∙ ap₂ (λ w q. Some (w, q)) (sym d.1) (sym d.2)
+
+  optional_ends : (v : V) (x y : List ℕ) → IsOptional derives starts value v x y → (a : List ℕ) × (x ≡ a ++ y)
+  optional_ends v x y (inl d) = base.ends v x y d
+  optional_ends v x y (inr d) = ([], sym d.2)
+
+  optional_cut : (v : V) (x y z : List ℕ) → IsOptional derives starts value v (x ++ z) (y ++ z) → IsOptional derives starts value v x y
+  optional_cut v x y z (inl d) = inl (base.cut v x y z d)
+  optional_cut v x y z (inr d) = inr (tells.stays x z d.0, d.1, append_cancel_right y x z d.2)
+
+  optional_goes_on : (v : V) (x y z : List ℕ) → IsOptional derives starts value v x y → IsOptional derives starts value v (x ++ z) (y ++ z) ⊎ opens x
+  optional_goes_on v x y z (inl d) = elim (base.goes_on v x y z d) [ inl e ↦ inl (inl e) | inr o ↦ inr o ]
+  optional_goes_on v x y z (inr d) = elim (tells.grows x z d.0) [ inl e ↦ inl (inr (e, d.1, ap (λ q. q ++ z) d.2)) | inr o ↦ inr o ]
+
+  optional_fronts : (v : V) (x y z : List ℕ) → IsOptional derives starts value v (x ++ z) y → length y ≤ length z → opens x
+  optional_fronts v x y z (inl d) h = base.fronts v x y z d h
+  optional_fronts v [] y z (inr d) h = tells.empty
+  optional_fronts v (c ∷ x) y z (inr d) h = absurd (omega (arith, h, ap length d.2, length-append (c ∷ x) z))
+
+  -- A token that may be left out, where a test tells whether it starts.
+  pub lawful_optional : LawfulToken (IsOptional derives starts value) opens (scan_optional scan starts value) seen no_fault
+  lawful_optional = record {
+    sound = optional_sound;
+    complete = optional_complete;
+    ends = optional_ends;
+    cut = optional_cut;
+    goes_on = optional_goes_on;
+    fronts = optional_fronts;
+    sees = base.sees;
+    longest = base.longest;
     firm = λ v x y d. refl;
     faultless = refl;
   }

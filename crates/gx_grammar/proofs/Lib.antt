@@ -15,6 +15,7 @@ pub mod ByCharacter
 pub mod Sorted
 pub mod Tokens
 pub mod Apart
+pub mod Words
 pub mod Fitting
 pub mod Joined
 pub mod Gaps
@@ -25,3 +26,5 @@ pub mod Places
 pub mod Decoding
 pub mod Steps
 pub mod Ran
+pub mod Walks
+pub mod Either

@@ -13,7 +13,7 @@ use Rattle.gx_grammar.specs.Limited.{Mark, plus, opening, closing, number, gap, 
 use Rattle.gx_grammar.proofs.Tokens.{lawful_word, lawful_name, lawful_tokens}
 use Rattle.gx_grammar.proofs.Gaps.{lawful_gap}
 use Rattle.gx_grammar.proofs.Fitting.{lawful_fitting, fitting_firm, lawful_barred}
-use Rattle.gx_grammar.proofs.Apart.{computed_heads}
+use Rattle.gx_grammar.proofs.Apart.{computed_heads, word_shape}
 use Rattle.gx_grammar.proofs.ByCharacter.{character_chooses}
 use Rattle.gx_grammar.proofs.Levels.{below_shields}
 use Rattle.gx_grammar.proofs.Sorted.{sorted_readable}
@@ -98,9 +98,9 @@ number_opened [] o n = absurd (n refl)
 number_opened (c ∷ x) o n = o.0
 
 shaped : (t : Mark) → HasShape limited t (mark_shape t)
-shaped plus = (word_shaped plus (43 ∷ []) no_character (λ v x y d. d) (λ x. refl), (λ x o. o), (λ x o. o))
-shaped opening = (word_shaped opening (40 ∷ []) no_character (λ v x y d. d) (λ x. refl), (λ x o. o), (λ x o. o))
-shaped closing = (word_shaped closing (41 ∷ []) no_character (λ v x y d. d) (λ x. refl), (λ x o. o), (λ x o. o))
+shaped plus = word_shape limited plus (43 ∷ []) no_character (word_shaped plus (43 ∷ []) no_character (λ v x y d. d) (λ x. refl), (λ x o. o), (λ x o. o))
+shaped opening = word_shape limited opening (40 ∷ []) no_character (word_shaped opening (40 ∷ []) no_character (λ v x y d. d) (λ x. refl), (λ x o. o), (λ x o. o))
+shaped closing = word_shape limited closing (41 ∷ []) no_character (word_shaped closing (41 ∷ []) no_character (λ v x y d. d) (λ x. refl), (λ x o. o), (λ x o. o))
 shaped number = (number_stands, number_opened)
 shaped gap = tt
 shaped no_sum = (barred_shaped no_sum (λ v x y d. d) (λ x. refl), (λ x o n. absurd (n o)))

@@ -42,7 +42,7 @@ ran_makes v w (GaveUp e) b c read h k = let g : Makes w v (GaveUp e) c = subst (
 ran_makes v w Lost b c read h k = let g : Makes w v Lost c = subst (λ d. Makes w v d c) h k in g
 
 -- a step behind a look, by the state that it left
-ran_looked : {A : Type 0} (v : A) (taken : Bool) (a b c : Standing) (g : Guard) (inner outer : State → Reading A)
+pub ran_looked : {A : Type 0} (v : A) (taken : Bool) (a b c : Standing) (g : Guard) (inner outer : State → Reading A)
     → Looked taken a b g → Ran v b c inner → ((s : State) → taken ≡ g.takes s.rest → outer s ≡ inner (notes s (g.seen s.rest))) → Ran v a c outer
 ran_looked v taken (Going s) b (Going u) g inner outer h k same = same s h.1 ∙ (let q : Ran v (Going (notes s (g.seen s.rest))) (Going u) inner = subst (λ d. Ran v d (Going u) inner) h.0 k in q)
 ran_looked v taken (Going s) b (GaveUp e) g inner outer h k same = same s h.1 ∙ (let q : Ran v (Going (notes s (g.seen s.rest))) (GaveUp e) inner = subst (λ d. Ran v d (GaveUp e) inner) h.0 k in q)

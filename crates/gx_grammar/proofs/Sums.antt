@@ -1,4 +1,4 @@
-use Rattle.std.proofs.Common.{◌≡◌, ◌≢◌, ℕ, ◌<◌, Bool, true, false, List, [], ◌∷◌, ◌++◌, inl, inr, length, length-append, refl, sym, ap, ◌∙◌, arith}
+use Rattle.std.proofs.Common.{◌≡◌, ◌≢◌, ℕ, ◌<◌, Bool, true, false, List, [], ◌∷◌, ◌++◌, inl, inr, length, length-append, refl, ap, ◌∙◌, arith}
 use Rattle.gx_grammar.specs.Value.{Value, nothing, characters}
 use Rattle.gx_grammar.specs.Grammar.{◌&◌}
 use Rattle.gx_grammar.specs.Opening.{open_token, open_first, open_left, open_right}
@@ -6,11 +6,11 @@ use Rattle.gx_grammar.specs.Laws.{LawfulTokens}
 use Rattle.gx_grammar.specs.Levels.{takes_some, AreTakings, IsShielded, IsLevelled}
 use Rattle.gx_grammar.specs.Text.{IsReadable}
 use Rattle.gx_grammar.specs.First.{IsIn, AllOf, first_of, HasHead, AreFronts, IsSorted, head_passes, Stands}
-use Rattle.gx_grammar.specs.Tokens.{LawfulToken, IsWord, IsFrontOf}
+use Rattle.gx_grammar.specs.Tokens.{LawfulToken, IsWord}
 use Rattle.gx_grammar.specs.Sums.{Sign, plus, modulo, opening, closing, digits, gap, Rule, sum, is_digit, is_letter, no_character, any_character, lexeme, number, parenthesised, term, operator, sum_text, sums, sign_takes, sum_rank, sign_shape, sum_fronts}
 use Rattle.gx_grammar.proofs.Tokens.{lawful_word, lawful_name, lawful_tokens}
 use Rattle.gx_grammar.specs.Apart.{HasShape}
-use Rattle.gx_grammar.proofs.Apart.{computed_apart}
+use Rattle.gx_grammar.proofs.Apart.{computed_apart, computed_words, word_shape}
 use Rattle.gx_grammar.proofs.Gaps.{lawful_gap}
 use Rattle.gx_grammar.proofs.ByTokens.{tokens_choose, tokens_repeat}
 use Rattle.gx_grammar.proofs.ByCharacter.{character_chooses}
@@ -58,10 +58,10 @@ word_shaped t word test d x (inl s) = let w = d s.0 x s.1 s.2 in (s.1, w.spelled
 word_shaped t word test d x (inr s) = absurd (let e = s.1 in cc e)
 
 shaped : (t : Sign) → HasShape sums t (sign_shape t)
-shaped plus = (word_shaped plus (43 ∷ []) no_character (λ v x y d. d), (λ x o. o), (λ x o. o))
-shaped modulo = (word_shaped modulo (109 ∷ 111 ∷ 100 ∷ []) is_letter (λ v x y d. d), (λ x o. o), (λ x o. o))
-shaped opening = (word_shaped opening (40 ∷ []) no_character (λ v x y d. d), (λ x o. o), (λ x o. o))
-shaped closing = (word_shaped closing (41 ∷ []) no_character (λ v x y d. d), (λ x o. o), (λ x o. o))
+shaped plus = word_shape sums plus (43 ∷ []) no_character (word_shaped plus (43 ∷ []) no_character (λ v x y d. d), (λ x o. o), (λ x o. o))
+shaped modulo = word_shape sums modulo (109 ∷ 111 ∷ 100 ∷ []) is_letter (word_shaped modulo (109 ∷ 111 ∷ 100 ∷ []) is_letter (λ v x y d. d), (λ x o. o), (λ x o. o))
+shaped opening = word_shape sums opening (40 ∷ []) no_character (word_shaped opening (40 ∷ []) no_character (λ v x y d. d), (λ x o. o), (λ x o. o))
+shaped closing = word_shape sums closing (41 ∷ []) no_character (word_shaped closing (41 ∷ []) no_character (λ v x y d. d), (λ x o. o), (λ x o. o))
 shaped digits = (stands, opened)
   where
     stands : (x : List ℕ) → Stands sums.derives sums.faults digits x → (x ≢ []) × (head_passes is_digit x ≡ true)
@@ -74,14 +74,7 @@ shaped digits = (stands, opened)
 shaped gap = tt
 
 opening_fails : HasHead sums is_digit false opening
-opening_fails = record {
-  stands = λ x s. (let r = (shaped opening).0 x s in ((λ e. let g = r.1 in absurd (cc (e, g))), ap (head_passes is_digit) r.1));
-  opened = λ x o n. opened x o n;
-}
-  where
-    opened : (x : List ℕ) → IsFrontOf x (40 ∷ []) → x ≢ [] → head_passes is_digit x ≡ false
-    opened [] o n = absurd (n refl)
-    opened (c ∷ x) o n = let g = o.1 in let k : 40 ≡ c = cc g in sym (ap is_digit k)
+opening_fails = (computed_words sums sign_shape shaped is_digit false (opening ∷ []) refl).0
 
 digits_pass : HasHead sums is_digit true digits
 digits_pass = record { stands = (shaped digits).0; opened = (shaped digits).1 }

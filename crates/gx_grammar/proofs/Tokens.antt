@@ -16,15 +16,15 @@ same_number c d e = eqb-true c d e
 equal_self : (c : ℕ) → (c == c) ≡ true
 equal_self c = eq-eqb c c refl
 
-head_cut : (test : ℕ → Bool) (y z : List ℕ) → head_passes test (y ++ z) ≡ false → head_passes test y ≡ false
+pub head_cut : (test : ℕ → Bool) (y z : List ℕ) → head_passes test (y ++ z) ≡ false → head_passes test y ≡ false
 head_cut test [] z e = refl
 head_cut test (c ∷ y) z e = e
 
 -- a text behind a front
-same_end : (x y z w : List ℕ) → x ++ z ≡ w ++ (y ++ z) → x ≡ w ++ y
+pub same_end : (x y z w : List ℕ) → x ++ z ≡ w ++ (y ++ z) → x ≡ w ++ y
 same_end x y z w e = append_cancel_right x (w ++ y) z (e ∙ sym (append_assoc w y z))
 
-longer_front : (x z w y : List ℕ) → x ++ z ≡ w ++ y → length y ≤ length z → IsFrontOf x w
+pub longer_front : (x z w y : List ℕ) → x ++ z ≡ w ++ y → length y ≤ length z → IsFrontOf x w
 longer_front [] z w y e h = (w, refl)
 longer_front (c ∷ x) z [] y e h = absurd (omega (arith, ap length e, length-append (c ∷ x) z))
 longer_front (c ∷ x) z (d ∷ w) y e h =
@@ -54,7 +54,7 @@ behind_is (c ∷ w) (d ∷ x) =
     (λ f. (c ∷ r.0, ap₂ (λ a b. a ∷ b) (sym (same_number c d f)) r.1, (r.2.0, ap (λ q. c ∷ q) r.2.1)))
     (λ f. ([], refl, (c ∷ w, refl)))
 
-behind_short : (w x : List ℕ) → length (behind_common w x) ≤ length x
+pub behind_short : (w x : List ℕ) → length (behind_common w x) ≤ length x
 behind_short [] x = omega arith
 behind_short (c ∷ w) [] = omega arith
 behind_short (c ∷ w) (d ∷ x) = let r = behind_short w x in by_test (c == d) (behind_common w x) (d ∷ x) (λ b. length b ≤ length (d ∷ x)) (λ f. omega (arith, r)) (λ f. omega arith)
@@ -121,13 +121,13 @@ pass_front : (test : ℕ → Bool) (x y : List ℕ) → all_pass test (x ++ y) �
 pass_front test [] y e = refl
 pass_front test (c ∷ x) y e = let p = and_parts (test c) (all_pass test (x ++ y)) e in ap₂ (λ a b. a && b) p.0 (pass_front test x y p.1)
 
-run_whole : (test : ℕ → Bool) (x : List ℕ) → x ≡ run_of test x ++ behind_run test x
+pub run_whole : (test : ℕ → Bool) (x : List ℕ) → x ≡ run_of test x ++ behind_run test x
 run_whole test [] = refl
 run_whole test (c ∷ x) =
     let r = run_whole test x in
     elim (test c) as (λ b. (c ∷ x) ≡ (if b then (c ∷ run_of test x) else []) ++ (if b then (behind_run test x) else (c ∷ x))) [ true ↦ ap (λ q. c ∷ q) r | false ↦ refl ]
 
-run_passes : (test : ℕ → Bool) (x : List ℕ) → all_pass test (run_of test x) ≡ true
+pub run_passes : (test : ℕ → Bool) (x : List ℕ) → all_pass test (run_of test x) ≡ true
 run_passes test [] = refl
 run_passes test (c ∷ x) = let r = run_passes test x in by_test (test c) (c ∷ run_of test x) [] (λ q. all_pass test q ≡ true) (λ f. ap₂ (λ a b. a && b) f r) (λ f. refl)
 
@@ -143,7 +143,7 @@ run_is test (c ∷ r) y e f =
     let q = run_is test r y p.1 f in
     (ap (λ b. if b then (c ∷ run_of test (r ++ y)) else []) p.0 ∙ ap (λ w. c ∷ w) q.0, ap (λ b. if b then (behind_run test (r ++ y)) else (c ∷ (r ++ y))) p.0 ∙ q.1)
 
-run_short : (test : ℕ → Bool) (x : List ℕ) → length (behind_run test x) ≤ length x
+pub run_short : (test : ℕ → Bool) (x : List ℕ) → length (behind_run test x) ≤ length x
 run_short test [] = omega arith
 run_short test (c ∷ x) = let r = run_short test x in by_test (test c) (behind_run test x) (c ∷ x) (λ q. length q ≤ length (c ∷ x)) (λ f. omega (arith, r)) (λ f. omega arith)
 

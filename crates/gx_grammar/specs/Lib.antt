@@ -11,6 +11,7 @@ pub mod Levels
 pub mod Text
 pub mod First
 pub mod Tokens
+pub mod Words
 pub mod Apart
 pub mod Fitting
 pub mod Joined
@@ -20,3 +21,5 @@ pub mod Limited
 pub mod Places
 pub mod Decoding
 pub mod Ran
+pub mod Walks
+pub mod Either

@@ -4,7 +4,7 @@ use Rattle.gx_grammar.specs.Grammar.{Grammar, token, empty, ◌&◌, choose, rul
 use Rattle.gx_grammar.specs.Language.{Language}
 use Rattle.gx_grammar.specs.First.{EndsOrStarts, BeginsWith, Fronts, by_character, head_passes}
 use Rattle.gx_grammar.specs.Fitting.{IsFitting, Never, scan_fitting, scan_never, fault_of, IsEmpty}
-use Rattle.gx_grammar.specs.Apart.{Shape, spelled, headed, shapeless, is}
+use Rattle.gx_grammar.specs.Apart.{Shape, headed, shapeless, one_word, is}
 use Rattle.gx_grammar.specs.Tokens.{IsWord, IsNamed, IsFrontOf, no_fault, scan_word, seen_word, scan_name, opens_name, seen_name}
 use Rattle.gx_grammar.specs.Gaps.{IsGap, OpensGap, scan_gap, seen_gap}
 use Rattle.gx_grammar.specs.Sums.{is_digit, is_letter, no_character, any_character}
@@ -127,9 +127,9 @@ mark_takes _ = true
 
 -- how the marks look
 abbrev pub mark_shape : Mark → Shape
-mark_shape plus = spelled (43 ∷ []) no_character
-mark_shape opening = spelled (40 ∷ []) no_character
-mark_shape closing = spelled (41 ∷ []) no_character
+mark_shape plus = one_word (43 ∷ []) no_character
+mark_shape opening = one_word (40 ∷ []) no_character
+mark_shape closing = one_word (41 ∷ []) no_character
 mark_shape number = headed is_digit
 mark_shape gap = shapeless
 mark_shape no_sum = headed begins_operand

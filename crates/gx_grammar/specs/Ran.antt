@@ -43,3 +43,9 @@ abbrev pub left_of : Standing → ℕ
 left_of (Going s) = length s.rest
 left_of (GaveUp e) = 0
 left_of Lost = 0
+
+-- Reading ended for want of memory, if it had not ended before.
+abbrev pub Loses : Standing → Standing → Type 0
+Loses (Going s) after = after ≡ Lost
+Loses (GaveUp e) after = after ≡ GaveUp e
+Loses Lost after = after ≡ Lost

@@ -4,7 +4,7 @@ use Rattle.gx_grammar.specs.Grammar.{Grammar, token, ◌&◌, choose, many, rule
 use Rattle.gx_grammar.specs.Language.{Language}
 use Rattle.gx_grammar.specs.First.{EndsOrStarts, BeginsWith, Fronts, by_character, by_tokens}
 use Rattle.gx_grammar.specs.Tokens.{IsWord, IsNamed, IsFrontOf, scan_word, seen_word, scan_name, opens_name, seen_name}
-use Rattle.gx_grammar.specs.Apart.{Shape, spelled, headed, shapeless}
+use Rattle.gx_grammar.specs.Apart.{Shape, headed, shapeless, one_word}
 use Rattle.gx_grammar.specs.Gaps.{IsGap, OpensGap, scan_gap, seen_gap}
 
 -- A small language, to show what an instance is: sums of numbers with `+` and `mod` and with parentheses,
@@ -126,10 +126,10 @@ sum_rank p = 0
 
 -- how the signs look
 abbrev pub sign_shape : Sign → Shape
-sign_shape plus = spelled (43 ∷ []) no_character
-sign_shape modulo = spelled (109 ∷ 111 ∷ 100 ∷ []) is_letter
-sign_shape opening = spelled (40 ∷ []) no_character
-sign_shape closing = spelled (41 ∷ []) no_character
+sign_shape plus = one_word (43 ∷ []) no_character
+sign_shape modulo = one_word (109 ∷ 111 ∷ 100 ∷ []) is_letter
+sign_shape opening = one_word (40 ∷ []) no_character
+sign_shape closing = one_word (41 ∷ []) no_character
 sign_shape digits = headed is_digit
 sign_shape gap = shapeless
 

@@ -1,6 +1,7 @@
-ghost use Rattle.gx_grammar.specs.Apart.{HasShape, Shape, all_apart, is, shape_begins};
+ghost use Rattle.gx_grammar.specs.Apart.{HasShape, Shape, all_apart, all_words_apart, is, shape_begins, words_begin};
 ghost use Rattle.gx_grammar.specs.Decision.{Chooses, Repeats};
 ghost use Rattle.gx_grammar.specs.Derivation.{Derives};
+ghost use Rattle.gx_grammar.specs.Either.{IsEither, IsMapped, OpensEither, scan_either, scan_mapped, seen_either};
 ghost use Rattle.gx_grammar.specs.First.{AllOf, AreApart, AreFronts, BeginsWith, CharacterChooses, EndsOrStarts, Fronts, HasHead, IsSorted, TokensChoose, by_character, by_tokens};
 ghost use Rattle.gx_grammar.specs.Fitting.{IsFitting, Never, scan_fitting, scan_never};
 ghost use Rattle.gx_grammar.specs.Gaps.{IsGap, OpensGap, scan_gap, seen_gap};
@@ -16,6 +17,8 @@ ghost use Rattle.gx_grammar.specs.Reading.{Reading, Refusal, State, go_on, notes
 ghost use Rattle.gx_grammar.specs.Text.{AllDecide, IsReadable, IsVerdict, read_text};
 ghost use Rattle.gx_grammar.specs.Tokens.{IsFrontOf, IsNamed, IsRun, IsWord, LawfulToken, no_fault, opens_name, opens_run, scan_name, scan_run, scan_word, seen_name, seen_run, seen_word};
 ghost use Rattle.gx_grammar.specs.Value.{Value, an_item, no_item, pair};
+ghost use Rattle.gx_grammar.specs.Walks.{IsWalk, Walk, opens_walk, scan_walk, seen_walk};
+ghost use Rattle.gx_grammar.specs.Words.{Entry, IsOneOf, OpensOneOf, scan_one_of, seen_one_of, spellings};
 ghost use Rattle.std.specs.List.{list_all};
 ghost use Rattle.std.specs.Prelude.{◌≡◌, ◌<◌, ◌≤◌, ◌+◌, ◌++◌, [], Bool, true, false, IfOk, List, None, Ok, Option, Result, if◌then◌else◌, length, suc, ℕ};
 
@@ -113,10 +116,12 @@ pub fn repetition_goes_by_items<G: HasLanguage>()
         else (Ok (no_item, notes s (g.seen s.rest)))) }
 {}
 
-/// Words and symbols, runs, names, and white space with nested comments keep the laws of tokens.
+/// Words and symbols, one of several words, runs, names, and white space with nested comments keep the laws of tokens.
 pub fn tokens_are_lawful<G: HasLanguage>()
     ensures words { (value : Made G.language) (word : List ℕ) (test : ℕ → Bool)
         → LawfulToken (IsWord value word test) (λ x. IsFrontOf x word) (scan_word value word test) (seen_word word) no_fault }
+    ensures choices { (entries : List (Entry (Made G.language))) → all_words_apart (spellings entries) ≡ true
+        → LawfulToken (IsOneOf entries) (OpensOneOf entries) (scan_one_of entries) (seen_one_of entries) no_fault }
     ensures runs { (value : List ℕ → Made G.language) (test stop : ℕ → Bool)
         → LawfulToken (IsRun value test stop) (opens_run test) (scan_run value test stop) (seen_run test) no_fault }
     ensures names { (value : List ℕ → Made G.language) (first test stop : ℕ → Bool)
@@ -162,12 +167,14 @@ pub fn made_tokens_are_lawful<T: HasTokens>()
 {}
 
 /// Tokens whose shapes are apart by computation are apart, and those whose shapes begin with a character, or with other
-/// ones, do so.
+/// ones, do so; and words whose first characters pass a test, or fail it.
 pub fn spellings_are_apart<G: HasLanguage>()
     ensures apart { (shape : G.language.Token → Shape) → ((t : G.language.Token) → HasShape G.language t (shape t))
         → (ts us : List G.language.Token) → all_apart shape ts us ≡ true → AllOf (λ u. AllOf (λ t. AreApart G.language t u) ts) us }
     ensures heads { (shape : G.language.Token → Shape) → ((t : G.language.Token) → HasShape G.language t (shape t))
         → (k : ℕ) (b : Bool) (ts : List G.language.Token) → list_all (λ t. shape_begins k b (shape t)) ts ≡ true → AllOf (HasHead G.language (is k) b) ts }
+    ensures words { (shape : G.language.Token → Shape) → ((t : G.language.Token) → HasShape G.language t (shape t))
+        → (test : ℕ → Bool) (b : Bool) (ts : List G.language.Token) → list_all (λ t. words_begin test b (shape t)) ts ≡ true → AllOf (HasHead G.language test b) ts }
 {}
 
 /// What the steps of a hand-written reader do together.
@@ -190,4 +197,20 @@ pub fn looks_decide<G: HasLanguage>()
         → taken ≡ false → Looked taken a b g → Ran no_item a b (repeat g item (suc count)) }
     ensures item { (g : Guard) (item : State → Reading (Made G.language)) (count : ℕ) (v w : Made G.language) (taken : Bool) (a b c d : Standing)
         → taken ≡ true → Looked taken a b g → Ran v b c item → Ran w c d (repeat g item count) → Ran (an_item v w) a d (repeat g item (suc count)) }
+{}
+
+/// Runs that make a number as they go keep the laws of tokens.
+pub fn walks_are_lawful<G: HasLanguage>()
+    ensures { (value : List ℕ → Made G.language) (w : Walk) (start : ℕ)
+        → LawfulToken (IsWalk value w start) (opens_walk w start) (scan_walk value w start) (seen_walk w start) no_fault }
+{}
+
+/// One of two tokens that never stand at one place, and a token with a value of its own, keep the laws of tokens where
+/// their parts do.
+pub fn chosen_tokens_are_lawful<T: HasTokens>()
+    ensures either { LawfulToken T.derives T.opens T.scan T.seen no_fault → LawfulToken T.derives_behind T.opens_behind T.scan_behind T.seen_behind no_fault
+        → ((v u : T.Worth) (x y z : List ℕ) → T.derives v x y → T.derives_behind u x z → ⊥)
+        → LawfulToken (IsEither T.derives T.derives_behind) (OpensEither T.opens T.opens_behind) (scan_either T.scan T.scan_behind) (seen_either T.seen T.seen_behind) no_fault }
+    ensures mapped { LawfulToken T.derives T.opens T.scan T.seen no_fault → (value : T.Worth → T.Worth)
+        → LawfulToken (IsMapped T.derives value) T.opens (scan_mapped T.scan value) T.seen no_fault }
 {}

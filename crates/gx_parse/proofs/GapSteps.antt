@@ -2,6 +2,7 @@
 use Rattle.std.proofs.Common.{◌≡◌, ℕ, zero, suc, ◌+◌, ◌-◌, ◌<◌, true, false, List, [], ◌∷◌, length, refl, sym, ap, subst, ◌∙◌, arith}
 use Rattle.gx_base.specs.WhiteSpace.{is_white_space}
 use Rattle.gx_grammar.specs.Gaps.{begins_comment, ends_comment}
+use Rattle.gx_parse.specs.Characters.{is_char}
 use Rattle.gx_parse.specs.GapSteps.{GoesOn, Stops}
 
 pub white_step : (c : ℕ) (rest x : List ℕ) → is_white_space c ≡ true → rest ≡ c ∷ x → GoesOn 0 rest 0 x
@@ -32,16 +33,28 @@ comment_closes c d (suc n) more rest tail x o t b k e f =
     let t' : more ≡ n = omega arith in
     record { behind = rw (e, f, t', b, k) refl; seen = rw (e, f, t', b, k) refl; shorter = omega (arith, ap length e, ap length f); bounded = omega (arith, ap length e, ap length f) }
 
-pub within_comment : (c d depth : ℕ) (rest tail x : List ℕ) → 0 < depth → begins_comment c d ≡ false → ends_comment c d ≡ false → rest ≡ c ∷ tail → tail ≡ d ∷ x → GoesOn depth rest depth tail
-within_comment c d zero rest tail x o b k e f = absurd (omega arith)
-within_comment c d (suc n) rest tail x o b k e f =
+pub within_comment : (c d depth : ℕ) (rest tail x : List ℕ) → 0 < depth → begins_comment c d ≡ false → ends_comment c d ≡ false → is_char c ≡ true → rest ≡ c ∷ tail → tail ≡ d ∷ x → GoesOn depth rest depth tail
+within_comment c d zero rest tail x o b k q e f = absurd (omega arith)
+within_comment c d (suc n) rest tail x o b k q e f =
     let whole : rest ≡ c ∷ d ∷ x = e ∙ ap (λ q. c ∷ q) f in
     subst (λ q. GoesOn (suc n) rest (suc n) q) (sym f)
-    (record { behind = rw (whole, b, k) refl; seen = rw (whole, b, k) refl; shorter = omega (arith, ap length whole); bounded = omega (arith, ap length whole) })
+    (record { behind = rw (whole, b, k, q) refl; seen = rw (whole, b, k, q) refl; shorter = omega (arith, ap length whole); bounded = omega (arith, ap length whole) })
 
-pub last_in_comment : (c depth : ℕ) (rest tail : List ℕ) → 0 < depth → rest ≡ c ∷ tail → tail ≡ [] → GoesOn depth rest depth tail
-last_in_comment c zero rest tail o e f = absurd (omega arith)
-last_in_comment c (suc n) rest tail o e f =
+pub last_in_comment : (c depth : ℕ) (rest tail : List ℕ) → 0 < depth → is_char c ≡ true → rest ≡ c ∷ tail → tail ≡ [] → GoesOn depth rest depth tail
+last_in_comment c zero rest tail o q e f = absurd (omega arith)
+last_in_comment c (suc n) rest tail o q e f =
     let whole : rest ≡ c ∷ [] = e ∙ ap (λ q. c ∷ q) f in
     subst (λ q. GoesOn (suc n) rest (suc n) q) (sym f)
-    (record { behind = rw whole refl; seen = rw whole refl; shorter = omega (arith, ap length whole); bounded = omega (arith, ap length whole) })
+    (record { behind = rw whole refl; seen = rw (whole, q) refl; shorter = omega (arith, ap length whole); bounded = omega (arith, ap length whole) })
+
+pub ends_inside : (depth : ℕ) (rest : List ℕ) → 0 < depth → rest ≡ [] → Stops depth rest
+ends_inside zero rest o e = absurd (omega arith)
+ends_inside (suc n) rest o e = rw e (refl, refl)
+
+pub last_foreign : (c depth : ℕ) (rest tail : List ℕ) → 0 < depth → is_char c ≡ false → rest ≡ c ∷ tail → tail ≡ [] → Stops depth rest
+last_foreign c zero rest tail o q e f = absurd (omega arith)
+last_foreign c (suc n) rest tail o q e f = rw (e, f, q) (refl, refl)
+
+pub foreign : (c d depth : ℕ) (rest tail x : List ℕ) → 0 < depth → begins_comment c d ≡ false → ends_comment c d ≡ false → is_char c ≡ false → rest ≡ c ∷ tail → tail ≡ d ∷ x → Stops depth rest
+foreign c d zero rest tail x o b k q e f = absurd (omega arith)
+foreign c d (suc n) rest tail x o b k q e f = rw (e, f, b, k, q) (refl, refl)

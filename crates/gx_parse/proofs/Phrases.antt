@@ -1,186 +1,196 @@
--- What the parts of a phrase give together.
-use Rattle.std.proofs.Common.{◌≡◌, ◌==◌, ℕ, ℤ, zero, suc, ◌-◌, ◌<◌, pos, true, false, List, [], ◌∷◌, length, Ok, Err, refl, ap, arith}
+-- What the parts of the grammar read, where a Single may have so many levels.
+use Rattle.std.proofs.Common.{◌≡◌, ℕ, zero, suc, Bool, true, false, if◌then◌else◌, List, [], ◌∷◌, ◌++◌, length, refl, sym, ap, subst, ◌∙◌, Result, Ok, Err, IfOk, ◌≤◌, arith}
 use Rattle.gx_base.specs.declared.place.Place.{Place}
-use Rattle.gx_grammar.specs.Value.{pair, nothing, characters}
-use Rattle.gx_grammar.specs.First.{head_passes}
-use Rattle.gx_grammar.specs.Reading.{State, Reading, Unfit, notes, go_on, start}
-use Rattle.gx_grammar.specs.Text.{read_text, with_rest}
-use Rattle.gx_parse.specs.declared.reader.Fault.{Fault}
-use Rattle.gx_parse.specs.declared.reader.Fault.TheVariants.{Unread, Memory}
-use Rattle.gx_parse.specs.SyntaxTree.{SyntaxTree, IntegerTree, VariableTree, ParenthesisedTree, EmptyTree, LetTree}
-use Rattle.gx_parse.specs.Characters.{is_name_character, no_character}
-use Rattle.gx_parse.specs.Tokens.{name, literal}
-use Rattle.gx_parse.specs.Nodes.{Made, number_in}
-use Rattle.gx_parse.specs.Grammar.{first_language, query, place_in, single, integer, variable, expression, parenthesised, primary, addition, let_single}
-use Rattle.gx_parse.specs.Reading.{Fails, more_than, call, read_in, read_word, read_lexeme, read_gap, read_integer, tree_value}
+use Rattle.gx_ast.specs.SyntaxTree.{SyntaxTree, at as located, variable, signed, number as number_form}
+use Rattle.gx_grammar.specs.Value.{nothing, node, pair}
+use Rattle.gx_grammar.specs.Grammar.{Guard, token, empty, ◌&◌, keyed, choose, rule, made}
+use Rattle.gx_grammar.specs.Reading.{State, Reading, go_on, read_with}
+use Rattle.gx_grammar.specs.Ran.{Standing, Going, GaveUp, Lost, Ran, Looked, IsDone, Loses, Makes, left_of}
+use Rattle.gx_grammar.proofs.Ran.{ran_both, ran_keyed, ran_empty, ran_left, ran_right, ran_made, ran_map}
+use Rattle.gx_num.specs.declared.Number.{Number}
+use Rattle.gx_parse.specs.declared.word.Barrier.{Barrier}
+use Rattle.gx_parse.specs.declared.word.Word.{Word}
+use Rattle.gx_parse.specs.declared.word.Barrier.TheVariants as barrier
+use Rattle.gx_parse.specs.declared.word.Word.TheVariants as word
+use Rattle.gx_parse.specs.declared.word.WordSet.{WordSet}
+use Rattle.gx_parse.specs.declared.word.WordSet.TheVariants as set
+use Rattle.gx_parse.specs.declared.parts.Sign.{Sign}
+use Rattle.gx_parse.specs.declared.members.Members.{Members}
+use Rattle.gx_parse.specs.Nodes.{Node, Made, Found, Operator, Name, operator_value, number_value, name_value, name_at, variable_value, dots_value, signed_by, is_minus, tree}
+use Rattle.gx_parse.specs.Tokens.{Token, one_of, gap, barred, number, number_end, qname}
+use Rattle.gx_parse.specs.Grammar.{Phrase, word_of, lexeme, at_tokens, operator, stop, numeral, name, variable_step, dots, more_signs, single, query_language, place_in}
+use Rattle.gx_parse.specs.Reading.{call, read_in, read_one, read_number}
+use Rattle.gx_parse.specs.Parsing.{set_of, last_of, is_pair, barrier_of, signs_before, wrapped, Keeps}
+use Rattle.gx_parse.specs.Numeral.{number_in}
+use Rattle.gx_parse.proofs.Chains.{ran_any, ran_bind, go_on_twice}
 
-pub let_fails-1 : (e : Fault) (text : List ℕ) (levels : ℕ) (s0 : State) → Fails e (read_word (108 ∷ 101 ∷ 116 ∷ []) is_name_character s0) → Fails e (read_in text levels (let_single (place_in text) levels) s0)
-unfolding let_single read_word read_gap
-let_fails-1 Memory text levels s0 fails = tt
-let_fails-1 (Unread far) text levels s0 fails = rw (fails) refl
+module _ (text : List ℕ) (n : ℕ) where
+  pub in_token : (t : Token) (v : Made) (a b : Standing) → Ran v a b (read_one t) → Ran v a b (read_in text n (token t))
+  unfolding read_in read_one
+  in_token t v a b h = h
 
-pub let_fails-2 : (e : Fault) (text : List ℕ) (levels : ℕ) (s0 s1 : State) → read_word (108 ∷ 101 ∷ 116 ∷ []) is_name_character s0 ≡ Ok (pair nothing nothing, s1) → Fails e (read_in text levels (variable (place_in text)) s1) → Fails e (read_in text levels (let_single (place_in text) levels) s0)
-unfolding let_single read_word read_gap
-let_fails-2 Memory text levels s0 s1 let_word fails = tt
-let_fails-2 (Unread far) text levels s0 s1 let_word fails = rw (let_word, fails) refl
+  pub in_both : (A B : Phrase) (v w : Made) (a b c : Standing) → Ran v a b (read_in text n A) → Ran w b c (read_in text n B) → Ran (pair v w) a c (read_in text n (A & B))
+  unfolding read_in
+  in_both A B v w a b c h k = ran_both (query_language (place_in text)) (call text (suc n)) A B v w a b c h k
 
-pub let_fails-3 : (e : Fault) (text : List ℕ) (levels : ℕ) (at : Place) (n : List ℕ) (s0 s1 s2 : State) → read_word (108 ∷ 101 ∷ 116 ∷ []) is_name_character s0 ≡ Ok (pair nothing nothing, s1) → read_in text levels (variable (place_in text)) s1 ≡ Ok (tree_value (VariableTree at n), s2) → Fails e (read_word (58 ∷ 61 ∷ []) no_character s2) → Fails e (read_in text levels (let_single (place_in text) levels) s0)
-unfolding let_single read_word read_gap
-let_fails-3 Memory text levels at n s0 s1 s2 let_word bound_variable fails = tt
-let_fails-3 (Unread far) text levels at n s0 s1 s2 let_word bound_variable fails = rw (let_word, bound_variable, fails) refl
+  pub in_keyed : (t : Token) (f : Made → Phrase) (v w : Made) (a b c : Standing) → Ran v a b (read_one t) → Ran w b c (read_in text n (f v)) → Ran (pair v w) a c (read_in text n (keyed t f))
+  unfolding read_in read_one
+  in_keyed t f v w a b c h k = ran_keyed (query_language (place_in text)) (call text (suc n)) t f v w a b c h k
 
-pub let_fails-4 : (e : Fault) (text : List ℕ) (levels : ℕ) (at : Place) (n : List ℕ) (s0 s1 s2 s3 : State) → read_word (108 ∷ 101 ∷ 116 ∷ []) is_name_character s0 ≡ Ok (pair nothing nothing, s1) → read_in text levels (variable (place_in text)) s1 ≡ Ok (tree_value (VariableTree at n), s2) → read_word (58 ∷ 61 ∷ []) no_character s2 ≡ Ok (pair nothing nothing, s3) → Fails e (call text (suc levels) (single levels) s3) → Fails e (read_in text levels (let_single (place_in text) levels) s0)
-unfolding let_single read_word read_gap
-let_fails-4 Memory text levels at n s0 s1 s2 s3 let_word bound_variable assign fails = tt
-let_fails-4 (Unread far) text levels at n s0 s1 s2 s3 let_word bound_variable assign fails = rw (let_word, bound_variable, assign, fails) refl
+  pub in_empty : (a : Standing) → Ran nothing a a (read_in text n empty)
+  unfolding read_in
+  in_empty a = ran_empty (query_language (place_in text)) (call text (suc n)) a
 
-pub let_fails-5 : (e : Fault) (text : List ℕ) (levels : ℕ) (at : Place) (n : List ℕ) (a : SyntaxTree) (s0 s1 s2 s3 s4 : State) → read_word (108 ∷ 101 ∷ 116 ∷ []) is_name_character s0 ≡ Ok (pair nothing nothing, s1) → read_in text levels (variable (place_in text)) s1 ≡ Ok (tree_value (VariableTree at n), s2) → read_word (58 ∷ 61 ∷ []) no_character s2 ≡ Ok (pair nothing nothing, s3) → call text (suc levels) (single levels) s3 ≡ Ok (tree_value a, s4) → Fails e (read_word (114 ∷ 101 ∷ 116 ∷ 117 ∷ 114 ∷ 110 ∷ []) is_name_character s4) → Fails e (read_in text levels (let_single (place_in text) levels) s0)
-unfolding let_single read_word read_gap
-let_fails-5 Memory text levels at n a s0 s1 s2 s3 s4 let_word bound_variable assign bound fails = tt
-let_fails-5 (Unread far) text levels at n a s0 s1 s2 s3 s4 let_word bound_variable assign bound fails = rw (let_word, bound_variable, assign, bound, fails) refl
+  pub in_left : (g : Guard) (A B : Phrase) (v : Made) (taken : Bool) (a b c : Standing) → taken ≡ true → Looked taken a b g → Ran v b c (read_in text n A) → Ran v a c (read_in text n (choose g A B))
+  unfolding read_in
+  in_left g A B v taken a b c e h k = ran_left (query_language (place_in text)) (call text (suc n)) g A B v taken a b c e h k
 
-pub let_fails-6 : (e : Fault) (text : List ℕ) (levels : ℕ) (at : Place) (n : List ℕ) (a : SyntaxTree) (s0 s1 s2 s3 s4 s5 : State) → read_word (108 ∷ 101 ∷ 116 ∷ []) is_name_character s0 ≡ Ok (pair nothing nothing, s1) → read_in text levels (variable (place_in text)) s1 ≡ Ok (tree_value (VariableTree at n), s2) → read_word (58 ∷ 61 ∷ []) no_character s2 ≡ Ok (pair nothing nothing, s3) → call text (suc levels) (single levels) s3 ≡ Ok (tree_value a, s4) → read_word (114 ∷ 101 ∷ 116 ∷ 117 ∷ 114 ∷ 110 ∷ []) is_name_character s4 ≡ Ok (pair nothing nothing, s5) → Fails e (call text (suc levels) (single levels) s5) → Fails e (read_in text levels (let_single (place_in text) levels) s0)
-unfolding let_single read_word read_gap
-let_fails-6 Memory text levels at n a s0 s1 s2 s3 s4 s5 let_word bound_variable assign bound return_word fails = tt
-let_fails-6 (Unread far) text levels at n a s0 s1 s2 s3 s4 s5 let_word bound_variable assign bound return_word fails = rw (let_word, bound_variable, assign, bound, return_word, fails) refl
+  pub in_right : (g : Guard) (A B : Phrase) (v : Made) (taken : Bool) (a b c : Standing) → taken ≡ false → Looked taken a b g → Ran v b c (read_in text n B) → Ran v a c (read_in text n (choose g A B))
+  unfolding read_in
+  in_right g A B v taken a b c e h k = ran_right (query_language (place_in text)) (call text (suc n)) g A B v taken a b c e h k
 
-pub let_reads : (text : List ℕ) (levels : ℕ) (place at : Place) (n : List ℕ) (a b c d : SyntaxTree) (s0 s1 s2 s3 s4 s5 s6 : State) → place ≡ place_in text (length s0.rest) → read_word (108 ∷ 101 ∷ 116 ∷ []) is_name_character s0 ≡ Ok (pair nothing nothing, s1) → read_in text levels (variable (place_in text)) s1 ≡ Ok (tree_value (VariableTree at n), s2) → read_word (58 ∷ 61 ∷ []) no_character s2 ≡ Ok (pair nothing nothing, s3) → call text (suc levels) (single levels) s3 ≡ Ok (tree_value a, s4) → read_word (114 ∷ 101 ∷ 116 ∷ 117 ∷ 114 ∷ 110 ∷ []) is_name_character s4 ≡ Ok (pair nothing nothing, s5) → call text (suc levels) (single levels) s5 ≡ Ok (tree_value b, s6) → c ≡ a → d ≡ b → read_in text levels (let_single (place_in text) levels) s0 ≡ Ok (tree_value (LetTree place at n c d), s6)
-unfolding let_single read_word read_gap
-let_reads text levels place at n a b c d s0 s1 s2 s3 s4 s5 s6 there let_word bound_variable assign bound return_word body one two = rw (there, one, two, let_word, bound_variable, assign, bound, return_word, body) refl
+  pub in_made : (f : ℕ → Made → Made) (A : Phrase) (v : Made) (a b : Standing) → Ran v a b (read_in text n A) → Ran (f (left_of a) v) a b (read_in text n (made f A))
+  unfolding read_in
+  in_made f A v a b h = ran_made (query_language (place_in text)) (call text (suc n)) f A v a b h
 
-pub variable_fails-1 : (e : Fault) (text : List ℕ) (levels : ℕ) (s0 : State) → Fails e (read_word (36 ∷ []) no_character s0) → Fails e (read_in text levels (variable (place_in text)) s0)
-unfolding variable read_word read_lexeme read_gap
-variable_fails-1 Memory text levels s0 fails = tt
-variable_fails-1 (Unread far) text levels s0 fails = rw (fails) refl
+  pub in_rule : (m : ℕ) (v : Made) (a b : Standing) → Ran v a b (call text (suc n) (single m)) → Ran v a b (read_in text n (rule (single m)))
+  unfolding read_in
+  in_rule m v a b h = h
 
-pub variable_fails-2 : (e : Fault) (text : List ℕ) (levels : ℕ) (s0 s1 : State) → read_word (36 ∷ []) no_character s0 ≡ Ok (pair nothing nothing, s1) → Fails e (read_lexeme name s1) → Fails e (read_in text levels (variable (place_in text)) s0)
-unfolding variable read_word read_lexeme read_gap
-variable_fails-2 Memory text levels s0 s1 dollar fails = tt
-variable_fails-2 (Unread far) text levels s0 s1 dollar fails = rw (dollar, fails) refl
+  pub lexeme_reads : (t : Token) (v : Made) (a b c : Standing) → Ran v a b (read_one t) → Ran nothing b c (read_one gap) → Ran (pair v nothing) a c (read_in text n (lexeme t))
+  lexeme_reads t v a b c h k = in_both (token t) (token gap) v nothing a b c (in_token t v a b h) (in_token gap nothing b c k)
 
-pub variable_reads : (text : List ℕ) (levels : ℕ) (place : Place) (n : List ℕ) (s0 s1 s2 : State) → place ≡ place_in text (length s0.rest) → read_word (36 ∷ []) no_character s0 ≡ Ok (pair nothing nothing, s1) → read_lexeme name s1 ≡ Ok (pair (characters n) nothing, s2) → read_in text levels (variable (place_in text)) s0 ≡ Ok (tree_value (VariableTree place n), s2)
-unfolding variable read_word read_lexeme read_gap
-variable_reads text levels place n s0 s1 s2 there dollar named = rw (there, dollar, named) refl
+  pub operator_reads : (set : WordSet) (place : Place) (w : Word) (a b : Standing) → place ≡ place_in text (left_of a) → Ran (pair (node (Found w)) nothing) a b (read_in text n (lexeme (one_of set))) → Ran (node (Operator place w)) a b (read_in text n (operator (place_in text) set))
+  unfolding operator
+  operator_reads set place w a b e h = subst (λ p. Ran (node (Operator p w)) a b (read_in text n (operator (place_in text) set))) (sym e) (in_made (λ left v. operator_value (place_in text left) v) (lexeme (one_of set)) (pair (node (Found w)) nothing) a b h)
 
--- integers
+  -- `last` is what stands behind the last member, and `ws` are the words between members
+  module _ (m : Members) (ws : WordSet) (same : ws ≡ set_of m) where
+    pub last_not_there : (taken : Bool) (a b : Standing) → is_pair m ≡ false → taken ≡ false → Looked taken a b (at_tokens (one_of ws ∷ [])) → Ran nothing a b (read_in text n (last_of (place_in text) m))
+    unfolding stop
+    last_not_there taken a b e f h =
+        subst (λ q. Ran nothing a b (read_in text n (if q then empty else (stop (place_in text) (set_of m) (barrier_of m))))) (sym e)
+        (in_right (at_tokens (one_of (set_of m) ∷ [])) (operator (place_in text) (set_of m) & token (barred (barrier_of m))) empty nothing taken a b b f (subst (λ s. Looked taken a b (at_tokens (one_of s ∷ []))) same h) (in_empty b))
 
-abbrev read_value : Reading ℤ → ℤ
-read_value (Ok r) = r.0
-read_value (Err e) = pos 0
+    pub last_there : (v : Made) (bar : Barrier) (taken : Bool) (a b c d : Standing) → is_pair m ≡ false → bar ≡ barrier_of m → taken ≡ true → Looked taken a b (at_tokens (one_of ws ∷ [])) → Ran v b c (read_in text n (operator (place_in text) ws))
+        → Ran nothing c d (read_one (barred bar)) → IsDone d → Ran nothing a d (read_in text n (last_of (place_in text) m))
+    unfolding stop
+    last_there v bar taken a b c d e g f h i j k =
+        subst (λ q. Ran nothing a d (read_in text n (if q then empty else (stop (place_in text) (set_of m) (barrier_of m))))) (sym e)
+        (in_left (at_tokens (one_of (set_of m) ∷ [])) (operator (place_in text) (set_of m) & token (barred (barrier_of m))) empty nothing taken a b d f (subst (λ s. Looked taken a b (at_tokens (one_of s ∷ []))) same h)
+        (ran_any (pair v nothing) nothing b d (read_in text n (operator (place_in text) (set_of m) & token (barred (barrier_of m)))) k
+        (in_both (operator (place_in text) (set_of m)) (token (barred (barrier_of m))) v nothing b c d (subst (λ s. Ran v b c (read_in text n (operator (place_in text) s))) same i)
+        (in_token (barred (barrier_of m)) nothing c d (subst (λ x. Ran nothing c d (read_one (barred x))) g j)))))
 
-abbrev read_state : State → Reading ℤ → State
-read_state s (Ok r) = r.1
-read_state s (Err e) = s
+  pub last_of_pair : (m : Members) (a : Standing) → is_pair m ≡ true → Ran nothing a a (read_in text n (last_of (place_in text) m))
+  last_of_pair m a e = subst (λ b. Ran nothing a a (read_in text n (if b then empty else (stop (place_in text) (set_of m) (barrier_of m))))) (sym e) (in_empty a)
 
-number_made : (r : Reading Made) (place : Place) (value : ℤ) (z : State) → go_on r (λ v t. Ok (pos (number_in v), t)) ≡ Ok (value, z)
-    → go_on r (λ v t. Ok (tree_value (IntegerTree place (pos (number_in v))), t)) ≡ Ok (tree_value (IntegerTree place value), z)
-number_made (Ok o) place value z e =
-    let n : pos (number_in o.0) ≡ value = ap read_value e in
-    let s : o.1 ≡ z = ap (read_state z) e in
-    rw (n, s) refl
-number_made (Err e) place value z h = absurd (cc)
+  pub dots_read : (place : Place) (w : Word) (t : SyntaxTree) (a b : Standing) → place ≡ place_in text (left_of a) → tree t ≡ dots_value place (pair (node (Found w)) nothing) → Ran (pair (node (Found w)) nothing) a b (read_in text n (lexeme (one_of set.Dots))) → Ran (tree t) a b (read_in text n (dots (place_in text)))
+  unfolding dots
+  dots_read place w t a b e f h =
+      subst (λ v. Ran v a b (read_in text n (dots (place_in text)))) (sym (f ∙ ap (λ p. dots_value p (pair (node (Found w)) nothing)) e)) (in_made (λ left v. dots_value (place_in text left) v) (lexeme (one_of set.Dots)) (pair (node (Found w)) nothing) a b h)
 
-number_fails : (e : Fault) (r : Reading Made) (place : Place) → Fails e (go_on r (λ v t. Ok (pos (number_in v), t))) → Fails e (go_on r (λ v t. Ok (tree_value (IntegerTree place (pos (number_in v))), t)))
-number_fails Memory r place h = tt
-number_fails (Unread far) (Ok o) place h = absurd (cc)
-number_fails (Unread far) (Err e) place h = cc
+  pub variable_read : (place at_name : Place) (x : Made) (v : Made) (a b c d : Standing) → place ≡ place_in text (left_of a) → at_name ≡ place_in text (left_of b) → Ran (pair x nothing) a b (read_in text n (lexeme (one_of (set.Only word.Dollar))))
+      → Ran v b c (read_one qname) → Ran nothing c d (read_one gap) → Ran (tree (located place (variable (name_at at_name v)))) a d (read_in text n (variable_step (place_in text)))
+  unfolding variable_step name
+  variable_read place at_name x v a b c d e f h i j =
+      subst (λ p. Ran (tree (located p (variable (name_at at_name v)))) a d (read_in text n (variable_step (place_in text)))) (sym e)
+      (subst (λ p. Ran (tree (located (place_in text (left_of a)) (variable (name_at p v)))) a d (read_in text n (variable_step (place_in text)))) (sym f)
+      (in_made (λ left v. variable_value (place_in text left) v) (lexeme (word_of word.Dollar) & name (place_in text) & token gap) (pair (pair x nothing) (pair (node (Name (name_at (place_in text (left_of b)) v))) nothing)) a d
+      (in_both (lexeme (word_of word.Dollar)) (name (place_in text) & token gap) (pair x nothing) (pair (node (Name (name_at (place_in text (left_of b)) v))) nothing) a b d h
+      (in_both (name (place_in text)) (token gap) (node (Name (name_at (place_in text (left_of b)) v))) nothing b c d
+      (in_made (λ left v. name_value (place_in text left) v) (token qname) v b c (in_token qname v b c i))
+      (in_token gap nothing c d j)))))
 
-pub integer_reads : (text : List ℕ) (levels : ℕ) (place : Place) (value number : ℤ) (s z : State) → place ≡ place_in text (length s.rest) → read_integer s ≡ Ok (value, z) → number ≡ value
-    → read_in text levels (integer (place_in text)) s ≡ Ok (tree_value (IntegerTree place number), z)
-unfolding integer read_lexeme read_gap
-integer_reads text levels place value number s z there read same = rw (there, same) (number_made (read_lexeme literal s) (place_in text (length s.rest)) value z read)
+  -- the parts behind a number
+  abbrev behind_number : Phrase
+  behind_number = token number_end & token gap
 
-pub integer_fails : (e : Fault) (text : List ℕ) (levels : ℕ) (s : State) → Fails e (read_integer s) → Fails e (read_in text levels (integer (place_in text)) s)
-unfolding integer read_lexeme read_gap
-integer_fails e text levels s fails = number_fails e (read_lexeme literal s) (place_in text (length s.rest)) fails
+  abbrev numeral_at : Place → State → Reading Made
+  numeral_at p s = go_on (read_number s) (λ z t. go_on (read_in text n behind_number t) (λ w u. Ok (tree (located p (number_form z)), u)))
 
--- parentheses
+  numeral_same : (p : Place) (r : Reading Made) → go_on (go_on r (λ v t. go_on (read_in text n behind_number t) (λ w u. Ok (pair v w, u)))) (λ v t. Ok (number_value p v, t))
+      ≡ go_on (go_on r (λ v t. Ok (number_in v, t))) (λ z t. go_on (read_in text n behind_number t) (λ w u. Ok (tree (located p (number_form z)), u)))
+  numeral_same p (Ok o) = go_on_twice (read_in text n behind_number o.1) (λ w u. Ok (pair o.0 w, u)) (λ v t. Ok (number_value p v, t))
+  numeral_same p (Err e) = refl
 
-pub parenthesised_fails-1 : (e : Fault) (text : List ℕ) (levels : ℕ) (s0 : State) → Fails e (read_word (40 ∷ []) no_character s0) → Fails e (read_in text levels (parenthesised (place_in text) levels) s0)
-unfolding parenthesised read_word read_gap
-parenthesised_fails-1 Memory text levels s0 fails = tt
-parenthesised_fails-1 (Unread far) text levels s0 fails = rw fails refl
+  numeral_is : (s : State) → read_in text n (numeral (place_in text)) s ≡ numeral_at (place_in text (length s.rest)) s
+  unfolding read_in read_one read_number numeral
+  numeral_is s = numeral_same (place_in text (length s.rest)) (read_one number s)
 
-pub empty_fails : (e : Fault) (text : List ℕ) (levels : ℕ) (s0 s1 s2 : State) → read_word (40 ∷ []) no_character s0 ≡ Ok (pair nothing nothing, s1) → head_passes (λ c. c == 41) s1.rest ≡ true → s2 ≡ notes s1 (length s1.rest)
-    → Fails e (read_word (41 ∷ []) no_character s2) → Fails e (read_in text levels (parenthesised (place_in text) levels) s0)
-unfolding parenthesised read_word read_gap
-empty_fails Memory text levels s0 s1 s2 opened first noted fails = tt
-empty_fails (Unread far) text levels s0 s1 s2 opened first noted fails = let closed = rw noted at fails in rw (opened, first, closed) refl
+  at_start : (v : Made) (p : Place) (a b : Standing) → p ≡ place_in text (left_of a) → Ran v a b (numeral_at p) → Ran v a b (read_in text n (numeral (place_in text)))
+  at_start v p (Going s) (Going t) e h = numeral_is s ∙ ap (λ q. numeral_at q s) (sym e) ∙ h
+  at_start v p (Going s) (GaveUp r) e h = numeral_is s ∙ ap (λ q. numeral_at q s) (sym e) ∙ h
+  at_start v p (Going s) Lost e h = tt
+  at_start v p (GaveUp r) b e h = h
+  at_start v p Lost b e h = h
 
-pub empty_reads : (text : List ℕ) (levels : ℕ) (place : Place) (s0 s1 s2 s3 : State) → place ≡ place_in text (length s0.rest) → read_word (40 ∷ []) no_character s0 ≡ Ok (pair nothing nothing, s1) → head_passes (λ c. c == 41) s1.rest ≡ true → s2 ≡ notes s1 (length s1.rest)
-    → read_word (41 ∷ []) no_character s2 ≡ Ok (pair nothing nothing, s3) → read_in text levels (parenthesised (place_in text) levels) s0 ≡ Ok (tree_value (EmptyTree place), s3)
-unfolding parenthesised read_word read_gap
-empty_reads text levels place s0 s1 s2 s3 there opened first noted closing = let closed = rw noted at closing in rw (there, opened, first, closed) refl
+  pub numeral_read : (place : Place) (z : Number) (a b c d : Standing) → place ≡ place_in text (left_of a) → Ran z a b read_number → Ran nothing b c (read_one number_end) → Ran nothing c d (read_one gap) → Ran (tree (located place (number_form z))) a d (read_in text n (numeral (place_in text)))
+  numeral_read place z a b c d e h i j =
+      at_start (tree (located place (number_form z))) place a d e
+      (ran_bind z (tree (located place (number_form z))) a b d read_number (λ z t. go_on (read_in text n behind_number t) (λ w u. Ok (tree (located place (number_form z)), u))) h
+      (ran_map (pair nothing nothing) (λ w. tree (located place (number_form z))) b d (read_in text n behind_number)
+      (in_both (token number_end) (token gap) nothing nothing b c d (in_token number_end nothing b c i) (in_token gap nothing c d j))))
 
-pub inner_fails : (e : Fault) (text : List ℕ) (levels : ℕ) (s0 s1 s2 : State) → read_word (40 ∷ []) no_character s0 ≡ Ok (pair nothing nothing, s1) → head_passes (λ c. c == 41) s1.rest ≡ false → s2 ≡ notes s1 (length s1.rest)
-    → Fails e (read_in text levels (expression (place_in text) levels) s2) → Fails e (read_in text levels (parenthesised (place_in text) levels) s0)
-unfolding parenthesised read_word read_gap
-inner_fails Memory text levels s0 s1 s2 opened first noted fails = tt
-inner_fails (Unread far) text levels s0 s1 s2 opened first noted fails = let read = rw noted at fails in rw (opened, first, read) refl
+  -- signs
 
-pub closing_fails : (e : Fault) (text : List ℕ) (levels : ℕ) (t : SyntaxTree) (s0 s1 s2 s3 : State) → read_word (40 ∷ []) no_character s0 ≡ Ok (pair nothing nothing, s1) → head_passes (λ c. c == 41) s1.rest ≡ false → s2 ≡ notes s1 (length s1.rest)
-    → read_in text levels (expression (place_in text) levels) s2 ≡ Ok (tree_value t, s3) → Fails e (read_word (41 ∷ []) no_character s3) → Fails e (read_in text levels (parenthesised (place_in text) levels) s0)
-unfolding parenthesised read_word read_gap
-closing_fails Memory text levels t s0 s1 s2 s3 opened first noted inner fails = tt
-closing_fails (Unread far) text levels t s0 s1 s2 s3 opened first noted inner fails = let read = rw noted at inner in rw (opened, first, read, fails) refl
+  pub no_sign : (k : ℕ) (taken : Bool) (a b : Standing) → taken ≡ false → Looked taken a b (at_tokens (one_of set.Signs ∷ [])) → Ran nothing a b (read_in text n (more_signs (place_in text) (suc k)))
+  unfolding more_signs
+  no_sign k taken a b e h = in_right (at_tokens (one_of set.Signs ∷ [])) (operator (place_in text) set.Signs & more_signs (place_in text) k) empty nothing taken a b b e h (in_empty b)
 
-pub parenthesised_reads : (text : List ℕ) (levels : ℕ) (place : Place) (t r : SyntaxTree) (s0 s1 s2 s3 s4 : State) → place ≡ place_in text (length s0.rest) → read_word (40 ∷ []) no_character s0 ≡ Ok (pair nothing nothing, s1) → head_passes (λ c. c == 41) s1.rest ≡ false → s2 ≡ notes s1 (length s1.rest)
-    → read_in text levels (expression (place_in text) levels) s2 ≡ Ok (tree_value t, s3) → read_word (41 ∷ []) no_character s3 ≡ Ok (pair nothing nothing, s4) → r ≡ t → read_in text levels (parenthesised (place_in text) levels) s0 ≡ Ok (tree_value (ParenthesisedTree place r), s4)
-unfolding parenthesised read_word read_gap
-parenthesised_reads text levels place t r s0 s1 s2 s3 s4 there opened first noted inner closing same = let read = rw noted at inner in rw (there, same, opened, first, read, closing) refl
+  pub one_sign : (k : ℕ) (v w : Made) (taken : Bool) (a b c d : Standing) → taken ≡ true → Looked taken a b (at_tokens (one_of set.Signs ∷ [])) → Ran v b c (read_in text n (operator (place_in text) set.Signs)) → Ran w c d (read_in text n (more_signs (place_in text) k))
+      → Ran (pair v w) a d (read_in text n (more_signs (place_in text) (suc k)))
+  unfolding more_signs
+  one_sign k v w taken a b c d e h i j = in_left (at_tokens (one_of set.Signs ∷ [])) (operator (place_in text) set.Signs & more_signs (place_in text) k) empty (pair v w) taken a b d e h (in_both (operator (place_in text) set.Signs) (more_signs (place_in text) k) v w b c d i j)
 
--- a primary
+  -- where so many may stand
+  pub signs_none : (k : ℕ) (taken : Bool) (a b : Standing) → 1 ≤ k → taken ≡ false → Looked taken a b (at_tokens (one_of set.Signs ∷ [])) → Ran nothing a b (read_in text n (more_signs (place_in text) k))
+  signs_none zero taken a b l e h = absurd (omega (arith, l))
+  signs_none (suc k) taken a b l e h = no_sign k taken a b e h
 
-pub primary_variable : (text : List ℕ) (levels : ℕ) (s0 s1 s2 : State) → head_passes (λ c. c == 40) s0.rest ≡ false → s1 ≡ notes s0 (length s0.rest) → head_passes (λ c. c == 36) s1.rest ≡ true → s2 ≡ notes s1 (length s1.rest)
-    → read_in text levels (primary (place_in text) levels) s0 ≡ read_in text levels (variable (place_in text)) s2
-unfolding primary
-primary_variable text levels s0 s1 s2 other noted first again = let second = rw noted at first in rw (again, noted, other, second) refl
+  pub signs_more : (k j : ℕ) (v w : Made) (taken : Bool) (a b c d : Standing) → k ≡ suc j → taken ≡ true → Looked taken a b (at_tokens (one_of set.Signs ∷ [])) → Ran v b c (read_in text n (operator (place_in text) set.Signs)) → Ran w c d (read_in text n (more_signs (place_in text) j))
+      → Ran (pair v w) a d (read_in text n (more_signs (place_in text) k))
+  signs_more k j v w taken a b c d l e h i r = subst (λ m. Ran (pair v w) a d (read_in text n (more_signs (place_in text) m))) (sym l) (one_sign j v w taken a b c d e h i r)
 
-pub primary_integer : (text : List ℕ) (levels : ℕ) (s0 s1 s2 : State) → head_passes (λ c. c == 40) s0.rest ≡ false → s1 ≡ notes s0 (length s0.rest) → head_passes (λ c. c == 36) s1.rest ≡ false → s2 ≡ notes s1 (length s1.rest)
-    → read_in text levels (primary (place_in text) levels) s0 ≡ read_in text levels (integer (place_in text)) s2
-unfolding primary
-primary_integer text levels s0 s1 s2 other noted first again = let second = rw noted at first in rw (again, noted, other, second) refl
+  pub signs_end : (taken : Bool) (a b : Standing) → taken ≡ false → Looked taken a b (at_tokens (barred barrier.Sign ∷ [])) → Ran nothing a b (read_in text n (more_signs (place_in text) zero))
+  unfolding more_signs
+  signs_end taken a b e h = in_right (at_tokens (barred barrier.Sign ∷ [])) (token (barred barrier.Sign)) empty nothing taken a b b e h (in_empty b)
 
--- a single
+  pub signs_full : (taken : Bool) (a b c : Standing) → taken ≡ true → Looked taken a b (at_tokens (barred barrier.Sign ∷ [])) → Ran nothing b c (read_one (barred barrier.Sign)) → Ran nothing a c (read_in text n (more_signs (place_in text) zero))
+  unfolding more_signs
+  signs_full taken a b c e h i = in_left (at_tokens (barred barrier.Sign ∷ [])) (token (barred barrier.Sign)) empty nothing taken a b c e h (in_token (barred barrier.Sign) nothing b c i)
 
-pub single_let : (text : List ℕ) (levels m : ℕ) (s0 s1 : State) → 0 < levels → m ≡ levels - 1 → head_passes (λ c. c == 108) s0.rest ≡ true → s1 ≡ notes s0 (length s0.rest)
-    → call text (suc levels) (single levels) s0 ≡ read_in text m (let_single (place_in text) m) s1
-unfolding call
-single_let text zero m s0 s1 some less first noted = absurd (omega arith)
-single_let text (suc n) m s0 s1 some less first noted = let same : m ≡ n = omega arith in rw (same, noted, first) refl
+pub before_more : (xs : List Sign) (x : Sign) (w : Made) → signs_before (xs ++ x ∷ []) w ≡ signs_before xs (pair (node (Operator x.place x.word)) w)
+before_more [] x w = refl
+before_more (y ∷ xs) x w = ap (pair (node (Operator y.place y.word))) (before_more xs x w)
 
-pub single_addition : (text : List ℕ) (levels m : ℕ) (s0 s1 : State) → 0 < levels → m ≡ levels - 1 → head_passes (λ c. c == 108) s0.rest ≡ false → s1 ≡ notes s0 (length s0.rest)
-    → call text (suc levels) (single levels) s0 ≡ read_in text m (addition (place_in text) m) s1
-unfolding call
-single_addition text zero m s0 s1 some less first noted = absurd (omega arith)
-single_addition text (suc n) m s0 s1 some less first noted = let same : m ≡ n = omega arith in rw (same, noted, first) refl
+pub wrapped_more : (xs : List Sign) (x : Sign) (t : SyntaxTree) → wrapped (xs ++ x ∷ []) t ≡ wrapped xs (located x.place (signed (is_minus x.word) t))
+wrapped_more [] x t = refl
+wrapped_more (y ∷ xs) x t = ap (λ u. located y.place (signed (is_minus y.word) u)) (wrapped_more xs x t)
 
--- a whole text
+pub signed_wraps : (xs : List Sign) (t : SyntaxTree) → signed_by (signs_before xs nothing) t ≡ wrapped xs t
+signed_wraps [] t = refl
+signed_wraps (y ∷ xs) t = ap (λ u. located y.place (signed (is_minus y.word) u)) (signed_wraps xs t)
 
-nothing_left : (v : Made) (far : ℕ) (x : List ℕ) → length x ≡ 0 → with_rest v far x ≡ Ok v
-nothing_left v far [] e = refl
-nothing_left v far (c ∷ x) e = absurd (omega arith)
+-- a tree that was kept on the way to another
+pub makes_kept : {E : Type 0} (f : SyntaxTree → SyntaxTree) (t wanted : SyntaxTree) (result : Result SyntaxTree E) (w : SyntaxTree) (a b z : Standing) → IfOk result (λ x. x ≡ wanted) → Keeps t result a b → Makes w (f t) b z → Makes w (f wanted) a z
+makes_kept f t wanted (Ok m) w a b z e k h = subst (λ d. Makes w (f wanted) d z) k.1 (subst (λ x. Makes w (f x) b z) (k.0 ∙ e) h)
+makes_kept f t wanted (Err x) w (Going s) b z e k h = let q : Makes w (f t) Lost z = subst (λ d. Makes w (f t) d z) k h in subst (λ d. Makes w (f wanted) (Going s) d) (sym q) tt
+makes_kept f t wanted (Err x) w (GaveUp r) b z e k h = let q : Makes w (f t) (GaveUp r) z = subst (λ d. Makes w (f t) d z) k h in q
+makes_kept f t wanted (Err x) w Lost b z e k h = let q : Makes w (f t) Lost z = subst (λ d. Makes w (f t) d z) k h in q
 
-something_left : (v : Made) (far : ℕ) (x : List ℕ) → 0 < length x → with_rest v far x ≡ Err (Unfit far)
-something_left v far [] h = absurd (omega arith)
-something_left v far (c ∷ x) h = refl
+-- where memory did not suffice, nothing is said of what was read
+pub loses_done : (a b : Standing) → Loses a b → IsDone b
+loses_done (Going s) b h = subst IsDone (sym h) tt
+loses_done (GaveUp e) b h = subst IsDone (sym h) tt
+loses_done Lost b h = subst IsDone (sym h) tt
 
-pub query_reads : (text : List ℕ) (t : SyntaxTree) (s1 s2 : State) → read_gap (start text) ≡ Ok (nothing, s1) → read_in text 40 (expression (place_in text) 40) s1 ≡ Ok (tree_value t, s2) → length s2.rest ≡ 0
-    → read_text (first_language (place_in text)) (more_than (length text) 41) (query (place_in text)) text ≡ Ok (tree_value t)
-unfolding call read_gap
-query_reads text t s1 s2 gap read ended = rw (gap, read) (nothing_left (tree_value t) s2.far s2.rest ended)
+pub loses_ran : {A : Type 0} (v : A) (a b : Standing) (read : State → Reading A) → Loses a b → Ran v a b read
+loses_ran v (Going s) b read h = subst (λ d. Ran v (Going s) d read) (sym h) tt
+loses_ran v (GaveUp e) b read h = h
+loses_ran v Lost b read h = h
 
-pub query_goes_on : (text : List ℕ) (t : SyntaxTree) (far : ℕ) (s1 s2 : State) → read_gap (start text) ≡ Ok (nothing, s1) → read_in text 40 (expression (place_in text) 40) s1 ≡ Ok (tree_value t, s2) → 0 < length s2.rest → far ≡ s2.far
-    → read_text (first_language (place_in text)) (more_than (length text) 41) (query (place_in text)) text ≡ Err (Unfit far)
-unfolding call read_gap
-query_goes_on text t far s1 s2 gap read more same = rw (gap, read, same) (something_left (tree_value t) s2.far s2.rest more)
-
-pub query_fails-1 : (e : Fault) (text : List ℕ) → Fails e (read_gap (start text)) → Fails e (read_text (first_language (place_in text)) (more_than (length text) 41) (query (place_in text)) text)
-unfolding call read_gap
-query_fails-1 Memory text fails = tt
-query_fails-1 (Unread far) text fails = rw fails refl
-
-pub query_fails-2 : (e : Fault) (text : List ℕ) (s1 : State) → read_gap (start text) ≡ Ok (nothing, s1) → Fails e (read_in text 40 (expression (place_in text) 40) s1) → Fails e (read_text (first_language (place_in text)) (more_than (length text) 41) (query (place_in text)) text)
-unfolding call read_gap
-query_fails-2 Memory text s1 gap fails = tt
-query_fails-2 (Unread far) text s1 gap fails = rw (gap, fails) refl
+pub stays_done : {A : Type 0} (v : A) (a b : Standing) (read : State → Reading A) → IsDone a → Ran v a b read → IsDone b
+stays_done v (Going s) b read d h = absurd d
+stays_done v (GaveUp e) b read d h = subst IsDone (sym h) tt
+stays_done v Lost b read d h = subst IsDone (sym h) tt

@@ -1,292 +1,481 @@
--- The grammar decides by first characters, so it is read exactly.
-use Rattle.std.proofs.Common.{◌≡◌, ◌≢◌, ℕ, zero, suc, ◌<◌, ◌==◌, Bool, true, false, List, [], ◌∷◌, inl, inr, length, length-append, refl, ap, ◌∙◌, arith, eqb-true, codes}
+-- The guards of the grammar decide, so it is read exactly.
+use Rattle.std.proofs.Common.{◌≡◌, ◌≢◌, ℕ, zero, suc, ◌<◌, ◌==◌, ◌||◌, ◌&&◌, Bool, true, false, if◌then◌else◌, List, [], ◌∷◌, ◌++◌, Option, Some, None, inl, inr, refl, sym, ap, ap₂, ◌∙◌, codes, eqb-true, arith}
+use Rattle.std.specs.List.{list_all}
 use Rattle.gx_base.specs.declared.place.Place.{Place}
-use Rattle.gx_grammar.specs.Value.{nothing, characters}
-use Rattle.gx_grammar.specs.Grammar.{empty, choose, rule}
+use Rattle.gx_grammar.specs.Grammar.{token, empty, ◌&◌, keyed, choose, many, rule, made}
+use Rattle.gx_grammar.specs.Opening.{open_token, open_first, open_second, open_made}
 use Rattle.gx_grammar.specs.Laws.{LawfulTokens}
-use Rattle.gx_grammar.specs.Levels.{takes_some, HasRanksBelow, IsShielded, AreTakings, IsLevelled}
+use Rattle.gx_grammar.specs.Levels.{takes_some, AreTakings}
 use Rattle.gx_grammar.specs.Text.{IsReadable}
-use Rattle.gx_grammar.specs.First.{IsIn, AllOf, first_of, HasHead, AreFronts, IsSorted, CharacterChooses, first_behind, head_passes, Stands}
-use Rattle.gx_grammar.specs.Tokens.{LawfulToken, IsWord}
-use Rattle.gx_grammar.proofs.Tokens.{lawful_word, lawful_name, lawful_tokens, word_head, front_head, and_parts}
-use Rattle.gx_grammar.proofs.Gaps.{lawful_gap}
+use Rattle.gx_grammar.specs.First.{IsIn, AllOf, first_of, first_behind, head_passes, HasHead, AreApart, Stands, AreFronts, IsSorted, CharacterChooses}
+use Rattle.gx_grammar.specs.Apart.{Shape, HasShape, all_apart, is, shape_begins, words_begin}
+use Rattle.gx_grammar.proofs.Tokens.{and_parts}
 use Rattle.gx_grammar.proofs.ByCharacter.{character_chooses}
-use Rattle.gx_grammar.proofs.Levels.{below_shields}
+use Rattle.gx_grammar.proofs.ByTokens.{tokens_choose, tokens_repeat}
+use Rattle.gx_grammar.proofs.Apart.{computed_apart, computed_heads, computed_words, apart_by_heads}
 use Rattle.gx_grammar.proofs.Sorted.{sorted_readable}
-use Rattle.gx_parse.specs.Characters.{is_digit, is_name_start, is_name_character, any_character, no_character}
-use Rattle.gx_parse.specs.Tokens.{Token, comma, plus, opening, closing, dollar, assign, let_word, return_word, name, literal, gap, nowhere, derives, opens, scan, seen, faults, takes}
-use Rattle.gx_parse.specs.Nodes.{Node, Made}
-use Rattle.gx_parse.specs.Grammar.{Production, Phrase, single, begins_with, integer, variable, more, expression, parenthesised, primary, addition, let_single, rules, query, behind_single, first_language}
+use Rattle.gx_parse.specs.declared.word.Barrier.TheVariants as barrier
+use Rattle.gx_parse.specs.declared.word.Word.{Word}
+use Rattle.gx_parse.specs.declared.word.Word.TheVariants as word
+use Rattle.gx_parse.specs.declared.word.Level.{Level}
+use Rattle.gx_parse.specs.declared.word.Level.TheVariants as level
+use Rattle.gx_parse.specs.declared.word.WordSet.{WordSet}
+use Rattle.gx_parse.specs.declared.word.WordSet.TheVariants as set
+use Rattle.gx_parse.specs.Characters.{is_digit, is_name_start, is_word_character}
+use Rattle.gx_grammar.specs.Value.{nothing}
+use Rattle.gx_parse.specs.Nodes.{Node, Made, Join, join_binary, join_path, join_comma}
+use Rattle.gx_parse.specs.declared.word.Barrier.{Barrier}
+use Rattle.gx_parse.specs.Tokens.{Token, one_of, qname, number, number_end, gap, gap_then_open, gap_not_open, gap_then_dollar, barred, begins_sign, shape_of, takes, derives, faults}
+use Rattle.gx_parse.specs.Grammar.{Production, single, Phrase, lexeme, word_of, at_tokens, is_single, level_at, is_name, is_reserved, operator, more, stop, chain, two, expression, numeral, literal, name, variable_step, dots, parenthesised_step, more_arguments, arguments_in, arguments, behind_name, behind_plain_name, behind_any_name, other_step, step, path_from, more_signs, signed_path, other_operand, ladder, condition, begun, behind_keyword, clauses_or_name, named_single, rules, query, behind_single, query_language}
+use Rattle.gx_parse.specs.Casts.{casts, type_test, cast_test, casts_fit, behind_cast}
 use Rattle.gx_parse.specs.Fronts.{fronts}
-use Rattle.gx_parse.proofs.Literal.{lawful_literal}
+use Rattle.gx_parse.specs.declared.word.Binder.{Binder}
+use Rattle.gx_parse.specs.Binding.{binder_named, flwor}
+use Rattle.gx_parse.proofs.Tokens.{tokens_taken}
+use Rattle.gx_parse.proofs.Shapes.{lawful, shaped}
+use Rattle.gx_parse.proofs.CastsSorted.{casts_sorted}
+use Rattle.gx_parse.specs.declared.runs.Quote.TheVariants as quote
+use Rattle.gx_parse.specs.Strings.{quoted, string_of}
+use Rattle.gx_parse.proofs.StringsSorted.{string_sorted}
+use Rattle.gx_parse.proofs.Hands.{name_no_sign, number_no_sign, number_no_name, points_apart, gaps_apart, dollar_open_apart, dollar_neither_apart, open_neither_apart}
+use Rattle.gx_parse.proofs.BindingSorted.{flwor_sorted}
 
-token_lawful : (t : Token) → LawfulToken {V = Made} (derives t) (opens t) (scan t) (seen t) (faults t)
-token_lawful comma = lawful_word nothing (codes ",") no_character
-token_lawful plus = lawful_word nothing (codes "+") no_character
-token_lawful opening = lawful_word nothing (codes "(") no_character
-token_lawful closing = lawful_word nothing (codes ")") no_character
-token_lawful dollar = lawful_word nothing (codes "$") no_character
-token_lawful assign = lawful_word nothing (codes ":=") no_character
-token_lawful let_word = lawful_word nothing (codes "let") is_name_character
-token_lawful return_word = lawful_word nothing (codes "return") is_name_character
-token_lawful name = lawful_name characters is_name_start is_name_character no_character
-token_lawful literal = lawful_literal Node
-token_lawful gap = lawful_gap any_character (refl, refl) nothing
-token_lawful nowhere = record {
-  sound = λ v x y e. absurd (cc);
-  complete = λ v x y d. absurd d;
-  ends = λ v x y d. absurd d;
-  cut = λ v x y z d. absurd d;
-  goes_on = λ v x y z d. absurd d;
-  fronts = λ v x y z d h. absurd d;
-  sees = λ x. record { front = []; rest = x; whole = refl; place = refl; opened = inl refl };
-  longest = λ x z o. omega (arith, ap length o, length-append x z);
-  firm = λ v x y d. absurd d;
-  faultless = refl;
-}
-
-shorter_word : {v value : Made} {c : ℕ} {w : List ℕ} {test : ℕ → Bool} {x y : List ℕ} → IsWord value (c ∷ w) test v x y → length y < length x
-shorter_word {c = c} {w = w} {y = y} d = omega (arith, ap length d.spelled, length-append (c ∷ w) y)
-
-pub token_takes : (t : Token) (v : Made) (x y : List ℕ) → takes t ≡ true → derives t v x y → length y < length x
-token_takes comma v x y e d = shorter_word d
-token_takes plus v x y e d = shorter_word d
-token_takes opening v x y e d = shorter_word d
-token_takes closing v x y e d = shorter_word d
-token_takes dollar v x y e d = shorter_word d
-token_takes assign v x y e d = shorter_word d
-token_takes let_word v x y e d = shorter_word d
-token_takes return_word v x y e d = shorter_word d
-token_takes name v x y e d = omega (arith, ap length d.whole, ap length d.others.spelled, length-append d.others.run y)
-token_takes literal v x y e d = omega (arith, ap length d.digits.whole, ap length d.digits.others.spelled, length-append d.digits.others.run y)
-token_takes gap v x y e d = absurd (cc)
-token_takes nowhere v x y e d = absurd d
-
--- no digit is another character
-digit_differs : (c k : ℕ) → is_digit k ≡ false → is_digit c ≡ true → (c == k) ≡ false
-digit_differs c k other digit = go (c == k) refl
-  where
-    go : (b : Bool) → (c == k) ≡ b → b ≡ false
-    go true e = absurd (let f = ap is_digit (eqb-true c k e) in cc (f, other, digit))
-    go false e = refl
+-- both tests of a pair
+both : (a b : Bool) → (a && b) ≡ true → (a ≡ true) × (b ≡ true)
+both a b e = and_parts a b e
 
 module _ (at : ℕ → Place) where
-  pub lawful : LawfulTokens (first_language at)
-  lawful = lawful_tokens (first_language at) token_lawful
+  abbrev Sorts : Phrase → List Token → Type 0
+  Sorts A us = IsSorted (query_language at) (fronts at) A us
 
-  -- the first characters of the tokens
+  abbrev Takes : Phrase → Bool
+  Takes A = takes_some (query_language at) (fronts at).takings A
 
-  word_stands : {test : ℕ → Bool} {b : Bool} (t : Token) → ((v : Made) (x y : List ℕ) → derives t v x y → (x ≢ []) × (head_passes test x ≡ b)) → ((x : List ℕ) → opens t x → x ≢ [] → head_passes test x ≡ b) → HasHead (first_language at) test b t
-  word_stands {test = test} {b = b} t derived opened = record { stands = stands; opened = opened }
-    where
-      stands : (x : List ℕ) → Stands {Node = Node} derives faults t x → (x ≢ []) × (head_passes test x ≡ b)
-      stands x (inl d) = derived d.0 x d.1 d.2
-      stands x (inr h) = absurd (let e = h.1 in cc e)
+  abbrev apart : (ts us : List Token) → all_apart shape_of ts us ≡ true → AllOf (λ u. AllOf (λ t. AreApart (query_language at) t u) ts) us
+  apart ts us e = computed_apart (query_language at) shape_of (shaped at) ts us e
 
-  comma_has : (test : ℕ → Bool) → HasHead (first_language at) test (test 44) comma
-  comma_has test = word_stands _ (λ v x y d. word_head nothing 44 [] no_character test d) (λ x o n. front_head test 44 [] x o n)
-
-  plus_has : (test : ℕ → Bool) → HasHead (first_language at) test (test 43) plus
-  plus_has test = word_stands _ (λ v x y d. word_head nothing 43 [] no_character test d) (λ x o n. front_head test 43 [] x o n)
-
-  opening_has : (test : ℕ → Bool) → HasHead (first_language at) test (test 40) opening
-  opening_has test = word_stands _ (λ v x y d. word_head nothing 40 [] no_character test d) (λ x o n. front_head test 40 [] x o n)
-
-  closing_has : (test : ℕ → Bool) → HasHead (first_language at) test (test 41) closing
-  closing_has test = word_stands _ (λ v x y d. word_head nothing 41 [] no_character test d) (λ x o n. front_head test 41 [] x o n)
-
-  dollar_has : (test : ℕ → Bool) → HasHead (first_language at) test (test 36) dollar
-  dollar_has test = word_stands _ (λ v x y d. word_head nothing 36 [] no_character test d) (λ x o n. front_head test 36 [] x o n)
-
-  let_has : (test : ℕ → Bool) → HasHead (first_language at) test (test 108) let_word
-  let_has test = word_stands _ (λ v x y d. word_head nothing 108 (101 ∷ 116 ∷ []) is_name_character test d) (λ x o n. front_head test 108 (101 ∷ 116 ∷ []) x o n)
-
-  return_has : (test : ℕ → Bool) → HasHead (first_language at) test (test 114) return_word
-  return_has test = word_stands _ (λ v x y d. word_head nothing 114 (101 ∷ 116 ∷ 117 ∷ 114 ∷ 110 ∷ []) is_name_character test d) (λ x o n. front_head test 114 (101 ∷ 116 ∷ 117 ∷ 114 ∷ 110 ∷ []) x o n)
-
-  literal_has : (k : ℕ) → is_digit k ≡ false → HasHead (first_language at) (λ c. c == k) false literal
-  literal_has k other = word_stands literal (λ v x y d. ((λ e. let g = d.digits.whole in absurd (cc (e, g))), ap (head_passes (λ c. c == k)) d.digits.whole ∙ digit_differs d.digits.head k other d.digits.begins)) opened
-    where
-      opened : (x : List ℕ) → opens literal x → x ≢ [] → head_passes (λ c. c == k) x ≡ false
-      opened [] o n = absurd (n refl)
-      opened (c ∷ x) o n = digit_differs c k other (and_parts (is_digit c) _ o.digits).0
-
-  nowhere_has : (test : ℕ → Bool) (b : Bool) → HasHead (first_language at) test b nowhere
-  nowhere_has test b = word_stands nowhere (λ v x y d. absurd d) (λ x o n. absurd (n o))
-
-  production_takes : (p : Production) → (fronts at).takings.production_takes p ≡ true → takes_some (first_language at) (fronts at).takings (rules at p) ≡ true
-  unfolding let_single addition primary parenthesised variable integer
+  production_takes : (p : Production) → (fronts at).takings.production_takes p ≡ true → Takes (rules at p) ≡ true
+  unfolding ladder casts type_test cast_test chain two other_operand operator path_from other_step variable_step parenthesised_step dots literal string_of quoted numeral
   production_takes (single zero) e = refl
-  production_takes (single (suc levels)) e = refl
+  production_takes (single (suc n)) e = refl
 
-  taken : AreTakings (first_language at) (fronts at).takings
-  taken = record { tokens = token_takes; productions = production_takes }
+  pub taken : AreTakings (query_language at) (fronts at).takings
+  taken = record { tokens = tokens_taken; productions = production_takes }
 
-  firsts : (p : Production) → AllOf (IsIn ((fronts at).first p)) (first_of (first_language at) (fronts at) (rules at p))
-  unfolding let_single addition primary parenthesised variable integer
-  firsts (single zero) = (inr (inr (inr (inr (inl refl)))), tt)
-  firsts (single (suc levels)) = (inl refl, (inr (inl refl), (inr (inr (inl refl)), (inr (inr (inr (inl refl))), tt))))
+  firsts : (p : Production) → AllOf (IsIn ((fronts at).first p)) (first_of (query_language at) (fronts at) (rules at p))
+  unfolding ladder casts type_test cast_test chain two other_operand operator path_from other_step variable_step parenthesised_step dots literal string_of quoted numeral
+  firsts (single zero) = (inr (inr (inr (inr (inr (inr (inr (inr (inl refl)))))))), tt)
+  firsts (single (suc n)) =
+      (inl refl, (inr (inl refl), (inr (inr (inl refl)), (inr (inr (inr (inl refl))), (inr (inr (inr (inr (inl refl)))), (inr (inr (inr (inr (inr (inl refl))))), (inr (inr (inr (inr (inr (inr (inl refl)))))), (inr (inr (inr (inr (inr (inr (inr (inl refl))))))), tt))))))))
 
-  right : AreFronts (first_language at) (fronts at)
+  pub right : AreFronts (query_language at) (fronts at)
   right = record { taken = taken; firsts = firsts; follows = λ p y. ((λ h. h), (λ h. h)); follows_cut = λ p y. ((λ h. h), (λ h. h)) }
 
-  -- the guards
+  -- chains
 
-  variable_sorted : (us : List Token) → IsSorted (first_language at) (fronts at) (variable at) us
-  unfolding variable
+  stop_sorted : (ws : WordSet) (b : Barrier) (us : List Token) → all_apart shape_of (one_of ws ∷ []) us ≡ true → Sorts (stop at ws b) us
+  unfolding stop operator
+  stop_sorted ws b us e = (
+    tokens_choose (query_language at) (lawful at) (fronts at) right (one_of ws ∷ []) _ empty us
+        (record { takes = refl; first = (inl refl, tt); full = (refl, tt); opening = ((λ x o. open_first (open_made (open_first (open_token o)))), tt); apart = apart (one_of ws ∷ []) us e }),
+    ((tt, tt), tt),
+    tt,
+  )
+
+  more_sorted : (ws : WordSet) (operand : Phrase) (b : Barrier) (us : List Token) → all_apart shape_of (one_of ws ∷ []) us ≡ true → Sorts operand (one_of ws ∷ us) → (k : ℕ) → Sorts (more at ws operand (stop at ws b) k) us
+  unfolding more stop operator
+  more_sorted ws operand b us e s zero = stop_sorted ws b us e
+  more_sorted ws operand b us e s (suc zero) = (
+    tokens_choose (query_language at) (lawful at) (fronts at) right (one_of ws ∷ []) _ empty us
+        (record { takes = refl; first = (inl refl, tt); full = (refl, tt); opening = ((λ x o. open_first (open_made (open_first (open_token o)))), tt); apart = apart (one_of ws ∷ []) us e }),
+    ((tt, tt), (s, more_sorted ws operand b us e s zero)),
+    tt,
+  )
+  more_sorted ws operand b us e s (suc (suc k)) = (
+    tokens_choose (query_language at) (lawful at) (fronts at) right (one_of ws ∷ []) _ empty us
+        (record { takes = refl; first = (inl refl, tt); full = (refl, tt); opening = ((λ x o. open_first (open_made (open_first (open_token o)))), tt); apart = apart (one_of ws ∷ []) us e }),
+    ((tt, tt), (s, more_sorted ws operand b us e s (suc k))),
+    tt,
+  )
+
+  chain_sorted : (join : Join) (ws : WordSet) (first operand : Phrase) (b : Barrier) (us : List Token) → all_apart shape_of (one_of ws ∷ []) us ≡ true → Sorts first (one_of ws ∷ us) → Sorts operand (one_of ws ∷ us) → Sorts (chain at join ws first operand b) us
+  unfolding chain more operator
+  chain_sorted join ws first operand b us e f s = (f, more_sorted ws operand b us e s 63)
+
+  two_sorted : (ws : WordSet) (first operand : Phrase) (us : List Token) → all_apart shape_of (one_of ws ∷ []) us ≡ true → Sorts first (one_of ws ∷ us) → Sorts operand us → Sorts (two at ws first operand) us
+  unfolding two more operator
+  two_sorted ws first operand us e f s = (
+    f,
+    (
+      tokens_choose (query_language at) (lawful at) (fronts at) right (one_of ws ∷ []) _ empty us
+          (record { takes = refl; first = (inl refl, tt); full = (refl, tt); opening = ((λ x o. open_first (open_made (open_first (open_token o)))), tt); apart = apart (one_of ws ∷ []) us e }),
+      ((tt, tt), (s, tt)),
+      tt,
+    ),
+  )
+
+  expression_sorted : (n : ℕ) (us : List Token) → all_apart shape_of (word_of word.Comma ∷ []) us ≡ true → AllOf (IsIn (behind_single at)) us → Sorts (expression at n) us
+  unfolding expression
+  expression_sorted n us e f = chain_sorted join_comma (set.Only word.Comma) (rule (single n)) (rule (single n)) barrier.Single us e (inl refl, f) (inl refl, f)
+
+  -- steps
+
+  -- no `(` begins these
+  abbrev no_parenthesis : List Token → Bool
+  no_parenthesis us = list_all (λ t. shape_begins 40 false (shape_of t)) us
+
+  variable_sorted : (us : List Token) → Sorts (variable_step at) us
+  unfolding variable_step name
   variable_sorted us = ((tt, tt), (tt, tt))
 
-  integer_sorted : (us : List Token) → IsSorted (first_language at) (fronts at) (integer at) us
-  unfolding integer
-  integer_sorted us = (tt, tt)
+  numeral_sorted : (us : List Token) → Sorts (numeral at) us
+  unfolding numeral
+  numeral_sorted us = (tt, (tt, tt))
 
-  -- further members with commas between, before tokens that begin otherwise
-
-  behind_member : (levels n : ℕ) (ts : List Token) → AllOf (IsIn (behind_single at)) ts
-      → AllOf (IsIn (behind_single at)) (first_behind (first_language at) (fronts at) (more at comma 44 (rule (single levels)) n) ts)
-  unfolding more
-  behind_member levels zero ts all = all
-  behind_member levels (suc n) ts all = (inl refl, all)
-
-  more_singles : (levels n : ℕ) (ts : List Token) → AllOf (IsIn (behind_single at)) ts → AllOf (HasHead (first_language at) (λ c. c == 44) false) ts
-      → IsSorted (first_language at) (fronts at) (more at comma 44 (rule (single levels)) n) ts
-  unfolding more
-  more_singles levels zero ts all fails = tt
-  more_singles levels (suc n) ts all fails = (
-    character_chooses (first_language at) (λ c. c == 44) (fronts at) right _ empty ts (record { takes = refl; passes = (comma_has (λ c. c == 44), tt); fails = fails }),
-    ((tt, tt), (behind_member levels n ts all, more_singles levels n ts all fails)),
-    tt,
-  )
-
-  expression_sorted : (levels : ℕ) (ts : List Token) → AllOf (IsIn (behind_single at)) ts → AllOf (HasHead (first_language at) (λ c. c == 44) false) ts
-      → IsSorted (first_language at) (fronts at) (expression at levels) ts
-  unfolding expression more
-  expression_sorted levels ts all fails = ((inl refl, all), more_singles levels 63 ts all fails)
-
-  -- first characters of what stands in parentheses
-
-  parenthesised_sorted : (levels : ℕ) (us : List Token) → IsSorted (first_language at) (fronts at) (parenthesised at levels) us
-  unfolding parenthesised expression
-  parenthesised_sorted levels us = (
-    (tt, tt),
+  literal_sorted : (us : List Token) → Sorts (literal at) us
+  unfolding literal string_of quoted numeral
+  literal_sorted us = (
+    character_chooses (query_language at) (is 34) (fronts at) right _ _ us
+        (record {
+          takes = refl;
+          passes = computed_heads (query_language at) shape_of (shaped at) 34 true (word_of word.Quote ∷ []) refl;
+          fails = computed_heads (query_language at) shape_of (shaped at) 34 false (word_of word.Apostrophe ∷ number ∷ []) refl;
+        }),
+    string_sorted at right quote.Double us,
     (
-      character_chooses (first_language at) (λ c. c == 41) (fronts at) right _ _ us
+      character_chooses (query_language at) (is 39) (fronts at) right _ _ us
           (record {
             takes = refl;
-            passes = (closing_has (λ c. c == 41), tt);
-            fails = (let_has (λ c. c == 41), (opening_has (λ c. c == 41), (dollar_has (λ c. c == 41), (literal_has 41 refl, (nowhere_has (λ c. c == 41) false, tt)))));
+            passes = computed_heads (query_language at) shape_of (shaped at) 39 true (word_of word.Apostrophe ∷ []) refl;
+            fails = computed_heads (query_language at) shape_of (shaped at) 39 false (number ∷ []) refl;
           }),
-      (tt, (tt, tt)),
-      (expression_sorted levels (closing ∷ []) (inr (inl refl), tt) (closing_has (λ c. c == 44), tt), (tt, tt)),
+      string_sorted at right quote.Single us,
+      numeral_sorted us,
     ),
   )
 
-  variable_chooses : (us : List Token) → CharacterChooses (first_language at) (fronts at) (λ c. c == 36) (variable at) (integer at) us
-  unfolding variable integer
-  variable_chooses us = record { takes = refl; passes = (dollar_has (λ c. c == 36), tt); fails = (literal_has 36 refl, tt) }
+  quotes_apart : AllOf (λ u. AllOf (λ t. AreApart (query_language at) t u) (one_of set.Dots ∷ [])) (word_of word.Quote ∷ word_of word.Apostrophe ∷ number ∷ [])
+  quotes_apart = let w = apart (one_of set.Dots ∷ []) (word_of word.Quote ∷ word_of word.Apostrophe ∷ []) refl in (w.0, (w.1.0, ((points_apart at, tt), tt)))
 
-  parenthesised_chooses : (levels : ℕ) (us : List Token) → CharacterChooses (first_language at) (fronts at) (λ c. c == 40) (parenthesised at levels) (choose (begins_with 36) (variable at) (integer at)) us
-  unfolding parenthesised variable integer
-  parenthesised_chooses levels us = record { takes = refl; passes = (opening_has (λ c. c == 40), tt); fails = (dollar_has (λ c. c == 40), (literal_has 40 refl, tt)) }
+  dots_sorted : (us : List Token) → Sorts (dots at) us
+  unfolding dots
+  dots_sorted us = (tt, tt)
 
-  primary_sorted : (levels : ℕ) (us : List Token) → IsSorted (first_language at) (fronts at) (primary at levels) us
-  unfolding primary
-  primary_sorted levels us = (
-    character_chooses (first_language at) (λ c. c == 40) (fronts at) right (parenthesised at levels) _ us
-        (parenthesised_chooses levels us),
-    parenthesised_sorted levels us,
+  abbrev singles : List Token
+  singles = qname ∷ one_of set.Signs ∷ word_of word.Dollar ∷ word_of word.Open ∷ one_of set.Dots ∷ word_of word.Quote ∷ word_of word.Apostrophe ∷ number ∷ barred barrier.Single ∷ []
+
+  singles_pass : AllOf (HasHead (query_language at) (is 41) false) singles
+  unfolding is_name_start
+  singles_pass = computed_heads (query_language at) shape_of (shaped at) 41 false singles refl
+
+  closing_passes : AllOf (HasHead (query_language at) (is 41) true) (word_of word.Close ∷ [])
+  closing_passes = computed_heads (query_language at) shape_of (shaped at) 41 true (word_of word.Close ∷ []) refl
+
+  parenthesised_sorted : (n : ℕ) (us : List Token) → Sorts (parenthesised_step at n) us
+  unfolding parenthesised_step expression chain
+  parenthesised_sorted n us = (
+    (tt, tt),
     (
-      character_chooses (first_language at) (λ c. c == 36) (fronts at) right (variable at) (integer at) us (variable_chooses us),
-      variable_sorted us,
-      integer_sorted us,
+      character_chooses (query_language at) (is 41) (fronts at) right _ _ us (record { takes = refl; passes = closing_passes; fails = singles_pass }),
+      (tt, (tt, tt)),
+      (expression_sorted n (word_of word.Close ∷ []) refl (inr (inl refl), tt), (tt, tt)),
     ),
   )
 
-  more_primaries : (levels n : ℕ) → IsSorted (first_language at) (fronts at) (more at plus 43 (primary at levels) n) (behind_single at)
-  unfolding more
-  more_primaries levels zero = tt
-  more_primaries levels (suc n) = (
-    character_chooses (first_language at) (λ c. c == 43) (fronts at) right _ empty (behind_single at)
-        (record { takes = refl; passes = (plus_has (λ c. c == 43), tt); fails = (comma_has (λ c. c == 43), (closing_has (λ c. c == 43), (return_has (λ c. c == 43), tt))) }),
-    ((tt, tt), (primary_sorted levels _, more_primaries levels n)),
+  more_arguments_sorted : (n : ℕ) → Sorts (more_arguments at n) (word_of word.Close ∷ [])
+  unfolding more_arguments
+  more_arguments_sorted n = (
+    tokens_repeat (query_language at) (lawful at) (fronts at) right (word_of word.Comma ∷ []) _ (word_of word.Close ∷ [])
+        (record { takes = refl; first = (inl refl, tt); full = (refl, tt); opening = ((λ x o. open_first (open_first (open_token o))), tt); apart = apart (word_of word.Comma ∷ []) (word_of word.Close ∷ []) refl }),
+    refl,
+    ((tt, tt), (inl refl, (inr (inl refl), tt))),
+  )
+
+  inside_sorted : (n : ℕ) (us : List Token) → Sorts (arguments_in at n) us
+  unfolding arguments_in more_arguments
+  inside_sorted n us = (
+    character_chooses (query_language at) (is 41) (fronts at) right _ _ us (record { takes = refl; passes = closing_passes; fails = singles_pass }),
+    (tt, (tt, tt)),
+    (((inl refl, (inr (inl refl), tt)), more_arguments_sorted n), (tt, tt)),
+  )
+
+  arguments_sorted : (n : ℕ) (us : List Token) → Sorts (arguments at n) us
+  unfolding arguments
+  arguments_sorted n us = ((tt, tt), inside_sorted n us)
+
+  behind_name_sorted : (n : ℕ) (v : Made) (us : List Token) → no_parenthesis us ≡ true → Sorts (behind_name at n v) us
+  unfolding behind_name arguments
+  behind_name_sorted n v us e = (
+    tt,
+    (
+      character_chooses (query_language at) (is 40) (fronts at) right _ empty us
+          (record { takes = refl; passes = computed_heads (query_language at) shape_of (shaped at) 40 true (word_of word.Open ∷ []) refl; fails = computed_heads (query_language at) shape_of (shaped at) 40 false us e }),
+      arguments_sorted n us,
+      tt,
+    ),
+  )
+
+  plain_name_sorted : (t : Token) (v : Made) (us : List Token) → Sorts (behind_plain_name at t v) us
+  unfolding behind_plain_name
+  plain_name_sorted t v us = tt
+
+  any_name_sorted : (n : ℕ) (v : Made) (us : List Token) → no_parenthesis us ≡ true → Sorts (behind_any_name at n v) us
+  unfolding behind_any_name
+  any_name_sorted n v us e = elim (is_reserved v) as (λ b. Sorts (if b then (behind_plain_name at gap v) else (behind_name at n v)) us) [ true ↦ plain_name_sorted gap v us | false ↦ behind_name_sorted n v us e ]
+
+  other_step_sorted : (n : ℕ) (us : List Token) → Sorts (other_step at n) us
+  unfolding other_step variable_step parenthesised_step dots literal string_of quoted numeral
+  other_step_sorted n us = (
+    character_chooses (query_language at) (is 36) (fronts at) right _ _ us
+        (record {
+          takes = refl;
+          passes = computed_heads (query_language at) shape_of (shaped at) 36 true (word_of word.Dollar ∷ []) refl;
+          fails = computed_heads (query_language at) shape_of (shaped at) 36 false (word_of word.Open ∷ one_of set.Dots ∷ word_of word.Quote ∷ word_of word.Apostrophe ∷ number ∷ []) refl;
+        }),
+    variable_sorted us,
+    (
+      character_chooses (query_language at) (is 40) (fronts at) right _ _ us
+          (record {
+            takes = refl;
+            passes = computed_heads (query_language at) shape_of (shaped at) 40 true (word_of word.Open ∷ []) refl;
+            fails = computed_heads (query_language at) shape_of (shaped at) 40 false (one_of set.Dots ∷ word_of word.Quote ∷ word_of word.Apostrophe ∷ number ∷ []) refl;
+          }),
+      parenthesised_sorted n us,
+      (
+        tokens_choose (query_language at) (lawful at) (fronts at) right (one_of set.Dots ∷ []) _ _ us
+            (record { takes = refl; first = (inl refl, tt); full = (refl, tt); opening = ((λ x o. open_made (open_first (open_token o))), tt); apart = quotes_apart }),
+        dots_sorted us,
+        literal_sorted us,
+      ),
+    ),
+  )
+
+  -- names, and what begins otherwise
+
+  words_no_name : (ts : List Token) → list_all (λ t. words_begin is_name_start false (shape_of t)) ts ≡ true → AllOf (HasHead (query_language at) is_name_start false) ts
+  words_no_name ts e = computed_words (query_language at) shape_of (shaped at) is_name_start false ts e
+
+  step_fails : AllOf (HasHead (query_language at) is_name_start false) (word_of word.Dollar ∷ word_of word.Open ∷ one_of set.Dots ∷ word_of word.Quote ∷ word_of word.Apostrophe ∷ number ∷ [])
+  unfolding is_name_start
+  step_fails = let w = words_no_name (word_of word.Dollar ∷ word_of word.Open ∷ one_of set.Dots ∷ word_of word.Quote ∷ word_of word.Apostrophe ∷ []) refl in (w.0, (w.1.0, (w.1.1.0, (w.1.1.1.0, (w.1.1.1.1.0, (number_no_name at, tt))))))
+
+  name_passes : HasHead (query_language at) is_name_start true qname
+  name_passes = record { stands = (shaped at qname).0; opened = (shaped at qname).1 }
+
+  step_sorted : (n : ℕ) (us : List Token) → no_parenthesis us ≡ true → Sorts (step at n) us
+  unfolding step other_step variable_step parenthesised_step dots literal string_of quoted numeral
+  step_sorted n us e = (
+    character_chooses (query_language at) is_name_start (fronts at) right _ (other_step at n) us (record { takes = refl; passes = (name_passes, tt); fails = step_fails }),
+    (λ v. any_name_sorted n v us e),
+    other_step_sorted n us,
+  )
+
+  -- paths and signs
+
+  abbrev path_fits : List Token → Bool
+  path_fits us = all_apart shape_of (one_of set.Slashes ∷ []) us && no_parenthesis us
+
+  path_sorted : (n : ℕ) (first : Phrase) (us : List Token) → path_fits us ≡ true → Sorts first (one_of set.Slashes ∷ us) → Sorts (path_from at n first) us
+  unfolding path_from
+  path_sorted n first us e f =
+      let p = both (all_apart shape_of (one_of set.Slashes ∷ []) us) (no_parenthesis us) e in
+      chain_sorted join_path set.Slashes first (step at n) barrier.Step us p.0 f (step_sorted n (one_of set.Slashes ∷ us) p.1)
+
+  abbrev steps : List Token
+  steps = qname ∷ word_of word.Dollar ∷ word_of word.Open ∷ one_of set.Dots ∷ word_of word.Quote ∷ word_of word.Apostrophe ∷ number ∷ []
+
+  signs_apart : AllOf (λ u. AllOf (λ t. AreApart (query_language at) t u) (one_of set.Signs ∷ [])) steps
+  unfolding is_name_start
+  signs_apart = apart (one_of set.Signs ∷ []) steps refl
+
+  sign_passes : HasHead (query_language at) begins_sign true (barred barrier.Sign)
+  sign_passes = record { stands = (shaped at (barred barrier.Sign)).0; opened = (shaped at (barred barrier.Sign)).1 }
+
+  sign_apart : (u : Token) → HasHead (query_language at) begins_sign false u → AreApart (query_language at) (barred barrier.Sign) u
+  sign_apart u h = apart_by_heads (query_language at) begins_sign true false (barred barrier.Sign) u (λ e. absurd (cc)) sign_passes h
+
+  no_sign_apart : AllOf (λ u. AllOf (λ t. AreApart (query_language at) t u) (barred barrier.Sign ∷ [])) steps
+  no_sign_apart =
+      let w = apart (barred barrier.Sign ∷ []) (word_of word.Dollar ∷ word_of word.Open ∷ one_of set.Dots ∷ word_of word.Quote ∷ word_of word.Apostrophe ∷ []) refl in
+      ((sign_apart qname (name_no_sign at), tt), (w.0, (w.1.0, (w.1.1.0, (w.1.1.1.0, (w.1.1.1.1.0, ((sign_apart number (number_no_sign at), tt), tt)))))))
+
+  more_signs_sorted : (k : ℕ) → Sorts (more_signs at k) steps
+  unfolding more_signs operator
+  more_signs_sorted zero = (
+    tokens_choose (query_language at) (lawful at) (fronts at) right (barred barrier.Sign ∷ []) (token (barred barrier.Sign)) empty steps
+        (record { takes = refl; first = (inl refl, tt); full = (refl, tt); opening = ((λ x o. open_token o), tt); apart = no_sign_apart }),
+    tt,
+    tt,
+  )
+  more_signs_sorted (suc k) = (
+    tokens_choose (query_language at) (lawful at) (fronts at) right (one_of set.Signs ∷ []) _ empty steps
+        (record { takes = refl; first = (inl refl, tt); full = (refl, tt); opening = ((λ x o. open_first (open_made (open_first (open_token o)))), tt); apart = signs_apart }),
+    ((tt, tt), more_signs_sorted k),
     tt,
   )
 
-  addition_sorted : (levels : ℕ) → IsSorted (first_language at) (fronts at) (addition at levels) (behind_single at)
-  unfolding addition
-  addition_sorted levels = (primary_sorted levels _, more_primaries levels 63)
+  signed_sorted : (n k : ℕ) (us : List Token) → path_fits us ≡ true → Sorts (signed_path at n k) us
+  unfolding signed_path path_from chain step other_step variable_step parenthesised_step dots literal string_of quoted numeral
+  signed_sorted n k us e = (more_signs_sorted k, path_sorted n (step at n) us e (step_sorted n (one_of set.Slashes ∷ us) (both (all_apart shape_of (one_of set.Slashes ∷ []) us) (no_parenthesis us) e).1))
 
-  let_sorted : (levels : ℕ) → IsSorted (first_language at) (fronts at) (let_single at levels) (behind_single at)
-  unfolding let_single
-  let_sorted levels = ((tt, tt), (variable_sorted _, ((tt, tt), ((inr (inr (inl refl)), tt), ((tt, tt), (inl refl, (inr (inl refl), (inr (inr (inl refl)), tt))))))))
-
-  single_chooses : (levels : ℕ) → CharacterChooses (first_language at) (fronts at) (λ c. c == 108) (let_single at levels) (addition at levels) (behind_single at)
-  unfolding let_single addition primary parenthesised variable integer
-  single_chooses levels = record { takes = refl; passes = (let_has (λ c. c == 108), tt); fails = (opening_has (λ c. c == 108), (dollar_has (λ c. c == 108), (literal_has 108 refl, tt))) }
-
-  production_sorted : (p : Production) → IsSorted (first_language at) (fronts at) (rules at p) (behind_single at)
-  production_sorted (single zero) = tt
-  production_sorted (single (suc levels)) = (
-    character_chooses (first_language at) (λ c. c == 108) (fronts at) right (let_single at levels) (addition at levels) (behind_single at) (single_chooses levels),
-    let_sorted levels,
-    addition_sorted levels,
+  other_operand_sorted : (n : ℕ) (us : List Token) → path_fits us ≡ true → Sorts (other_operand at n) us
+  unfolding other_operand operator path_from chain step other_step variable_step parenthesised_step dots literal string_of quoted numeral
+  other_operand_sorted n us e = (
+    tokens_choose (query_language at) (lawful at) (fronts at) right (one_of set.Signs ∷ []) _ _ us
+        (record {
+          takes = refl;
+          first = (inl refl, tt);
+          full = (refl, tt);
+          opening = ((λ x o. open_made (open_first (open_first (open_made (open_first (open_token o)))))), tt);
+          apart = signs_apart.1;
+        }),
+    (((tt, tt), more_signs_sorted 63), path_sorted n (step at n) us e (step_sorted n (one_of set.Slashes ∷ us) (both (all_apart shape_of (one_of set.Slashes ∷ []) us) (no_parenthesis us) e).1)),
+    path_sorted n (other_step at n) us e (other_step_sorted n (one_of set.Slashes ∷ us)),
   )
 
+  -- the levels of operators, before these tokens
+
+  abbrev operators : Level → Token
+  operators l = one_of (set.Operators l)
+
+  abbrev operands_fit : ℕ → List Token → Bool
+  operands_fit zero us = path_fits (behind_cast us) && casts_fit us
+  operands_fit (suc k) us =
+      all_apart shape_of (operators (level_at k) ∷ []) us && (operands_fit k (operators (level_at k) ∷ us) && (if is_single (level_at k) then (operands_fit k us) else true))
+
+  -- what follows the first operand
+  abbrev innermost : ℕ → List Token → List Token
+  innermost zero us = behind_cast us
+  innermost (suc k) us = innermost k (operators (level_at k) ∷ us)
+
+  level_sorted : (k n : ℕ) (first : Phrase) (us : List Token) → all_apart shape_of (operators (level_at k) ∷ []) us ≡ true → (if is_single (level_at k) then (operands_fit k us) else true) ≡ true
+      → (operands_fit k us ≡ true → Sorts (ladder at k n (signed_path at n 64)) us) → Sorts (ladder at k n (signed_path at n 64)) (operators (level_at k) ∷ us) → Sorts (ladder at k n first) (operators (level_at k) ∷ us) → Sorts (ladder at (suc k) n first) us
+  unfolding ladder
+  level_sorted k n first us e h one operand inner = go (is_single (level_at k)) refl h
+    where
+      go : (b : Bool) → is_single (level_at k) ≡ b → (if b then (operands_fit k us) else true) ≡ true
+          → Sorts (if b then (two at (set.Operators (level_at k)) (ladder at k n first) (ladder at k n (signed_path at n 64))) else (chain at join_binary (set.Operators (level_at k)) (ladder at k n first) (ladder at k n (signed_path at n 64)) barrier.Single)) us
+      go true f q = two_sorted (set.Operators (level_at k)) (ladder at k n first) (ladder at k n (signed_path at n 64)) us e inner (one q)
+      go false f q = chain_sorted join_binary (set.Operators (level_at k)) (ladder at k n first) (ladder at k n (signed_path at n 64)) barrier.Single us e inner operand
+
+  operand_sorted : (k n : ℕ) (us : List Token) → operands_fit k us ≡ true → Sorts (ladder at k n (signed_path at n 64)) us
+  unfolding ladder
+  operand_sorted zero n us e = let p = both (path_fits (behind_cast us)) (casts_fit us) e in casts_sorted at right (signed_path at n 64) us p.1 (signed_sorted n 64 (behind_cast us) p.0)
+  operand_sorted (suc k) n us e =
+      let p = both (all_apart shape_of (operators (level_at k) ∷ []) us) _ e in
+      let q = both (operands_fit k (operators (level_at k) ∷ us)) _ p.1 in
+      level_sorted k n (signed_path at n 64) us p.0 q.1 (λ f. operand_sorted k n us f) (operand_sorted k n (operators (level_at k) ∷ us) q.0) (operand_sorted k n (operators (level_at k) ∷ us) q.0)
+
+  ladder_sorted : (k n : ℕ) (first : Phrase) (us : List Token) → operands_fit k us ≡ true → Sorts first (innermost k us) → Sorts (ladder at k n first) us
+  unfolding ladder
+  ladder_sorted zero n first us e f = let p = both (path_fits (behind_cast us)) (casts_fit us) e in casts_sorted at right first us p.1 f
+  ladder_sorted (suc k) n first us e f =
+      let p = both (all_apart shape_of (operators (level_at k) ∷ []) us) _ e in
+      let q = both (operands_fit k (operators (level_at k) ∷ us)) _ p.1 in
+      level_sorted k n first us p.0 q.1 (λ g. operand_sorted k n us g) (operand_sorted k n (operators (level_at k) ∷ us) q.0) (ladder_sorted k n first (operators (level_at k) ∷ us) q.0 f)
+
+  levels_fit : operands_fit 8 (behind_single at) ≡ true
+  unfolding is_word_character is_name_start
+  levels_fit = refl
+
+  inside_fits : path_fits (innermost 8 (behind_single at)) ≡ true
+  inside_fits = refl
+
+  -- Singles
+
+  among : (us : List Token) (ts : List Token) → ((u : Token) → IsIn us u → IsIn ts u) → AllOf (IsIn ts) us
+  among [] ts f = tt
+  among (u ∷ us) ts f = (f u (inl refl), among us ts (λ v h. f v (inr h)))
+
+  all_behind : AllOf (IsIn (behind_single at)) (behind_single at)
+  all_behind = among (behind_single at) (behind_single at) (λ u h. h)
+
+  condition_sorted : (n : ℕ) (v : Made) → Sorts (condition at n v) (behind_single at)
+  unfolding condition
+  condition_sorted n v = (
+    tt,
+    (
+      tt,
+      (
+        expression_sorted n (word_of word.Close ∷ []) refl (inr (inl refl), tt),
+        ((tt, tt), ((tt, tt), ((inr (inr (inr (inl refl))), tt), ((tt, tt), all_behind)))),
+      ),
+    ),
+  )
+
+  begun_path_sorted : (n : ℕ) (first : Phrase) → Sorts first (one_of set.Slashes ∷ innermost 8 (behind_single at)) → Sorts (ladder at 8 n (path_from at n first)) (behind_single at)
+  begun_path_sorted n first f = ladder_sorted 8 n (path_from at n first) (behind_single at) levels_fit (path_sorted n first (innermost 8 (behind_single at)) inside_fits f)
+
+  if_apart : (n : ℕ) (v : Made) → AllOf (λ u. AllOf (λ t. AreApart (query_language at) t u) (gap_then_open ∷ [])) (first_behind (query_language at) (fronts at) (ladder at 8 n (path_from at n (behind_plain_name at gap_not_open v))) (behind_single at))
+  unfolding ladder casts type_test cast_test two chain path_from behind_plain_name more stop operator
+  if_apart n v =
+      ((gaps_apart at, tt), apart (gap_then_open ∷ []) (one_of set.Slashes ∷ word_of word.Cast ∷ word_of word.Castable ∷ word_of word.Treat ∷ word_of word.Instance ∷ operators level.Intersect ∷ operators level.Union ∷ operators level.Product ∷ operators level.Sum ∷ operators level.Range ∷ operators level.Comparison ∷ operators level.And ∷ operators level.Or ∷ behind_single at) refl)
+
+  if_sorted : (n : ℕ) (v : Made) → Sorts (choose (at_tokens (gap_then_open ∷ [])) (condition at n v) (ladder at 8 n (path_from at n (behind_plain_name at gap_not_open v)))) (behind_single at)
+  unfolding condition
+  if_sorted n v = (
+    tokens_choose (query_language at) (lawful at) (fronts at) right (gap_then_open ∷ []) _ _ (behind_single at)
+        (record { takes = refl; first = (inl refl, tt); full = (refl, tt); opening = ((λ x o. open_made (open_first (open_token o))), tt); apart = if_apart n v }),
+    condition_sorted n v,
+    begun_path_sorted n (behind_plain_name at gap_not_open v) (plain_name_sorted gap_not_open v _),
+  )
+
+  begun_sorted : (n : ℕ) (v : Made) → Sorts (begun at n v) (behind_single at)
+  unfolding begun
+  begun_sorted n v =
+      elim (is_name (codes "if") v) as (λ b. Sorts (if b then (choose (at_tokens (gap_then_open ∷ [])) (condition at n v) (ladder at 8 n (path_from at n (behind_plain_name at gap_not_open v)))) else (ladder at 8 n (path_from at n (behind_any_name at n v)))) (behind_single at))
+      [ true ↦ if_sorted n v | false ↦ begun_path_sorted n (behind_any_name at n v) (any_name_sorted n v _ refl) ]
+
+  -- the names of clauses
+
+  abbrev behind_word : List Token
+  behind_word =
+      one_of set.Slashes ∷ word_of word.Cast ∷ word_of word.Castable ∷ word_of word.Treat ∷ word_of word.Instance ∷ operators level.Intersect ∷ operators level.Union ∷ operators level.Product ∷ operators level.Sum ∷ operators level.Range ∷ operators level.Comparison
+      ∷ operators level.And ∷ operators level.Or ∷ behind_single at
+
+  keyword_sorted : (n : ℕ) (v : Made) (us : List Token) → all_apart shape_of (gap_then_open ∷ []) us ≡ true → Sorts (behind_keyword at n v) us
+  unfolding behind_keyword behind_plain_name
+  keyword_sorted n v us e = (
+    tokens_choose (query_language at) (lawful at) (fronts at) right (gap_then_open ∷ []) _ _ us
+        (record { takes = refl; first = (inl refl, tt); full = (refl, tt); opening = ((λ x o. open_made (open_first (open_first (open_token o)))), tt); apart = ((open_neither_apart at, tt), apart (gap_then_open ∷ []) us e) }),
+    ((tt, tt), inside_sorted n us),
+    tt,
+  )
+
+  keyword_apart : (n : ℕ) (v : Made) → AllOf (λ u. AllOf (λ t. AreApart (query_language at) t u) (gap_then_dollar ∷ [])) (first_behind (query_language at) (fronts at) (ladder at 8 n (path_from at n (behind_keyword at n v))) (behind_single at))
+  unfolding ladder casts type_test cast_test two chain path_from behind_keyword behind_plain_name more stop operator
+  keyword_apart n v = ((dollar_open_apart at, tt), ((dollar_neither_apart at, tt), apart (gap_then_dollar ∷ []) behind_word refl))
+
+  clauses_sorted : (n : ℕ) (v : Made) (b : Option Binder) → Sorts (clauses_or_name at n v b) (behind_single at)
+  unfolding clauses_or_name flwor
+  clauses_sorted n v (Some b) = (
+    tokens_choose (query_language at) (lawful at) (fronts at) right (gap_then_dollar ∷ []) _ _ (behind_single at)
+        (record { takes = refl; first = (inl refl, tt); full = (refl, tt); opening = ((λ x o. open_made (open_first (open_token o))), tt); apart = keyword_apart n v }),
+    flwor_sorted at right n b v (behind_single at) all_behind,
+    begun_path_sorted n (behind_keyword at n v) (keyword_sorted n v _ refl),
+  )
+  clauses_sorted n v None = begun_sorted n v
+
+  named_sorted : (n : ℕ) (v : Made) → Sorts (named_single at n v) (behind_single at)
+  unfolding named_single
+  named_sorted n v = clauses_sorted n v (binder_named v)
+
+  single_fails : (n : ℕ) → AllOf (HasHead (query_language at) is_name_start false) (first_behind (query_language at) (fronts at) (ladder at 8 n (other_operand at n)) (behind_single at))
+  unfolding ladder casts type_test cast_test two chain other_operand operator path_from other_step variable_step parenthesised_step dots literal string_of quoted numeral is_name_start
+  single_fails n = let w = words_no_name (one_of set.Signs ∷ []) refl in (w.0, step_fails)
+
+  production_sorted : (p : Production) → Sorts (rules at p) (behind_single at)
+  production_sorted (single zero) = tt
+  production_sorted (single (suc n)) = (
+    character_chooses (query_language at) is_name_start (fronts at) right _ (ladder at 8 n (other_operand at n)) (behind_single at) (record { takes = refl; passes = (name_passes, tt); fails = single_fails n }),
+    (λ v. named_sorted n v),
+    ladder_sorted 8 n (other_operand at n) (behind_single at) levels_fit (other_operand_sorted n (innermost 8 (behind_single at)) inside_fits),
+  )
+
+  query_sorted : Sorts (query at) []
+  unfolding query
+  query_sorted = (tt, expression_sorted 40 [] refl tt)
+
   -- What the language owes is met.
-  pub readable : IsReadable (first_language at) (query at)
-  readable = sorted_readable (first_language at) lawful (fronts at) right (query at) production_sorted (tt, expression_sorted 40 [] tt tt)
-
-  -- each Single holds Singles of one level less
-
-  abbrev rank : Production → ℕ
-  rank (single levels) = levels
-
-  abbrev Low : ℕ → Phrase → Type 0
-  Low n A = HasRanksBelow (first_language at) rank n A
-
-  variable_low : (n : ℕ) → Low n (variable at)
-  unfolding variable
-  variable_low n = ((tt, tt), (tt, tt))
-
-  integer_low : (n : ℕ) → Low n (integer at)
-  unfolding integer
-  integer_low n = (tt, tt)
-
-  more_low : (n : ℕ) (separator : Token) (character : ℕ) (member : Phrase) → Low n member → (count : ℕ) → Low n (more at separator character member count)
-  unfolding more
-  more_low n separator character member low zero = tt
-  more_low n separator character member low (suc count) = (((tt, tt), (low, more_low n separator character member low count)), tt)
-
-  expression_low : (levels : ℕ) → Low (suc levels) (expression at levels)
-  unfolding expression
-  expression_low levels = (below levels, more_low (suc levels) comma 44 (rule (single levels)) (below levels) 63)
-    where
-      below : (k : ℕ) → k < suc k
-      below k = omega arith
-
-  primary_low : (levels : ℕ) → Low (suc levels) (primary at levels)
-  unfolding primary parenthesised
-  primary_low levels = (((tt, tt), ((tt, (tt, tt)), (expression_low levels, (tt, tt)))), (variable_low (suc levels), integer_low (suc levels)))
-
-  addition_low : (levels : ℕ) → Low (suc levels) (addition at levels)
-  unfolding addition
-  addition_low levels = (primary_low levels, more_low (suc levels) plus 43 (primary at levels) (primary_low levels) 63)
-
-  let_low : (levels : ℕ) → Low (suc levels) (let_single at levels)
-  unfolding let_single
-  let_low levels = ((tt, tt), (variable_low (suc levels), ((tt, tt), (below, ((tt, tt), below)))))
-    where
-      below : levels < suc levels
-      below = omega arith
-
-  production_shielded : (p : Production) → IsShielded (first_language at) (fronts at).takings rank (rank p) (rules at p)
-  production_shielded (single zero) = tt
-  production_shielded (single (suc levels)) =
-      (below_shields (first_language at) (fronts at).takings rank (suc levels) (let_single at levels) (let_low levels), below_shields (first_language at) (fronts at).takings rank (suc levels) (addition at levels) (addition_low levels))
-
-  pub levelled : IsLevelled (first_language at) (fronts at).takings
-  levelled = record { takings = taken; rank = rank; shielded = production_shielded }
-
-  pub query_ranks : HasRanksBelow (first_language at) levelled.rank 41 (query at)
-  unfolding levelled
-  query_ranks = (tt, expression_low 40)
+  pub readable : IsReadable (query_language at) (query at)
+  readable = sorted_readable (query_language at) (lawful at) (fronts at) right (query at) production_sorted query_sorted

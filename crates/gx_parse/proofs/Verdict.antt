@@ -1,55 +1,123 @@
 -- What the reading of a whole text says of it.
-use Rattle.std.proofs.Common.{◌≡◌, ◌≤◌, ◌+◌, ℕ, zero, suc, List, length, Result, Ok, Err, refl, subst, arith, ◌⊎◌, inl, inr}
+use Rattle.std.proofs.Common.{◌≡◌, ◌≢◌, ◌∷◌, Option, Some, None, ℕ, zero, suc, ◌+◌, ◌≤◌, ◌<◌, true, List, [], length, Result, Ok, Err, IfOk, IfErr, refl, sym, ap, subst, ◌∙◌, arith, ◌⊎◌, inl, inr, encode_utf8_all}
+use Rattle.std.specs.Str.{all_scalars, chars, IsUtf8, IsValidUpTo}
+use Rattle.std.proofs.lemmas.Str.{chars-encodes, length-le-encodes}
+use Rattle.std.proofs.lemmas.List.{take_all}
 use Rattle.gx_base.specs.declared.place.Place.{Place}
+use Rattle.gx_ast.specs.SyntaxTree.{SyntaxTree}
 use Rattle.gx_grammar.specs.Value.{node}
-use Rattle.gx_grammar.specs.Text.{AtEnd, Nowhere, HasValue, IsVerdict, read_text}
-use Rattle.gx_grammar.specs.Reading.{Refusal, Unfit, Faulty, TooDeep}
-use Rattle.gx_grammar.proofs.Text.{exact_text}
+use Rattle.gx_grammar.specs.Text.{AtEnd, Nowhere, IsVerdict, read_text, whole_only, with_rest}
+use Rattle.gx_grammar.specs.Ran.{Standing, Going, GaveUp, Lost, Ran}
+use Rattle.gx_grammar.specs.Reading.{Refusal, Unfit, Faulty, TooDeep, Reading, start}
+use Rattle.gx_grammar.proofs.Text.{exact_text, same_verdict}
 use Rattle.gx_grammar.proofs.Unique.{unique}
 use Rattle.gx_grammar.proofs.Levels.{never_too_deep}
-use Rattle.gx_parse.specs.Reading.{more_than}
+use Rattle.gx_parse.specs.Reading.{more_than, call, read_in, refusal_of, Ended}
 use Rattle.gx_parse.specs.Fronts.{fronts}
-use Rattle.gx_parse.specs.SyntaxTree.{SyntaxTree}
-use Rattle.gx_parse.specs.Nodes.{Made, Tree}
-use Rattle.gx_parse.specs.Grammar.{first_language, query, place_in}
-use Rattle.gx_parse.specs.Query.{IsQuery, IsRefusedAt}
-use Rattle.gx_parse.proofs.Sorted.{readable, levelled, query_ranks}
+use Rattle.gx_parse.specs.declared.parser.SyntaxRule.TheVariants.{NotUtf8, Syntax, TooNested, LiteralTooLarge, BadReference}
+use Rattle.gx_parse.specs.declared.parser.SyntaxRefusal.{SyntaxRefusal}
+use Rattle.gx_parse.specs.declared.parser.SyntaxRefusal.TheVariants.{Refused as RefusedBy, Memory}
+use Rattle.gx_parse.specs.declared.reader.Refused.{Refused}
+use Rattle.gx_parse.specs.declared.reader.Refused.TheVariants as refused_by
+use Rattle.gx_parse.specs.declared.reader.End.{End}
+use Rattle.gx_parse.specs.declared.reader.End.TheVariants as ended
+use Rattle.gx_parse.specs.Nodes.{Made, Tree, tree}
+use Rattle.gx_parse.specs.Grammar.{query_language, query, place_in}
+use Rattle.gx_parse.specs.Query.{IsQuery, IsText, Parses, parsed, RefusesText, RefusesBytes, refusal_at}
+use Rattle.gx_parse.proofs.Sorted.{readable}
+use Rattle.gx_parse.proofs.Ranks.{levelled, query_ranks}
 
 pub one_tree : (text : List ℕ) (s t : SyntaxTree) → IsQuery text s → IsQuery text t → s ≡ t
 one_tree text s t d e =
     let r = readable (place_in text) in
-    let same : node (Tree s) ≡ node (Tree t) = (unique (first_language (place_in text)) r.tokens r.productions d e AtEnd Nowhere r.top refl refl).0 in
+    let same : node (Tree s) ≡ node (Tree t) = (unique (query_language (place_in text)) r.tokens r.productions d e AtEnd Nowhere r.top refl refl).0 in
     cc
 
 enough : (n k : ℕ) → n + k ≤ more_than n k
 enough n zero = omega arith
 enough n (suc k) = let h = enough n k in omega (arith, h)
 
-pub verdict : (text : List ℕ) → IsVerdict (first_language (place_in text)) (query (place_in text)) text (read_text (first_language (place_in text)) (more_than (length text) 41) (query (place_in text)) text)
+pub verdict : (text : List ℕ) → IsVerdict (query_language (place_in text)) (query (place_in text)) text (read_text (query_language (place_in text)) (more_than (length text) 41) (query (place_in text)) text)
 verdict text =
     let r = readable (place_in text) in
     let h = enough (length text) 41 in
-    exact_text (first_language (place_in text)) r.tokens r.productions (query (place_in text)) r.top (more_than (length text) 41) text
-    (never_too_deep (first_language (place_in text)) (query (place_in text)) r (fronts (place_in text)).takings (levelled (place_in text)) 41 (query_ranks (place_in text)) (more_than (length text) 41) text (omega (arith, h)))
+    exact_text (query_language (place_in text)) r.tokens r.productions (query (place_in text)) r.top (more_than (length text) 41) text
+    (never_too_deep (query_language (place_in text)) (query (place_in text)) r (fronts (place_in text)).takings (levelled (place_in text)) 41 (query_ranks (place_in text)) (more_than (length text) 41) text (omega (arith, h)))
 
-pub is_tree : (text : List ℕ) (t : SyntaxTree) → read_text (first_language (place_in text)) (more_than (length text) 41) (query (place_in text)) text ≡ Ok (node (Tree t)) → IsQuery text t
-is_tree text t e = (subst (λ (o : Result Made Refusal). IsVerdict (first_language (place_in text)) (query (place_in text)) text o) e (verdict text)).derived
+-- what the reading of a whole text says, where it ended so
+abbrev pub Says : List ℕ → SyntaxTree → Option End → Type 0
+Says text t None = IsQuery text t
+Says text t (Some end) = RefusesText (refusal_at text end) text
 
-pub is_refused : (text : List ℕ) (far : ℕ) (place : Place) → read_text (first_language (place_in text)) (more_than (length text) 41) (query (place_in text)) text ≡ Err (Unfit far) → place ≡ place_in text far → IsRefusedAt text place
-is_refused text far place e there =
-    let v = subst (λ (o : Result Made Refusal). IsVerdict (first_language (place_in text)) (query (place_in text)) text o) e (verdict text) in
-    record { none = λ t d. v.none (node (Tree t)) d; left = far; longest = v.longest; there = there }
+by_refusal : (text : List ℕ) (r : Refused) → IsVerdict (query_language (place_in text)) (query (place_in text)) text (Err (refusal_of r)) → RefusesText (refusal_at text (ended.GaveUp r)) text
+by_refusal text (refused_by.Unfit far) v = record { left = far; unfit = v; there = refl }
+by_refusal text (refused_by.Limit left) v = record { left = left; faulty = v; there = refl }
+by_refusal text (refused_by.Number left) v = record { left = left; faulty = v; there = refl }
+by_refusal text (refused_by.Reference left) v = record { left = left; faulty = v; there = refl }
 
--- a text with a value has a tree, or the value is none
-by_value : (text : List ℕ) (v : Made) → HasValue (first_language (place_in text)) (query (place_in text)) text v → ((t : SyntaxTree) × IsQuery text t) ⊎ ((t : SyntaxTree) → IsQuery text t → ⊥)
-by_value text (node (Tree t)) h = inl (t, h.derived)
-by_value text v h = inr (λ t d. let same : node (Tree t) ≡ v = h.only (node (Tree t)) d in cc)
+module _ (text : List ℕ) where
+  abbrev reading : Result Made Refusal
+  reading = read_text (query_language (place_in text)) (more_than (length text) 41) (query (place_in text)) text
 
-by_verdict : (text : List ℕ) (o : Result Made Refusal) → IsVerdict (first_language (place_in text)) (query (place_in text)) text o → ((t : SyntaxTree) × IsQuery text t) ⊎ ((t : SyntaxTree) → IsQuery text t → ⊥)
-by_verdict text (Ok v) h = by_value text v h
-by_verdict text (Err (Unfit far)) h = inr (λ t d. h.none (node (Tree t)) d)
-by_verdict text (Err (Faulty code left)) h = inr (λ t d. h.none (node (Tree t)) d)
-by_verdict text (Err TooDeep) h = absurd h
+  abbrev Verdict : Result Made Refusal → Type 0
+  Verdict o = IsVerdict (query_language (place_in text)) (query (place_in text)) text o
 
-pub tree_or_none : (text : List ℕ) → ((t : SyntaxTree) × IsQuery text t) ⊎ ((t : SyntaxTree) → IsQuery text t → ⊥)
-tree_or_none text = by_verdict text (read_text (first_language (place_in text)) (more_than (length text) 41) (query (place_in text)) text) (verdict text)
+  said : (o : Result Made Refusal) → reading ≡ o → Verdict o
+  said o e = subst Verdict e (verdict text)
+
+  read_so : (r : Reading Made) → read_in text 40 (query (place_in text)) (start text) ≡ r → reading ≡ whole_only r
+  unfolding read_in call
+  read_so r e = ap whole_only e
+
+  ended_there : (v : Made) (far : ℕ) (rest : List ℕ) → rest ≡ [] → with_rest v far rest ≡ Ok v
+  ended_there v far rest e = ap (with_rest v far) e
+
+  goes_on : (v : Made) (far : ℕ) (rest : List ℕ) → rest ≢ [] → with_rest v far rest ≡ Err (Unfit far)
+  goes_on v far [] n = absurd (n refl)
+  goes_on v far (c ∷ rest) n = refl
+
+  -- What is read of a whole text is its tree or its refusal.
+  pub text_read : (t : SyntaxTree) (b : Standing) (o : Option End) → Ran (tree t) (Going (start text)) b (read_in text 40 (query (place_in text))) → Ended o b → Says text t o
+  text_read t (Going s) None h e = (said (Ok (tree t)) (read_so (Ok (tree t, s)) h ∙ ended_there (tree t) s.far s.rest e)).derived
+  text_read t (Going s) (Some (ended.GaveUp r)) h e = by_refusal text r (said (Err (refusal_of r)) (read_so (Ok (tree t, s)) h ∙ goes_on (tree t) s.far s.rest e.0 ∙ ap (λ x. Err x) (sym e.1)))
+  text_read t (Going s) (Some ended.Lost) h e = tt
+  text_read t (GaveUp x) None h e = absurd e
+  text_read t (GaveUp x) (Some (ended.GaveUp r)) h e = by_refusal text r (said (Err (refusal_of r)) (read_so (Err x) h ∙ ap (λ y. Err y) e))
+  text_read t (GaveUp x) (Some ended.Lost) h e = tt
+  text_read t Lost None h e = absurd e
+  text_read t Lost (Some (ended.GaveUp r)) h e = absurd e
+  text_read t Lost (Some ended.Lost) h e = tt
+
+-- bytes
+
+pub text_is_chars : (bytes text : List ℕ) → IsText bytes text → text ≡ chars bytes
+text_is_chars bytes text t = sym (chars-encodes text t.characters) ∙ ap chars t.encoded
+
+-- bytes are the UTF-8 of one text at most
+pub one_text : (bytes text other : List ℕ) → IsText bytes text → IsText bytes other → text ≡ other
+one_text bytes text other t o = text_is_chars bytes text t ∙ sym (text_is_chars bytes other o)
+
+-- a text has at most as many characters as bytes
+pub text_is_shorter : (bytes text : List ℕ) → encode_utf8_all text ≡ bytes → length text ≤ length bytes
+text_is_shorter bytes text e = subst (λ (bs : List ℕ). length text ≤ length bs) e (length-le-encodes text)
+
+-- bytes of which a longest front is readable are no UTF-8
+pub unreadable_is_not_utf8 : (bytes : List ℕ) (n : ℕ) → IsValidUpTo bytes n → IsUtf8 bytes → ⊥
+unreadable_is_not_utf8 bytes n v u = v.longest (length bytes) v.short (subst IsUtf8 (sym (take_all (length bytes) bytes (omega arith))) u)
+
+-- the refusal of a text is that of its bytes
+pub bytes_refused : (bytes text : List ℕ) (e : SyntaxRefusal) → IsText bytes text → RefusesText e text → RefusesBytes e bytes
+bytes_refused bytes text (RefusedBy NotUtf8 place) t r = absurd r
+bytes_refused bytes text (RefusedBy Syntax place) t r = (text, t, r)
+bytes_refused bytes text (RefusedBy TooNested place) t r = (text, t, r)
+bytes_refused bytes text (RefusedBy LiteralTooLarge place) t r = (text, t, r)
+bytes_refused bytes text (RefusedBy BadReference place) t r = (text, t, r)
+bytes_refused bytes text Memory t r = tt
+
+pub results_parsed : (bytes text : List ℕ) (r : Result SyntaxTree SyntaxRefusal) → IsText bytes text → IfOk r (λ t. IsQuery text t) → IfOk r (λ t. Parses bytes (parsed t))
+results_parsed bytes text (Ok t) d h = (text, d, h)
+results_parsed bytes text (Err e) d h = tt
+
+pub results_refused : (bytes text : List ℕ) (r : Result SyntaxTree SyntaxRefusal) → IsText bytes text → IfErr r (λ e. RefusesText e text) → IfErr r (λ e. RefusesBytes e bytes)
+results_refused bytes text (Ok t) d h = tt
+results_refused bytes text (Err e) d h = bytes_refused bytes text e d h

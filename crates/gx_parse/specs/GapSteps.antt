@@ -1,12 +1,12 @@
 -- One step over white space and comments.
-use Rattle.std.specs.Prelude.{◌≡◌, ℕ, zero, suc, ◌+◌, ◌<◌, ◌≤◌, ◌==◌, if◌then◌else◌, List, [], ◌∷◌, length, Some}
+use Rattle.std.specs.Prelude.{◌≡◌, ℕ, zero, suc, ◌+◌, ◌<◌, ◌≤◌, ◌==◌, if◌then◌else◌, List, [], ◌∷◌, length, Some, None}
 use Rattle.gx_grammar.specs.Gaps.{behind_gap, seen_gap}
-use Rattle.gx_parse.specs.Characters.{any_character}
+use Rattle.gx_parse.specs.Characters.{is_char}
 
 -- what is left goes on as before
 pub record GoesOn (depth : ℕ) (rest : List ℕ) (open_then : ℕ) (left : List ℕ) : Type 0 where
-  pub behind : behind_gap any_character depth rest ≡ behind_gap any_character open_then left
-  pub seen : seen_gap any_character depth rest ≡ seen_gap any_character open_then left
+  pub behind : behind_gap is_char depth rest ≡ behind_gap is_char open_then left
+  pub seen : seen_gap is_char depth rest ≡ seen_gap is_char open_then left
   pub shorter : length left < length rest
   pub bounded : open_then + length left ≤ depth + length rest
 
@@ -15,7 +15,7 @@ abbrev pub behind_parenthesis : List ℕ → ℕ
 behind_parenthesis [] = 0
 behind_parenthesis (c ∷ x) = if c == 40 then (length x) else (length (c ∷ x))
 
--- a gap ends here, or, within a comment, the text does
+-- A gap ends here; or, within a comment, the text does, or a character stands here that no comment has.
 abbrev pub Stops : ℕ → List ℕ → Type 0
-Stops zero rest = (behind_gap any_character 0 rest ≡ Some rest) × (seen_gap any_character 0 rest ≡ behind_parenthesis rest)
-Stops (suc depth) rest = rest ≡ []
+Stops zero rest = (behind_gap is_char 0 rest ≡ Some rest) × (seen_gap is_char 0 rest ≡ behind_parenthesis rest)
+Stops (suc depth) rest = (behind_gap is_char (suc depth) rest ≡ None) × (seen_gap is_char (suc depth) rest ≡ length rest)

@@ -1,84 +1,205 @@
 -- The grammar of the language.
---   Query ::= Expr                  Expr ::= Single ("," Single)*
---   Single ::= "let" Var ":=" Single "return" Single | Add
---   Add ::= Prim ("+" Prim)*        Prim ::= Int | Var | "(" Expr? ")"        Var ::= "$" NCName
--- A Single stands inside at most 39 others. An Expr has at most 64 Singles, and an Add at most 64 Prims.
--- White space and comments may stand before, between and behind the tokens.
-use Rattle.std.specs.Prelude.{ℕ, zero, suc, ◌-◌, ◌==◌, List, [], ◌∷◌, length}
+--   Expr ::= Single ("," Single)*          Single ::= Flwor | "if" "(" Expr ")" "then" Single "else" Single | Or
+--   Or ::= And ("or" And)*                 And ::= Comp ("and" Comp)*
+--   Comp ::= Range (("=" | "!=" | "<" | "<=" | ">" | ">=" | "eq" | "ne" | "lt" | "le" | "gt" | "ge" | "is" | "<<" | ">>") Range)?
+--   Range ::= Add ("to" Add)?              Add ::= Mul (("+" | "-") Mul)*
+--   Mul ::= Union (("*" | "div" | "idiv" | "mod") Union)*
+--   Union ::= Inter (("union" | "|") Inter)*        Inter ::= Inst (("intersect" | "except") Inst)*
+--   Inst ::= Treat ("instance" "of" SeqType)?       Treat ::= Castable ("treat" "as" SeqType)?
+--   Castable ::= Cast ("castable" "as" QName "?"?)?   Cast ::= Unary ("cast" "as" QName "?"?)?
+--   Unary ::= ("-" | "+")* Path            Path ::= Step (("/" | "//") Step)*
+--   Step ::= Literal | "$" QName | "(" Expr? ")" | "." | ".." | QName | QName "(" (Single ("," Single)*)? ")"
+-- A Single stands inside at most 39 others, and each chain has at most 64 members.
+use Rattle.std.specs.Prelude.{ℕ, zero, suc, ◌+◌, ◌-◌, List, [], ◌∷◌, ◌==◌, ◌&&◌, ◌||◌, Bool, true, false, Option, Some, None, if◌then◌else◌, length, codes, nat_eq}
+use Rattle.std.specs.Cmp.Lexicographic.{pointwise}
 use Rattle.gx_base.specs.declared.place.Place.{Place}
-use Rattle.gx_grammar.specs.Grammar.{Grammar, Guard, token, empty, ◌&◌, choose, rule, made}
-use Rattle.gx_grammar.specs.Value.{node}
+use Rattle.gx_grammar.specs.Grammar.{Grammar, Guard, token, empty, ◌&◌, keyed, choose, many, rule, made}
+use Rattle.gx_grammar.specs.Value.{Value, nothing, characters, node, pair}
 use Rattle.gx_grammar.specs.Language.{Language}
-use Rattle.gx_grammar.specs.First.{EndsOrStarts, BeginsWith, by_character}
+use Rattle.gx_grammar.specs.First.{EndsOrStarts, BeginsWith, by_character, by_tokens}
+use Rattle.gx_grammar.specs.Apart.{is}
 use Rattle.gx_grammar.specs.Places.{place_at}
-use Rattle.gx_parse.specs.SyntaxTree.{SyntaxTree, SequenceTree, SumTree}
-use Rattle.gx_parse.specs.Tokens.{Token, comma, plus, opening, closing, dollar, assign, let_word, return_word, name, literal, gap, nowhere, derives, opens, scan, seen, faults}
-use Rattle.gx_parse.specs.Nodes.{Node, At, chained, integer_value, variable_value, parenthesised_value, let_value, query_value}
+use Rattle.gx_parse.specs.declared.word.Barrier.TheVariants as barrier
+use Rattle.gx_parse.specs.declared.word.Word.{Word}
+use Rattle.gx_parse.specs.declared.word.Word.TheVariants as word
+use Rattle.gx_parse.specs.declared.word.Level.{Level}
+use Rattle.gx_parse.specs.declared.word.Level.TheVariants as level
+use Rattle.gx_parse.specs.declared.word.WordSet.{WordSet}
+use Rattle.gx_parse.specs.declared.word.WordSet.TheVariants as set
+use Rattle.gx_parse.specs.Characters.{is_digit, is_name_start}
+use Rattle.gx_parse.specs.declared.word.Barrier.{Barrier}
+use Rattle.gx_parse.specs.Tokens.{Token, one_of, qname, number, number_end, gap, gap_then_open, gap_not_open, barred, gap_then_dollar, gap_then_neither, barred_words, derives, opens, scan, seen, faults}
+pub use Rattle.gx_parse.specs.Basics.{Production, single, Phrase, lexeme, word_of, at_tokens, is_name}
+unfoldable pub use Rattle.gx_parse.specs.Basics.{operator, name}
+use Rattle.gx_parse.specs.Casts.{casts}
+use Rattle.gx_parse.specs.declared.word.Binder.{Binder}
+use Rattle.gx_parse.specs.Binding.{binder_named, flwor}
+use Rattle.gx_parse.specs.declared.runs.Quote.TheVariants as quote
+use Rattle.gx_parse.specs.Strings.{string_of}
+use Rattle.gx_parse.specs.Nodes.{Node, Made, Join, join_binary, join_path, join_comma, first_value, second_value, operator_value, chain_value, signed_value, number_value, name_at, name_length, name_value, variable_value, arguments_value, named_value, dots_value, parenthesised_value, condition_value, tree, whole_tree}
 
-pub data Production : Type 0 where
-  -- a Single, where that many Singles may stand one inside another, itself among them
-  single : ℕ → Production
+-- an operand stands beside at most one other
+abbrev pub is_single : Level → Bool
+is_single level.Comparison = true
+is_single level.Range = true
+is_single _ = false
 
-abbrev pub Phrase : Type 0
-Phrase = Grammar Token Production Node
+-- the levels from the tightest to the loosest
+abbrev pub level_at : ℕ → Level
+level_at zero = level.Intersect
+level_at (suc zero) = level.Union
+level_at (suc (suc zero)) = level.Product
+level_at (suc (suc (suc zero))) = level.Sum
+level_at (suc (suc (suc (suc zero)))) = level.Range
+level_at (suc (suc (suc (suc (suc zero))))) = level.Comparison
+level_at (suc (suc (suc (suc (suc (suc zero)))))) = level.And
+level_at (suc (suc (suc (suc (suc (suc (suc k))))))) = level.Or
 
--- a token, and the white space and comments behind it
-abbrev pub lexeme : Token → Phrase
-lexeme t = token t & token gap
+abbrev pub is_element_test : Made → Bool
+is_element_test v = is_name (codes "attribute") v || (is_name (codes "element") v || (is_name (codes "schema-attribute") v || is_name (codes "schema-element") v))
 
--- the first character is this one
-abbrev pub begins_with : ℕ → Guard
-begins_with character = by_character (λ c. c == character)
+abbrev pub is_kind_test : Made → Bool
+is_kind_test v = is_name (codes "comment") v || (is_name (codes "document-node") v || (is_name (codes "node") v || (is_name (codes "processing-instruction") v || is_name (codes "text") v)))
+
+-- a name that no function has (XQuery 1.0, appendix A.3)
+abbrev pub is_reserved : Made → Bool
+is_reserved v = is_element_test v || (is_kind_test v || (is_name (codes "empty-sequence") v || (is_name (codes "if") v || (is_name (codes "item") v || is_name (codes "typeswitch") v))))
 
 -- The place of a token is `at` of the number of characters that are left there.
 module _ (at : ℕ → Place) where
-  unfoldable pub integer : Phrase
-  integer = made (λ left v. integer_value (at left) v) (lexeme literal)
+  -- at most so many further operands, each behind an operator; where none is left, what stands there at last
+  unfoldable pub more : WordSet → Phrase → Phrase → ℕ → Phrase
+  more ws operand last zero = last
+  more ws operand last (suc n) = choose (at_tokens (one_of ws ∷ [])) (operator at ws & operand & more ws operand last n) empty
 
-  unfoldable pub variable : Phrase
-  variable = made (λ left v. variable_value (at left) v) (lexeme dollar & lexeme name)
+  -- one more operator, behind which no operand may stand
+  unfoldable pub stop : WordSet → Barrier → Phrase
+  stop ws b = choose (at_tokens (one_of ws ∷ [])) (operator at ws & token (barred b)) empty
 
-  -- at most so many further members, each behind a separator that begins with the character
-  unfoldable pub more : Token → ℕ → Phrase → ℕ → Phrase
-  more separator character member zero = empty
-  more separator character member (suc n) =
-      choose (begins_with character) (made (λ left v. node (At (at left))) (lexeme separator) & member & more separator character member n) empty
+  -- 1 to 64 operands
+  unfoldable pub chain : Join → WordSet → Phrase → Phrase → Barrier → Phrase
+  chain join ws first operand b = made (λ left v. chain_value join v) (first & more ws operand (stop ws b) 63)
 
-  -- one to 64 members with separators between
-  abbrev pub chain : Token → ℕ → (Place → SyntaxTree → SyntaxTree → SyntaxTree) → Phrase → Phrase
-  chain separator character join member = made (λ left v. chained join v) (member & more separator character member 63)
+  -- 1 or 2 operands
+  unfoldable pub two : WordSet → Phrase → Phrase → Phrase
+  two ws first operand = made (λ left v. chain_value join_binary v) (first & more ws operand empty 1)
 
   unfoldable pub expression : ℕ → Phrase
-  expression levels = chain comma 44 (λ place. SequenceTree) (rule (single levels))
+  expression n = chain join_comma (set.Only word.Comma) (rule (single n)) (rule (single n)) barrier.Single
 
-  unfoldable pub parenthesised : ℕ → Phrase
-  parenthesised levels =
-      made (λ left v. parenthesised_value (at left) v) (lexeme opening & choose (begins_with 41) (empty & lexeme closing) (expression levels & lexeme closing))
+  -- steps
 
-  unfoldable pub primary : ℕ → Phrase
-  primary levels = choose (begins_with 40) (parenthesised levels) (choose (begins_with 36) variable integer)
+  unfoldable pub numeral : Phrase
+  numeral = made (λ left v. number_value (at left) v) (token number & token number_end & token gap)
 
-  unfoldable pub addition : ℕ → Phrase
-  addition levels = chain plus 43 SumTree (primary levels)
+  -- a string literal or a numeric one (XQuery 1.0, section 3.1.1)
+  unfoldable pub literal : Phrase
+  literal = choose (by_character (is 34)) (string_of at quote.Double) (choose (by_character (is 39)) (string_of at quote.Single) numeral)
 
-  unfoldable pub let_single : ℕ → Phrase
-  let_single levels =
-      made (λ left v. let_value (at left) v) (lexeme let_word & variable & lexeme assign & rule (single levels) & lexeme return_word & rule (single levels))
+  unfoldable pub variable_step : Phrase
+  variable_step = made (λ left v. variable_value (at left) v) (lexeme (word_of word.Dollar) & name at & token gap)
+
+  unfoldable pub dots : Phrase
+  dots = made (λ left v. dots_value (at left) v) (lexeme (one_of set.Dots))
+
+  unfoldable pub parenthesised_step : ℕ → Phrase
+  parenthesised_step n =
+      made (λ left v. parenthesised_value (at left) v) (lexeme (word_of word.Open) & choose (by_character (is 41)) (empty & lexeme (word_of word.Close)) (expression n & lexeme (word_of word.Close)))
+
+  unfoldable pub more_arguments : ℕ → Phrase
+  more_arguments n = many (at_tokens (word_of word.Comma ∷ [])) (lexeme (word_of word.Comma) & rule (single n))
+
+  -- the arguments of a call, behind its `(`
+  unfoldable pub arguments_in : ℕ → Phrase
+  arguments_in n = made (λ left v. arguments_value v) (choose (by_character (is 41)) (empty & lexeme (word_of word.Close)) ((rule (single n) & more_arguments n) & lexeme (word_of word.Close)))
+
+  unfoldable pub arguments : ℕ → Phrase
+  arguments n = made (λ left v. second_value v) (lexeme (word_of word.Open) & arguments_in n)
+
+  -- what stands behind a name that was read
+  unfoldable pub behind_name : ℕ → Made → Phrase
+  behind_name n v = made (λ left u. named_value (name_at (at (left + name_length v)) v) u) (token gap & choose (by_character (is 40)) (arguments n) empty)
+
+  -- the same, where no arguments may stand
+  unfoldable pub behind_plain_name : Token → Made → Phrase
+  behind_plain_name t v = made (λ left u. named_value (name_at (at (left + name_length v)) v) u) (token t)
+
+  unfoldable pub behind_any_name : ℕ → Made → Phrase
+  behind_any_name n v = if is_reserved v then (behind_plain_name gap v) else (behind_name n v)
+
+  unfoldable pub other_step : ℕ → Phrase
+  other_step n =
+      choose (by_character (is 36)) variable_step
+      (choose (by_character (is 40)) (parenthesised_step n) (choose (at_tokens (one_of set.Dots ∷ [])) dots literal))
+
+  unfoldable pub step : ℕ → Phrase
+  step n = choose (by_character is_name_start) (made (λ left v. second_value v) (keyed qname (λ v. behind_any_name n v))) (other_step n)
+
+  -- a path with its first step
+  unfoldable pub path_from : ℕ → Phrase → Phrase
+  path_from n first = chain join_path set.Slashes first (step n) barrier.Step
+
+  -- at most so many further signs
+  unfoldable pub more_signs : ℕ → Phrase
+  more_signs zero = choose (at_tokens (barred barrier.Sign ∷ [])) (token (barred barrier.Sign)) empty
+  more_signs (suc k) = choose (at_tokens (one_of set.Signs ∷ [])) (operator at set.Signs & more_signs k) empty
+
+  unfoldable pub signed_path : ℕ → ℕ → Phrase
+  signed_path n k = made (λ left v. signed_value v) (more_signs k & path_from n (step n))
+
+  -- operands with signs, or with steps that do not begin with a name
+  unfoldable pub other_operand : ℕ → Phrase
+  other_operand n =
+      choose (at_tokens (one_of set.Signs ∷ [])) (made (λ left v. signed_value v) ((operator at set.Signs & more_signs 63) & path_from n (step n))) (path_from n (other_step n))
+
+  -- the operators of so many levels, with the first operand
+  unfoldable pub ladder : ℕ → ℕ → Phrase → Phrase
+  ladder zero n first = casts at first
+  ladder (suc k) n first =
+      if is_single (level_at k) then (two (set.Operators (level_at k)) (ladder k n first) (ladder k n (signed_path n 64)))
+      else (chain join_binary (set.Operators (level_at k)) (ladder k n first) (ladder k n (signed_path n 64)) barrier.Single)
+
+  unfoldable pub condition : ℕ → Made → Phrase
+  condition n v =
+      made (λ left u. condition_value (at (left + name_length v)) u)
+      (token gap_then_open & token gap & expression n & lexeme (word_of word.Close) & lexeme (word_of word.Then) & rule (single n) & lexeme (word_of word.Else) & rule (single n))
+
+  -- a Single whose name was read
+  unfoldable pub begun : ℕ → Made → Phrase
+  begun n v =
+      if is_name (codes "if") v
+      then (choose (at_tokens (gap_then_open ∷ [])) (condition n v) (ladder 8 n (path_from n (behind_plain_name gap_not_open v))))
+      else (ladder 8 n (path_from n (behind_any_name n v)))
+
+  -- the name of a clause, where no clause begins
+  unfoldable pub behind_keyword : ℕ → Made → Phrase
+  behind_keyword n v =
+      choose (at_tokens (gap_then_open ∷ [])) (made (λ left u. named_value (name_at (at (left + name_length v)) v) u) (lexeme gap_then_open & arguments_in n)) (behind_plain_name gap_then_neither v)
+
+  -- a Single whose name was read, where the name is that of a clause or not
+  unfoldable pub clauses_or_name : ℕ → Made → Option Binder → Phrase
+  clauses_or_name n v (Some b) = choose (at_tokens (gap_then_dollar ∷ [])) (flwor at n b v) (ladder 8 n (path_from n (behind_keyword n v)))
+  clauses_or_name n v None = begun n v
+
+  unfoldable pub named_single : ℕ → Made → Phrase
+  named_single n v = clauses_or_name n v (binder_named v)
 
   abbrev pub rules : Production → Phrase
-  rules (single zero) = token nowhere
-  rules (single (suc levels)) = choose (begins_with 108) (let_single levels) (addition levels)
+  rules (single zero) = token (barred barrier.Single)
+  rules (single (suc n)) = choose (by_character is_name_start) (made (λ left v. second_value v) (keyed qname (λ v. named_single n v))) (ladder 8 n (other_operand n))
 
   -- 40 Singles may stand one inside another
-  abbrev pub query : Phrase
-  query = made (λ left v. query_value v) (token gap & expression 40)
+  unfoldable pub query : Phrase
+  query = made (λ left v. tree (whole_tree (at left) v)) (token gap & expression 40)
 
   -- what may stand behind a Single
   abbrev pub behind_single : List Token
-  behind_single = comma ∷ closing ∷ return_word ∷ []
+  behind_single =
+      word_of word.Comma ∷ word_of word.Close ∷ word_of word.Then ∷ word_of word.Else ∷ word_of word.CloseBracket ∷ word_of word.CloseBrace ∷ word_of word.Semicolon ∷ word_of word.Return ∷ word_of word.Satisfies ∷ word_of word.Case ∷ word_of word.Default
+      ∷ word_of word.Order ∷ word_of word.Stable ∷ one_of set.Binders ∷ barred_words set.Binders ∷ word_of word.Where ∷ one_of set.Directions ∷ word_of word.Empty ∷ []
 
-  abbrev pub first_language : Language
-  first_language = record {
+  abbrev pub query_language : Language
+  query_language = record {
     Token = Token;
     Production = Production;
     Node = Node;

@@ -1,8 +1,25 @@
-//! The query parser: syntax trees, and the grammar of query texts.
+//! The query parser: the grammar of query texts, and the reader of their trees.
 #![tactic(auto)]
 
-pub mod dismantle;
+pub mod binding;
+pub mod bound;
+pub mod casts;
+mod characters;
+mod gap;
+mod indication;
+pub mod kind_words;
+pub mod laws;
+pub mod members;
+mod names;
+mod numbers;
 pub mod parser;
-mod places;
+pub mod parts;
 mod reader;
-pub mod syntax;
+pub mod references;
+pub mod runs;
+mod scan;
+mod source;
+pub mod strings;
+mod trees;
+pub mod types;
+pub mod word;

@@ -1,293 +1,636 @@
 // The parser of queries.
 
-ghost use Rattle.std.specs.Prelude.{◌≡◌, ℕ, List, ◌≤◌, IfOk, IfErr, length, suc, ◌⊎◌};
-ghost use Rattle.gx_grammar.specs.Text.{read_text};
-ghost use Rattle.gx_parse.specs.SyntaxTree.{SyntaxTree, VariableTree, SequenceTree, SumTree, nodes};
-ghost use Rattle.gx_parse.specs.Tokens.{comma, plus};
-ghost use Rattle.gx_grammar.specs.Grammar.{rule};
-ghost use Rattle.gx_parse.specs.Grammar.{first_language, query, place_in, single, integer, variable, expression, parenthesised, primary, addition, let_single};
-ghost use Rattle.gx_parse.specs.Reading.{Answers, Gives, call, more_than, read_in, read_more, tree_value};
-ghost use Rattle.gx_parse.specs.Query.{IsQuery, Refuses};
+ghost use Rattle.std.specs.Prelude.{◌≡◌, ◌+◌, ◌≤◌, suc, length, IfOk, IfErr};
+ghost use Rattle.gx_ast.specs.SyntaxView.{trees_of};
+ghost use Rattle.gx_grammar.specs.Grammar.{◌&◌, rule};
+ghost use Rattle.gx_grammar.specs.Value.{node, nothing};
+ghost use Rattle.gx_grammar.specs.Ran.{Ran, Standing, left_of};
+ghost use Rattle.gx_parse.specs.Binding.{clause, flwor, last_clause, more_bindings, more_clauses};
+ghost use Rattle.gx_parse.specs.Grammar.{Phrase, arguments, arguments_in, begun, behind_any_name, behind_keyword, condition, expression, ladder, more_arguments, named_single, other_operand, other_step, parenthesised_step, place_in, query, signed_path, single, step};
+ghost use Rattle.gx_parse.specs.Lists.{OneMore, binding_made, clause_made, head_made, items_before};
+ghost use Rattle.gx_parse.specs.Names.{name_made};
+ghost use Rattle.gx_parse.specs.Nodes.{Arguments, Made, name_length, tree};
+ghost use Rattle.gx_parse.specs.Parsing.{Added, Listed, chain_of, member_of};
+ghost use Rattle.gx_parse.specs.Query.{IsQuery, Parses, RefusesBytes, RefusesText, left_at, parsed, refusal_at, rule_of};
+ghost use Rattle.gx_parse.specs.Reading.{call, read_in};
+ghost use Rattle.gx_parse.specs.Types.{Gave};
 
-use crate::places::Places;
-use crate::reader::{Fault, Reader};
-use crate::syntax::{LetHead, Syntax, SyntaxNode};
+use crate::binding::{clause_of, first_head, last_binding, next_head, with_binding, with_clause};
+use crate::casts::casts;
+use crate::members::Members;
+use crate::names::ReadName;
+use crate::parts::{dots, joined, keep, last, lexeme, more_signs, operator, variable, with_signs};
+use crate::reader::{End, Reader, Refused};
+use crate::source::Source;
+use crate::strings::literal;
+use crate::trees;
+use crate::word::{Barrier, Binder, Word, WordSet};
+use gx_ast::expression::{Binding, Clause, Expr, ExprNode};
+use gx_ast::sequence_type::BoundVariable;
+use gx_base::limits::{CHAIN_MEMBERS, FILE_BYTES};
 use gx_base::place::Place;
-use gx_base::text::Text;
+use gx_grammar::decode::{DecodeError, decode};
 use std::alloc::{AllocError, Global};
 
-/// Why a text has no syntax tree.
+/// The rules by which a query is refused.
 #[derive(Clone, Copy, Debug, PartialEq, Eq)]
-pub enum ParseError {
-    /// The text is outside the language. The place is that of the end of its longest front that a query may
-    /// begin with.
-    NotAQuery {
-        /// The place behind that front.
+pub enum SyntaxRule {
+    /// The bytes are not UTF-8. The place is that of the first character that cannot be read.
+    NotUtf8,
+    /// The text is outside the grammar. The place is that of the end of its longest front that a query may begin with.
+    Syntax,
+    /// An expression stands inside too many others, or a chain has too many members. The place is that of the first
+    /// character of the first such expression or member.
+    TooNested,
+    /// A numeric literal is too large or too precise. The place is that of its first character.
+    LiteralTooLarge,
+    /// A character reference names no character. The place is that of its `&`.
+    BadReference,
+}
+
+/// Why bytes have no syntax tree.
+#[derive(Clone, Copy, Debug, PartialEq, Eq)]
+pub enum SyntaxRefusal {
+    /// A rule refuses them.
+    Refused {
+        /// The rule.
+        rule: SyntaxRule,
+        /// Where.
         place: Place,
     },
-    /// Memory ran out.
+    /// Memory did not suffice.
     Memory,
 }
 
-impl From<AllocError> for ParseError {
-    ghost use Rattle.gx_parse.specs.declared.parser.ParseError.TheVariants.{Memory};
+impl From<AllocError> for SyntaxRefusal {
+    ghost use Rattle.gx_parse.specs.declared.parser.SyntaxRefusal.TheVariants.{Memory};
 
     ghost from_gives = { λ _ e. e ≡ Memory };
 
-    fn from(_e: AllocError) -> ParseError {
-        ParseError::Memory
+    fn from(_e: AllocError) -> SyntaxRefusal {
+        SyntaxRefusal::Memory
     }
 }
 
 // So many singles may stand one inside another.
 const LEVELS: u8 = 40;
 
-// So many members may stand in a sequence or in a sum.
-const MEMBERS: u8 = 64;
+/// The syntax tree of the bytes of a query (XQuery 1.0, section 3), where lines and columns count from 1. White space and
+/// nested comments may stand between tokens (XQuery 1.0, appendix A.2.4.1).
+pub fn parse(alloc: Global, bytes: &[u8]) -> Result<Expr, SyntaxRefusal>
+    requires { length bytes.now ≤ FILE_BYTES }
+    // The bytes are those of a query with this tree.
+    ensures tree { IfOk result (λ t. Parses bytes.now (parsed t)) }
+    // The bytes have no tree, and the rule refuses them at the place.
+    ensures refused { IfErr result (λ e. RefusesBytes e bytes.now) }
+{
+    match decode(alloc, bytes) {
+        Ok(text) => parse_text(alloc, text.as_slice()),
+        Err(DecodeError::NotUtf8(place)) => Err(SyntaxRefusal::Refused {
+            rule: SyntaxRule::NotUtf8,
+            place,
+        }),
+        Err(DecodeError::Memory) => Err(SyntaxRefusal::Memory),
+    }
+}
 
-/// The syntax tree of a query text (XQuery 1.0, section 3), where lines and columns count from 1. White space and
-/// nested comments may stand before, between and behind the tokens (XQuery 1.0, appendix A.2.4.1).
-///
-/// `NotAQuery` says that the text is outside the language, and where.
-pub fn parse(alloc: Global, text: &[char]) -> Result<Syntax, ParseError>
-    requires { length text.now ≤ 16777216 }
-    // What is read is a query with this tree.
+// The syntax tree of a text.
+fn parse_text(alloc: Global, text: &[char]) -> Result<Expr, SyntaxRefusal>
+    requires { length text.now ≤ FILE_BYTES }
     ensures tree { IfOk result (λ t. IsQuery text.now t) }
-    // A text that is not read has no tree, and its longest front that opens the grammar ends at the place.
-    ensures refused { IfErr result (λ e. Refuses e text.now) }
-    // Each node has a character of its own.
-    ensures small { IfOk result (λ t. nodes t ≤ length text.now) }
+    ensures refused { IfErr result (λ e. RefusesText e text.now) }
 {
-    let places = Places::new(alloc, text)?;
-    match read(&places, alloc, text) {
-        Ok(tree) => Ok(tree),
-        Err(Fault::Unread(far)) => {
-            let place = places.at(far);
-            Err(ParseError::NotAQuery { place })
-        }
-        Err(Fault::Memory) => Err(ParseError::Memory),
-    }
-}
-
-/// A text has at most one syntax tree.
-pub fn one_tree()
-    ensures { (text : List ℕ) (s t : SyntaxTree) → IsQuery text s → IsQuery text t → s ≡ t }
-{}
-
-/// A text has a syntax tree, or it has none.
-pub fn tree_or_none()
-    ensures { (text : List ℕ) → ((t : SyntaxTree) × IsQuery text t) ⊎ ((t : SyntaxTree) → IsQuery text t → ⊥) }
-{}
-
-// Reads a whole text.
-fn read(places: &Places<'_>, alloc: Global, text: &[char]) -> Result<Syntax, Fault>
-    requires { places.now ≡ text.now }
-    ensures { Answers result (read_text (first_language (place_in text.now)) (more_than (length text.now) 41) (query (place_in text.now)) text.now) }
-{
+    let source = Source::new(alloc, text)?;
     let mut reader = Reader::new(text);
-    reader.gap()?;
-    let tree = expression(&mut reader, places, alloc, LEVELS)?;
-    if reader.left() > 0 {
-        return Err(Fault::Unread(reader.far()));
+    let tree = query(&mut reader, &source);
+    match reader.outcome() {
+        None => Ok(tree),
+        Some(end) => Err(refusal(&source, end)),
     }
-    Ok(tree)
 }
 
-// Reads a variable: the place of its `$`, and its name.
-#[tactic(auto, unfolding(crate::specs::Grammar::variable, crate::specs::Reading::read_word, crate::specs::Reading::read_lexeme))]
-fn variable(
-    reader: &mut Reader<'_>,
-    places: &Places<'_>,
-    alloc: Global,
-) -> Result<(Place, Text), Fault>
-    ensures { (levels : ℕ) → Gives (λ v. tree_value (VariableTree v.0 v.1)) result reader.new (read_in places.now levels (variable (place_in places.now)) reader.old) }
+// The refusal of a text whose reading ended so.
+fn refusal(source: &Source<'_>, end: End) -> SyntaxRefusal
+    ensures { result ≡ refusal_at source.now end }
 {
-    let place = places.at(reader.left());
-    reader.symbol(&['$'])?;
-    let name = reader.name(alloc)?;
-    Ok((place, name))
-}
-
-// Reads an integer literal.
-#[tactic(auto, unfolding(crate::specs::Grammar::integer, crate::specs::Reading::read_lexeme))]
-fn integer(reader: &mut Reader<'_>, places: &Places<'_>) -> Result<Syntax, Fault>
-    ensures { (levels : ℕ) → Gives tree_value result reader.new (read_in places.now levels (integer (place_in places.now)) reader.old) }
-{
-    let place = places.at(reader.left());
-    let value = reader.integer()?;
-    let node = SyntaxNode::Integer(place, value);
-    Ok(Syntax { node })
-}
-
-// Reads an expression. Each single in it may hold so many singles, one inside another, itself among them.
-#[cycle(parsing)]
-#[tactic(auto, unfolding(crate::specs::Grammar::expression, crate::specs::Reading::read_more))]
-fn expression(
-    reader: &mut Reader<'_>,
-    places: &Places<'_>,
-    alloc: Global,
-    levels: u8,
-) -> Result<Syntax, Fault>
-    ensures { Gives tree_value result reader.new (read_in places.now levels (expression (place_in places.now) levels) reader.old) }
-{
-    let first = single(reader, places, alloc, levels)?;
-    sequence(reader, places, alloc, levels, first)
-}
-
-// Reads the singles behind the first of a sequence.
-#[cycle(parsing)]
-fn sequence(
-    reader: &mut Reader<'_>,
-    places: &Places<'_>,
-    alloc: Global,
-    levels: u8,
-    first: Syntax,
-) -> Result<Syntax, Fault>
-    ensures { Gives tree_value result reader.new (read_more places.now levels comma 44 (λ place. SequenceTree) (rule (single levels)) 63 first reader.old) }
-{
-    let mut tree = first;
-    for _ in 1..MEMBERS {
-        if !reader.at(',') {
-            return Ok(tree);
+    match end {
+        End::Lost => SyntaxRefusal::Memory,
+        End::GaveUp(refused) => {
+            let rule = rule_of(refused);
+            let place = source.place(left_at(refused));
+            SyntaxRefusal::Refused { rule, place }
         }
-        reader.symbol(&[','])?;
-        let next = single(reader, places, alloc, levels)?;
-        let node = SyntaxNode::Sequence(Box::new(alloc, tree)?, Box::new(alloc, next)?);
-        tree = Syntax { node };
     }
-    Ok(tree)
 }
 
-// Reads a single.
-#[cycle(parsing)]
-#[tactic(auto, unfolding(crate::specs::Reading::call))]
-fn single(
-    reader: &mut Reader<'_>,
-    places: &Places<'_>,
-    alloc: Global,
-    levels: u8,
-) -> Result<Syntax, Fault>
-    ensures { Gives tree_value result reader.new (call places.now (suc levels) (single levels) reader.old) }
+// The rule by which a reader gave up.
+fn rule_of(refused: Refused) -> SyntaxRule
+    ensures { result ≡ rule_of refused }
 {
-    if levels == 0 {
-        return Err(reader.give_up());
+    match refused {
+        Refused::Unfit(_) => SyntaxRule::Syntax,
+        Refused::Limit(_) => SyntaxRule::TooNested,
+        Refused::Number(_) => SyntaxRule::LiteralTooLarge,
+        Refused::Reference(_) => SyntaxRule::BadReference,
     }
-    if reader.at('l') {
-        let_single(reader, places, alloc, levels - 1)
+}
+
+// How many characters are left where a reader gave up.
+fn left_at(refused: Refused) -> usize
+    ensures { result ≡ left_at refused }
+{
+    match refused {
+        Refused::Unfit(left)
+        | Refused::Limit(left)
+        | Refused::Number(left)
+        | Refused::Reference(left) => left,
+    }
+}
+
+// Reads a whole query.
+fn query(reader: &mut Reader<'_>, source: &Source<'_>) -> Expr
+    ensures { Ran (tree result) reader.old reader.new (read_in source.now 40 (query (place_in source.now))) }
+{
+    reader.gap();
+    expression(reader, source, LEVELS)
+}
+
+// Reads an expression. So many singles may stand one inside another in it.
+#[cycle(parsing)]
+fn expression(reader: &mut Reader<'_>, source: &Source<'_>, levels: u8) -> Expr
+    ensures { Ran (tree result) reader.old reader.new (read_in source.now levels (expression (place_in source.now) levels)) }
+{
+    let first = single(reader, source, levels);
+    further(reader, source, levels, Members::Singles, first)
+}
+
+// Reads the members behind the first of a chain.
+#[cycle(parsing)]
+fn further(
+    reader: &mut Reader<'_>,
+    source: &Source<'_>,
+    levels: u8,
+    members: Members,
+    first: Expr,
+) -> Expr
+    ensures { (before : Phrase) (a : Standing) → Ran (tree first) a reader.old (read_in source.now levels before) → Ran (tree result) a reader.new (read_in source.now levels (chain_of (place_in source.now) levels members before)) }
+{
+    let set = members.set();
+    let mut tree = first;
+    for _ in 0..members.most() {
+        if !reader.looks_at(set) {
+            return tree;
+        }
+        let (place, word) = operator(reader, source, set);
+        let next = member(reader, source, levels, members);
+        let made = joined(source, members, place, word, tree, next);
+        tree = keep(reader, made);
+    }
+    last(reader, source, members);
+    tree
+}
+
+// Reads a member of a chain.
+#[cycle(parsing)]
+fn member(reader: &mut Reader<'_>, source: &Source<'_>, levels: u8, members: Members) -> Expr
+    ensures { Ran (tree result) reader.old reader.new (read_in source.now levels (member_of (place_in source.now) levels members)) }
+{
+    match members {
+        Members::Singles => single(reader, source, levels),
+        Members::Operands(tighter) => {
+            let first = signed_path(reader, source, levels);
+            ladder(reader, source, levels, tighter, first)
+        }
+        Members::Steps => step(reader, source, levels),
+    }
+}
+
+// Reads the operators of so many levels behind an operand.
+#[cycle(parsing)]
+fn ladder(
+    reader: &mut Reader<'_>,
+    source: &Source<'_>,
+    levels: u8,
+    tighter: u8,
+    first: Expr,
+) -> Expr
+    ensures { (before : Phrase) (a : Standing) → Ran (tree first) a reader.old (read_in source.now levels before) → Ran (tree result) a reader.new (read_in source.now levels (ladder (place_in source.now) tighter levels before)) }
+{
+    let mut tree = casts(reader, source, first);
+    for level in 0..tighter {
+        tree = further(reader, source, levels, Members::Operands(level), tree);
+    }
+    tree
+}
+
+// Reads a path with its signs.
+#[cycle(parsing)]
+fn signed_path(reader: &mut Reader<'_>, source: &Source<'_>, levels: u8) -> Expr
+    ensures { Ran (tree result) reader.old reader.new (read_in source.now levels (signed_path (place_in source.now) levels 64)) }
+{
+    let signs = more_signs(reader, source, Vec::new(source.alloc()), 64);
+    let first = step(reader, source, levels);
+    let path = further(reader, source, levels, Members::Steps, first);
+    with_signs(reader, source, signs, path)
+}
+
+// Reads a path that does not begin with a name.
+#[cycle(parsing)]
+fn other_operand(reader: &mut Reader<'_>, source: &Source<'_>, levels: u8) -> Expr
+    ensures { Ran (tree result) reader.old reader.new (read_in source.now levels (other_operand (place_in source.now) levels)) }
+{
+    if reader.looks_at(WordSet::Signs) {
+        let (place, word) = operator(reader, source, WordSet::Signs);
+        let signs = more_signs(reader, source, Vec::new(source.alloc()), 63);
+        let first = step(reader, source, levels);
+        let path = further(reader, source, levels, Members::Steps, first);
+        let operand = with_signs(reader, source, signs, path);
+        let made = trees::signed(source.alloc(), place, word, operand);
+        keep(reader, made)
     } else {
-        addition(reader, places, alloc, levels - 1)
+        let first = other_step(reader, source, levels);
+        further(reader, source, levels, Members::Steps, first)
     }
 }
 
-// Reads a `let`.
+// Reads a step.
 #[cycle(parsing)]
-#[tactic(auto, unfolding(crate::specs::Grammar::let_single, crate::specs::Reading::read_word))]
-fn let_single(
-    reader: &mut Reader<'_>,
-    places: &Places<'_>,
-    alloc: Global,
-    levels: u8,
-) -> Result<Syntax, Fault>
-    ensures { Gives tree_value result reader.new (read_in places.now levels (let_single (place_in places.now) levels) reader.old) }
+fn step(reader: &mut Reader<'_>, source: &Source<'_>, levels: u8) -> Expr
+    ensures { Ran (tree result) reader.old reader.new (read_in source.now levels (step (place_in source.now) levels)) }
 {
-    let place = places.at(reader.left());
-    reader.keyword(&['l', 'e', 't'])?;
-    let (variable, name) = variable(reader, places, alloc)?;
-    reader.symbol(&[':', '='])?;
-    let bound = single(reader, places, alloc, levels)?;
-    reader.keyword(&['r', 'e', 't', 'u', 'r', 'n'])?;
-    let body = single(reader, places, alloc, levels)?;
-    let head = LetHead {
-        place,
-        variable,
-        name,
+    if !reader.starts_name() {
+        return other_step(reader, source, levels);
+    }
+    let place = source.place(reader.left());
+    let Some(name) = reader.name(source.alloc()) else {
+        return trees::missing();
     };
-    let node = SyntaxNode::Let(head, Box::new(alloc, bound)?, Box::new(alloc, body)?);
-    Ok(Syntax { node })
+    named_step(reader, source, levels, place, name)
 }
 
-// Reads a sum.
+// Reads a step that does not begin with a name.
 #[cycle(parsing)]
-#[tactic(auto, unfolding(crate::specs::Grammar::addition, crate::specs::Reading::read_more))]
-fn addition(
-    reader: &mut Reader<'_>,
-    places: &Places<'_>,
-    alloc: Global,
-    levels: u8,
-) -> Result<Syntax, Fault>
-    ensures { Gives tree_value result reader.new (read_in places.now levels (addition (place_in places.now) levels) reader.old) }
+fn other_step(reader: &mut Reader<'_>, source: &Source<'_>, levels: u8) -> Expr
+    ensures { Ran (tree result) reader.old reader.new (read_in source.now levels (other_step (place_in source.now) levels)) }
 {
-    let first = primary(reader, places, alloc, levels)?;
-    sum(reader, places, alloc, levels, first)
+    if reader.starts_with('$') {
+        return variable(reader, source);
+    }
+    if reader.starts_with('(') {
+        return parenthesised(reader, source, levels);
+    }
+    if reader.looks_at(WordSet::Dots) {
+        return dots(reader, source);
+    }
+    literal(reader, source)
 }
 
-// Reads the operands behind the first of a sum.
+// Reads what stands behind the name of a step, which stood at the place.
 #[cycle(parsing)]
-fn sum(
+fn named_step(
     reader: &mut Reader<'_>,
-    places: &Places<'_>,
-    alloc: Global,
+    source: &Source<'_>,
     levels: u8,
-    first: Syntax,
-) -> Result<Syntax, Fault>
-    ensures { Gives tree_value result reader.new (read_more places.now levels plus 43 SumTree (primary (place_in places.now) levels) 63 first reader.old) }
+    place: Place,
+    name: ReadName,
+) -> Expr
+    requires { place ≡ place_in source.now (left_of reader.now + name_length (name_made name)) }
+    ensures { Ran (tree result) reader.old reader.new (read_in source.now levels (behind_any_name (place_in source.now) levels (name_made name))) }
 {
-    let mut tree = first;
-    for _ in 1..MEMBERS {
-        if !reader.at('+') {
-            return Ok(tree);
+    let reserved = name.is_reserved();
+    reader.gap();
+    if reserved {
+        let made = trees::named(source.alloc(), place, name);
+        return keep(reader, made);
+    }
+    if !reader.starts_with('(') {
+        let made = trees::named(source.alloc(), place, name);
+        return keep(reader, made);
+    }
+    let arguments = arguments(reader, source, levels);
+    let made = trees::called(source.alloc(), place, name, arguments);
+    keep(reader, made)
+}
+
+// Reads the arguments of a call.
+#[cycle(parsing)]
+fn arguments(reader: &mut Reader<'_>, source: &Source<'_>, levels: u8) -> Vec<Expr>
+    ensures { Ran (node (Arguments (trees_of result.items))) reader.old reader.new (read_in source.now levels (arguments (place_in source.now) levels)) }
+{
+    lexeme(reader, WordSet::Only(Word::Open));
+    arguments_in(reader, source, levels)
+}
+
+// Reads the arguments of a call behind its `(`.
+#[cycle(parsing)]
+fn arguments_in(reader: &mut Reader<'_>, source: &Source<'_>, levels: u8) -> Vec<Expr>
+    ensures { Ran (node (Arguments (trees_of result.items))) reader.old reader.new (read_in source.now levels (arguments_in (place_in source.now) levels)) }
+{
+    let mut list = Vec::new(source.alloc());
+    if reader.starts_with(')') {
+        lexeme(reader, WordSet::Only(Word::Close));
+        return list;
+    }
+    let first = single(reader, source, levels);
+    if list.push(first).is_err() {
+        reader.lose();
+        return list;
+    }
+    let list = more_arguments(reader, source, levels, list);
+    lexeme(reader, WordSet::Only(Word::Close));
+    list
+}
+
+// Reads further arguments, each behind a comma.
+#[cycle(parsing)]
+fn more_arguments(
+    reader: &mut Reader<'_>,
+    source: &Source<'_>,
+    levels: u8,
+    list: Vec<Expr>,
+) -> Vec<Expr>
+    ensures { Added list.items result.items (λ others. Listed others reader.old reader.new (read_in source.now levels (more_arguments (place_in source.now) levels))) }
+{
+    let mut list = list;
+    let mut left = reader.left();
+    while reader.looks_at(WordSet::Only(Word::Comma)) {
+        lexeme(reader, WordSet::Only(Word::Comma));
+        let next = single(reader, source, levels);
+        if list.push(next).is_err() {
+            reader.lose();
+            return list;
         }
-        let place = places.at(reader.left());
-        reader.symbol(&['+'])?;
-        let next = primary(reader, places, alloc, levels)?;
-        let node = SyntaxNode::Sum(place, Box::new(alloc, tree)?, Box::new(alloc, next)?);
-        tree = Syntax { node };
+        if left == 0 {
+            return list;
+        }
+        left -= 1;
     }
-    Ok(tree)
-}
-
-// Reads a literal, a variable, or what stands in parentheses.
-#[cycle(parsing)]
-#[tactic(auto, unfolding(crate::specs::Grammar::primary))]
-fn primary(
-    reader: &mut Reader<'_>,
-    places: &Places<'_>,
-    alloc: Global,
-    levels: u8,
-) -> Result<Syntax, Fault>
-    ensures { Gives tree_value result reader.new (read_in places.now levels (primary (place_in places.now) levels) reader.old) }
-{
-    if reader.at('(') {
-        return parenthesised(reader, places, alloc, levels);
-    }
-    if reader.at('$') {
-        let (place, name) = variable(reader, places, alloc)?;
-        let node = SyntaxNode::Variable(place, name);
-        return Ok(Syntax { node });
-    }
-    integer(reader, places)
+    list
 }
 
 // Reads what stands in parentheses.
 #[cycle(parsing)]
-#[tactic(auto, unfolding(crate::specs::Grammar::parenthesised, crate::specs::Reading::read_word))]
-fn parenthesised(
-    reader: &mut Reader<'_>,
-    places: &Places<'_>,
-    alloc: Global,
-    levels: u8,
-) -> Result<Syntax, Fault>
-    ensures { Gives tree_value result reader.new (read_in places.now levels (parenthesised (place_in places.now) levels) reader.old) }
+fn parenthesised(reader: &mut Reader<'_>, source: &Source<'_>, levels: u8) -> Expr
+    ensures { Ran (tree result) reader.old reader.new (read_in source.now levels (parenthesised_step (place_in source.now) levels)) }
 {
-    let place = places.at(reader.left());
-    reader.symbol(&['('])?;
-    if reader.at(')') {
-        reader.symbol(&[')'])?;
-        let node = SyntaxNode::Empty(place);
-        return Ok(Syntax { node });
+    let place = source.place(reader.left());
+    lexeme(reader, WordSet::Only(Word::Open));
+    if reader.starts_with(')') {
+        lexeme(reader, WordSet::Only(Word::Close));
+        let node = ExprNode::Empty;
+        return Expr { place, node };
     }
-    let inner = expression(reader, places, alloc, levels)?;
-    reader.symbol(&[')'])?;
-    let node = SyntaxNode::Parenthesised(place, Box::new(alloc, inner)?);
-    Ok(Syntax { node })
+    let inner = expression(reader, source, levels);
+    lexeme(reader, WordSet::Only(Word::Close));
+    let made = trees::parenthesised(source.alloc(), place, inner);
+    keep(reader, made)
+}
+
+// Reads a single, where so many may stand one inside another, itself among them.
+#[cycle(parsing)]
+fn single(reader: &mut Reader<'_>, source: &Source<'_>, levels: u8) -> Expr
+    ensures { Ran (tree result) reader.old reader.new (call source.now (suc levels) (single levels)) }
+{
+    if levels == 0 {
+        reader.barrier(Barrier::Single);
+        return trees::missing();
+    }
+    let levels = levels - 1;
+    if !reader.starts_name() {
+        let first = other_operand(reader, source, levels);
+        return ladder(reader, source, levels, 8, first);
+    }
+    let place = source.place(reader.left());
+    let Some(name) = reader.name(source.alloc()) else {
+        return trees::missing();
+    };
+    named_single(reader, source, levels, place, name)
+}
+
+// Reads what stands behind the name at the front of a single, which may be that of a clause.
+#[cycle(parsing)]
+fn named_single(
+    reader: &mut Reader<'_>,
+    source: &Source<'_>,
+    levels: u8,
+    place: Place,
+    name: ReadName,
+) -> Expr
+    requires { place ≡ place_in source.now (left_of reader.now + name_length (name_made name)) }
+    ensures { Ran (tree result) reader.old reader.new (read_in source.now levels (named_single (place_in source.now) levels (name_made name))) }
+{
+    let Some(binder) = name.binder() else {
+        return begun(reader, source, levels, place, name);
+    };
+    if reader.looks_at_dollar() {
+        return flwor(reader, source, levels, place, binder);
+    }
+    let first = keyword_step(reader, source, levels, place, name);
+    let path = further(reader, source, levels, Members::Steps, first);
+    ladder(reader, source, levels, 8, path)
+}
+
+// Reads what stands behind the name of a clause where no clause begins.
+#[cycle(parsing)]
+fn keyword_step(
+    reader: &mut Reader<'_>,
+    source: &Source<'_>,
+    levels: u8,
+    place: Place,
+    name: ReadName,
+) -> Expr
+    requires { place ≡ place_in source.now (left_of reader.now + name_length (name_made name)) }
+    ensures { Ran (tree result) reader.old reader.new (read_in source.now levels (behind_keyword (place_in source.now) levels (name_made name))) }
+{
+    if !reader.looks_at_parenthesis() {
+        reader.neither();
+        let made = trees::named(source.alloc(), place, name);
+        return keep(reader, made);
+    }
+    reader.parenthesis();
+    reader.gap();
+    let arguments = arguments_in(reader, source, levels);
+    let made = trees::called(source.alloc(), place, name, arguments);
+    keep(reader, made)
+}
+
+// Reads a FLWOR behind its first word, which stood at the place.
+#[cycle(parsing)]
+fn flwor(
+    reader: &mut Reader<'_>,
+    source: &Source<'_>,
+    levels: u8,
+    place: Place,
+    binder: Binder,
+) -> Expr
+    ensures { (v : Made) → place ≡ place_in source.now (left_of reader.old + name_length v) → Ran (tree result) reader.old reader.new (read_in source.now levels (flwor (place_in source.now) levels binder v)) }
+{
+    reader.dollar();
+    let head = first_head(reader, source, binder);
+    let list = bindings(reader, source, levels, binder, head);
+    let first = clause_of(binder, place, list);
+    let begun = with_clause(reader, Vec::new(source.alloc()), first);
+    let clauses = more_clauses(reader, source, levels, begun);
+    lexeme(reader, WordSet::Only(Word::Return));
+    let returned = single(reader, source, levels);
+    let made = trees::flwor(source.alloc(), place, clauses, returned);
+    keep(reader, made)
+}
+
+// Reads further clauses of `for` and `let`, and then one of `where`, if it stands there.
+#[cycle(parsing)]
+fn more_clauses(
+    reader: &mut Reader<'_>,
+    source: &Source<'_>,
+    levels: u8,
+    clauses: Vec<Clause>,
+) -> Vec<Clause>
+    ensures { Added clauses.items result.items (λ others. Ran (items_before clause_made others nothing) reader.old reader.new (read_in source.now levels (more_clauses (place_in source.now) levels 63))) }
+{
+    let mut list = clauses;
+    for _ in 0..CHAIN_MEMBERS - 1 {
+        if !reader.looks_at(WordSet::Binders) {
+            return last_clause(reader, source, levels, list);
+        }
+        let next = clause(reader, source, levels);
+        list = with_clause(reader, list, next);
+    }
+    if reader.looks_at_barred(WordSet::Binders) {
+        reader.barred(WordSet::Binders);
+        return list;
+    }
+    last_clause(reader, source, levels, list)
+}
+
+// Reads a clause of `for` or `let`.
+#[cycle(parsing)]
+fn clause(reader: &mut Reader<'_>, source: &Source<'_>, levels: u8) -> Clause
+    ensures { Ran (clause_made result) reader.old reader.new (read_in source.now levels (clause (place_in source.now) levels)) }
+{
+    let place = source.place(reader.left());
+    let binder = Binder::of(reader.word(WordSet::Binders));
+    reader.gap();
+    let head = next_head(reader, source, binder);
+    let list = bindings(reader, source, levels, binder, head);
+    clause_of(binder, place, list)
+}
+
+// Reads a clause of `where`, if it stands there.
+#[cycle(parsing)]
+fn last_clause(
+    reader: &mut Reader<'_>,
+    source: &Source<'_>,
+    levels: u8,
+    clauses: Vec<Clause>,
+) -> Vec<Clause>
+    ensures { Added clauses.items result.items (λ others. Ran (items_before clause_made others nothing) reader.old reader.new (read_in source.now levels (last_clause (place_in source.now) levels))) }
+{
+    if !reader.looks_at(WordSet::Only(Word::Where)) {
+        return clauses;
+    }
+    let (place, _word) = operator(reader, source, WordSet::Only(Word::Where));
+    let condition = single(reader, source, levels);
+    with_clause(reader, clauses, Clause::Where(place, condition))
+}
+
+// Reads what the variables of a clause are bound to, behind the head of the first.
+#[cycle(parsing)]
+fn bindings(
+    reader: &mut Reader<'_>,
+    source: &Source<'_>,
+    levels: u8,
+    binder: Binder,
+    head: Option<BoundVariable>,
+) -> Vec<Binding>
+    ensures { (before : Phrase) (a : Standing) → Gave head_made head a reader.old (read_in source.now levels before) → Ran (items_before binding_made result.items nothing) a reader.new (read_in source.now levels ((before & rule (single levels)) & more_bindings (place_in source.now) levels binder 63)) }
+{
+    let list = Vec::new(source.alloc());
+    let begun = binding(reader, source, levels, head, list);
+    more_bindings(reader, source, levels, binder, begun)
+}
+
+// Reads further bindings, each behind a comma.
+#[cycle(parsing)]
+fn more_bindings(
+    reader: &mut Reader<'_>,
+    source: &Source<'_>,
+    levels: u8,
+    binder: Binder,
+    bindings: Vec<Binding>,
+) -> Vec<Binding>
+    ensures { Added bindings.items result.items (λ others. Ran (items_before binding_made others nothing) reader.old reader.new (read_in source.now levels (more_bindings (place_in source.now) levels binder 63))) }
+{
+    let mut list = bindings;
+    for _ in 0..CHAIN_MEMBERS - 1 {
+        if !reader.looks_at(WordSet::Only(Word::Comma)) {
+            return list;
+        }
+        lexeme(reader, WordSet::Only(Word::Comma));
+        let head = next_head(reader, source, binder);
+        list = binding(reader, source, levels, head, list);
+    }
+    last_binding(reader);
+    list
+}
+
+// Reads what a variable is bound to, behind its head, and adds it.
+#[cycle(parsing)]
+fn binding(
+    reader: &mut Reader<'_>,
+    source: &Source<'_>,
+    levels: u8,
+    head: Option<BoundVariable>,
+    bindings: Vec<Binding>,
+) -> Vec<Binding>
+    ensures { (before : Phrase) (a : Standing) → Gave head_made head a reader.old (read_in source.now levels before) → OneMore binding_made bindings.items result.items a reader.new (read_in source.now levels (before & rule (single levels))) }
+{
+    let Some(bound) = head else {
+        return bindings;
+    };
+    let value = single(reader, source, levels);
+    with_binding(reader, bindings, Binding { bound, value })
+}
+
+// Reads what stands behind the name at the front of a single.
+#[cycle(parsing)]
+fn begun(
+    reader: &mut Reader<'_>,
+    source: &Source<'_>,
+    levels: u8,
+    place: Place,
+    name: ReadName,
+) -> Expr
+    requires { place ≡ place_in source.now (left_of reader.now + name_length (name_made name)) }
+    ensures { Ran (tree result) reader.old reader.new (read_in source.now levels (begun (place_in source.now) levels (name_made name))) }
+{
+    if !name.is("if") {
+        let first = named_step(reader, source, levels, place, name);
+        let path = further(reader, source, levels, Members::Steps, first);
+        return ladder(reader, source, levels, 8, path);
+    }
+    if reader.looks_at_parenthesis() {
+        return condition(reader, source, levels, place);
+    }
+    reader.no_parenthesis();
+    let made = trees::named(source.alloc(), place, name);
+    let first = keep(reader, made);
+    let path = further(reader, source, levels, Members::Steps, first);
+    ladder(reader, source, levels, 8, path)
+}
+
+// Reads a conditional behind its `if`, which stood at the place.
+#[cycle(parsing)]
+fn condition(reader: &mut Reader<'_>, source: &Source<'_>, levels: u8, place: Place) -> Expr
+    ensures { (v : Made) → place ≡ place_in source.now (left_of reader.old + name_length v) → Ran (tree result) reader.old reader.new (read_in source.now levels (condition (place_in source.now) levels v)) }
+{
+    reader.parenthesis();
+    reader.gap();
+    let test = expression(reader, source, levels);
+    lexeme(reader, WordSet::Only(Word::Close));
+    lexeme(reader, WordSet::Only(Word::Then));
+    let chosen = single(reader, source, levels);
+    lexeme(reader, WordSet::Only(Word::Else));
+    let otherwise = single(reader, source, levels);
+    let made = trees::condition(source.alloc(), place, test, chosen, otherwise);
+    keep(reader, made)
 }

@@ -1,371 +1,493 @@
-// The tokens of a query text, read from its front.
+// A reader of tokens, which gives up for good.
 
-ghost use Rattle.std.specs.Prelude.{◌≡◌, ◌==◌, IfOk, ◌+◌, ◌≤◌, ◌<◌, ◌^◌, IsNone, IfSome, length, min, [], ◌∷◌};
-ghost use Rattle.gx_grammar.specs.First.{head_passes};
-ghost use Rattle.gx_grammar.specs.Gaps.{begins_comment, ends_comment};
-ghost use Rattle.gx_grammar.specs.Reading.{start, notes, taken};
-ghost use Rattle.gx_grammar.specs.Tokens.{run_of, behind_run};
-ghost use Rattle.gx_grammar.specs.Value.{nothing, pair, characters};
-ghost use Rattle.gx_parse.specs.Characters.{is_digit, is_name_start, is_name_character, no_character};
-ghost use Rattle.gx_parse.specs.Tokens.{name};
-ghost use Rattle.gx_parse.specs.Reading.{Gives, read_gap, read_spelled, read_word, read_lexeme, read_digits, read_integer};
-ghost use Rattle.gx_parse.specs.GapSteps.{GoesOn, Stops};
+ghost use Rattle.std.specs.Prelude.{◌≡◌, ◌==◌, ◌≤◌, [], ◌∷◌, length, min, true, false, IfOk, IfSome, ◌+◌, MatchOption, MatchResult, IsNone, Some, None};
+ghost use Rattle.gx_grammar.specs.Apart.{is};
+ghost use Rattle.gx_grammar.specs.First.{by_character};
+ghost use Rattle.gx_grammar.specs.Ran.{IsDone, Looked, Loses, Makes, Ran, left_of};
+ghost use Rattle.gx_grammar.specs.Reading.{start};
+ghost use Rattle.gx_grammar.specs.Value.{characters, node, nothing};
+ghost use Rattle.gx_parse.specs.Characters.{is_name_start};
+ghost use Rattle.gx_parse.specs.Grammar.{at_tokens};
+ghost use Rattle.gx_parse.specs.Nodes.{Found, name_length};
+ghost use Rattle.gx_parse.specs.Indications.{found_made};
+ghost use Rattle.gx_parse.specs.Names.{name_made};
+ghost use Rattle.gx_parse.specs.Reading.{Ended, NameRead, read_number, read_one};
+ghost use Rattle.gx_parse.specs.Tokens.{barred, barred_words, gap, gap_not_open, gap_then_dollar, gap_then_neither, gap_then_open, indication, number_end, one_of, reference, text_run};
+ghost use Rattle.gx_parse.specs.Parsing.{Added};
+ghost use Rattle.gx_parse.specs.Strings.{parts_of};
 
-use gx_base::characters::is_white_space;
-use gx_base::text::Text;
+use crate::characters::{begins_at, is_name_start};
+use crate::gap;
+use crate::indication::find_indication;
+use crate::names::{ReadName, find_name};
+use crate::numbers::{LiteralFound, find_number};
+use crate::references::{find_part, find_reference};
+use crate::runs::{Quote, Run, find_text, push_text};
+use crate::scan::find;
+use crate::word::{Barrier, Word, WordSet};
 use gx_base::text_builder::TextBuilder;
-use std::alloc::{AllocError, AllocFailed, Global};
+use gx_num::Number;
+use std::alloc::Global;
 use std::marker::Model;
 
-/// Why a reader gives up.
+/// Why a reader gave up.
 #[derive(Clone, Copy, Debug, PartialEq, Eq)]
-pub enum Fault {
+pub enum Refused {
     /// Nothing fits behind the furthest character, of which so many are left.
-    Unread(usize),
-    /// Memory ran out.
-    Memory,
+    Unfit(usize),
+    /// A limit of nesting or of a chain is met where so many characters are left.
+    Limit(usize),
+    /// A number is too large or too precise where so many characters are left.
+    Number(usize),
+    /// A reference names no character where so many are left.
+    Reference(usize),
 }
 
-impl From<AllocError> for Fault {
-    ghost use Rattle.gx_parse.specs.declared.reader.Fault.TheVariants.{Memory};
-
-    ghost from_gives = { λ _ e. e ≡ Memory };
-
-    fn from(_e: AllocError) -> Fault {
-        Fault::Memory
-    }
+/// Why a reader reads nothing more.
+#[derive(Clone, Copy, Debug, PartialEq, Eq)]
+pub enum End {
+    /// It gave up.
+    GaveUp(Refused),
+    /// Memory did not suffice.
+    Lost,
 }
 
-impl<T: Drop> From<AllocFailed<T>> for Fault {
-    ghost use Rattle.gx_parse.specs.declared.reader.Fault.TheVariants.{Memory};
-
-    ghost from_gives = { λ _ e. e ≡ Memory };
-
-    fn from(_e: AllocFailed<T>) -> Fault {
-        Fault::Memory
-    }
-}
-
-fn is_digit(c: char) -> bool
-    ensures { result ≡ is_digit c }
-{
-    c.is_ascii_digit()
-}
-
-fn is_name_start(c: char) -> bool
-    ensures { result ≡ is_name_start c }
-{
-    c.is_ascii_alphabetic() || c == '_'
-}
-
-fn is_name_character(c: char) -> bool
-    ensures { result ≡ is_name_character c }
-{
-    is_name_start(c) || is_digit(c) || c == '-' || c == '.'
-}
-
-fn begins_comment(c: char, e: char) -> bool
-    ensures { result ≡ begins_comment c e }
-{
-    c == '(' && e == ':'
-}
-
-fn ends_comment(c: char, e: char) -> bool
-    ensures { result ≡ ends_comment c e }
-{
-    c == ':' && e == ')'
-}
-
-// The first character, and what is behind it.
-fn first(text: &[char]) -> Option<(char, &[char])>
-    ensures some { IfSome result (λ r. text.now ≡ r.0 ∷ r.1.now) }
-    ensures none { IsNone result → text.now ≡ [] }
-{
-    match text {
-        [] => None,
-        [character, tail @ ..] => Some((*character, tail)),
-    }
-}
-
-// One step over white space, or to the inside of a comment, and how many comments are open then.
-fn outside_step(rest: &[char]) -> Option<(&[char], usize)>
-    ensures on { IfSome result (λ r. GoesOn 0 rest.now r.1 r.0.now) }
-    ensures stop { IsNone result → Stops 0 rest.now }
-{
-    let Some((c, tail)) = first(rest) else {
-        return None;
-    };
-    if is_white_space(c) {
-        return Some((tail, 0));
-    }
-    let Some((e, behind)) = first(tail) else {
-        return None;
-    };
-    if begins_comment(c, e) {
-        return Some((behind, 1));
-    }
-    None
-}
-
-// One step within comments, of which so many are open, and how many are open then.
-fn inside_step(rest: &[char], depth: usize) -> Option<(&[char], usize)>
-    requires open { 0 < depth }
-    requires bounded { depth + length rest.now < 2 ^ 64 }
-    ensures on { IfSome result (λ r. GoesOn depth rest.now r.1 r.0.now) }
-    ensures stop { IsNone result → rest.now ≡ [] }
-{
-    let Some((c, tail)) = first(rest) else {
-        return None;
-    };
-    let Some((e, behind)) = first(tail) else {
-        return Some((tail, depth));
-    };
-    if begins_comment(c, e) {
-        return Some((behind, depth + 1));
-    }
-    if ends_comment(c, e) {
-        return Some((behind, depth - 1));
-    }
-    Some((tail, depth))
-}
-
-// One step over white space and comments, of which so many are open, and how many are open then.
-fn gap_step(rest: &[char], depth: usize) -> Option<(&[char], usize)>
-    requires { depth + length rest.now < 2 ^ 64 }
-    ensures on { IfSome result (λ r. GoesOn depth rest.now r.1 r.0.now) }
-    ensures stop { IsNone result → Stops depth rest.now }
-{
-    if depth == 0 {
-        outside_step(rest)
-    } else {
-        inside_step(rest, depth)
-    }
-}
-
-// The greatest integer literal.
-const LARGEST: u128 = i128::MAX as u128;
-
-/// What is left of a text, and how many characters are left behind the furthest one that fitted so far.
+/// What is left of a text, how many characters are left behind the furthest one that fitted so far, and whether reading
+/// has ended.
 #[derive(Drop)]
 pub struct Reader<'a> {
     rest: &'a [char],
     far: usize,
+    end: Option<End>,
 }
 
 impl<'a> Model for Reader<'a> {
-    ghost use Rattle.gx_grammar.specs.Reading.{State};
+    ghost use Rattle.gx_grammar.specs.Ran.{Standing};
+    ghost use Rattle.gx_parse.specs.Reading.{standing_of};
 
-    ghost Value = { State };
+    ghost Value = { Standing };
 
-    ghost view = { λ r. record { rest = r.rest.now; far = r.far } };
+    ghost view = { λ r. standing_of r.rest.now r.far r.end };
 }
 
 impl<'a> Reader<'a> {
+    ghost use Rattle.gx_grammar.specs.Ran.{Going};
+
     /// A reader at the front of a text.
     pub fn new(text: &'a [char]) -> Reader<'a>
-        ensures { result ≡ start text.now }
+        ensures { result ≡ Going (start text.now) }
     {
         Reader {
             rest: text,
             far: text.len(),
+            end: None,
         }
     }
 }
 
 impl Reader<'_> {
-    ghost use Rattle.gx_parse.specs.declared.reader.Fault.TheVariants.{Unread};
-
     /// How many characters are left.
     pub fn left(&self) -> usize
-        ensures { result ≡ length self.now.rest }
+        ensures { result ≡ left_of self.now }
     {
-        self.rest.len()
+        match self.end {
+            None => self.rest.len(),
+            Some(_) => 0,
+        }
     }
 
-    /// How many characters are left behind the furthest one that fitted.
-    pub fn far(&self) -> usize
-        ensures { result ≡ self.now.far }
+    /// How the reading of a whole text ended; none where nothing is left of it.
+    pub fn outcome(&self) -> Option<End>
+        ensures { Ended result self.now }
     {
-        self.far
+        match self.end {
+            Some(end) => Some(end),
+            None if self.rest.is_empty() => None,
+            None => Some(End::GaveUp(Refused::Unfit(self.far))),
+        }
     }
 
-    // Notes that the text fits up to here.
-    fn note(&mut self)
-        ensures { self.new ≡ notes self.old (length self.old.rest) }
+    /// Goes past white space and comments.
+    #[tactic(auto, unfolding(crate::specs::Reading::read_one))]
+    pub fn gap(&mut self)
+        ensures { Ran nothing self.old self.new (read_one gap) }
     {
+        if self.end.is_some() {
+            return;
+        }
+        let found = gap::gap(self.rest);
+        self.far = self.far.min(found.seen);
+        match found.behind {
+            Some(behind) => self.rest = behind,
+            None => self.end = Some(End::GaveUp(Refused::Unfit(self.far))),
+        }
+    }
+
+    /// Reads nothing more, since memory does not suffice.
+    pub fn lose(&mut self)
+        ensures { Loses self.old self.new }
+    {
+        if self.end.is_none() {
+            self.end = Some(End::Lost);
+        }
+    }
+
+    /// Whether the character stands first.
+    pub fn starts_with(&mut self, symbol: char) -> bool
+        ensures { Looked result self.old self.new (by_character (is symbol)) }
+    {
+        if self.end.is_some() {
+            return false;
+        }
         self.far = self.far.min(self.rest.len());
-    }
-
-    /// Gives up here.
-    pub fn give_up(&mut self) -> Fault
-        ensures { result ≡ Unread (min self.old.far (length self.old.rest)) }
-    {
-        self.note();
-        Fault::Unread(self.far)
-    }
-
-    /// Whether that character stands first.
-    pub fn at(&mut self, symbol: char) -> bool
-        ensures seen { self.new ≡ notes self.old (length self.old.rest) }
-        ensures taken { result ≡ head_passes (λ c. c == symbol) self.old.rest }
-    {
-        self.note();
         match self.rest {
             [] => false,
             [character, ..] => *character == symbol,
         }
     }
 
-    fn at_digit(&self) -> bool
-        ensures { result ≡ head_passes is_digit self.now.rest }
+    /// Whether a name may begin here.
+    pub fn starts_name(&mut self) -> bool
+        ensures { Looked result self.old self.new (by_character is_name_start) }
     {
-        match self.rest {
-            [] => false,
-            [character, ..] => is_digit(*character),
+        if self.end.is_some() {
+            return false;
         }
-    }
-
-    fn at_name_start(&self) -> bool
-        ensures { result ≡ head_passes is_name_start self.now.rest }
-    {
+        self.far = self.far.min(self.rest.len());
         match self.rest {
             [] => false,
             [character, ..] => is_name_start(*character),
         }
     }
 
-    fn at_name_character(&self) -> bool
-        ensures { result ≡ head_passes is_name_character self.now.rest }
+    /// Whether one of the words stands first.
+    pub fn looks_at(&mut self, set: WordSet) -> bool
+        ensures { Looked result self.old self.new (at_tokens (one_of set ∷ [])) }
     {
+        if self.end.is_some() {
+            return false;
+        }
+        let found = find(set.words(), self.rest);
+        self.far = self.far.min(found.seen);
+        found.word.is_some()
+    }
+
+    /// Whether one that may not stand does.
+    pub fn looks_barred(&mut self, barrier: Barrier) -> bool
+        ensures { Looked result self.old self.new (at_tokens (barred barrier ∷ [])) }
+    {
+        if self.end.is_some() {
+            return false;
+        }
+        self.far = self.far.min(self.rest.len());
         match self.rest {
             [] => false,
-            [character, ..] => is_name_character(*character),
+            [character, ..] => begins_at(barrier, *character),
         }
     }
 
-    /// Goes past white space and comments.
-    #[tactic(auto, unfolding(crate::specs::Reading::read_gap))]
-    pub fn gap(&mut self) -> Result<(), Fault>
-        ensures { Gives (λ _. nothing) result self.new (read_gap self.old) }
+    /// Reads one of the words.
+    #[tactic(auto, unfolding(crate::specs::Reading::read_one))]
+    pub fn word(&mut self, set: WordSet) -> Word
+        ensures { Ran (node (Found result)) self.old self.new (read_one (one_of set)) }
     {
-        let mut rest = self.rest;
-        let mut depth = 0;
-        while let Some((next, open)) = gap_step(rest, depth) {
-            rest = next;
-            depth = open;
+        if self.end.is_some() {
+            return Word::Comma;
         }
-        let seen = match rest {
-            ['(', tail @ ..] => tail.len(),
-            _ => rest.len(),
+        let found = find(set.words(), self.rest);
+        match found.word {
+            Some((word, behind)) => {
+                self.rest = behind;
+                self.far = self.far.min(found.seen);
+                word
+            }
+            None => {
+                self.far = self.far.min(found.seen);
+                self.end = Some(End::GaveUp(Refused::Unfit(self.far)));
+                Word::Comma
+            }
+        }
+    }
+
+    /// Reads a token that may not stand.
+    #[tactic(auto, unfolding(crate::specs::Reading::read_one))]
+    pub fn barrier(&mut self, barrier: Barrier)
+        ensures read { Ran nothing self.old self.new (read_one (barred barrier)) }
+        ensures ended { IsDone self.new }
+    {
+        if self.end.is_some() {
+            return;
+        }
+        self.far = self.far.min(self.rest.len());
+        let refused = match self.rest {
+            [character, ..] if begins_at(barrier, *character) => Refused::Limit(self.rest.len()),
+            _ => Refused::Unfit(self.far),
         };
-        self.rest = rest;
-        self.far = self.far.min(seen);
-        if depth > 0 {
-            return Err(Fault::Unread(self.far));
-        }
-        Ok(())
+        self.end = Some(End::GaveUp(refused));
     }
 
-    // Goes past characters that are spelled so.
-    fn spelled(&mut self, spelling: &[char]) -> Result<(), Fault>
-        ensures { Gives (λ _. nothing) result self.new (read_spelled spelling.now self.old) }
+    /// Reads the end of a number, behind which no name begins.
+    #[tactic(auto, unfolding(crate::specs::Reading::read_one))]
+    pub fn number_end(&mut self)
+        ensures { Ran nothing self.old self.new (read_one number_end) }
     {
-        for symbol in spelling {
-            match self.rest {
-                [character, tail @ ..] if *character == *symbol => self.rest = tail,
-                _ => {
-                    return Err(self.give_up());
-                }
+        if self.end.is_some() {
+            return;
+        }
+        self.far = self.far.min(self.rest.len());
+        if let [character, ..] = self.rest {
+            if is_name_start(*character) {
+                self.end = Some(End::GaveUp(Refused::Unfit(self.far)));
             }
         }
-        self.note();
-        Ok(())
     }
 
-    /// Goes past a symbol, and the white space and comments behind it.
-    #[tactic(auto, unfolding(crate::specs::Reading::read_word))]
-    pub fn symbol(&mut self, spelling: &[char]) -> Result<(), Fault>
-        ensures { Gives (λ _. pair nothing nothing) result self.new (read_word spelling.now no_character self.old) }
+    /// Reads a numeric literal.
+    #[tactic(auto, unfolding(crate::specs::Reading::read_one, crate::specs::Reading::read_number))]
+    pub fn number(&mut self, alloc: Global) -> Number
+        ensures { Ran result self.old self.new read_number }
     {
-        self.spelled(spelling)?;
-        self.gap()
-    }
-
-    /// Goes past a keyword, and the white space and comments behind it.
-    #[tactic(auto, unfolding(crate::specs::Reading::read_word))]
-    pub fn keyword(&mut self, spelling: &[char]) -> Result<(), Fault>
-        ensures { Gives (λ _. pair nothing nothing) result self.new (read_word spelling.now is_name_character self.old) }
-    {
-        self.spelled(spelling)?;
-        if self.at_name_character() {
-            return Err(Fault::Unread(self.far));
+        if self.end.is_some() {
+            return Number::Int(0);
         }
-        self.gap()
-    }
-
-    // Reads the characters of a name at the front, as many as there are.
-    fn name_characters(&mut self, alloc: Global) -> Result<Text, AllocError>
-        ensures { IfOk result (λ name. (name ≡ run_of is_name_character self.old.rest) × (self.new ≡ notes (record { rest = behind_run is_name_character self.old.rest; far = self.old.far }) (length (behind_run is_name_character self.old.rest)))) }
-    {
-        let mut name = TextBuilder::new(alloc);
-        while let [character, tail @ ..] = self.rest {
-            if !is_name_character(*character) {
-                break;
+        match find_number(alloc, self.rest) {
+            Err(_) => self.end = Some(End::Lost),
+            Ok(LiteralFound::TooLarge) => {
+                self.end = Some(End::GaveUp(Refused::Number(self.rest.len())));
             }
-            name.push(*character)?;
-            self.rest = tail;
+            Ok(LiteralFound::Nothing(seen)) => {
+                self.far = self.far.min(seen);
+                self.end = Some(End::GaveUp(Refused::Unfit(self.far)));
+            }
+            Ok(LiteralFound::Number(number, behind)) => {
+                self.rest = behind;
+                self.far = self.far.min(behind.len());
+                return number;
+            }
         }
-        self.note();
-        name.finish()
+        Number::Int(0)
     }
 
     /// Reads a name.
-    #[tactic(auto, unfolding(crate::specs::Reading::read_lexeme))]
-    pub fn name(&mut self, alloc: Global) -> Result<Text, Fault>
-        ensures { Gives (λ name. pair (characters name) nothing) result self.new (read_lexeme name self.old) }
+    #[tactic(auto, unfolding(crate::specs::Reading::read_one))]
+    pub fn name(&mut self, alloc: Global) -> Option<ReadName>
+        ensures read { NameRead result self.old self.new }
+        ensures placed { IfSome result (λ n. left_of self.new + name_length (name_made n) ≡ left_of self.old) }
     {
-        if !self.at_name_start() {
-            return Err(self.give_up());
+        if self.end.is_some() {
+            return None;
         }
-        let name = self.name_characters(alloc)?;
-        self.gap()?;
-        Ok(name)
+        let Ok(found) = find_name(alloc, self.rest) else {
+            self.end = Some(End::Lost);
+            return None;
+        };
+        self.far = self.far.min(found.seen);
+        match found.name {
+            Some((name, behind)) => {
+                self.rest = behind;
+                Some(name)
+            }
+            None => {
+                self.end = Some(End::GaveUp(Refused::Unfit(self.far)));
+                None
+            }
+        }
     }
 
-    // Reads the number that the digits at the front write.
-    fn digits(&mut self) -> Result<u128, Fault>
-        ensures read { Gives (λ n. n) result self.new (read_digits self.old) }
-        ensures fits { IfOk result (λ n. n < 2 ^ 127) }
+    /// Whether a `(` stands behind white space and comments.
+    pub fn looks_at_parenthesis(&mut self) -> bool
+        ensures { Looked result self.old self.new (at_tokens (gap_then_open ∷ [])) }
     {
-        let mut value: u128 = 0;
-        while let [character, tail @ ..] = self.rest {
-            if !is_digit(*character) {
-                break;
-            }
-            let digit = *character as u128 - 48;
-            if (LARGEST - digit) / 10 < value {
-                return Err(self.give_up());
-            }
-            value = value * 10 + digit;
-            self.rest = tail;
+        if self.end.is_some() {
+            return false;
         }
-        self.note();
-        Ok(value)
+        let found = gap::parenthesis(self.rest);
+        self.far = self.far.min(found.seen);
+        found.behind.is_some()
     }
 
-    /// Reads an integer literal.
-    #[tactic(auto, unfolding(crate::specs::Reading::read_lexeme))]
-    pub fn integer(&mut self) -> Result<i128, Fault>
-        ensures { Gives (λ n. n) result self.new (read_integer self.old) }
+    /// Reads white space and comments with a `(` behind them.
+    #[tactic(auto, unfolding(crate::specs::Reading::read_one))]
+    pub fn parenthesis(&mut self)
+        ensures { Ran nothing self.old self.new (read_one gap_then_open) }
     {
-        if !self.at_digit() {
-            return Err(self.give_up());
+        if self.end.is_some() {
+            return;
         }
-        let value = self.digits()?;
-        if self.at_name_start() {
-            return Err(Fault::Unread(self.far));
+        let found = gap::parenthesis(self.rest);
+        self.far = self.far.min(found.seen);
+        match found.behind {
+            Some(behind) => self.rest = behind,
+            None => self.end = Some(End::GaveUp(Refused::Unfit(self.far))),
         }
-        self.gap()?;
-        Ok(value as i128)
+    }
+
+    /// Reads white space and comments with no `(` behind them.
+    #[tactic(auto, unfolding(crate::specs::Reading::read_one))]
+    pub fn no_parenthesis(&mut self)
+        ensures { Ran nothing self.old self.new (read_one gap_not_open) }
+    {
+        if self.end.is_some() {
+            return;
+        }
+        let found = gap::no_parenthesis(self.rest);
+        self.far = self.far.min(found.seen);
+        match found.behind {
+            Some(behind) => self.rest = behind,
+            None => self.end = Some(End::GaveUp(Refused::Unfit(self.far))),
+        }
+    }
+
+    /// Whether a `$` stands behind white space and comments.
+    pub fn looks_at_dollar(&mut self) -> bool
+        ensures { Looked result self.old self.new (at_tokens (gap_then_dollar ∷ [])) }
+    {
+        if self.end.is_some() {
+            return false;
+        }
+        let found = gap::dollar(self.rest);
+        self.far = self.far.min(found.seen);
+        found.behind.is_some()
+    }
+
+    /// Reads white space and comments with a `$` behind them.
+    #[tactic(auto, unfolding(crate::specs::Reading::read_one))]
+    pub fn dollar(&mut self)
+        ensures { Ran nothing self.old self.new (read_one gap_then_dollar) }
+    {
+        if self.end.is_some() {
+            return;
+        }
+        let found = gap::dollar(self.rest);
+        self.far = self.far.min(found.seen);
+        match found.behind {
+            Some(behind) => self.rest = behind,
+            None => self.end = Some(End::GaveUp(Refused::Unfit(self.far))),
+        }
+    }
+
+    /// Reads white space and comments with neither `$` nor `(` behind them.
+    #[tactic(auto, unfolding(crate::specs::Reading::read_one))]
+    pub fn neither(&mut self)
+        ensures { Ran nothing self.old self.new (read_one gap_then_neither) }
+    {
+        if self.end.is_some() {
+            return;
+        }
+        let found = gap::neither(self.rest);
+        self.far = self.far.min(found.seen);
+        match found.behind {
+            Some(behind) => self.rest = behind,
+            None => self.end = Some(End::GaveUp(Refused::Unfit(self.far))),
+        }
+    }
+
+    /// Whether one of the words stands first, where it may not stand.
+    pub fn looks_at_barred(&mut self, set: WordSet) -> bool
+        ensures { Looked result self.old self.new (at_tokens (barred_words set ∷ [])) }
+    {
+        if self.end.is_some() {
+            return false;
+        }
+        let found = find(set.words(), self.rest);
+        self.far = self.far.min(found.seen);
+        found.word.is_some()
+    }
+
+    /// Reads one of the words, which may not stand.
+    #[tactic(auto, unfolding(crate::specs::Reading::read_one))]
+    pub fn barred(&mut self, set: WordSet)
+        ensures read { Ran nothing self.old self.new (read_one (barred_words set)) }
+        ensures ended { IsDone self.new }
+    {
+        if self.end.is_some() {
+            return;
+        }
+        let found = find(set.words(), self.rest);
+        let refused = match found.word {
+            Some(_) => Refused::Limit(self.rest.len()),
+            None => Refused::Unfit(self.far.min(found.seen)),
+        };
+        self.far = self.far.min(found.seen);
+        self.end = Some(End::GaveUp(refused));
+    }
+
+    /// Reads an indicator with its gap, or nothing where neither an indicator nor a `(` stands.
+    #[tactic(auto, unfolding(crate::specs::Reading::read_one))]
+    pub fn indication(&mut self) -> Option<Word>
+        ensures { Ran (found_made result) self.old self.new (read_one indication) }
+    {
+        if self.end.is_some() {
+            return None;
+        }
+        let found = find_indication(self.rest);
+        self.far = self.far.min(found.seen);
+        match found.behind {
+            Some(behind) => {
+                self.rest = behind;
+                found.word
+            }
+            None => {
+                self.end = Some(End::GaveUp(Refused::Unfit(self.far)));
+                None
+            }
+        }
+    }
+
+    /// Whether literal text, two quotes or a reference stand first, as in a string literal with these quotes.
+    pub fn looks_at_part(&mut self, quote: Quote) -> bool
+        ensures { Looked result self.old self.new (at_tokens (parts_of quote)) }
+    {
+        if self.end.is_some() {
+            return false;
+        }
+        let found = find_part(quote, self.rest);
+        self.far = self.far.min(found.seen);
+        found.stands
+    }
+
+    /// Reads literal text, and adds it.
+    pub fn text(&mut self, run: Run, builder: &mut TextBuilder)
+        ensures { Added builder.old builder.new (λ cs. Ran (characters cs) self.old self.new (read_one (text_run run))) }
+    {
+        if self.end.is_some() {
+            return;
+        }
+        let found = find_text(run, self.rest);
+        self.far = self.far.min(found.seen);
+        let Some(behind) = found.behind else {
+            self.end = Some(End::GaveUp(Refused::Unfit(self.far)));
+            return;
+        };
+        match push_text(builder, run, self.rest) {
+            Ok(_) => self.rest = behind,
+            Err(_) => self.end = Some(End::Lost),
+        }
+    }
+
+    /// Reads a reference, as its character.
+    #[tactic(auto, unfolding(crate::specs::Reading::read_one))]
+    pub fn reference(&mut self) -> char
+        ensures { Ran (characters (result ∷ [])) self.old self.new (read_one reference) }
+    {
+        if self.end.is_some() {
+            return '?';
+        }
+        let found = find_reference(self.rest);
+        if found.is_bad {
+            self.end = Some(End::GaveUp(Refused::Reference(self.rest.len())));
+            return '?';
+        }
+        self.far = self.far.min(found.seen);
+        match found.character {
+            Some((character, behind)) => {
+                self.rest = behind;
+                character
+            }
+            None => {
+                self.end = Some(End::GaveUp(Refused::Unfit(self.far)));
+                '?'
+            }
+        }
     }
 }

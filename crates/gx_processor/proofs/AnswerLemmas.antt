@@ -13,15 +13,15 @@ use Rattle.gx_static.specs.QueryJudgement.{QueryJudgement, query_typed, query_re
 use Rattle.gx_io.specs.Load.{file_of}
 use Rattle.gx_processor.specs.declared.status.Status.{Status}
 use Rattle.gx_processor.specs.declared.status.Status.TheVariants.{Query}
-use Rattle.gx_parse.specs.SyntaxTree.{SyntaxTree}
-use Rattle.gx_processor.specs.Normalisation.{NamedQuery, named_query, unknown_name, query_named}
+use Rattle.gx_base.specs.declared.place.Place.{Place}
+use Rattle.gx_ast.specs.SyntaxTree.{SyntaxTree}
+use Rattle.gx_parse.specs.Query.{Parsing, parsed, refused, Parses}
+use Rattle.gx_parse.proofs.OneParsing.{one_parsing}
+use Rattle.gx_normal.specs.Unbuilt.{first_unbuilt}
+use Rattle.gx_normal.specs.Normalisation.{NamedQuery, named_query, unknown_name, query_named}
 use Rattle.gx_processor.specs.Command.{Command, run_file, check_file, query_file, command_of}
 use Rattle.gx_processor.specs.FaultLines.{code_line}
-use Rattle.gx_processor.specs.Answer.{Answer, refuses, AnswersOutcome, AnswersTyped, AnswersJudged, AnswersNamed, AnswersTree, AnswersBytes, AnswersFile, AnswersCommand, Answers, loads_asked, AnswersLookAtTheirLoads, ChecksRefuseForRuns}
-use Rattle.gx_parse.specs.Query.{IsQuery}
-use Rattle.gx_parse.proofs.Verdict.{one_tree}
-use Rattle.gx_processor.specs.Query.{HasTree}
-use Rattle.gx_processor.proofs.TextLemmas.{one_text}
+use Rattle.gx_processor.specs.Answer.{Answer, refuses, AnswersOutcome, AnswersTyped, AnswersJudged, AnswersNamed, AnswersBuilt, AnswersParsed, AnswersBytes, AnswersFile, AnswersCommand, Answers, loads_asked, AnswersLookAtTheirLoads, ChecksRefuseForRuns}
 
 outcome_unique : (o : Outcome Items) (a b : Answer) → AnswersOutcome o a → AnswersOutcome o b → a ≡ b
 outcome_unique (gives items forest) a b h k = h ∙ sym k
@@ -40,22 +40,17 @@ named_unique : (command : Command) (n : NamedQuery) (a b : Answer) → AnswersNa
 named_unique command (named_query core) a b h k = judged_unique command core (query_judged no_declarations core) a b h k
 named_unique command (unknown_name place code) a b h k = h ∙ sym k
 
-tree_unique : (command : Command) (t : Option SyntaxTree) (a b : Answer) → AnswersTree command t a → AnswersTree command t b → a ≡ b
-tree_unique command None a b h k = h ∙ sym k
-tree_unique command (Some t) a b h k = named_unique command (query_named t) a b h k
+built_unique : (command : Command) (tree : SyntaxTree) (unbuilt : Option Place) (a b : Answer) → AnswersBuilt command tree unbuilt a → AnswersBuilt command tree unbuilt b → a ≡ b
+built_unique command tree None a b h k = named_unique command (query_named tree) a b h k
+built_unique command tree (Some place) a b h k = h ∙ sym k
 
--- bytes have one tree, or none
-pub one_tree_of : (bytes : List ℕ) (t u : Option SyntaxTree) → HasTree bytes t → HasTree bytes u → t ≡ u
-one_tree_of bytes None None h k = refl
-one_tree_of bytes None (Some u) h k = absurd (h k.0 u k.1 k.2)
-one_tree_of bytes (Some t) None h k = absurd (k h.0 t h.1 h.2)
-one_tree_of bytes (Some t) (Some u) h k =
-    let same = one_text bytes k.0 h.0 k.1 h.1 in
-    ap Some (one_tree h.0 t u h.2.parsed (subst (λ (text : List ℕ). IsQuery text u) same k.2.parsed))
+parsed_unique : (command : Command) (p : Parsing) (a b : Answer) → AnswersParsed command p a → AnswersParsed command p b → a ≡ b
+parsed_unique command (parsed tree) a b h k = built_unique command tree (first_unbuilt tree) a b h k
+parsed_unique command (refused rule place) a b h k = h ∙ sym k
 
 bytes_unique : (command : Command) (bytes : List ℕ) (a b : Answer) → AnswersBytes command bytes a → AnswersBytes command bytes b → a ≡ b
 bytes_unique command bytes a b h k =
-    tree_unique command h.0 a b h.2 (subst (λ (t : Option SyntaxTree). AnswersTree command t b) (one_tree_of bytes k.0 h.0 k.1 h.1) k.2)
+    parsed_unique command h.0 a b h.2 (subst (λ (p : Parsing). AnswersParsed command p b) (one_parsing bytes k.0 h.0 k.1 h.1) k.2)
 
 match_unique : (command : Command) (short : Bool) (bytes : List ℕ) (c a b : Answer) → MatchBool short (AnswersBytes command bytes a) (a ≡ c) → MatchBool short (AnswersBytes command bytes b) (b ≡ c) → a ≡ b
 match_unique command true bytes c a b h k = bytes_unique command bytes a b h k
@@ -86,12 +81,16 @@ named_refused : (name : List ℕ) (n : NamedQuery) (status : Status) (line : Lis
 named_refused name (named_query core) status line h = judged_refused name core (query_judged no_declarations core) status line h
 named_refused name (unknown_name place code) status line h = h
 
-tree_refused : (name : List ℕ) (t : Option SyntaxTree) (status : Status) (line : List ℕ) → AnswersTree (check_file name) t (refuses status line) → AnswersTree (run_file name) t (refuses status line)
-tree_refused name None status line h = h
-tree_refused name (Some t) status line h = named_refused name (query_named t) status line h
+built_refused : (name : List ℕ) (tree : SyntaxTree) (unbuilt : Option Place) (status : Status) (line : List ℕ) → AnswersBuilt (check_file name) tree unbuilt (refuses status line) → AnswersBuilt (run_file name) tree unbuilt (refuses status line)
+built_refused name tree None status line h = named_refused name (query_named tree) status line h
+built_refused name tree (Some place) status line h = h
+
+parsed_refused : (name : List ℕ) (p : Parsing) (status : Status) (line : List ℕ) → AnswersParsed (check_file name) p (refuses status line) → AnswersParsed (run_file name) p (refuses status line)
+parsed_refused name (parsed tree) status line h = built_refused name tree (first_unbuilt tree) status line h
+parsed_refused name (refused rule place) status line h = h
 
 short_refused : (name : List ℕ) (short : Bool) (bytes : List ℕ) (status : Status) (line : List ℕ) (a : Answer) → MatchBool short (AnswersBytes (check_file name) bytes (refuses status line)) (refuses status line ≡ a) → MatchBool short (AnswersBytes (run_file name) bytes (refuses status line)) (refuses status line ≡ a)
-short_refused name true bytes status line a h = (h.0, h.1, tree_refused name h.0 status line h.2)
+short_refused name true bytes status line a h = (h.0, h.1, parsed_refused name h.0 status line h.2)
 short_refused name false bytes status line a h = h
 
 file_refused : (name : List ℕ) (file : Option (List ℕ)) (status : Status) (line : List ℕ) → AnswersFile (check_file name) file (refuses status line) → AnswersFile (run_file name) file (refuses status line)

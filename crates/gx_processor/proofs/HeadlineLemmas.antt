@@ -13,17 +13,21 @@ use Rattle.gx_core.specs.Soundness.{typed_setting, Keeps}
 use Rattle.gx_static.specs.QueryJudgement.{QueryJudgement, query_typed, query_rejected, query_judged, QueryTypingIsSound, QueryRejectionNamesFailure}
 use Rattle.gx_io.specs.Load.{file_of}
 use Rattle.gx_processor.specs.declared.status.Status.TheVariants.{Query}
-use Rattle.gx_parse.specs.SyntaxTree.{SyntaxTree}
+use Rattle.gx_base.specs.declared.place.Place.{Place}
+use Rattle.gx_ast.specs.SyntaxTree.{SyntaxTree}
+use Rattle.gx_parse.specs.Query.{Parsing, parsed, refused, Parses}
+use Rattle.gx_parse.proofs.OneParsing.{one_parsing}
+use Rattle.gx_normal.specs.Unbuilt.{first_unbuilt}
 use Rattle.gx_processor.specs.Command.{Command, run_file, check_file, query_file, command_of}
-use Rattle.gx_processor.specs.Query.{HasTree, HoldsQuery}
-use Rattle.gx_processor.specs.Normalisation.{NamedQuery, named_query, unknown_name, query_named}
+use Rattle.gx_processor.specs.Query.{HoldsQuery}
+use Rattle.gx_normal.specs.Normalisation.{NamedQuery, named_query, unknown_name, query_named}
 use Rattle.gx_processor.specs.TypeBytes.{type_bytes}
 use Rattle.gx_processor.specs.FaultLines.{code_line}
-use Rattle.gx_processor.specs.Answer.{Answer, writes, refuses, status_of, output_of, AnswersOutcome, AnswersTyped, AnswersJudged, AnswersNamed, AnswersTree, AnswersBytes, AnswersFile, AnswersCommand, Answers}
+use Rattle.gx_processor.specs.Answer.{Answer, writes, refuses, status_of, output_of, AnswersOutcome, AnswersTyped, AnswersJudged, AnswersNamed, AnswersBuilt, AnswersParsed, AnswersBytes, AnswersFile, AnswersCommand, Answers}
 use Rattle.gx_processor.specs.Run.{Run}
 use Rattle.gx_processor.specs.Promises.{LeavesAnswer}
 use Rattle.gx_processor.specs.Headline.{RunEnds, RunsTyped, ChecksTyped, HoldsTyped, RunsAsChecked, RejectsUntyped}
-use Rattle.gx_processor.proofs.AnswerLemmas.{answer_at, one_tree_of}
+use Rattle.gx_processor.proofs.AnswerLemmas.{answer_at}
 use Rattle.gx_processor.proofs.PromiseLemmas.{AnsweredOrStarved}
 
 -- what an answer at a file that is held comes to
@@ -36,9 +40,10 @@ judged_answer : (words : List (List ℕ)) (files : List (List ℕ × List ℕ)) 
 judged_answer words files command core a e q h =
     let at = answer_at words files command q.bytes a e q.held h in
     let of_bytes = short_answer command (nat_le (length q.bytes) 16777216) q.bytes a (refuses Query (code_line GLXS0001)) (le-leb (length q.bytes) 16777216 q.within) at in
-    let same = one_tree_of q.bytes of_bytes.0 (Some q.query.tree) of_bytes.1 (q.query.text, q.query.decoded, q.query.parsed) in
-    let of_tree = subst (λ (t : Option SyntaxTree). AnswersTree command t a) same of_bytes.2 in
-    subst (λ (n : NamedQuery). AnswersNamed command n a) q.query.named of_tree
+    let same = one_parsing q.bytes of_bytes.0 (parsed q.query.tree) of_bytes.1 q.query.parses in
+    let of_tree = subst (λ (p : Parsing). AnswersParsed command p a) same of_bytes.2 in
+    let of_built = subst (λ (o : Option Place). AnswersBuilt command q.query.tree o a) q.query.built of_tree in
+    subst (λ (n : NamedQuery). AnswersNamed command n a) q.query.named of_built
 
 typed_answer : (words : List (List ℕ)) (files : List (List ℕ × List ℕ)) (command : Command) (core : Core) (t : TypedCore) (a : Answer) → command_of words ≡ Some command → HoldsQuery files (query_file command) core → query_judged no_declarations core ≡ query_typed t → Answers words files a → AnswersTyped command core t a
 typed_answer words files command core t a e q j h = subst (λ (k : QueryJudgement). AnswersJudged command core k a) j (judged_answer words files command core a e q h)
@@ -83,20 +88,24 @@ named_printed : (name : List ℕ) (n : NamedQuery) (printed : List ℕ) → Answ
 named_printed name (named_query core) printed h = let j = judged_printed name core (query_judged no_declarations core) printed h in (core, j.0, refl, j.1, j.2)
 named_printed name (unknown_name place code) printed h = cc
 
-tree_printed : (files : List (List ℕ × List ℕ)) (name bytes : List ℕ) (tree : Option SyntaxTree) (printed : List ℕ) → file_of files name ≡ Some bytes → length bytes ≤ 16777216 → HasTree bytes tree → AnswersTree (check_file name) tree (writes printed) → HoldsTyped files name printed
-tree_printed files name bytes None printed held within t h = cc
-tree_printed files name bytes (Some tree) printed held within t h =
+built_printed : (files : List (List ℕ × List ℕ)) (name bytes : List ℕ) (tree : SyntaxTree) (unbuilt : Option Place) (printed : List ℕ) → file_of files name ≡ Some bytes → length bytes ≤ 16777216 → Parses bytes (parsed tree) → first_unbuilt tree ≡ unbuilt → AnswersBuilt (check_file name) tree unbuilt (writes printed) → HoldsTyped files name printed
+built_printed files name bytes tree (Some place) printed held within p b h = cc
+built_printed files name bytes tree None printed held within p b h =
     let n = named_printed name (query_named tree) printed h in
     record {
       core = n.0;
       typing = n.1;
-      query = record { bytes = bytes; held = held; within = within; query = record { text = t.0; tree = tree; decoded = t.1; parsed = t.2; named = n.2 } };
+      query = record { bytes = bytes; held = held; within = within; query = record { tree = tree; parses = p; built = b; named = n.2 } };
       judgement = n.3;
       text = n.4;
     }
 
+parsed_printed : (files : List (List ℕ × List ℕ)) (name bytes : List ℕ) (p : Parsing) (printed : List ℕ) → file_of files name ≡ Some bytes → length bytes ≤ 16777216 → Parses bytes p → AnswersParsed (check_file name) p (writes printed) → HoldsTyped files name printed
+parsed_printed files name bytes (refused rule place) printed held within p h = cc
+parsed_printed files name bytes (parsed tree) printed held within p h = built_printed files name bytes tree (first_unbuilt tree) printed held within p refl h
+
 short_printed : (files : List (List ℕ × List ℕ)) (name bytes : List ℕ) (short : Bool) (printed : List ℕ) → file_of files name ≡ Some bytes → nat_le (length bytes) 16777216 ≡ short → MatchBool short (AnswersBytes (check_file name) bytes (writes printed)) (writes printed ≡ refuses Query (code_line GLXS0001)) → HoldsTyped files name printed
-short_printed files name bytes true printed held e h = tree_printed files name bytes h.0 printed held (leb-true (length bytes) 16777216 e) h.1 h.2
+short_printed files name bytes true printed held e h = parsed_printed files name bytes h.0 printed held (leb-true (length bytes) 16777216 e) h.1 h.2
 short_printed files name bytes false printed held e h = cc
 
 file_printed : (files : List (List ℕ × List ℕ)) (name : List ℕ) (file : Option (List ℕ)) (printed : List ℕ) → file_of files name ≡ file → AnswersFile (check_file name) file (writes printed) → HoldsTyped files name printed

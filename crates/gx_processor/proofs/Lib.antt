@@ -1,11 +1,8 @@
 pub mod ValueTexts
-pub mod TextLemmas
 pub mod QueryLemmas
 pub mod AnswerLemmas
 pub mod Course
 pub mod PromiseLemmas
 pub mod HeadlineLemmas
 pub mod Promised
-pub mod NumberedVariables
 pub mod AnswerExists
-pub mod NormalisingLemmas

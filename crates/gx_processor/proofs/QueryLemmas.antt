@@ -9,22 +9,25 @@ use Rattle.gx_core.specs.declared.typed.TypedCore.{TypedCore}
 use Rattle.gx_core.specs.QueryMeaning.{plain_query}
 use Rattle.gx_static.specs.QueryJudgement.{QueryJudgement, query_typed, query_judged}
 use Rattle.gx_io.specs.Load.{file_of}
-use Rattle.gx_parse.specs.SyntaxTree.{SyntaxTree}
+use Rattle.gx_ast.specs.SyntaxTree.{SyntaxTree}
+use Rattle.gx_base.specs.declared.place.Place.{Place}
+use Rattle.gx_parse.specs.Query.{Parses, parsed}
+use Rattle.gx_normal.specs.Unbuilt.{first_unbuilt}
 use Rattle.gx_processor.specs.declared.refusal.Refusal.{Refusal}
-use Rattle.gx_processor.specs.declared.refusal.Refusal.TheVariants.{ReadFault, Query, NoType, Dynamic, Memory}
+use Rattle.gx_processor.specs.declared.refusal.Refusal.TheVariants.{ReadFault, TooLong, Query, Dynamic, Memory}
 use Rattle.gx_processor.specs.declared.status.Status.TheVariants as status
 use Rattle.gx_processor.specs.Command.{Command, query_file}
 use Rattle.gx_processor.specs.FaultLines.{code_line}
-use Rattle.gx_processor.specs.Normalisation.{NamedQuery, named_query, query_named}
-use Rattle.gx_processor.specs.Query.{HasTree, HoldsQuery}
-use Rattle.gx_processor.specs.Answer.{Answer, writes, refuses, AnswersTyped, AnswersJudged, AnswersNamed, AnswersBytes, AnswersFile, AnswersCommand}
+use Rattle.gx_normal.specs.Normalisation.{NamedQuery, named_query, query_named}
+use Rattle.gx_processor.specs.Query.{HoldsQuery}
+use Rattle.gx_processor.specs.Answer.{Answer, writes, refuses, AnswersTyped, AnswersJudged, AnswersNamed, AnswersBuilt, AnswersBytes, AnswersFile, AnswersCommand}
 use Rattle.gx_processor.specs.Replies.{RefusesSo}
 
 -- what follows from an answer follows from a refusal that says it
 pub refuses_through : (r : Refusal) (P Q : Answer → Type 0) → ((a : Answer) → P a → Q a) → RefusesSo r P → RefusesSo r Q
 refuses_through ReadFault P Q f h = tt
-refuses_through (Query code) P Q f h = f _ h
-refuses_through (NoType place code) P Q f h = f _ h
+refuses_through TooLong P Q f h = f _ h
+refuses_through (Query code place) P Q f h = f _ h
 refuses_through (Dynamic code) P Q f h = f _ h
 refuses_through Memory P Q f h = tt
 
@@ -35,8 +38,11 @@ judged_answers command core t a j h = subst (λ (k : QueryJudgement). AnswersJud
 named_answers : (command : Command) (n : NamedQuery) (core : Core) (a : Answer) → n ≡ named_query core → AnswersJudged command core (query_judged no_declarations core) a → AnswersNamed command n a
 named_answers command n core a e h = subst (λ (m : NamedQuery). AnswersNamed command m a) (sym e) h
 
-tree_answers : (command : Command) (bytes : List ℕ) (tree : SyntaxTree) (a : Answer) → HasTree bytes (Some tree) → AnswersNamed command (query_named tree) a → AnswersBytes command bytes a
-tree_answers command bytes tree a t h = (Some tree, t, h)
+built_answers : (command : Command) (tree : SyntaxTree) (unbuilt : Option Place) (a : Answer) → unbuilt ≡ None → AnswersNamed command (query_named tree) a → AnswersBuilt command tree unbuilt a
+built_answers command tree unbuilt a e h = subst (λ (o : Option Place). AnswersBuilt command tree o a) (sym e) h
+
+tree_answers : (command : Command) (bytes : List ℕ) (tree : SyntaxTree) (a : Answer) → Parses bytes (parsed tree) → first_unbuilt tree ≡ None → AnswersNamed command (query_named tree) a → AnswersBytes command bytes a
+tree_answers command bytes tree a p b h = (parsed tree, p, built_answers command tree (first_unbuilt tree) a b h)
 
 short_answers : (command : Command) (short : Bool) (bytes : List ℕ) (a b : Answer) → short ≡ true → AnswersBytes command bytes a → MatchBool short (AnswersBytes command bytes a) (a ≡ b)
 short_answers command short bytes a b e h = subst (λ (s : Bool). MatchBool s (AnswersBytes command bytes a) (a ≡ b)) (sym e) h
@@ -50,7 +56,7 @@ file_answers command file bytes a held within h =
 pub query_answers : (files : List (List ℕ × List ℕ)) (command : Command) (core : Core) (t : TypedCore) (a : Answer) → HoldsQuery files (query_file command) core → query_judged no_declarations core ≡ query_typed t → AnswersTyped command core t a → AnswersCommand files (Some command) a
 query_answers files command core t a q j h =
     file_answers command (file_of files (query_file command)) q.bytes a q.held q.within
-    (tree_answers command q.bytes q.query.tree a (q.query.text, q.query.decoded, q.query.parsed)
+    (tree_answers command q.bytes q.query.tree a q.query.parses q.query.built
     (named_answers command (query_named q.query.tree) core a q.query.named (judged_answers command core t a j h)))
 
 -- the refusals of the steps
@@ -59,21 +65,29 @@ file_refused None name bytes r held within h = tt
 file_refused (Some files) name bytes r held within h = λ command.
     refuses_through r (AnswersBytes command bytes) (AnswersFile command (file_of files name)) (λ a k. file_answers command (file_of files name) bytes a held within k) (h command)
 
-pub tree_refused : (bytes : List ℕ) (tree : SyntaxTree) (r : Refusal) → HasTree bytes (Some tree) → ((command : Command) → RefusesSo r (AnswersNamed command (query_named tree))) → (command : Command) → RefusesSo r (AnswersBytes command bytes)
-tree_refused bytes tree r t h command = refuses_through r (AnswersNamed command (query_named tree)) (AnswersBytes command bytes) (λ a k. tree_answers command bytes tree a t k) (h command)
+pub tree_refused : (bytes : List ℕ) (tree : SyntaxTree) (r : Refusal) → Parses bytes (parsed tree) → first_unbuilt tree ≡ None → ((command : Command) → RefusesSo r (AnswersNamed command (query_named tree))) → (command : Command) → RefusesSo r (AnswersBytes command bytes)
+tree_refused bytes tree r p b h command = refuses_through r (AnswersNamed command (query_named tree)) (AnswersBytes command bytes) (λ a k. tree_answers command bytes tree a p b k) (h command)
+
+-- a production that is not built is refused where it stands
+pub unbuilt_refused : (bytes : List ℕ) (tree : SyntaxTree) (r : Refusal) → Parses bytes (parsed tree) → ((command : Command) → RefusesSo r (AnswersBuilt command tree (first_unbuilt tree))) → (command : Command) → RefusesSo r (AnswersBytes command bytes)
+unbuilt_refused bytes tree r p h command = refuses_through r (AnswersBuilt command tree (first_unbuilt tree)) (AnswersBytes command bytes) (λ a k. (parsed tree, p, k)) (h command)
+
+pub built_refused : {V : Type 0} (bytes : List ℕ) (tree : SyntaxTree) (r : Result V Refusal) → Parses bytes (parsed tree) → IfErr r (λ e. (command : Command) → RefusesSo e (AnswersBuilt command tree (first_unbuilt tree))) → IfErr r (λ e. (command : Command) → RefusesSo e (AnswersBytes command bytes))
+built_refused bytes tree (Ok v) p h = tt
+built_refused bytes tree (Err e) p h = unbuilt_refused bytes tree e p h
 
 pub core_refused : (tree : SyntaxTree) (core : Core) (r : Refusal) → query_named tree ≡ named_query core → ((command : Command) → RefusesSo r (AnswersJudged command core (query_judged no_declarations core))) → (command : Command) → RefusesSo r (AnswersNamed command (query_named tree))
 core_refused tree core r e h command =
     refuses_through r (AnswersJudged command core (query_judged no_declarations core)) (AnswersNamed command (query_named tree)) (λ a k. named_answers command (query_named tree) core a e k) (h command)
 
 -- the query that the steps come to
-pub held_query : (told : Option (List (List ℕ × List ℕ))) (name bytes : List ℕ) (tree : SyntaxTree) (core : Core) → IfSome told (λ files. file_of files name ≡ Some bytes) → length bytes ≤ 16777216 → HasTree bytes (Some tree) → query_named tree ≡ named_query core → IfSome told (λ files. HoldsQuery files name core)
-held_query None name bytes tree core held within t e = tt
-held_query (Some files) name bytes tree core held within t e = record {
+pub held_query : (told : Option (List (List ℕ × List ℕ))) (name bytes : List ℕ) (tree : SyntaxTree) (core : Core) → IfSome told (λ files. file_of files name ≡ Some bytes) → length bytes ≤ 16777216 → Parses bytes (parsed tree) → first_unbuilt tree ≡ None → query_named tree ≡ named_query core → IfSome told (λ files. HoldsQuery files name core)
+held_query None name bytes tree core held within p b e = tt
+held_query (Some files) name bytes tree core held within p b e = record {
   bytes = bytes;
   held = held;
   within = within;
-  query = record { text = t.0; tree = tree; decoded = t.1; parsed = t.2; named = e };
+  query = record { tree = tree; parses = p; built = b; named = e };
 }
 
 -- what a command writes of a query that has a type, and how it refuses

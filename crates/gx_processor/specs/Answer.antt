@@ -1,5 +1,6 @@
 -- What the program answers to its words, over the files that its library holds.
 use Rattle.std.specs.Prelude.{◌≡◌, ℕ, nat_le, List, [], ◌∷◌, All, length, Option, None, Some, MatchBool}
+use Rattle.gx_base.specs.declared.place.Place.{Place}
 use Rattle.gx_base.specs.declared.code.Code.TheVariants.{GLXS0001, XPST0003}
 use Rattle.gx_types.specs.SchemaSet.{no_declarations}
 use Rattle.gx_core.specs.declared.expression.Core.{Core}
@@ -11,9 +12,11 @@ use Rattle.gx_static.specs.QueryJudgement.{QueryJudgement, query_typed, query_re
 use Rattle.gx_io.specs.Load.{file_of}
 use Rattle.gx_processor.specs.declared.status.Status.{Status}
 use Rattle.gx_processor.specs.declared.status.Status.TheVariants as status
-use Rattle.gx_parse.specs.SyntaxTree.{SyntaxTree}
-use Rattle.gx_processor.specs.Query.{HasTree}
-use Rattle.gx_processor.specs.Normalisation.{NamedQuery, named_query, unknown_name, query_named}
+use Rattle.gx_ast.specs.SyntaxTree.{SyntaxTree}
+use Rattle.gx_parse.specs.Query.{Parsing, parsed, refused, Parses}
+use Rattle.gx_processor.specs.RuleCode.{rule_code}
+use Rattle.gx_normal.specs.Unbuilt.{first_unbuilt}
+use Rattle.gx_normal.specs.Normalisation.{NamedQuery, named_query, unknown_name, query_named}
 use Rattle.gx_processor.specs.Serialisation.{serialised}
 use Rattle.gx_processor.specs.TypeBytes.{type_bytes}
 use Rattle.gx_processor.specs.Command.{Command, run_file, check_file, query_file, command_of}
@@ -55,16 +58,21 @@ AnswersJudged command core (query_typed typing) answer = AnswersTyped command co
 
 -- names
 abbrev pub AnswersNamed : Command → NamedQuery → Answer → Type 0
-AnswersNamed command (unknown_name place code) answer = answer ≡ refuses status.Query (code_line code)
+AnswersNamed command (unknown_name place code) answer = answer ≡ refuses status.Query (placed_line code place)
 AnswersNamed command (named_query core) answer = AnswersJudged command core (query_judged no_declarations core) answer
 
+-- a production that is not built yet
+abbrev pub AnswersBuilt : Command → SyntaxTree → (unbuilt : Option Place) → Answer → Type 0
+AnswersBuilt command tree (Some place) answer = answer ≡ refuses status.Query (placed_line XPST0003 place)
+AnswersBuilt command tree None answer = AnswersNamed command (query_named tree) answer
+
 -- parsing
-abbrev pub AnswersTree : Command → Option SyntaxTree → Answer → Type 0
-AnswersTree command None answer = answer ≡ refuses status.Query (code_line XPST0003)
-AnswersTree command (Some tree) answer = AnswersNamed command (query_named tree) answer
+abbrev pub AnswersParsed : Command → Parsing → Answer → Type 0
+AnswersParsed command (refused rule place) answer = answer ≡ refuses status.Query (placed_line (rule_code rule) place)
+AnswersParsed command (parsed tree) answer = AnswersBuilt command tree (first_unbuilt tree) answer
 
 abbrev pub AnswersBytes : Command → List ℕ → Answer → Type 0
-AnswersBytes command bytes answer = (tree : Option SyntaxTree) × HasTree bytes tree × AnswersTree command tree answer
+AnswersBytes command bytes answer = (parsing : Parsing) × Parses bytes parsing × AnswersParsed command parsing answer
 
 -- loading, within the limit on the bytes of a file
 abbrev pub AnswersFile : Command → Option (List ℕ) → Answer → Type 0

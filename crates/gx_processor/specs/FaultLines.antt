@@ -1,6 +1,7 @@
 -- The lines that tell of refusals.
 use Rattle.std.specs.Prelude.{◌≡◌, ℕ, List, [], ◌∷◌, ◌++◌, codes, decimal, ◌⊎◌}
 use Rattle.gx_base.specs.declared.code.Code.{Code}
+use Rattle.gx_base.specs.declared.code.Code.TheVariants.{GLXS0001}
 use Rattle.gx_base.specs.declared.place.Place.{Place}
 use Rattle.gx_base.specs.Code.{spelling}
 
@@ -22,9 +23,9 @@ code_line code = line (spelling code)
 abbrev pub placed_line : Code → Place → List ℕ
 placed_line code place = line (spelling code ++ codes " at " ++ decimal place.line ++ codes ":" ++ decimal place.column)
 
--- the line of a refused query: a code alone, or with its place
+-- the line of a refused query: the code of a file that is too long, alone, or a code with its place
 abbrev pub IsQueryLine : List ℕ → Type 0
-IsQueryLine told = (code : Code) × ((told ≡ code_line code) ⊎ ((place : Place) × (told ≡ placed_line code place)))
+IsQueryLine told = (told ≡ code_line GLXS0001) ⊎ ((code : Code) × (place : Place) × (told ≡ placed_line code place))
 
 abbrev pub write_fault_line : List ℕ
 write_fault_line = line (codes "WriteFault")

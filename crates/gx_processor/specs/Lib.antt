@@ -1,11 +1,10 @@
 pub mod Query
-pub mod Normalisation
-pub mod NameRefusal
 pub mod Serialisation
 pub mod TypeBytes
 pub mod Command
 pub mod CommandView
 pub mod FaultLines
+pub mod RuleCode
 pub mod Status
 pub mod Answer
 pub mod Run
@@ -13,4 +12,3 @@ pub mod Ending
 pub mod Replies
 pub mod Headline
 pub mod Promises
-pub mod Normalising

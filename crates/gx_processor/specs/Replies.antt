@@ -2,6 +2,7 @@
 use Rattle.std.specs.Prelude.{◌≡◌, ℕ, List, None, Some}
 use Rattle.std.specs.String.{string_bytes}
 use Rattle.gx_base.specs.declared.code.Code.{Code}
+use Rattle.gx_base.specs.declared.code.Code.TheVariants.{GLXS0001}
 use Rattle.gx_processor.specs.declared.status.Status.{Status}
 use Rattle.gx_processor.specs.declared.status.Status.TheVariants as status
 use Rattle.gx_processor.specs.declared.reply.Reply.{Reply}
@@ -14,8 +15,8 @@ use Rattle.gx_processor.specs.FaultLines.{usage_line, read_fault_line, code_line
 
 -- a refusal of the query or a dynamic error is the answer; a read fault and want of memory say nothing of it
 abbrev pub RefusesSo : Refusal → (Answer → Type 0) → Type 0
-RefusesSo (refusal.Query code) Answered = Answered (refuses status.Query (code_line code))
-RefusesSo (refusal.NoType place code) Answered = Answered (refuses status.Query (placed_line code place))
+RefusesSo refusal.TooLong Answered = Answered (refuses status.Query (code_line GLXS0001))
+RefusesSo (refusal.Query code place) Answered = Answered (refuses status.Query (placed_line code place))
 RefusesSo (refusal.Dynamic code) Answered = Answered (refuses status.Dynamic (code_line code))
 RefusesSo refusal.ReadFault Answered = Unit {0}
 RefusesSo refusal.Memory Answered = Unit {0}
@@ -24,8 +25,8 @@ RefusesSo refusal.Memory Answered = Unit {0}
 abbrev pub HasCause : (Rose Runs : Type 0) → Refusal → Type 0
 HasCause Rose Runs refusal.ReadFault = Rose
 HasCause Rose Runs (refusal.Dynamic code) = Runs
-HasCause Rose Runs (refusal.Query code) = Unit {0}
-HasCause Rose Runs (refusal.NoType place code) = Unit {0}
+HasCause Rose Runs refusal.TooLong = Unit {0}
+HasCause Rose Runs (refusal.Query code place) = Unit {0}
 HasCause Rose Runs refusal.Memory = Unit {0}
 
 -- likewise of a reply

@@ -3,9 +3,6 @@
 
 mod command;
 pub mod laws;
-mod names;
-mod normalise;
-mod normalising;
 mod output;
 pub mod processor;
 mod query;

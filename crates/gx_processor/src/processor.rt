@@ -65,8 +65,8 @@ fn reply_to<L: Library>(alloc: Global, words: &[String], library: &mut L) -> Rep
     match output(alloc, command, library) {
         Ok(text) => Reply::Output(text),
         Err(Refusal::ReadFault) => fault(alloc, Status::ReadFault, "ReadFault ", command.file()),
-        Err(Refusal::Query(code)) => fault(alloc, Status::Query, code.text(), ""),
-        Err(Refusal::NoType { place, code }) => placed_fault(alloc, code, place),
+        Err(Refusal::TooLong) => fault(alloc, Status::Query, Code::GLXS0001.text(), ""),
+        Err(Refusal::Query { code, place }) => placed_fault(alloc, code, place),
         Err(Refusal::Dynamic(code)) => fault(alloc, Status::Dynamic, code.text(), ""),
         Err(Refusal::Memory) => Reply::Starved,
     }

@@ -1,30 +1,32 @@
 // Queries with their types.
 
-ghost use Rattle.std.specs.Prelude.{◌≡◌, ℕ, ◌≤◌, ◌<◌, ◌^◌, [], ◌∷◌, length, IfOk, IfErr, IfSome, IfNone, Some};
+ghost use Rattle.std.specs.Prelude.{◌≡◌, ◌≤◌, [], ◌∷◌, length, IfOk, IfErr, IfSome, Some, None};
 ghost use Rattle.gx_types.specs.SchemaSet.{no_declarations};
 ghost use Rattle.gx_core.specs.QueryMeaning.{plain_query, IsSoundQuery};
 ghost use Rattle.gx_static.specs.QueryJudgement.{query_judged, query_typed};
 ghost use Rattle.gx_io.specs.Calls.{Loads};
 ghost use Rattle.gx_io.specs.Faults.{Rose};
 ghost use Rattle.gx_io.specs.Load.{file_of};
-ghost use Rattle.gx_processor.specs.Answer.{AnswersFile, AnswersBytes, AnswersNamed, AnswersJudged};
+ghost use Rattle.gx_parse.specs.Query.{Parses, parsed};
+ghost use Rattle.gx_processor.specs.Answer.{AnswersFile, AnswersBytes, AnswersBuilt, AnswersNamed, AnswersJudged};
 ghost use Rattle.gx_processor.specs.Command.{Command};
-ghost use Rattle.gx_processor.specs.Query.{HasTree, HoldsQuery, IsPlainQuery, has_comment};
-ghost use Rattle.gx_processor.specs.Normalisation.{query_named, named_query};
+ghost use Rattle.gx_processor.specs.Query.{HoldsQuery};
+ghost use Rattle.gx_normal.specs.Normalisation.{query_named, named_query};
 ghost use Rattle.gx_processor.specs.Replies.{RefusesSo, HasCause};
-ghost use Rattle.gx_parse.specs.SyntaxTree.{SyntaxTree, nodes};
+ghost use Rattle.gx_processor.specs.RuleCode.{rule_code};
+ghost use Rattle.gx_normal.specs.Unbuilt.{first_unbuilt};
 
-use crate::normalise::{NameRefusal, normalise};
 use crate::refusal::Refusal;
+use gx_ast::dismantle::dismantle;
+use gx_ast::expression::Expr;
 use gx_base::code::Code;
 use gx_base::limits::FILE_BYTES;
 use gx_core::expression::Core;
 use gx_core::typed::TypedCore;
-use gx_grammar::decode::{DecodeError, decode};
 use gx_io::{Library, LoadError};
-use gx_parse::dismantle::dismantle;
-use gx_parse::parser::{ParseError, parse};
-use gx_parse::syntax::Syntax;
+use gx_normal::normalise::{NameRefusal, normalise};
+use gx_normal::unbuilt::first_unbuilt;
+use gx_parse::parser::{SyntaxRefusal, SyntaxRule, parse};
 use gx_static::error::InferError;
 use gx_static::infer::infer;
 use gx_types::schemas::Schemas;
@@ -46,8 +48,8 @@ pub fn typed_query<L: Library>(
     ensures cause { IfErr result (HasCause (Rose (L.faults library.old) (L.faults library.new)) ⊥) }
 {
     let bytes = bytes_of(alloc, file, library)?;
-    let syntax = syntax_of(alloc, bytes.as_slice())?;
-    let core = core_of(alloc, syntax)?;
+    let tree = tree_of(alloc, bytes.as_slice())?;
+    let core = core_of(alloc, tree)?;
     typed_core(alloc, core)
 }
 
@@ -63,82 +65,72 @@ fn bytes_of<L: Library>(alloc: Global, file: &str, library: &mut L) -> Result<Ve
 {
     match library.load(alloc, file, FILE_BYTES) {
         Ok(bytes) => Ok(bytes),
-        Err(LoadError::TooLong { .. }) => Err(Refusal::Query(Code::GLXS0001)),
+        Err(LoadError::TooLong { .. }) => Err(Refusal::TooLong),
         Err(LoadError::Failed) => Err(Refusal::ReadFault),
         Err(LoadError::Memory) => Err(Refusal::Memory),
     }
 }
 
-// The tree of the bytes.
-fn syntax_of(alloc: Global, bytes: &[u8]) -> Result<Syntax, Refusal>
+// The tree of the bytes, all of whose productions are built.
+fn tree_of(alloc: Global, bytes: &[u8]) -> Result<Expr, Refusal>
     requires { length bytes.now ≤ FILE_BYTES }
-    ensures tree { IfOk result (λ tree. HasTree bytes.now (Some tree)) }
-    ensures small { IfOk result (λ tree. nodes tree < 2 ^ 31) }
+    ensures tree { IfOk result (λ tree. Parses bytes.now (parsed tree)) }
+    ensures built { IfOk result (λ tree. first_unbuilt tree ≡ None) }
     ensures refused { IfErr result (λ refusal. (command : Command) → RefusesSo refusal (AnswersBytes command bytes.now)) }
     ensures cause { IfErr result (HasCause ⊥ ⊥) }
 {
-    match tree_of_bytes(alloc, bytes) {
-        Ok(Some(syntax)) => Ok(syntax),
-        Ok(None) => Err(Refusal::Query(Code::XPST0003)),
-        Err(AllocError) => Err(Refusal::Memory),
-    }
-}
-
-// The tree of the bytes, if they have one.
-fn tree_of_bytes(alloc: Global, bytes: &[u8]) -> Result<Option<Syntax>, AllocError>
-    requires { length bytes.now ≤ FILE_BYTES }
-    ensures tree { IfOk result (λ tree. HasTree bytes.now tree) }
-    ensures small { IfOk result (λ tree. IfSome tree (λ t. nodes t < 2 ^ 31)) }
-{
-    match decode(alloc, bytes) {
-        Ok(text) => tree_of_text(alloc, text.as_slice()),
-        Err(DecodeError::NotUtf8(_)) => Ok(None),
-        Err(DecodeError::Memory) => Err(AllocError),
-    }
-}
-
-// The tree of a text without comments.
-fn tree_of_text(alloc: Global, text: &[char]) -> Result<Option<Syntax>, AllocError>
-    requires { length text.now ≤ FILE_BYTES }
-    ensures tree { IfOk result (λ tree. IfSome tree (IsPlainQuery text.now)) }
-    ensures none { IfOk result (λ tree. IfNone tree ((t : SyntaxTree) → IsPlainQuery text.now t → ⊥)) }
-    ensures small { IfOk result (λ tree. IfSome tree (λ t. nodes t < 2 ^ 31)) }
-{
-    if has_comment(text) {
-        return Ok(None);
-    }
-    match parse(alloc, text) {
-        Ok(syntax) => Ok(Some(syntax)),
-        Err(ParseError::NotAQuery { .. }) => Ok(None),
-        Err(ParseError::Memory) => Err(AllocError),
-    }
-}
-
-fn has_comment(text: &[char]) -> bool
-    ensures { result ≡ has_comment text.now }
-{
-    let mut opened = false;
-    for character in text {
-        if opened && *character == ':' {
-            return true;
+    match parse(alloc, bytes) {
+        Ok(tree) => built(alloc, tree),
+        Err(SyntaxRefusal::Refused { rule, place }) => {
+            let code = rule_code(rule);
+            Err(Refusal::Query { code, place })
         }
-        opened = *character == '(';
+        Err(SyntaxRefusal::Memory) => Err(Refusal::Memory),
     }
-    false
+}
+
+// The code of a rule of syntax.
+fn rule_code(rule: SyntaxRule) -> Code
+    ensures { result ≡ rule_code rule }
+{
+    match rule {
+        SyntaxRule::NotUtf8 | SyntaxRule::Syntax => Code::XPST0003,
+        SyntaxRule::TooNested => Code::GLXS0002,
+        SyntaxRule::LiteralTooLarge => Code::GLXS0003,
+        SyntaxRule::BadReference => Code::XQST0090,
+    }
+}
+
+// A tree all of whose productions are built; another one ends here.
+fn built(alloc: Global, tree: Expr) -> Result<Expr, Refusal>
+    ensures same { IfOk result (λ kept. kept ≡ tree) }
+    ensures built { IfOk result (λ kept. first_unbuilt kept ≡ None) }
+    ensures refused { IfErr result (λ refusal. (command : Command) → RefusesSo refusal (AnswersBuilt command tree (first_unbuilt tree))) }
+    ensures cause { IfErr result (HasCause ⊥ ⊥) }
+{
+    let refusal = match first_unbuilt(alloc, &tree) {
+        Ok(None) => return Ok(tree),
+        Ok(Some(place)) => Refusal::Query {
+            code: Code::XPST0003,
+            place,
+        },
+        Err(AllocError) => Refusal::Memory,
+    };
+    dismantle(alloc, tree);
+    Err(refusal)
 }
 
 // The Core of a tree, which ends here.
-fn core_of(alloc: Global, syntax: Syntax) -> Result<Core, Refusal>
-    requires { nodes syntax < 2 ^ 31 }
-    ensures core { IfOk result (λ core. query_named syntax ≡ named_query core) }
-    ensures refused { IfErr result (λ refusal. (command : Command) → RefusesSo refusal (AnswersNamed command (query_named syntax))) }
+fn core_of(alloc: Global, tree: Expr) -> Result<Core, Refusal>
+    ensures core { IfOk result (λ core. query_named tree ≡ named_query core) }
+    ensures refused { IfErr result (λ refusal. (command : Command) → RefusesSo refusal (AnswersNamed command (query_named tree))) }
     ensures cause { IfErr result (HasCause ⊥ ⊥) }
 {
-    let core = normalise(alloc, &syntax);
-    dismantle(alloc, syntax);
+    let core = normalise(alloc, &tree);
+    dismantle(alloc, tree);
     match core {
         Ok(core) => Ok(core),
-        Err(NameRefusal::Refused { code, .. }) => Err(Refusal::Query(code)),
+        Err(NameRefusal::Refused { code, place }) => Err(Refusal::Query { code, place }),
         Err(NameRefusal::Memory) => Err(Refusal::Memory),
     }
 }
@@ -155,7 +147,7 @@ fn typed_core(alloc: Global, core: Core) -> Result<TypedCore, Refusal>
     let schemas = Schemas::empty(alloc)?;
     match infer(alloc, &schemas, core) {
         Ok(typed) => Ok(typed),
-        Err(InferError::NoType { place, code }) => Err(Refusal::NoType { place, code }),
+        Err(InferError::NoType { place, code }) => Err(Refusal::Query { code, place }),
         Err(InferError::Memory) => Err(Refusal::Memory),
     }
 }

@@ -4,13 +4,13 @@ use gx_base::code::Code;
 use gx_base::place::Place;
 use std::alloc::AllocError;
 
-/// Why a command has no output: the query's file could not be read, the query has no tree or a name that is not in scope,
-/// an expression of it has no type, its evaluation raises an error, or memory is wanting.
+/// Why a command has no output: the query's file could not be read or is too long, the query is refused at a place, its evaluation
+/// raises an error, or memory is wanting.
 #[derive(Clone, Copy, Debug, PartialEq, Eq)]
 pub enum Refusal {
     ReadFault,
-    Query(Code),
-    NoType { place: Place, code: Code },
+    TooLong,
+    Query { code: Code, place: Place },
     Dynamic(Code),
     Memory,
 }

@@ -1,29 +1,55 @@
-// Reads query texts, a line each, and writes each again with its syntax tree, in brackets and with the place of each
-// node, or with the place where it is refused. In a line `\n`, `\r`, `\t` and `\\` stand for characters.
+//! Rows of query texts. A row of the input is a text; the row of the output has it again, and its syntax tree, or the rule that
+//! refuses it and the place. A row that begins with `?` shows only whether the text has a tree. In a row `\n`, `\r`, `\t`, `\\` and
+//! `\1` (the character with the number 1) stand for characters.
 #![tactic(auto)]
 
 mod show;
 
-use gx_grammar::decode::decode;
-use gx_parse::parser::{ParseError, parse};
+use gx_parse::parser::{SyntaxRefusal, parse};
 use std::alloc::{AllocError, Global};
 use std::io;
 
-// The character that stands behind a backslash.
-fn escaped(c: char) -> char {
-    match c {
-        'n' => '\n',
-        'r' => '\r',
-        't' => '\t',
-        other => other,
+fn main(rt: HostRuntime) -> io::Result<()> {
+    for line in rt.lines(rt.alloc()) {
+        let line = line?;
+        let answer = row_answer(rt.alloc(), line.as_str())?;
+        println!(rt; "{line} = {answer}")?;
+    }
+    Ok(())
+}
+
+fn row_answer(alloc: Global, row: &str) -> Result<String, AllocError> {
+    match row.strip_prefix('?') {
+        Some(row) => answer(alloc, row, false),
+        None => answer(alloc, row, true),
     }
 }
 
-// The query text that a line writes.
-fn query_text(alloc: Global, line: &str) -> Result<String, AllocError> {
+fn answer(alloc: Global, row: &str, shown: bool) -> Result<String, AllocError> {
+    let mut out = String::new(alloc);
+    let text = query_text(alloc, row)?;
+    if text.len() > 16777216 {
+        out.push_str("too long")?;
+        return Ok(out);
+    }
+    match parse(alloc, text.as_bytes()) {
+        Err(SyntaxRefusal::Refused { rule, place }) => {
+            let line = place.line;
+            let column = place.column;
+            write!(out, "{rule:?} {line}:{column}")?;
+        }
+        Err(SyntaxRefusal::Memory) => out.push_str("memory")?,
+        Ok(tree) if shown => show::show(alloc, &mut out, &tree)?,
+        Ok(_) => out.push_str("a query")?,
+    }
+    Ok(out)
+}
+
+// The query text that a row writes.
+fn query_text(alloc: Global, row: &str) -> Result<String, AllocError> {
     let mut text = String::new(alloc);
     let mut behind_backslash = false;
-    for c in line.chars() {
+    for c in row.chars() {
         if behind_backslash {
             text.push(escaped(c))?;
             behind_backslash = false;
@@ -36,39 +62,13 @@ fn query_text(alloc: Global, line: &str) -> Result<String, AllocError> {
     Ok(text)
 }
 
-// The tree of a text, or where its longest opening ends.
-fn answer(alloc: Global, text: &str) -> Result<String, AllocError> {
-    let mut out = String::new(alloc);
-    if text.len() > 16777216 {
-        out.push_str("too long")?;
-        return Ok(out);
+// The character that stands behind a backslash.
+fn escaped(c: char) -> char {
+    match c {
+        'n' => '\n',
+        'r' => '\r',
+        't' => '\t',
+        '1' => '\u{1}',
+        other => other,
     }
-    let Ok(characters) = decode(alloc, text.as_bytes()) else {
-        out.push_str("memory")?;
-        return Ok(out);
-    };
-    if characters.len() > 16777216 {
-        out.push_str("too long")?;
-        return Ok(out);
-    }
-    match parse(alloc, &characters) {
-        Err(ParseError::NotAQuery { place }) => {
-            let line = place.line;
-            let column = place.column;
-            write!(out, "no {line}:{column}")?;
-        }
-        Err(ParseError::Memory) => out.push_str("memory")?,
-        Ok(tree) => show::show(&mut out, &tree)?,
-    }
-    Ok(out)
-}
-
-fn main(rt: HostRuntime) -> io::Result<()> {
-    for line in rt.lines(rt.alloc()) {
-        let line = line?;
-        let text = query_text(rt.alloc(), line.as_str())?;
-        let answer = answer(rt.alloc(), text.as_str())?;
-        println!(rt; "{line} = {answer}")?;
-    }
-    Ok(())
 }

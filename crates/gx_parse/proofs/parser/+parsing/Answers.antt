@@ -1,154 +1,388 @@
-use Rattle.std.proofs.Common.{◌-◌, refl, sym, ap, ◌∙◌, arith}
-use Rattle.std.proofs.lemmas.Result.{err_from_is_err_and}
-use Rattle.gx_grammar.specs.Grammar.{rule}
-use Rattle.gx_parse.specs.SyntaxTree.{SequenceTree, SumTree}
-use Rattle.gx_parse.specs.Tokens.{comma, plus}
-use Rattle.gx_parse.specs.Grammar.{single, primary, place_in}
-use Rattle.gx_parse.proofs.Members.{comma_reads, plus_reads, more-ends, more-full, separator_fails, member_fails, more-goes_on}
-use Rattle.gx_parse.proofs.Phrases.{let_fails-1, let_fails-2, let_fails-3, let_fails-4, let_fails-5, let_fails-6, let_reads, parenthesised_fails-1, empty_fails, empty_reads, inner_fails, closing_fails, parenthesised_reads, primary_variable, primary_integer, single_let, single_addition}
+use Rattle.std.specs.Str.{chars}
+use Rattle.gx_ast.specs.SyntaxView.{clauses_of, trees_of}
+use Rattle.gx_ast.specs.declared.expression.Clause.TheVariants.{Where}
+use Rattle.std.proofs.Common.{Bool, codes, if◌then◌else◌, ◌≡◌, ◌+◌, ◌-◌, ℕ, suc, zero, refl, sym, ap, subst, ◌∙◌, arith, [], ◌∷◌, ◌++◌, inl, inr, false, append-nil}
+use Rattle.gx_grammar.specs.Value.{node, nothing, pair}
+use Rattle.gx_grammar.specs.Grammar.{rule, ◌&◌}
+use Rattle.gx_grammar.specs.Ran.{Ran, Makes}
+use Rattle.gx_parse.specs.Bound.{bound}
+use Rattle.gx_parse.specs.Binding.{clause, first_bound, flwor, head, last_clause, more_bindings, more_clauses}
+use Rattle.gx_parse.specs.Lists.{Grown, binding_made, clause_made, head_made, items_before}
+use Rattle.gx_parse.specs.Nodes.{Arguments, Made, name_at, name_length, tree}
+use Rattle.gx_parse.specs.Names.{name_made}
+use Rattle.gx_parse.specs.Grammar.{is_name, behind_keyword, named_single, more_arguments, other_step, at_tokens, begun, behind_any_name, behind_plain_name, condition, ladder, other_operand, parenthesised_step, place_in, single, step}
+use Rattle.gx_parse.specs.Tokens.{gap_then_open, gap_not_open, gap_then_dollar}
+use Rattle.gx_parse.specs.declared.members.Members.TheVariants.{Steps}
+use Rattle.gx_ast.specs.SyntaxTree.{at, conditional, flwor as flwor_form, no_key, parenthesised}
+use Rattle.gx_grammar.proofs.Ran.{ran_idle}
+use Rattle.gx_parse.specs.Reading.{call, read_in}
+use Rattle.gx_parse.specs.Parsing.{Added, Listed, named_tree, called_tree, most_of, read_chain, chain_of, member_of, wrapped}
+use Rattle.gx_parse.proofs.Chains.{ran_any, ran_keeps, chain_full}
+use Rattle.gx_parse.proofs.Phrases.{in_rule}
+use Rattle.gx_parse.proofs.NameScans.{literal_name}
+use Rattle.gx_parse.proofs.Lists.{one_grown, gone_start, gone_step, gone_end, gone_last, one_added}
+use Rattle.gx_parse.proofs.BindingPhrases.{binding_read, binding_stops, bindings_read, bindings_none, bindings_more, clause_read, where_part, where_read, no_where, a_where, clauses_none, clauses_more, clauses_full, clauses_end, flwor_read}
+use Rattle.gx_parse.proofs.Calls.{arguments_read, arguments_none, arguments_some, arguments_lost, items_begin, items_end, items_more, items_full, items_lost}
+use Rattle.gx_parse.proofs.Expressions.{named_other, named_flwor, named_keyword, keyword_plain, keyword_called, operand_signed, operand_other, ladder_next, ladder_none, looked_left, begun_other, begun_condition, begun_plain, plain_read, condition_read, nothing_inside, inner_read, signed_read, expression_read, no_single, single_other, single_named, step_other, step_named, reserved_read, unreserved_read, name_read, call_read, chain_read, no_more, one_more, step_variable, step_parenthesised, step_dots, step_literal}
 use Rattle.gx_parse.proofs.parser.+parsing.Goals as goal
 
-pub let_single-returns-in_err-keyword : goal.let_single-returns-in_err-keyword
-let_single-returns-in_err-keyword t c =
-    let p = err_from_is_err_and c.from_residual.result c.from_residual.ensures.1 in
-    rw (p.1, p.2)
-    (let_fails-1 c.in_err-keyword.field-0.0 c.args.places.now c.args.levels c.args.reader.now c.in_err-keyword.ensures)
+pub expression-returns : goal.expression-returns
+expression-returns t c =
+    expression_read c.args.source.now c.args.levels c.single-first.result c.further.result c.args.reader.now c.single-first.new.reader c.further.new.reader c.single-first.ensures (c.further.ensures (rule (single c.args.levels)) c.args.reader.now)
 
-pub let_single-returns-in_err-variable : goal.let_single-returns-in_err-variable
-let_single-returns-in_err-variable t c =
-    let p = err_from_is_err_and c.from_residual-in_err-variable.result c.from_residual-in_err-variable.ensures.1 in
-    rw (p.1, p.2)
-    (let_fails-2 c.in_err-variable.field-0.0 c.args.places.now c.args.levels c.args.reader.now c.keyword.new.self c.in_ok-keyword.ensures (c.in_err-variable.ensures c.args.levels))
+pub further-returns-then-not-looks_at : goal.further-returns-then-not-looks_at
+further-returns-then-not-looks_at t c = λ before a h.
+    chain_read c.args.source.now c.args.levels c.args.members before c.args.first c.loop.tree a c.args.reader.now c.looks_at.new.self h
+    (c.loop.invariant c.loop.tree c.looks_at.new.self
+    (no_more c.args.source.now c.args.levels c.args.members c.set-set.result (most_of c.args.members - c.loop.counter) c.loop.tree c.looks_at.result c.loop.reader c.looks_at.new.self c.set-set.ensures (omega (arith, c.loop-test.true, c.most-end.ensures)) c.if-not-looks_at.true c.looks_at.ensures))
 
-pub let_single-returns-in_err-symbol : goal.let_single-returns-in_err-symbol
-let_single-returns-in_err-symbol t c =
-    let p = err_from_is_err_and c.from_residual-in_err-symbol.result c.from_residual-in_err-symbol.ensures.1 in
-    rw (p.1, p.2)
-    (let_fails-3 c.in_err-symbol.field-0.0 c.args.places.now c.args.levels c.in_ok-variable.variable c.in_ok-variable.name c.args.reader.now c.keyword.new.self c.variable.new.reader c.in_ok-keyword.ensures (c.in_ok-variable.ensures c.args.levels) c.in_err-symbol.ensures)
+pub further-loop-preserved : goal.further-loop-preserved
+further-loop-preserved t c = λ v z h.
+    c.loop.invariant v z
+    (one_more c.args.source.now c.args.levels c.args.members c.set-set.result (most_of c.args.members - c.loop.counter) (most_of c.args.members - (c.loop.counter + 1)) c.loop.tree c.member-next.result v c.operator-word.result.0 c.operator-word.result.1 c.keep-tree.result c.joined-made.result c.looks_at.result
+    c.loop.reader c.looks_at.new.self c.operator-word.new.reader c.member-next.new.reader c.keep-tree.new.reader z c.set-set.ensures (omega (arith, c.loop-test.true, c.most-end.ensures)) c.if-not-looks_at.false c.looks_at.ensures (c.operator-word.ensures c.args.levels) c.member-next.ensures c.joined-made.ensures c.keep-tree.ensures h)
 
-pub let_single-returns-in_err-bound : goal.let_single-returns-in_err-bound
-let_single-returns-in_err-bound t c =
-    let p = err_from_is_err_and c.from_residual-in_err-bound.result c.from_residual-in_err-bound.ensures.1 in
-    rw (p.1, p.2)
-    (let_fails-4 c.in_err-bound.field-0.0 c.args.places.now c.args.levels c.in_ok-variable.variable c.in_ok-variable.name c.args.reader.now c.keyword.new.self c.variable.new.reader c.symbol.new.self c.in_ok-keyword.ensures (c.in_ok-variable.ensures c.args.levels) c.in_ok-symbol.ensures c.in_err-bound.ensures)
+pub further-returns : goal.further-returns
+further-returns t c = λ before a h.
+    chain_read c.args.source.now c.args.levels c.args.members before c.args.first c.loop.tree a c.args.reader.now c.last.new.reader h
+    (c.loop.invariant c.loop.tree c.last.new.reader
+    (subst (λ k. Ran c.loop.tree c.loop.reader c.last.new.reader (read_chain c.args.source.now c.args.levels c.args.members k c.loop.tree)) (omega (arith, c.loop-test.false, c.most-end.ensures))
+    (chain_full c.args.source.now c.args.levels c.args.members c.loop.tree c.loop.reader c.last.new.reader (c.last.ensures c.args.levels))))
 
-pub let_single-returns-in_err-keyword-2 : goal.let_single-returns-in_err-keyword-2
-let_single-returns-in_err-keyword-2 t c =
-    let p = err_from_is_err_and c.from_residual-in_err-keyword-2.result c.from_residual-in_err-keyword-2.ensures.1 in
-    rw (p.1, p.2)
-    (let_fails-5 c.in_err-keyword-2.field-0.0 c.args.places.now c.args.levels c.in_ok-variable.variable c.in_ok-variable.name c.in_ok-bound.bound c.args.reader.now c.keyword.new.self c.variable.new.reader c.symbol.new.self c.single.new.reader c.in_ok-keyword.ensures (c.in_ok-variable.ensures c.args.levels) c.in_ok-symbol.ensures c.in_ok-bound.ensures c.in_err-keyword-2.ensures)
+pub ladder-loop-level-init : goal.ladder-loop-level-init
+ladder-loop-level-init t c = λ before a h.
+    subst (λ p. Ran (tree c.casts-tree.result) a c.casts-tree.new.reader (read_in c.args.source.now c.args.levels p)) (sym (ladder_none c.args.source.now c.args.levels before)) (c.casts-tree.ensures c.args.levels before a h)
 
-pub let_single-returns-in_err-body : goal.let_single-returns-in_err-body
-let_single-returns-in_err-body t c =
-    let p = err_from_is_err_and c.from_residual-in_err-body.result c.from_residual-in_err-body.ensures.1 in
-    rw (p.1, p.2)
-    (let_fails-6 c.in_err-body.field-0.0 c.args.places.now c.args.levels c.in_ok-variable.variable c.in_ok-variable.name c.in_ok-bound.bound c.args.reader.now c.keyword.new.self c.variable.new.reader c.symbol.new.self c.single.new.reader c.keyword-2.new.self c.in_ok-keyword.ensures (c.in_ok-variable.ensures c.args.levels) c.in_ok-symbol.ensures c.in_ok-bound.ensures c.in_ok-keyword-2.ensures c.in_err-body.ensures)
+pub ladder-loop-level-preserved : goal.ladder-loop-level-preserved
+ladder-loop-level-preserved t c = λ before a h.
+    subst (λ p. Ran (tree c.further-tree.result) a c.further-tree.new.reader (read_in c.args.source.now c.args.levels p)) (sym (ladder_next c.args.source.now c.args.levels c.loop-level.level (c.loop-level.level + 1) before (omega arith)))
+    (c.further-tree.ensures (ladder (place_in c.args.source.now) c.loop-level.level c.args.levels before) a (c.loop-level.invariant before a h))
 
-pub let_single-returns : goal.let_single-returns
-let_single-returns t c =
-    let_reads c.args.places.now c.args.levels c.at-place.result c.in_ok-variable.variable c.in_ok-variable.name c.in_ok-bound.bound c.in_ok-body.body c.in_ok-new.field-0.value c.in_ok-new-2.field-0.value c.args.reader.now c.keyword.new.self c.variable.new.reader c.symbol.new.self c.single.new.reader c.keyword-2.new.self c.single-2.new.reader
-    (c.at-place.ensures ∙ ap (place_in c.args.places.now) c.left.ensures) c.in_ok-keyword.ensures (c.in_ok-variable.ensures c.args.levels) c.in_ok-symbol.ensures c.in_ok-bound.ensures c.in_ok-keyword-2.ensures c.in_ok-body.ensures c.in_ok-new.ensures.ok c.in_ok-new-2.ensures.ok
+pub member-returns-in-Singles : goal.member-returns-in-Singles
+member-returns-in-Singles t c = subst (λ m. Ran (tree c.single.result) c.args.reader.now c.single.new.reader (read_in c.args.source.now c.args.levels (member_of (place_in c.args.source.now) c.args.levels m))) (sym c.in-Singles.is) (in_rule c.args.source.now c.args.levels c.args.levels (tree c.single.result) c.args.reader.now c.single.new.reader c.single.ensures)
 
-pub parenthesised-returns-in_err-symbol : goal.parenthesised-returns-in_err-symbol
-parenthesised-returns-in_err-symbol t c =
-    let p = err_from_is_err_and c.from_residual.result c.from_residual.ensures.1 in
-    rw (p.1, p.2)
-    (parenthesised_fails-1 c.in_err-symbol.field-0.0 c.args.places.now c.args.levels c.args.reader.now c.in_err-symbol.ensures)
+pub step-returns-then-not-starts_name : goal.step-returns-then-not-starts_name
+step-returns-then-not-starts_name t c = step_other c.args.source.now c.args.levels c.other_step.result c.starts_name.result c.args.reader.now c.starts_name.new.self c.other_step.new.reader c.if-not-starts_name.true c.starts_name.ensures c.other_step.ensures
 
-pub parenthesised-returns-in_err-symbol-2 : goal.parenthesised-returns-in_err-symbol-2
-parenthesised-returns-in_err-symbol-2 t c =
-    let p = err_from_is_err_and c.from_residual-in_err-symbol-2.result c.from_residual-in_err-symbol-2.ensures.1 in
-    rw (p.1, p.2)
-    (empty_fails c.in_err-symbol-2.field-0.0 c.args.places.now c.args.levels c.args.reader.now c.symbol.new.self c.at.new.self c.in_ok-symbol.ensures (sym c.at.ensures.taken ∙ c.if-at.true) c.at.ensures.seen c.in_err-symbol-2.ensures)
+pub step-returns-in_default : goal.step-returns-in_default
+step-returns-in_default t c =
+    let done = rw c.in_default.is at c.name.ensures.read in
+    step_named c.args.source.now c.args.levels c.missing.result nothing c.starts_name.result c.args.reader.now c.starts_name.new.self c.name.new.self c.name.new.self c.if-not-starts_name.false c.starts_name.ensures (done.1 nothing)
+    (ran_idle (tree c.missing.result) c.name.new.self (read_in c.args.source.now c.args.levels (behind_any_name (place_in c.args.source.now) c.args.levels nothing)) done.0)
 
-pub parenthesised-returns-then-at : goal.parenthesised-returns-then-at
-parenthesised-returns-then-at t c =
-    empty_reads c.args.places.now c.args.levels c.at-place.result c.args.reader.now c.symbol.new.self c.at.new.self c.symbol-then-at.new.self (c.at-place.ensures ∙ ap (place_in c.args.places.now) c.left.ensures) c.in_ok-symbol.ensures (sym c.at.ensures.taken ∙ c.if-at.true) c.at.ensures.seen c.in_ok-symbol-2.ensures
+pub step-returns : goal.step-returns
+step-returns t c =
+    step_named c.args.source.now c.args.levels c.named_step.result (name_made c.in-Some.name) c.starts_name.result c.args.reader.now c.starts_name.new.self c.name.new.self c.named_step.new.reader c.if-not-starts_name.false c.starts_name.ensures c.in-Some.ensures.read c.named_step.ensures
 
-pub parenthesised-returns-in_err-inner : goal.parenthesised-returns-in_err-inner
-parenthesised-returns-in_err-inner t c =
-    let p = err_from_is_err_and c.from_residual-in_err-inner.result c.from_residual-in_err-inner.ensures.1 in
-    rw (p.1, p.2)
-    (inner_fails c.in_err-inner.field-0.0 c.args.places.now c.args.levels c.args.reader.now c.symbol.new.self c.at.new.self c.in_ok-symbol.ensures (sym c.at.ensures.taken ∙ c.if-at.false) c.at.ensures.seen c.in_err-inner.ensures)
+pub other_step-returns-then-starts_with : goal.other_step-returns-then-starts_with
+other_step-returns-then-starts_with t c = step_variable c.args.source.now c.args.levels (tree c.variable.result) c.starts_with.result c.args.reader.now c.starts_with.new.self c.variable.new.reader c.if-starts_with.true c.starts_with.ensures (c.variable.ensures c.args.levels)
 
-pub parenthesised-returns-in_err-symbol-3 : goal.parenthesised-returns-in_err-symbol-3
-parenthesised-returns-in_err-symbol-3 t c =
-    let p = err_from_is_err_and c.from_residual-in_err-symbol-3.result c.from_residual-in_err-symbol-3.ensures.1 in
-    rw (p.1, p.2)
-    (closing_fails c.in_err-symbol-3.field-0.0 c.args.places.now c.args.levels c.in_ok-inner.inner c.args.reader.now c.symbol.new.self c.at.new.self c.expression.new.reader c.in_ok-symbol.ensures (sym c.at.ensures.taken ∙ c.if-at.false) c.at.ensures.seen c.in_ok-inner.ensures c.in_err-symbol-3.ensures)
+pub other_step-returns-then-starts_with-2 : goal.other_step-returns-then-starts_with-2
+other_step-returns-then-starts_with-2 t c =
+    step_parenthesised c.args.source.now c.args.levels (tree c.parenthesised.result) c.starts_with.result c.starts_with-2.result c.args.reader.now c.starts_with.new.self c.starts_with-2.new.self c.parenthesised.new.reader c.if-starts_with.false c.starts_with.ensures c.if-starts_with-2.true c.starts_with-2.ensures c.parenthesised.ensures
+
+pub other_step-returns-then-looks_at : goal.other_step-returns-then-looks_at
+other_step-returns-then-looks_at t c =
+    step_dots c.args.source.now c.args.levels (tree c.dots.result) c.starts_with.result c.starts_with-2.result c.looks_at.result c.args.reader.now c.starts_with.new.self c.starts_with-2.new.self c.looks_at.new.self c.dots.new.reader
+    c.if-starts_with.false c.starts_with.ensures c.if-starts_with-2.false c.starts_with-2.ensures c.if-looks_at.true c.looks_at.ensures (c.dots.ensures c.args.levels)
+
+pub other_step-returns : goal.other_step-returns
+other_step-returns t c =
+    step_literal c.args.source.now c.args.levels (tree c.literal.result) c.starts_with.result c.starts_with-2.result c.looks_at.result c.args.reader.now c.starts_with.new.self c.starts_with-2.new.self c.looks_at.new.self c.literal.new.reader
+    c.if-starts_with.false c.starts_with.ensures c.if-starts_with-2.false c.starts_with-2.ensures c.if-looks_at.false c.looks_at.ensures (c.literal.ensures c.args.levels)
+
+pub single-returns-then-levels-eq0 : goal.single-returns-then-levels-eq0
+single-returns-then-levels-eq0 t c =
+    subst (λ l. Ran (tree c.missing.result) c.args.reader.now c.barrier.new.self (call c.args.source.now (suc l) (single l))) (sym c.if-levels-eq0.true)
+    (no_single c.args.source.now 0 c.missing.result c.args.reader.now c.barrier.new.self c.barrier.ensures.read c.barrier.ensures.ended)
+
+pub single-returns-then-not-starts_name : goal.single-returns-then-not-starts_name
+single-returns-then-not-starts_name t c =
+    subst (λ l. Ran (tree c.ladder.result) c.args.reader.now c.ladder.new.reader (call c.args.source.now (suc l) (single l))) (omega (arith, c.if-levels-eq0.false))
+    (single_other c.args.source.now (c.args.levels - 1) c.ladder.result c.starts_name.result c.args.reader.now c.starts_name.new.self c.ladder.new.reader c.if-not-starts_name.true c.starts_name.ensures (c.ladder.ensures (other_operand (place_in c.args.source.now) (c.args.levels - 1)) c.starts_name.new.self c.other_operand-first.ensures))
+
+pub single-returns-in_default : goal.single-returns-in_default
+single-returns-in_default t c =
+    let done = rw c.in_default.is at c.name.ensures.read in
+    subst (λ l. Ran (tree c.missing-in_default.result) c.args.reader.now c.name.new.self (call c.args.source.now (suc l) (single l))) (omega (arith, c.if-levels-eq0.false))
+    (single_named c.args.source.now (c.args.levels - 1) c.missing-in_default.result nothing c.starts_name.result c.args.reader.now c.starts_name.new.self c.name.new.self c.name.new.self c.if-not-starts_name.false c.starts_name.ensures (done.1 nothing) (ran_idle (tree c.missing-in_default.result) c.name.new.self (read_in c.args.source.now (c.args.levels - 1) (named_single (place_in c.args.source.now) (c.args.levels - 1) nothing)) done.0))
+
+pub single-returns : goal.single-returns
+single-returns t c =
+    subst (λ l. Ran (tree c.named_single.result) c.args.reader.now c.named_single.new.reader (call c.args.source.now (suc l) (single l))) (omega (arith, c.if-levels-eq0.false))
+    (single_named c.args.source.now (c.args.levels - 1) c.named_single.result (name_made c.in-Some.name) c.starts_name.result c.args.reader.now c.starts_name.new.self c.name.new.self c.named_single.new.reader c.if-not-starts_name.false c.starts_name.ensures c.in-Some.ensures.read c.named_single.ensures)
+
+pub named_single-returns-in_default : goal.named_single-returns-in_default
+named_single-returns-in_default t c =
+    named_other c.args.source.now c.args.levels (name_made c.args.name) (tree c.begun.result) c.args.reader.now c.begun.new.reader (sym c.binder.ensures ∙ c.in_default.is) c.begun.ensures
+
+pub named_single-returns-then-looks_at_dollar : goal.named_single-returns-then-looks_at_dollar
+named_single-returns-then-looks_at_dollar t c =
+    let same = looked_left c.args.source.now c.args.levels c.looks_at_dollar.result c.args.reader.now c.looks_at_dollar.new.self (at_tokens (gap_then_dollar ∷ [])) c.looks_at_dollar.ensures in
+    named_flwor c.args.source.now c.args.levels c.in-Some.binder (name_made c.args.name) (tree c.flwor.result) c.looks_at_dollar.result c.args.reader.now c.looks_at_dollar.new.self c.flwor.new.reader (sym c.binder.ensures ∙ c.in-Some.is) c.if-looks_at_dollar.true c.looks_at_dollar.ensures
+    (c.flwor.ensures (name_made c.args.name) (c.requires ∙ ap (λ left. place_in c.args.source.now (left + name_length (name_made c.args.name))) (sym same)))
+
+pub named_single-returns : goal.named_single-returns
+named_single-returns t c =
+    let first = behind_keyword (place_in c.args.source.now) c.args.levels (name_made c.args.name) in
+    named_keyword c.args.source.now c.args.levels c.in-Some.binder (name_made c.args.name) (tree c.ladder.result) c.looks_at_dollar.result c.args.reader.now c.looks_at_dollar.new.self c.ladder.new.reader (sym c.binder.ensures ∙ c.in-Some.is) c.if-looks_at_dollar.false c.looks_at_dollar.ensures
+    (c.ladder.ensures (chain_of (place_in c.args.source.now) c.args.levels Steps first) c.looks_at_dollar.new.self (c.further-path.ensures first c.looks_at_dollar.new.self c.keyword_step-first.ensures))
+
+pub keyword_step-returns-then-not-looks_at_parenthesis : goal.keyword_step-returns-then-not-looks_at_parenthesis
+keyword_step-returns-then-not-looks_at_parenthesis t c =
+    let same = looked_left c.args.source.now c.args.levels c.looks_at_parenthesis.result c.args.reader.now c.looks_at_parenthesis.new.self (at_tokens (gap_then_open ∷ [])) c.looks_at_parenthesis.ensures in
+    ran_keeps c.keep.result (named_tree (name_at c.args.place (name_made c.args.name))) c.named-made.result c.args.reader.now c.neither.new.self c.keep.new.reader (read_in c.args.source.now c.args.levels (behind_keyword (place_in c.args.source.now) c.args.levels (name_made c.args.name)))
+    (keyword_plain c.args.source.now c.args.levels (name_made c.args.name) c.args.place c.looks_at_parenthesis.result c.args.reader.now c.looks_at_parenthesis.new.self c.neither.new.self (c.requires ∙ ap (λ left. place_in c.args.source.now (left + name_length (name_made c.args.name))) (sym same)) c.if-not-looks_at_parenthesis.true c.looks_at_parenthesis.ensures c.neither.ensures)
+    c.named-made.ensures c.keep.ensures
+
+pub keyword_step-returns : goal.keyword_step-returns
+keyword_step-returns t c =
+    let same = looked_left c.args.source.now c.args.levels c.looks_at_parenthesis.result c.args.reader.now c.looks_at_parenthesis.new.self (at_tokens (gap_then_open ∷ [])) c.looks_at_parenthesis.ensures in
+    ran_keeps c.keep-2.result (called_tree (name_at c.args.place (name_made c.args.name)) (trees_of c.arguments_in-arguments.result.items)) c.called-made.result c.args.reader.now c.arguments_in-arguments.new.reader c.keep-2.new.reader (read_in c.args.source.now c.args.levels (behind_keyword (place_in c.args.source.now) c.args.levels (name_made c.args.name)))
+    (keyword_called c.args.source.now c.args.levels (name_made c.args.name) (trees_of c.arguments_in-arguments.result.items) c.args.place c.looks_at_parenthesis.result c.args.reader.now c.looks_at_parenthesis.new.self c.parenthesis.new.self c.gap.new.self c.arguments_in-arguments.new.reader
+    (c.requires ∙ ap (λ left. place_in c.args.source.now (left + name_length (name_made c.args.name))) (sym same)) c.if-not-looks_at_parenthesis.false c.looks_at_parenthesis.ensures c.parenthesis.ensures c.gap.ensures c.arguments_in-arguments.ensures)
+    c.called-made.ensures c.keep-2.ensures
+
+pub flwor-returns : goal.flwor-returns
+flwor-returns t c = λ v e.
+    ran_keeps c.keep.result (at c.args.place (flwor_form (clauses_of c.more_clauses-clauses.result.items) false no_key c.single-returned.result)) c.flwor-made.result c.args.reader.now c.single-returned.new.reader c.keep.new.reader (read_in c.args.source.now c.args.levels (flwor (place_in c.args.source.now) c.args.levels c.args.binder v))
+    (flwor_read c.args.source.now c.args.levels c.args.binder v _ c.args.place c.bindings-list.result.items c.clause_of-first.result c.with_clause-begun.result.items c.more_clauses-clauses.result.items c.single-returned.result
+    c.args.reader.now c.dollar.new.self c.bindings-list.new.reader c.with_clause-begun.new.reader c.more_clauses-clauses.new.reader c.lexeme.new.reader c.single-returned.new.reader e c.dollar.ensures
+    (c.bindings-list.ensures (head (place_in c.args.source.now) c.args.binder (first_bound (place_in c.args.source.now))) c.dollar.new.self (c.first_head-head.ensures c.args.levels)) c.clause_of-first.ensures
+    (subst (λ us. Grown us c.clause_of-first.result c.with_clause-begun.result.items c.bindings-list.new.reader c.with_clause-begun.new.reader) c.new.ensures.items c.with_clause-begun.ensures)
+    c.more_clauses-clauses.ensures (c.lexeme.ensures c.args.source.now c.args.levels) c.single-returned.ensures)
+    c.flwor-made.ensures c.keep.ensures
+
+pub more_clauses-loop-init : goal.more_clauses-loop-init
+more_clauses-loop-init t c = gone_start clause_made c.args.clauses.items c.args.reader.now _ _ (λ w z h. h)
+
+pub more_clauses-returns-then-not-looks_at : goal.more_clauses-returns-then-not-looks_at
+more_clauses-returns-then-not-looks_at t c =
+    let m = c.last_clause.ensures in
+    let text = c.args.source.now in
+    let whole = read_in text c.args.levels (more_clauses (place_in text) c.args.levels 63) in
+    let rest = read_in text c.args.levels (more_clauses (place_in text) c.args.levels (63 - c.loop.counter)) in
+    gone_last clause_made c.args.clauses.items c.loop.list.items c.last_clause.result.items c.args.reader.now c.loop.reader c.last_clause.new.reader whole rest c.loop.invariant
+    (record {
+      others = m.others;
+      is = m.is;
+      holds = clauses_none text c.args.levels (63 - c.loop.counter) (63 - (c.loop.counter + 1)) (items_before clause_made m.others nothing) c.looks_at.result c.loop.reader c.looks_at.new.self c.last_clause.new.reader (omega (arith, c.loop-test.true)) c.if-not-looks_at.true c.looks_at.ensures m.holds;
+    })
+
+pub more_clauses-loop-preserved : goal.more_clauses-loop-preserved
+more_clauses-loop-preserved t c =
+    let text = c.args.source.now in
+    let n = c.args.levels in
+    let item = read_in text n (clause (place_in text) n) in
+    gone_step clause_made c.args.clauses.items c.loop.list.items c.with_clause-list.result.items c.args.reader.now c.loop.reader c.looks_at.new.self c.with_clause-list.new.reader (read_in text n (more_clauses (place_in text) n 63)) (read_in text n (more_clauses (place_in text) n (63 - c.loop.counter))) item
+    (read_in text n (more_clauses (place_in text) n (63 - (c.loop.counter + 1)))) c.loop.invariant
+    (λ v w z h k. clauses_more text n (63 - c.loop.counter) (63 - (c.loop.counter + 1)) v w c.looks_at.result c.loop.reader c.looks_at.new.self c.with_clause-list.new.reader z (omega (arith, c.loop-test.true)) c.if-not-looks_at.false c.looks_at.ensures h k)
+    (one_grown clause_made c.loop.list.items c.with_clause-list.result.items c.clause-next.result c.looks_at.new.self c.clause-next.new.reader c.with_clause-list.new.reader item c.clause-next.ensures c.with_clause-list.ensures)
+
+pub more_clauses-returns-then-looks_at_barred : goal.more_clauses-returns-then-looks_at_barred
+more_clauses-returns-then-looks_at_barred t c =
+    let text = c.args.source.now in
+    let n = c.args.levels in
+    gone_end clause_made c.args.clauses.items c.loop.list.items c.args.reader.now c.loop.reader c.barred.new.self (read_in text n (more_clauses (place_in text) n 63)) (read_in text n (more_clauses (place_in text) n (63 - c.loop.counter))) c.loop.invariant
+    (subst (λ k. Ran nothing c.loop.reader c.barred.new.self (read_in text n (more_clauses (place_in text) n k))) (omega (arith, c.loop-test.false))
+    (clauses_full text n c.looks_at_barred.result c.loop.reader c.looks_at_barred.new.self c.barred.new.self c.if-looks_at_barred.true c.looks_at_barred.ensures c.barred.ensures.read))
+
+pub more_clauses-returns : goal.more_clauses-returns
+more_clauses-returns t c =
+    let m = c.last_clause-2.ensures in
+    let text = c.args.source.now in
+    let n = c.args.levels in
+    gone_last clause_made c.args.clauses.items c.loop.list.items c.last_clause-2.result.items c.args.reader.now c.loop.reader c.last_clause-2.new.reader (read_in text n (more_clauses (place_in text) n 63)) (read_in text n (more_clauses (place_in text) n (63 - c.loop.counter))) c.loop.invariant
+    (record {
+      others = m.others;
+      is = m.is;
+      holds = subst (λ k. Ran (items_before clause_made m.others nothing) c.loop.reader c.last_clause-2.new.reader (read_in text n (more_clauses (place_in text) n k))) (omega (arith, c.loop-test.false))
+          (clauses_end text n (items_before clause_made m.others nothing) c.looks_at_barred.result c.loop.reader c.looks_at_barred.new.self c.last_clause-2.new.reader c.if-looks_at_barred.false c.looks_at_barred.ensures m.holds);
+    })
+
+pub clause-returns : goal.clause-returns
+clause-returns t c =
+    clause_read c.args.source.now c.args.levels c.place-place.result c.word.result c.of-binder.result c.bindings-list.result.items c.clause_of.result c.args.reader.now c.word.new.self c.gap.new.self c.next_head-head.new.reader c.bindings-list.new.reader (c.place-place.ensures ∙ ap (place_in c.args.source.now) c.left.ensures) c.of-binder.ensures
+    c.word.ensures c.gap.ensures (c.bindings-list.ensures (head (place_in c.args.source.now) c.of-binder.result (bound (place_in c.args.source.now))) c.gap.new.self (c.next_head-head.ensures c.args.levels)) c.clause_of.ensures
+
+pub last_clause-returns-then-not-looks_at : goal.last_clause-returns-then-not-looks_at
+last_clause-returns-then-not-looks_at t c = record { others = []; is = sym (append-nil c.args.clauses.items); holds = no_where c.args.source.now c.args.levels c.looks_at.result c.args.reader.now c.looks_at.new.self c.if-not-looks_at.true c.looks_at.ensures }
+
+pub last_clause-returns : goal.last_clause-returns
+last_clause-returns t c =
+    let text = c.args.source.now in
+    let n = c.args.levels in
+    let part = read_in text n (where_part text n) in
+    one_added clause_made c.args.clauses.items c.with_clause.result.items c.args.reader.now c.looks_at.new.self c.with_clause.new.reader part (read_in text n (last_clause (place_in text) n))
+    (one_grown clause_made c.args.clauses.items c.with_clause.result.items (Where c.operator-word.result.0 c.single-condition.result) c.looks_at.new.self c.single-condition.new.reader c.with_clause.new.reader part
+    (where_read text n c.operator-word.result.0 c.operator-word.result.1 c.single-condition.result c.looks_at.new.self c.operator-word.new.reader c.single-condition.new.reader (c.operator-word.ensures n) c.single-condition.ensures) c.with_clause.ensures)
+    (λ v h. a_where text n v c.looks_at.result c.args.reader.now c.looks_at.new.self c.with_clause.new.reader c.if-not-looks_at.false c.looks_at.ensures h)
+
+pub bindings-returns : goal.bindings-returns
+bindings-returns t c = λ before a h.
+    bindings_read c.args.source.now c.args.levels c.args.binder before c.new-list.result.items c.binding-begun.result.items c.more_bindings.result.items a c.binding-begun.new.reader c.more_bindings.new.reader c.new-list.ensures.items (c.binding-begun.ensures before a h) c.more_bindings.ensures
+
+pub more_bindings-loop-init : goal.more_bindings-loop-init
+more_bindings-loop-init t c = gone_start binding_made c.args.bindings.items c.args.reader.now _ _ (λ w z h. h)
+
+pub more_bindings-returns-then-not-looks_at : goal.more_bindings-returns-then-not-looks_at
+more_bindings-returns-then-not-looks_at t c =
+    let text = c.args.source.now in
+    let n = c.args.levels in
+    gone_end binding_made c.args.bindings.items c.loop.list.items c.args.reader.now c.loop.reader c.looks_at.new.self (read_in text n (more_bindings (place_in text) n c.args.binder 63)) (read_in text n (more_bindings (place_in text) n c.args.binder (63 - c.loop.counter))) c.loop.invariant
+    (bindings_none text n c.args.binder (63 - c.loop.counter) c.looks_at.result c.loop.reader c.looks_at.new.self c.if-not-looks_at.true c.looks_at.ensures)
+
+pub more_bindings-loop-preserved : goal.more_bindings-loop-preserved
+more_bindings-loop-preserved t c =
+    let text = c.args.source.now in
+    let n = c.args.levels in
+    let b = c.args.binder in
+    let next = head (place_in text) b (bound (place_in text)) in
+    gone_step binding_made c.args.bindings.items c.loop.list.items c.binding-list.result.items c.args.reader.now c.loop.reader c.lexeme.new.reader c.binding-list.new.reader (read_in text n (more_bindings (place_in text) n b 63)) (read_in text n (more_bindings (place_in text) n b (63 - c.loop.counter)))
+    (read_in text n (next & rule (single n))) (read_in text n (more_bindings (place_in text) n b (63 - (c.loop.counter + 1)))) c.loop.invariant
+    (λ v w z h k. bindings_more text n b (63 - c.loop.counter) (63 - (c.loop.counter + 1)) _ v w c.looks_at.result c.loop.reader c.looks_at.new.self c.lexeme.new.reader c.binding-list.new.reader z (omega (arith, c.loop-test.true)) c.if-not-looks_at.false c.looks_at.ensures (c.lexeme.ensures text n) h k)
+    (c.binding-list.ensures next c.lexeme.new.reader (c.next_head-head.ensures n))
+
+pub more_bindings-returns : goal.more_bindings-returns
+more_bindings-returns t c =
+    let text = c.args.source.now in
+    let n = c.args.levels in
+    gone_end binding_made c.args.bindings.items c.loop.list.items c.args.reader.now c.loop.reader c.last_binding.new.reader (read_in text n (more_bindings (place_in text) n c.args.binder 63)) (read_in text n (more_bindings (place_in text) n c.args.binder (63 - c.loop.counter))) c.loop.invariant
+    (subst (λ k. Ran nothing c.loop.reader c.last_binding.new.reader (read_in text n (more_bindings (place_in text) n c.args.binder k))) (omega (arith, c.loop-test.false)) (c.last_binding.ensures text n c.args.binder))
+
+pub binding-returns-in_default : goal.binding-returns-in_default
+binding-returns-in_default t c = λ before a h.
+    let done = rw c.in_default.is at h in
+    inr (refl, done.0, (λ v. binding_stops c.args.source.now c.args.levels before nothing v a c.args.reader.now done.0 (done.1 nothing)))
+
+pub binding-returns : goal.binding-returns
+binding-returns t c = λ before a h.
+    let got = rw c.in-Some.is at h in
+    one_grown binding_made c.args.bindings.items c.with_binding.result.items (record { bound = c.in-Some.bound; value = c.single-value.result }) a c.single-value.new.reader c.with_binding.new.reader (read_in c.args.source.now c.args.levels (before & rule (single c.args.levels)))
+    (binding_read c.args.source.now c.args.levels before (head_made c.in-Some.bound) c.single-value.result a c.args.reader.now c.single-value.new.reader got c.single-value.ensures) c.with_binding.ensures
+
+is_if : (b : Bool) (v : Made) → b ≡ is_name (chars (codes "if")) v → is_name (codes "if") v ≡ b
+is_if b v e = sym (literal_name b (codes "if") v refl e)
+
+pub begun-returns-then-not-is : goal.begun-returns-then-not-is
+begun-returns-then-not-is t c =
+    begun_other c.args.source.now c.args.levels (name_made c.args.name) (tree c.ladder.result) c.args.reader.now c.ladder.new.reader (is_if c.is.result (name_made c.args.name) c.is.ensures ∙ c.if-not-is.true)
+    (c.ladder.ensures (chain_of (place_in c.args.source.now) c.args.levels Steps (behind_any_name (place_in c.args.source.now) c.args.levels (name_made c.args.name))) c.args.reader.now
+    (c.further-path.ensures (behind_any_name (place_in c.args.source.now) c.args.levels (name_made c.args.name)) c.args.reader.now c.named_step-first.ensures))
+
+pub begun-returns-then-looks_at_parenthesis : goal.begun-returns-then-looks_at_parenthesis
+begun-returns-then-looks_at_parenthesis t c =
+    let same = looked_left c.args.source.now c.args.levels c.looks_at_parenthesis.result c.args.reader.now c.looks_at_parenthesis.new.self (at_tokens (gap_then_open ∷ [])) c.looks_at_parenthesis.ensures in
+    begun_condition c.args.source.now c.args.levels (name_made c.args.name) (tree c.condition.result) c.looks_at_parenthesis.result c.args.reader.now c.looks_at_parenthesis.new.self c.condition.new.reader (is_if c.is.result (name_made c.args.name) c.is.ensures ∙ c.if-not-is.false) c.if-looks_at_parenthesis.true c.looks_at_parenthesis.ensures
+    (c.condition.ensures (name_made c.args.name) (c.requires ∙ ap (λ left. place_in c.args.source.now (left + name_length (name_made c.args.name))) (sym same)))
+
+pub begun-returns : goal.begun-returns
+begun-returns t c =
+    let same = looked_left c.args.source.now c.args.levels c.looks_at_parenthesis.result c.args.reader.now c.looks_at_parenthesis.new.self (at_tokens (gap_then_open ∷ [])) c.looks_at_parenthesis.ensures in
+    let plain = behind_plain_name (place_in c.args.source.now) gap_not_open (name_made c.args.name) in
+    begun_plain c.args.source.now c.args.levels (name_made c.args.name) (tree c.ladder-2.result) c.looks_at_parenthesis.result c.args.reader.now c.looks_at_parenthesis.new.self c.ladder-2.new.reader (is_if c.is.result (name_made c.args.name) c.is.ensures ∙ c.if-not-is.false) c.if-looks_at_parenthesis.false c.looks_at_parenthesis.ensures
+    (c.ladder-2.ensures (chain_of (place_in c.args.source.now) c.args.levels Steps plain) c.looks_at_parenthesis.new.self
+    (c.further-path-2.ensures plain c.looks_at_parenthesis.new.self
+    (ran_keeps c.keep-first.result (named_tree (name_at c.args.place (name_made c.args.name))) c.named-made.result c.looks_at_parenthesis.new.self c.no_parenthesis.new.self c.keep-first.new.reader (read_in c.args.source.now c.args.levels plain)
+    (plain_read c.args.source.now c.args.levels gap_not_open (name_made c.args.name) c.args.place c.looks_at_parenthesis.new.self c.no_parenthesis.new.self (c.requires ∙ ap (λ left. place_in c.args.source.now (left + name_length (name_made c.args.name))) (sym same)) c.no_parenthesis.ensures)
+    c.named-made.ensures c.keep-first.ensures)))
+
+pub condition-returns : goal.condition-returns
+condition-returns t c = λ v e.
+    ran_keeps c.keep.result (at c.args.place (conditional c.expression-test.result c.single-chosen.result c.single-otherwise.result)) c.condition-made.result c.args.reader.now c.single-otherwise.new.reader c.keep.new.reader (read_in c.args.source.now c.args.levels (condition (place_in c.args.source.now) c.args.levels v))
+    (condition_read c.args.source.now c.args.levels v c.args.place _ _ _ c.expression-test.result c.single-chosen.result c.single-otherwise.result c.args.reader.now c.parenthesis.new.self c.gap.new.self c.expression-test.new.reader c.lexeme.new.reader c.lexeme-2.new.reader c.single-chosen.new.reader c.lexeme-3.new.reader c.single-otherwise.new.reader
+    e c.parenthesis.ensures c.gap.ensures c.expression-test.ensures (c.lexeme.ensures c.args.source.now c.args.levels) (c.lexeme-2.ensures c.args.source.now c.args.levels) c.single-chosen.ensures (c.lexeme-3.ensures c.args.source.now c.args.levels) c.single-otherwise.ensures)
+    c.condition-made.ensures c.keep.ensures
+
+pub parenthesised-returns-then-starts_with : goal.parenthesised-returns-then-starts_with
+parenthesised-returns-then-starts_with t c =
+    nothing_inside c.args.source.now c.args.levels c.place-place.result _ _ c.starts_with.result c.args.reader.now c.lexeme.new.reader c.starts_with.new.self c.lexeme-then-starts_with.new.reader (c.place-place.ensures ∙ ap (place_in c.args.source.now) c.left.ensures) (c.lexeme.ensures c.args.source.now c.args.levels) c.if-starts_with.true c.starts_with.ensures (c.lexeme-then-starts_with.ensures c.args.source.now c.args.levels)
 
 pub parenthesised-returns : goal.parenthesised-returns
 parenthesised-returns t c =
-    parenthesised_reads c.args.places.now c.args.levels c.at-place.result c.in_ok-inner.inner c.in_ok-new.field-0.value c.args.reader.now c.symbol.new.self c.at.new.self c.expression.new.reader c.symbol-2.new.self (c.at-place.ensures ∙ ap (place_in c.args.places.now) c.left.ensures) c.in_ok-symbol.ensures (sym c.at.ensures.taken ∙ c.if-at.false) c.at.ensures.seen c.in_ok-inner.ensures c.in_ok-symbol-3.ensures c.in_ok-new.ensures.ok
+    ran_keeps c.keep.result (at c.place-place.result (parenthesised c.expression-inner.result)) c.parenthesised-made.result c.args.reader.now c.lexeme-2.new.reader c.keep.new.reader (read_in c.args.source.now c.args.levels (parenthesised_step (place_in c.args.source.now) c.args.levels))
+    (inner_read c.args.source.now c.args.levels c.place-place.result _ _ c.expression-inner.result c.starts_with.result c.args.reader.now c.lexeme.new.reader c.starts_with.new.self c.expression-inner.new.reader c.lexeme-2.new.reader (c.place-place.ensures ∙ ap (place_in c.args.source.now) c.left.ensures) (c.lexeme.ensures c.args.source.now c.args.levels) c.if-starts_with.false c.starts_with.ensures c.expression-inner.ensures (c.lexeme-2.ensures c.args.source.now c.args.levels))
+    c.parenthesised-made.ensures c.keep.ensures
 
-pub primary-returns-in_err-place : goal.primary-returns-in_err-place
-primary-returns-in_err-place t c =
-    let p = err_from_is_err_and c.from_residual.result c.from_residual.ensures.1 in
-    rw (p.1, p.2)
-    (rw (primary_variable c.args.places.now c.args.levels c.args.reader.now c.at.new.self c.at-2.new.self (sym c.at.ensures.taken ∙ c.if-at.false) c.at.ensures.seen (sym c.at-2.ensures.taken ∙ c.if-at-2.true) c.at-2.ensures.seen) (c.in_err-place.ensures c.args.levels))
+pub signed_path-returns : goal.signed_path-returns
+signed_path-returns t c =
+    signed_read c.args.source.now c.args.levels c.more_signs-signs.ensures.others c.further-path.result c.with_signs.result c.args.reader.now c.more_signs-signs.new.reader c.further-path.new.reader c.with_signs.new.reader (c.more_signs-signs.ensures.holds c.args.levels)
+    (c.further-path.ensures (step (place_in c.args.source.now) c.args.levels) c.more_signs-signs.new.reader c.step-first.ensures)
+    (subst (λ xs. Makes c.with_signs.result (wrapped xs c.further-path.result) c.further-path.new.reader c.with_signs.new.reader) (c.more_signs-signs.ensures.is ∙ ap (λ xs. xs ++ c.more_signs-signs.ensures.others) c.new.ensures.items) c.with_signs.ensures)
 
-pub primary-returns-then-at-2 : goal.primary-returns-then-at-2
-primary-returns-then-at-2 t c =
-    primary_variable c.args.places.now c.args.levels c.args.reader.now c.at.new.self c.at-2.new.self (sym c.at.ensures.taken ∙ c.if-at.false) c.at.ensures.seen (sym c.at-2.ensures.taken ∙ c.if-at-2.true) c.at-2.ensures.seen ∙ c.in_ok-place.ensures c.args.levels
+pub other_operand-returns-then-looks_at : goal.other_operand-returns-then-looks_at
+other_operand-returns-then-looks_at t c =
+    operand_signed c.args.source.now c.args.levels c.more_signs-signs.ensures.others c.operator-word.result.0 c.operator-word.result.1 c.further-path.result c.with_signs-operand.result c.keep.result c.signed-made.result c.looks_at.result
+    c.args.reader.now c.looks_at.new.self c.operator-word.new.reader c.more_signs-signs.new.reader c.further-path.new.reader c.with_signs-operand.new.reader c.keep.new.reader c.if-looks_at.true c.looks_at.ensures (c.operator-word.ensures c.args.levels) (c.more_signs-signs.ensures.holds c.args.levels)
+    (c.further-path.ensures (step (place_in c.args.source.now) c.args.levels) c.more_signs-signs.new.reader c.step-first.ensures)
+    (subst (λ xs. Makes c.with_signs-operand.result (wrapped xs c.further-path.result) c.further-path.new.reader c.with_signs-operand.new.reader) (c.more_signs-signs.ensures.is ∙ ap (λ xs. xs ++ c.more_signs-signs.ensures.others) c.new.ensures.items) c.with_signs-operand.ensures)
+    c.signed-made.ensures c.keep.ensures
 
-pub primary-returns : goal.primary-returns
-primary-returns t c =
-    rw (primary_integer c.args.places.now c.args.levels c.args.reader.now c.at.new.self c.at-2.new.self (sym c.at.ensures.taken ∙ c.if-at.false) c.at.ensures.seen (sym c.at-2.ensures.taken ∙ c.if-at-2.false) c.at-2.ensures.seen) (c.integer.ensures c.args.levels)
+pub other_operand-returns-else-looks_at : goal.other_operand-returns-else-looks_at
+other_operand-returns-else-looks_at t c =
+    operand_other c.args.source.now c.args.levels c.further.result c.looks_at.result c.args.reader.now c.looks_at.new.self c.further.new.reader c.if-looks_at.false c.looks_at.ensures
+    (c.further.ensures (other_step (place_in c.args.source.now) c.args.levels) c.looks_at.new.self c.other_step-first.ensures)
 
-pub sequence-returns-then-not-at : goal.sequence-returns-then-not-at
-sequence-returns-then-not-at t c =
-    more-ends c.args.places.now c.args.levels comma 44 (λ place. SequenceTree) (rule (single c.args.levels)) 64 c.loop.counter c.loop.tree c.loop.reader c.at.new.self _ c.loop-test.true (sym c.at.ensures.taken ∙ c.if-not-at.true) c.at.ensures.seen c.loop.invariant
+pub named_step-returns-then-reserved : goal.named_step-returns-then-reserved
+named_step-returns-then-reserved t c =
+    ran_keeps c.keep.result (named_tree (name_at c.args.place (name_made c.args.name))) c.named-made.result c.args.reader.now c.gap.new.self c.keep.new.reader (read_in c.args.source.now c.args.levels (behind_any_name (place_in c.args.source.now) c.args.levels (name_made c.args.name)))
+    (reserved_read c.args.source.now c.args.levels (name_made c.args.name) c.args.place c.args.reader.now c.gap.new.self (sym c.is_reserved-reserved.ensures ∙ c.if-reserved.true) c.requires c.gap.ensures)
+    c.named-made.ensures c.keep.ensures
 
-pub sequence-returns-in_err-symbol : goal.sequence-returns-in_err-symbol
-sequence-returns-in_err-symbol t c =
-    let p = err_from_is_err_and c.from_residual.result c.from_residual.ensures.1 in
-    rw (p.1, p.2)
-    (separator_fails c.args.places.now c.args.levels comma 44 (λ place. SequenceTree) (rule (single c.args.levels)) (comma_reads c.args.places.now c.args.levels) c.in_err-symbol.field-0.0 64 c.loop.counter c.loop.tree c.loop.reader c.at.new.self _ c.loop-test.true (sym c.at.ensures.taken ∙ c.if-not-at.false) c.at.ensures.seen c.in_err-symbol.ensures c.loop.invariant)
+pub named_step-returns-then-not-starts_with : goal.named_step-returns-then-not-starts_with
+named_step-returns-then-not-starts_with t c =
+    ran_keeps c.keep-then-not-starts_with.result (named_tree (name_at c.args.place (name_made c.args.name))) c.named-made-then-not-starts_with.result c.args.reader.now c.starts_with.new.self c.keep-then-not-starts_with.new.reader (read_in c.args.source.now c.args.levels (behind_any_name (place_in c.args.source.now) c.args.levels (name_made c.args.name)))
+    (unreserved_read c.args.source.now c.args.levels (name_made c.args.name) (tree (named_tree (name_at c.args.place (name_made c.args.name)))) c.args.reader.now c.starts_with.new.self (sym c.is_reserved-reserved.ensures ∙ c.if-reserved.false)
+    (name_read c.args.source.now c.args.levels (name_made c.args.name) c.args.place c.starts_with.result c.args.reader.now c.gap.new.self c.starts_with.new.self c.requires c.gap.ensures c.if-not-starts_with.true c.starts_with.ensures))
+    c.named-made-then-not-starts_with.ensures c.keep-then-not-starts_with.ensures
 
-pub sequence-returns-in_err-next : goal.sequence-returns-in_err-next
-sequence-returns-in_err-next t c =
-    let p = err_from_is_err_and c.from_residual-in_err-next.result c.from_residual-in_err-next.ensures.1 in
-    rw (p.1, p.2)
-    (member_fails c.args.places.now c.args.levels comma 44 (λ place. SequenceTree) (rule (single c.args.levels)) (comma_reads c.args.places.now c.args.levels) c.in_err-next.field-0.0 64 c.loop.counter c.loop.tree c.loop.reader c.at.new.self c.symbol.new.self _ _ c.loop-test.true (sym c.at.ensures.taken ∙ c.if-not-at.false) c.at.ensures.seen c.in_ok-symbol.ensures c.in_err-next.ensures c.loop.invariant)
+pub named_step-returns : goal.named_step-returns
+named_step-returns t c =
+    ran_keeps c.keep-2.result (called_tree (name_at c.args.place (name_made c.args.name)) (trees_of c.arguments-arguments.result.items)) c.called-made.result c.args.reader.now c.arguments-arguments.new.reader c.keep-2.new.reader (read_in c.args.source.now c.args.levels (behind_any_name (place_in c.args.source.now) c.args.levels (name_made c.args.name)))
+    (unreserved_read c.args.source.now c.args.levels (name_made c.args.name) (tree (called_tree (name_at c.args.place (name_made c.args.name)) (trees_of c.arguments-arguments.result.items))) c.args.reader.now c.arguments-arguments.new.reader (sym c.is_reserved-reserved.ensures ∙ c.if-reserved.false)
+    (call_read c.args.source.now c.args.levels (name_made c.args.name) (trees_of c.arguments-arguments.result.items) c.args.place c.starts_with.result c.args.reader.now c.gap.new.self c.starts_with.new.self c.arguments-arguments.new.reader c.requires c.gap.ensures c.if-not-starts_with.false c.starts_with.ensures c.arguments-arguments.ensures))
+    c.called-made.ensures c.keep-2.ensures
 
-pub sequence-loop-preserved : goal.sequence-loop-preserved
-sequence-loop-preserved t c =
-    rw (c.in_ok-new.ensures.ok, c.in_ok-new-2.ensures.ok)
-    (more-goes_on c.args.places.now c.args.levels comma 44 (λ place. SequenceTree) (rule (single c.args.levels)) (comma_reads c.args.places.now c.args.levels) 64 c.loop.counter c.loop.tree c.in_ok-next.next c.loop.reader c.at.new.self c.symbol.new.self c.single.new.reader _ _ c.loop-test.true (sym c.at.ensures.taken ∙ c.if-not-at.false) c.at.ensures.seen c.in_ok-symbol.ensures c.in_ok-next.ensures c.loop.invariant)
+pub arguments-returns : goal.arguments-returns
+arguments-returns t c = arguments_read c.args.source.now c.args.levels _ (node (Arguments (trees_of c.arguments_in.result.items))) c.args.reader.now c.lexeme.new.reader c.arguments_in.new.reader (c.lexeme.ensures c.args.source.now c.args.levels) c.arguments_in.ensures
 
-pub sequence-returns : goal.sequence-returns
-sequence-returns t c =
-    more-full c.args.places.now c.args.levels comma 44 (λ place. SequenceTree) (rule (single c.args.levels)) 64 c.loop.counter c.loop.tree c.loop.reader _ c.loop-test.false c.loop.invariant
+pub arguments_in-returns-then-starts_with : goal.arguments_in-returns-then-starts_with
+arguments_in-returns-then-starts_with t c =
+    arguments_none c.args.source.now c.args.levels _ c.new-list.result.items c.starts_with.result c.args.reader.now c.starts_with.new.self c.lexeme.new.reader c.if-starts_with.true c.starts_with.ensures (c.lexeme.ensures c.args.source.now c.args.levels) c.new-list.ensures.items
 
-pub sum-returns-then-not-at : goal.sum-returns-then-not-at
-sum-returns-then-not-at t c =
-    more-ends c.args.places.now c.args.levels plus 43 SumTree (primary (place_in c.args.places.now) c.args.levels) 64 c.loop.counter c.loop.tree c.loop.reader c.at.new.self _ c.loop-test.true (sym c.at.ensures.taken ∙ c.if-not-at.true) c.at.ensures.seen c.loop.invariant
+pub arguments_in-returns-then-is_err : goal.arguments_in-returns-then-is_err
+arguments_in-returns-then-is_err t c =
+    arguments_lost c.args.source.now c.args.levels _ c.single-first.result c.starts_with.result c.args.reader.now c.starts_with.new.self c.single-first.new.reader c.lose.new.self c.if-starts_with.false c.starts_with.ensures c.single-first.ensures c.lose.ensures
 
-pub sum-returns-in_err-symbol : goal.sum-returns-in_err-symbol
-sum-returns-in_err-symbol t c =
-    let p = err_from_is_err_and c.from_residual.result c.from_residual.ensures.1 in
-    rw (p.1, p.2)
-    (separator_fails c.args.places.now c.args.levels plus 43 SumTree (primary (place_in c.args.places.now) c.args.levels) (plus_reads c.args.places.now c.args.levels) c.in_err-symbol.field-0.0 64 c.loop.counter c.loop.tree c.loop.reader c.at.new.self _ c.loop-test.true (sym c.at.ensures.taken ∙ c.if-not-at.false) c.at.ensures.seen c.in_err-symbol.ensures c.loop.invariant)
+pub arguments_in-returns : goal.arguments_in-returns
+arguments_in-returns t c =
+    arguments_some c.args.source.now c.args.levels _ c.single-first.result (c.push.new.self).items c.more_arguments-list.ensures.others c.more_arguments-list.result.items c.starts_with.result c.args.reader.now c.starts_with.new.self c.single-first.new.reader c.more_arguments-list.new.reader c.lexeme-2.new.reader
+    c.if-starts_with.false c.starts_with.ensures c.single-first.ensures c.more_arguments-list.ensures.holds (c.lexeme-2.ensures c.args.source.now c.args.levels)
+    (c.push.ensures.items ∙ ap (λ b. if b then (c.new-list.result.items ++ c.single-first.result ∷ []) else c.new-list.result.items) c.if-is_err.ensures.negation ∙ ap (λ us. us ++ c.single-first.result ∷ []) c.new-list.ensures.items)
+    c.more_arguments-list.ensures.is
 
-pub sum-returns-in_err-next : goal.sum-returns-in_err-next
-sum-returns-in_err-next t c =
-    let p = err_from_is_err_and c.from_residual-in_err-next.result c.from_residual-in_err-next.ensures.1 in
-    rw (p.1, p.2)
-    (member_fails c.args.places.now c.args.levels plus 43 SumTree (primary (place_in c.args.places.now) c.args.levels) (plus_reads c.args.places.now c.args.levels) c.in_err-next.field-0.0 64 c.loop.counter c.loop.tree c.loop.reader c.at.new.self c.symbol.new.self _ _ c.loop-test.true (sym c.at.ensures.taken ∙ c.if-not-at.false) c.at.ensures.seen c.in_ok-symbol.ensures c.in_err-next.ensures c.loop.invariant)
+pub more_arguments-loop-reader-init : goal.more_arguments-loop-reader-init
+more_arguments-loop-reader-init t c = items_begin c.args.source.now c.args.levels c.args.list.items c.args.reader.now c.left-left.result c.left-left.ensures
 
-pub sum-loop-preserved : goal.sum-loop-preserved
-sum-loop-preserved t c =
-    rw (c.in_ok-new.ensures.ok, c.in_ok-new-2.ensures.ok, c.at-place.ensures, c.left.ensures)
-    (more-goes_on c.args.places.now c.args.levels plus 43 SumTree (primary (place_in c.args.places.now) c.args.levels) (plus_reads c.args.places.now c.args.levels) 64 c.loop.counter c.loop.tree c.in_ok-next.next c.loop.reader c.at.new.self c.symbol.new.self c.primary.new.reader _ _ c.loop-test.true (sym c.at.ensures.taken ∙ c.if-not-at.false) c.at.ensures.seen c.in_ok-symbol.ensures c.in_ok-next.ensures c.loop.invariant)
+pub more_arguments-returns-then-is_err : goal.more_arguments-returns-then-is_err
+more_arguments-returns-then-is_err t c =
+    subst (λ us. Added c.args.list.items us (λ others. Listed others c.args.reader.now c.lose.new.self (read_in c.args.source.now c.args.levels (more_arguments (place_in c.args.source.now) c.args.levels))))
+    (sym (c.push.ensures.items ∙ ap (λ b. if b then (c.loop-reader.list.items ++ c.single-next.result ∷ []) else c.loop-reader.list.items) c.if-is_err.ensures.negation))
+    (items_lost c.args.source.now c.args.levels c.args.list.items c.loop-reader.list.items c.loop-reader.left _ c.single-next.result c.looks_at.result c.args.reader.now c.loop-reader.reader c.looks_at.new.self c.lexeme.new.reader c.single-next.new.reader c.lose.new.self
+    c.loop-reader.invariant c.loop-reader-test.true c.looks_at.ensures (c.lexeme.ensures c.args.source.now c.args.levels) c.single-next.ensures c.lose.ensures)
 
-pub sum-returns : goal.sum-returns
-sum-returns t c =
-    more-full c.args.places.now c.args.levels plus 43 SumTree (primary (place_in c.args.places.now) c.args.levels) 64 c.loop.counter c.loop.tree c.loop.reader _ c.loop-test.false c.loop.invariant
+pub more_arguments-returns-then-left-eq0 : goal.more_arguments-returns-then-left-eq0
+more_arguments-returns-then-left-eq0 t c =
+    items_full c.args.source.now c.args.levels c.args.list.items c.loop-reader.list.items (c.push.new.self).items c.loop-reader.left _ c.single-next.result c.looks_at.result c.args.reader.now c.loop-reader.reader c.looks_at.new.self c.lexeme.new.reader c.single-next.new.reader
+    c.loop-reader.invariant c.if-left-eq0.true c.loop-reader-test.true c.looks_at.ensures (c.lexeme.ensures c.args.source.now c.args.levels) c.single-next.ensures
+    (c.push.ensures.items ∙ ap (λ b. if b then (c.loop-reader.list.items ++ c.single-next.result ∷ []) else c.loop-reader.list.items) c.if-is_err.ensures.negation)
 
-pub single-returns-then-at : goal.single-returns-then-at
-single-returns-then-at t c =
-    rw (single_let c.args.places.now c.args.levels (c.args.levels - 1) c.args.reader.now c.at.new.self (omega arith) refl (sym c.at.ensures.taken ∙ c.if-at.true) c.at.ensures.seen) c.let_single.ensures
+pub more_arguments-loop-reader-preserved : goal.more_arguments-loop-reader-preserved
+more_arguments-loop-reader-preserved t c =
+    items_more c.args.source.now c.args.levels c.args.list.items c.loop-reader.list.items (c.push.new.self).items c.loop-reader.left (c.loop-reader.left - 1) _ c.single-next.result c.looks_at.result c.args.reader.now c.loop-reader.reader c.looks_at.new.self c.lexeme.new.reader c.single-next.new.reader
+    c.loop-reader.invariant (omega (arith, c.if-left-eq0.false)) c.loop-reader-test.true c.looks_at.ensures (c.lexeme.ensures c.args.source.now c.args.levels) c.single-next.ensures
+    (c.push.ensures.items ∙ ap (λ b. if b then (c.loop-reader.list.items ++ c.single-next.result ∷ []) else c.loop-reader.list.items) c.if-is_err.ensures.negation)
 
-pub single-returns-else-at : goal.single-returns-else-at
-single-returns-else-at t c =
-    rw (single_addition c.args.places.now c.args.levels (c.args.levels - 1) c.args.reader.now c.at.new.self (omega arith) refl (sym c.at.ensures.taken ∙ c.if-at.false) c.at.ensures.seen) c.addition.ensures
+pub more_arguments-returns : goal.more_arguments-returns
+more_arguments-returns t c =
+    items_end c.args.source.now c.args.levels c.args.list.items c.loop-reader.list.items c.loop-reader.left c.looks_at.result c.args.reader.now c.loop-reader.reader c.looks_at.new.self c.loop-reader.invariant c.loop-reader-test.false c.looks_at.ensures

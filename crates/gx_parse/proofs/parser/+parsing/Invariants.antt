@@ -1,42 +1,112 @@
-use Rattle.std.proofs.Common.{◌≡◌, ◌+◌, ◌-◌, ◌*◌}
-use Rattle.gx_grammar.specs.Grammar.{rule}
-use Rattle.gx_parse.specs.SyntaxTree.{SequenceTree, SumTree}
-use Rattle.gx_parse.specs.Tokens.{comma, plus}
-use Rattle.gx_parse.specs.Grammar.{single, primary, place_in}
-use Rattle.gx_parse.specs.Reading.{read_more}
+use Rattle.std.proofs.Common.{◌≡◌, ◌+◌, ◌-◌, ◌*◌, ℕ, suc}
+use Rattle.gx_ast.specs.SyntaxTree.{SyntaxTree}
+use Rattle.gx_grammar.specs.Ran.{Standing, Ran, left_of}
+use Rattle.gx_parse.specs.declared.members.Members.{Members}
+use Rattle.gx_parse.specs.declared.members.Members.TheVariants.{Singles, Operands, Steps}
+use Rattle.gx_parse.specs.Nodes.{tree}
+use Rattle.gx_parse.specs.Grammar.{Phrase, ladder, place_in}
+use Rattle.gx_parse.specs.Reading.{read_in}
+use Rattle.gx_parse.specs.Binding.{more_bindings, more_clauses}
+use Rattle.gx_parse.specs.Lists.{Gone, binding_made, clause_made}
+use Rattle.gx_parse.specs.Parsing.{Added, Passed, most_of, read_chain, read_items}
 use Rattle.gx_parse.proofs.parser.+parsing.Given as goal
 
+abbrev rank : Members → ℕ
+rank Singles = 2
+rank (Operands k) = 13 + 3 * k
+rank Steps = 8
+
 abbrev pub decreases-single : goal.decreases-single
-decreases-single l = 8 * l.levels
+decreases-single l = 1024 * l.levels + 0
 
-abbrev pub decreases-let_single : goal.decreases-let_single
-decreases-let_single l = 8 * l.levels + 1
+abbrev pub decreases-more_arguments : goal.decreases-more_arguments
+decreases-more_arguments l = 1024 * l.levels + 1
 
-abbrev pub decreases-sequence : goal.decreases-sequence
-decreases-sequence l = 8 * l.levels + 1
+abbrev pub decreases-member : goal.decreases-member
+decreases-member l = 1024 * l.levels + rank l.members
+
+abbrev pub decreases-further : goal.decreases-further
+decreases-further l = 1024 * l.levels + (1 + rank l.members)
 
 abbrev pub decreases-expression : goal.decreases-expression
-decreases-expression l = 8 * l.levels + 2
+decreases-expression l = 1024 * l.levels + 4
 
 abbrev pub decreases-parenthesised : goal.decreases-parenthesised
-decreases-parenthesised l = 8 * l.levels + 3
+decreases-parenthesised l = 1024 * l.levels + 5
 
-abbrev pub decreases-primary : goal.decreases-primary
-decreases-primary l = 8 * l.levels + 4
+abbrev pub decreases-arguments : goal.decreases-arguments
+decreases-arguments l = 1024 * l.levels + 5
 
-abbrev pub decreases-sum : goal.decreases-sum
-decreases-sum l = 8 * l.levels + 5
+abbrev pub decreases-arguments_in : goal.decreases-arguments_in
+decreases-arguments_in l = 1024 * l.levels + 3
 
-abbrev pub decreases-addition : goal.decreases-addition
-decreases-addition l = 8 * l.levels + 6
+abbrev pub decreases-condition : goal.decreases-condition
+decreases-condition l = 1024 * l.levels + 5
 
--- the members that are left, joined to the tree so far
-abbrev pub invariant-sequence-loop : goal.invariant-sequence-loop
-invariant-sequence-loop l =
-    read_more l.places l.levels comma 44 (λ place. SequenceTree) (rule (single l.levels)) (64 - l.counter) l.tree l.reader
-    ≡ read_more l.places l.levels comma 44 (λ place. SequenceTree) (rule (single l.levels)) 63 l.fn.first l.fn.reader
+abbrev pub decreases-other_step : goal.decreases-other_step
+decreases-other_step l = 1024 * l.levels + 6
 
-abbrev pub invariant-sum-loop : goal.invariant-sum-loop
-invariant-sum-loop l =
-    read_more l.places l.levels plus 43 SumTree (primary (place_in l.places) l.levels) (64 - l.counter) l.tree l.reader
-    ≡ read_more l.places l.levels plus 43 SumTree (primary (place_in l.places) l.levels) 63 l.fn.first l.fn.reader
+abbrev pub decreases-named_step : goal.decreases-named_step
+decreases-named_step l = 1024 * l.levels + 6
+
+abbrev pub decreases-step : goal.decreases-step
+decreases-step l = 1024 * l.levels + 7
+
+abbrev pub decreases-signed_path : goal.decreases-signed_path
+decreases-signed_path l = 1024 * l.levels + 10
+
+abbrev pub decreases-other_operand : goal.decreases-other_operand
+decreases-other_operand l = 1024 * l.levels + 11
+
+abbrev pub decreases-ladder : goal.decreases-ladder
+decreases-ladder l = 1024 * l.levels + (12 + 3 * l.tighter)
+
+abbrev pub decreases-begun : goal.decreases-begun
+decreases-begun l = 1024 * l.levels + 1000
+
+abbrev pub invariant-further-loop : goal.invariant-further-loop
+invariant-further-loop l = (v : SyntaxTree) (z : Standing) → Ran v l.reader z (read_chain l.source l.levels l.members (most_of l.members - l.counter) l.tree) → Ran v l.fn.reader z (read_chain l.source l.levels l.members (most_of l.members) l.fn.first)
+
+abbrev pub invariant-ladder-loop-level : goal.invariant-ladder-loop-level
+invariant-ladder-loop-level l = (before : Phrase) (a : Standing) → Ran (tree l.fn.first) a l.fn.reader (read_in l.source l.levels before) → Ran (tree l.tree) a l.reader (read_in l.source l.levels (ladder (place_in l.source) l.level l.levels before))
+
+abbrev pub invariant-more_arguments-loop-reader : goal.invariant-more_arguments-loop-reader
+invariant-more_arguments-loop-reader l = Added l.fn.list.items l.list.items (λ others. Passed others l.fn.reader l.reader (read_items l.source l.levels (suc (left_of l.fn.reader))) (read_items l.source l.levels (suc l.left)))
+
+abbrev pub decreases-more_arguments-loop-reader : goal.decreases-more_arguments-loop-reader
+decreases-more_arguments-loop-reader l = l.left
+
+abbrev pub decreases-named_single : goal.decreases-named_single
+decreases-named_single l = 1024 * l.levels + 1001
+
+abbrev pub decreases-keyword_step : goal.decreases-keyword_step
+decreases-keyword_step l = 1024 * l.levels + 6
+
+abbrev pub decreases-flwor : goal.decreases-flwor
+decreases-flwor l = 1024 * l.levels + 7
+
+abbrev pub decreases-more_clauses : goal.decreases-more_clauses
+decreases-more_clauses l = 1024 * l.levels + 6
+
+abbrev pub decreases-clause : goal.decreases-clause
+decreases-clause l = 1024 * l.levels + 5
+
+abbrev pub decreases-last_clause : goal.decreases-last_clause
+decreases-last_clause l = 1024 * l.levels + 1
+
+abbrev pub decreases-bindings : goal.decreases-bindings
+decreases-bindings l = 1024 * l.levels + 3
+
+abbrev pub decreases-more_bindings : goal.decreases-more_bindings
+decreases-more_bindings l = 1024 * l.levels + 2
+
+abbrev pub decreases-binding : goal.decreases-binding
+decreases-binding l = 1024 * l.levels + 1
+
+abbrev pub invariant-more_bindings-loop : goal.invariant-more_bindings-loop
+invariant-more_bindings-loop l =
+    Gone binding_made l.fn.bindings.items l.list.items l.fn.reader l.reader (read_in l.source l.levels (more_bindings (place_in l.source) l.levels l.binder 63)) (read_in l.source l.levels (more_bindings (place_in l.source) l.levels l.binder (63 - l.counter)))
+
+abbrev pub invariant-more_clauses-loop : goal.invariant-more_clauses-loop
+invariant-more_clauses-loop l =
+    Gone clause_made l.fn.clauses.items l.list.items l.fn.reader l.reader (read_in l.source l.levels (more_clauses (place_in l.source) l.levels 63)) (read_in l.source l.levels (more_clauses (place_in l.source) l.levels (63 - l.counter)))

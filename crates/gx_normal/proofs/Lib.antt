@@ -1,0 +1,3 @@
+pub mod NormalisingLemmas
+pub mod NumberedVariables
+pub mod SearchLemmas

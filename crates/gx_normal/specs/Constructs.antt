@@ -1,0 +1,110 @@
+-- What each construct of the language stands for in Core, over its parts (XQuery 1.0 and XPath 2.0 Formal Semantics, section 4).
+use Rattle.std.specs.Prelude.{ℕ, Bool, true, false, pos, List, Option, None, Some}
+use Rattle.gx_base.specs.declared.place.Place.{Place}
+use Rattle.gx_base.specs.declared.type_name.Builtin.{Builtin}
+use Rattle.gx_base.specs.declared.type_name.Builtin.TheVariants as builtins
+use Rattle.gx_base.specs.declared.type_name.TypeName.TheVariants as names
+use Rattle.gx_num.specs.declared.Number.TheVariants.{Int}
+use Rattle.gx_facets.specs.declared.AtomValue.TheVariants.{Str}
+use Rattle.gx_facets.specs.declared.Atomic.{Atomic}
+use Rattle.gx_ast.specs.declared.expression.BinaryOperator.{BinaryOperator}
+use Rattle.gx_ast.specs.declared.expression.BinaryOperator.TheVariants as written
+use Rattle.gx_funcs.specs.declared.function.Function.{Function}
+use Rattle.gx_funcs.specs.declared.function.Function.TheVariants as functions
+use Rattle.gx_core.specs.declared.expression.BinaryOp.{BinaryOp}
+use Rattle.gx_core.specs.declared.expression.BinaryOp.TheVariants as core
+use Rattle.gx_core.specs.declared.expression.Binder.{Binder}
+use Rattle.gx_core.specs.declared.operator.Operator.{Operator}
+use Rattle.gx_core.specs.declared.operator.Operator.TheVariants as operators
+use Rattle.gx_core.specs.Arithmetic.{number_atom}
+use Rattle.gx_core.specs.Expression.{CoreExpression, At, Parts, no_parts, one_part, two_parts, three_parts, core_at, outer_of}
+
+-- the expression in parentheses that stand there
+abbrev pub within : Place → CoreExpression → CoreExpression
+within parentheses (At place outer annotation operator parts) = core_at place parentheses operator parts
+
+-- what is added around an expression has that expression's outer place
+abbrev pub around : CoreExpression → Operator → Parts (Unit {0}) → CoreExpression
+around e operator parts = core_at (outer_of e) (outer_of e) operator parts
+
+-- the atomization of an operand
+abbrev pub data_around : CoreExpression → CoreExpression
+data_around e = around e operators.DataOf (one_part e)
+
+-- its effective boolean value
+abbrev pub boolean_around : CoreExpression → CoreExpression
+boolean_around e = around e (operators.Call functions.Boolean) (one_part e)
+
+abbrev pub literal_at : Place → Atomic → CoreExpression
+literal_at place value = core_at place place (operators.Lit value) no_parts
+
+-- a string as an atomic value
+abbrev pub string_atom : List ℕ → Atomic
+string_atom characters = record { value = Str characters; kind = names.Builtin builtins.Str }
+
+abbrev pub sequence_of : CoreExpression → CoreExpression → CoreExpression
+sequence_of a b = around a operators.Seq (two_parts a b)
+
+-- an operator over the atomized operands
+abbrev pub operator_at : Place → BinaryOp → CoreExpression → CoreExpression → CoreExpression
+operator_at place op a b = core_at place place (operators.Binary op) (two_parts (data_around a) (data_around b))
+
+abbrev pub call_at : Place → Function → Parts (Unit {0}) → CoreExpression
+call_at place function arguments = core_at place place (operators.Call function) arguments
+
+abbrev pub conditional_at : Place → CoreExpression → CoreExpression → CoreExpression → CoreExpression
+conditional_at place test chosen otherwise = core_at place place operators.If (three_parts (boolean_around test) chosen otherwise)
+
+-- the right operand is looked at where the left one does not decide
+abbrev pub and_at : Place → CoreExpression → CoreExpression → CoreExpression
+and_at place a b = conditional_at place a (boolean_around b) (call_at place functions.False no_parts)
+
+abbrev pub or_at : Place → CoreExpression → CoreExpression → CoreExpression
+or_at place a b = conditional_at place a (call_at place functions.True no_parts) (boolean_around b)
+
+-- a sign: the negation of a number, or the number less zero
+abbrev pub signed_at : Place → (minus : Bool) → CoreExpression → CoreExpression
+signed_at place true e = core_at place place operators.Neg (one_part (data_around e))
+signed_at place false e = core_at place place (operators.Binary core.Sub) (two_parts (data_around e) (literal_at place (number_atom (Int (pos 0)))))
+
+abbrev pub cast_at : Place → Builtin → (optional : Bool) → CoreExpression → CoreExpression
+cast_at place kind optional e = core_at place place (operators.Cast (names.Builtin kind) optional) (one_part (data_around e))
+
+abbrev pub castable_at : Place → Builtin → (optional : Bool) → CoreExpression → CoreExpression
+castable_at place kind optional e = core_at place place (operators.Castable (names.Builtin kind) optional) (one_part (data_around e))
+
+abbrev pub let_at : Place → Binder → CoreExpression → CoreExpression → CoreExpression
+let_at place binder value body = core_at place place (operators.Let binder) (two_parts value body)
+
+-- the operator of Core for one that is written, if it is one
+abbrev pub core_operator : BinaryOperator → Option BinaryOp
+core_operator written.Add = Some core.Add
+core_operator written.Subtract = Some core.Sub
+core_operator written.Multiply = Some core.Mul
+core_operator written.Divide = Some core.Div
+core_operator written.DivideInteger = Some core.IDiv
+core_operator written.Modulo = Some core.Mod
+core_operator written.ValueEqual = Some core.Eq
+core_operator written.ValueNotEqual = Some core.Ne
+core_operator written.ValueLess = Some core.Lt
+core_operator written.ValueLessOrEqual = Some core.Le
+core_operator written.ValueGreater = Some core.Gt
+core_operator written.ValueGreaterOrEqual = Some core.Ge
+core_operator written.Equal = Some core.AnyEq
+core_operator written.NotEqual = Some core.AnyNe
+core_operator written.Less = Some core.AnyLt
+core_operator written.LessOrEqual = Some core.AnyLe
+core_operator written.Greater = Some core.AnyGt
+core_operator written.GreaterOrEqual = Some core.AnyGe
+core_operator written.To = Some core.To
+core_operator _ = None
+
+abbrev pub joined_by : Place → Option BinaryOp → Option (CoreExpression → CoreExpression → CoreExpression)
+joined_by place None = None
+joined_by place (Some op) = Some (operator_at place op)
+
+-- how an operator joins its operands, if it is built
+abbrev pub joining : Place → BinaryOperator → Option (CoreExpression → CoreExpression → CoreExpression)
+joining place written.And = Some (and_at place)
+joining place written.Or = Some (or_at place)
+joining place operator = joined_by place (core_operator operator)

@@ -1,0 +1,79 @@
+-- The productions of the grammar that the program does not evaluate yet. The first of them in the text is where a query is refused.
+use Rattle.std.specs.Prelude.{ℕ, Option, None, Some, List, [], ◌∷◌}
+use Rattle.gx_base.specs.declared.place.Place.{Place}
+use Rattle.gx_ast.specs.declared.expression.BinaryOperator.{BinaryOperator}
+use Rattle.gx_ast.specs.declared.expression.BinaryOperator.TheVariants.{Is, Before, After, Union, Intersect, Except}
+use Rattle.gx_ast.specs.declared.sequence_type.BoundVariable.{BoundVariable}
+use Rattle.gx_ast.specs.declared.sequence_type.SequenceType.{SequenceType}
+use Rattle.gx_ast.specs.SyntaxTree.{SyntaxTree, SyntaxForm, SyntaxTrees, Bindings, Clauses, Keys, at, number, string, variable, parenthesised, empty_sequence, call, comma, flwor, conditional, binary, instance_of, treat_as, castable_as, cast_as, signed, path, filtered, no_tree, a_tree, no_binding, a_binding, no_clause, for_clause, let_clause, where_clause, no_key, a_key}
+
+-- the first of two places in the order of the text, where there is one
+abbrev pub or_else : Option Place → Option Place → Option Place
+or_else None later = later
+or_else (Some place) later = Some place
+
+abbrev pub place_of : SyntaxTree → Place
+place_of (at place form) = place
+
+-- an operator, at its place
+abbrev pub unbuilt_operator : BinaryOperator → Place → Option Place
+unbuilt_operator Is place = Some place
+unbuilt_operator Before place = Some place
+unbuilt_operator After place = Some place
+unbuilt_operator Union place = Some place
+unbuilt_operator Intersect place = Some place
+unbuilt_operator Except place = Some place
+unbuilt_operator _ place = None
+
+-- the type of a variable, at the variable
+abbrev pub unbuilt_kind : Option SequenceType → Place → Option Place
+unbuilt_kind None place = None
+unbuilt_kind (Some kind) place = Some place
+
+-- predicates, at the first of them
+abbrev pub unbuilt_predicates : SyntaxTrees → Place → Place
+unbuilt_predicates no_tree place = place
+unbuilt_predicates (a_tree first others) place = place_of first
+
+-- sort keys, at the first of them
+abbrev pub unbuilt_keys : Keys → Option Place
+unbuilt_keys no_key = None
+unbuilt_keys (a_key value order others) = Some (place_of value)
+
+abbrev mutual
+  pub first_unbuilt : SyntaxTree → Option Place
+  first_unbuilt (at place form) = unbuilt_form place form
+
+  pub unbuilt_form : Place → SyntaxForm → Option Place
+  unbuilt_form place (number value) = None
+  unbuilt_form place (string characters) = None
+  unbuilt_form place (variable name) = None
+  unbuilt_form place empty_sequence = None
+  unbuilt_form place (parenthesised inner) = first_unbuilt inner
+  unbuilt_form place (call name arguments) = unbuilt_trees arguments
+  unbuilt_form place (comma first second) = or_else (first_unbuilt first) (first_unbuilt second)
+  unbuilt_form place (flwor clauses stable keys returned) = or_else (unbuilt_clauses clauses) (or_else (unbuilt_keys keys) (first_unbuilt returned))
+  unbuilt_form place (conditional test chosen otherwise) = or_else (first_unbuilt test) (or_else (first_unbuilt chosen) (first_unbuilt otherwise))
+  unbuilt_form place (binary operator left right) = or_else (first_unbuilt left) (or_else (unbuilt_operator operator place) (first_unbuilt right))
+  unbuilt_form place (castable_as operand kind) = first_unbuilt operand
+  unbuilt_form place (cast_as operand kind) = first_unbuilt operand
+  unbuilt_form place (signed minus operand) = first_unbuilt operand
+  unbuilt_form place (instance_of operand kind) = or_else (first_unbuilt operand) (Some place)
+  unbuilt_form place (treat_as operand kind) = or_else (first_unbuilt operand) (Some place)
+  unbuilt_form place (path descendants left right) = or_else (first_unbuilt left) (Some place)
+  unbuilt_form place (filtered operand predicates) = or_else (first_unbuilt operand) (Some (unbuilt_predicates predicates place))
+  unbuilt_form place _ = Some place
+
+  pub unbuilt_trees : SyntaxTrees → Option Place
+  unbuilt_trees no_tree = None
+  unbuilt_trees (a_tree first others) = or_else (first_unbuilt first) (unbuilt_trees others)
+
+  pub unbuilt_bindings : Bindings → Option Place
+  unbuilt_bindings no_binding = None
+  unbuilt_bindings (a_binding bound value others) = or_else (unbuilt_kind bound.kind bound.variable.place) (or_else (first_unbuilt value) (unbuilt_bindings others))
+
+  pub unbuilt_clauses : Clauses → Option Place
+  unbuilt_clauses no_clause = None
+  unbuilt_clauses (for_clause place bindings others) = Some place
+  unbuilt_clauses (let_clause place bindings others) = or_else (unbuilt_bindings bindings) (unbuilt_clauses others)
+  unbuilt_clauses (where_clause place condition others) = Some place

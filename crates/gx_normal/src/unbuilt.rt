@@ -1,0 +1,207 @@
+// The first production of a query that is not built yet.
+
+ghost use Rattle.std.specs.Prelude.{◌≡◌, ◌∷◌, IfOk, OnOk};
+ghost use Rattle.gx_ast.specs.SyntaxView.{bindings_of, keys_of, trees_of};
+ghost use Rattle.gx_normal.specs.declared.unbuilt.Pending.TheVariants as pendings;
+ghost use Rattle.gx_normal.specs.Searching.{first_in, first_of_all};
+ghost use Rattle.gx_normal.specs.Unbuilt.{first_unbuilt, or_else, unbuilt_bindings, unbuilt_keys, unbuilt_operator, unbuilt_predicates};
+
+use gx_ast::expression::{BinaryOperator, Binding, Clause, Expr, ExprNode, Key};
+use gx_base::place::Place;
+use gx_core::stack::Stack;
+use std::alloc::{AllocError, Global};
+
+// A part of a query that is left to be searched: a tree, trees, bindings, clauses, or a place that was found, if it was.
+#[derive(Clone, Copy)]
+pub(crate) enum Pending<'a> {
+    Tree(&'a Expr),
+    Trees(&'a [Expr]),
+    Bindings(&'a [Binding]),
+    Clauses(&'a [Clause]),
+    Found(Option<Place>),
+}
+
+/// The place of the first production in a query that is not built, if there is one. The search ends long before its loop
+/// does.
+pub fn first_unbuilt(alloc: Global, query: &Expr) -> Result<Option<Place>, AllocError>
+    ensures { IfOk result (λ place. place ≡ first_unbuilt query.now) }
+{
+    let mut pending = Stack::new(alloc);
+    pending.push(Pending::Tree(query))?;
+    for _ in 0..u64::MAX {
+        match pending.pop() {
+            None => return Ok(None),
+            Some(Pending::Found(Some(place))) => return Ok(Some(place)),
+            Some(part) => open(part, &mut pending)?,
+        }
+    }
+    Err(AllocError)
+}
+
+// Puts what a part holds in its place.
+fn open<'a>(part: Pending<'a>, pending: &mut Stack<Pending<'a>>) -> Result<(), AllocError>
+    ensures { OnOk result (first_of_all pending.new ≡ first_of_all (part.entry ∷ pending.old)) }
+{
+    match part {
+        Pending::Tree(tree) => open_tree(tree, pending),
+        Pending::Trees(trees) => open_trees(trees, pending),
+        Pending::Bindings(bindings) => open_bindings(bindings, pending),
+        Pending::Clauses(clauses) => open_clauses(clauses, pending),
+        Pending::Found(None) => Ok(()),
+        Pending::Found(Some(place)) => pending.push(Pending::Found(Some(place))),
+    }
+}
+
+#[tactic(auto, using(crate::proofs::SearchLemmas::or_else_nests))]
+fn open_trees<'a>(trees: &'a [Expr], pending: &mut Stack<Pending<'a>>) -> Result<(), AllocError>
+    ensures { OnOk result (first_of_all pending.new ≡ first_of_all (pendings.Trees trees.entry ∷ pending.old)) }
+{
+    let Some((first, others)) = trees.split_first() else {
+        return Ok(());
+    };
+    pending.push(Pending::Trees(others))?;
+    pending.push(Pending::Tree(first))
+}
+
+#[tactic(auto, using(crate::proofs::SearchLemmas::or_else_nests))]
+fn open_bindings<'a>(
+    bindings: &'a [Binding],
+    pending: &mut Stack<Pending<'a>>,
+) -> Result<(), AllocError>
+    ensures { OnOk result (first_of_all pending.new ≡ first_of_all (pendings.Bindings bindings.entry ∷ pending.old)) }
+{
+    let Some((first, others)) = bindings.split_first() else {
+        return Ok(());
+    };
+    pending.push(Pending::Bindings(others))?;
+    pending.push(Pending::Tree(&first.value))?;
+    let bound = &first.bound;
+    let found = match &bound.kind {
+        None => None,
+        Some(_) => Some(bound.variable.place),
+    };
+    pending.push(Pending::Found(found))
+}
+
+#[tactic(auto, using(crate::proofs::SearchLemmas::or_else_nests))]
+fn open_clauses<'a>(
+    clauses: &'a [Clause],
+    pending: &mut Stack<Pending<'a>>,
+) -> Result<(), AllocError>
+    ensures { OnOk result (first_of_all pending.new ≡ first_of_all (pendings.Clauses clauses.entry ∷ pending.old)) }
+{
+    match clauses.split_first() {
+        None => Ok(()),
+        Some((Clause::Let(_, bindings), others)) => {
+            pending.push(Pending::Clauses(others))?;
+            pending.push(Pending::Bindings(bindings.as_slice()))
+        }
+        Some((Clause::For(place, _), _)) => pending.push(Pending::Found(Some(*place))),
+        Some((Clause::Where(place, _), _)) => pending.push(Pending::Found(Some(*place))),
+    }
+}
+
+#[tactic(auto, using(crate::proofs::SearchLemmas::or_else_nests))]
+fn open_tree<'a>(tree: &'a Expr, pending: &mut Stack<Pending<'a>>) -> Result<(), AllocError>
+    ensures { OnOk result (first_of_all pending.new ≡ first_of_all (pendings.Tree tree.entry ∷ pending.old)) }
+{
+    match &tree.node {
+        ExprNode::Number(_) | ExprNode::String(_) | ExprNode::Variable(_) | ExprNode::Empty => {
+            Ok(())
+        }
+        ExprNode::Parenthesised(operand)
+        | ExprNode::CastableAs(operand, _)
+        | ExprNode::CastAs(operand, _)
+        | ExprNode::Signed(_, operand) => pending.push(Pending::Tree(operand)),
+        ExprNode::Call(_, arguments) => pending.push(Pending::Trees(arguments.as_slice())),
+        ExprNode::Sequence(first, second) => open_three(first, None, second, pending),
+        ExprNode::Binary(operator, left, right) => {
+            open_three(
+                left,
+                unbuilt_operator(*operator, tree.place),
+                right,
+                pending,
+            )
+        }
+        ExprNode::If(test, chosen, otherwise) => {
+            pending.push(Pending::Tree(otherwise))?;
+            pending.push(Pending::Tree(chosen))?;
+            pending.push(Pending::Tree(test))
+        }
+        ExprNode::Flwor(clauses, _, keys, returned) => {
+            pending.push(Pending::Tree(returned))?;
+            pending.push(Pending::Found(unbuilt_keys(keys.as_slice())))?;
+            pending.push(Pending::Clauses(clauses.as_slice()))
+        }
+        ExprNode::InstanceOf(operand, _) | ExprNode::TreatAs(operand, _) => {
+            open_front(operand, tree.place, pending)
+        }
+        ExprNode::Path(_, left, _) => open_front(left, tree.place, pending),
+        ExprNode::Filtered(operand, predicates) => open_front(
+            operand,
+            unbuilt_predicates(predicates.as_slice(), tree.place),
+            pending,
+        ),
+        _ => pending.push(Pending::Found(Some(tree.place))),
+    }
+}
+
+// Two operands with an operator between them.
+#[tactic(auto, using(crate::proofs::SearchLemmas::or_else_nests))]
+fn open_three<'a>(
+    left: &'a Expr,
+    operator: Option<Place>,
+    right: &'a Expr,
+    pending: &mut Stack<Pending<'a>>,
+) -> Result<(), AllocError>
+    ensures { OnOk result (first_of_all pending.new ≡ or_else (or_else (first_unbuilt left.now) (or_else operator (first_unbuilt right.now))) (first_of_all pending.old)) }
+{
+    pending.push(Pending::Tree(right))?;
+    pending.push(Pending::Found(operator))?;
+    pending.push(Pending::Tree(left))
+}
+
+// An operand with what is not built behind it.
+#[tactic(auto, using(crate::proofs::SearchLemmas::or_else_nests))]
+fn open_front<'a>(
+    operand: &'a Expr,
+    behind: Place,
+    pending: &mut Stack<Pending<'a>>,
+) -> Result<(), AllocError>
+    ensures { OnOk result (first_of_all pending.new ≡ or_else (or_else (first_unbuilt operand.now) (Some behind)) (first_of_all pending.old)) }
+{
+    pending.push(Pending::Found(Some(behind)))?;
+    pending.push(Pending::Tree(operand))
+}
+
+fn unbuilt_operator(operator: BinaryOperator, place: Place) -> Option<Place>
+    ensures { result ≡ unbuilt_operator operator place }
+{
+    match operator {
+        BinaryOperator::Is
+        | BinaryOperator::Before
+        | BinaryOperator::After
+        | BinaryOperator::Union
+        | BinaryOperator::Intersect
+        | BinaryOperator::Except => Some(place),
+        _ => None,
+    }
+}
+
+fn unbuilt_keys(keys: &[Key]) -> Option<Place>
+    ensures { result ≡ unbuilt_keys (keys_of keys.now) }
+{
+    match keys {
+        [] => None,
+        [first, ..] => Some(first.value.place),
+    }
+}
+
+fn unbuilt_predicates(predicates: &[Expr], place: Place) -> Place
+    ensures { result ≡ unbuilt_predicates (trees_of predicates.now) place }
+{
+    match predicates {
+        [] => place,
+        [first, ..] => first.place,
+    }
+}

@@ -1,0 +1,212 @@
+-- What the parts of FLWOR expressions read.
+use Rattle.std.proofs.Common.{◌≡◌, ℕ, zero, suc, ◌+◌, Bool, true, false, List, [], ◌∷◌, ◌++◌, ◌⊎◌, inl, inr, refl, sym, ap, subst, ◌∙◌, Option, Some, None}
+use Rattle.gx_base.specs.declared.place.Place.{Place}
+use Rattle.gx_ast.specs.SyntaxTree.{SyntaxTree, at as located, flwor as flwor_form, no_key}
+use Rattle.gx_ast.specs.SyntaxView.{bindings_of, clauses_of}
+use Rattle.gx_ast.specs.declared.expression.Binding.{Binding}
+use Rattle.gx_ast.specs.declared.expression.Clause.{Clause}
+use Rattle.gx_grammar.specs.Value.{nothing, node, pair}
+use Rattle.gx_grammar.specs.Grammar.{token, empty, ◌&◌, keyed, choose, rule, made}
+use Rattle.gx_grammar.specs.Ran.{Standing, Ran, Looked, IsDone, Loses, left_of}
+use Rattle.gx_grammar.proofs.Ran.{ran_idle}
+use Rattle.gx_parse.specs.declared.word.Word.{Word}
+use Rattle.gx_parse.specs.declared.word.Word.TheVariants as word
+use Rattle.gx_parse.specs.declared.word.WordSet.TheVariants as set
+use Rattle.gx_parse.specs.declared.word.Binder.{Binder}
+use Rattle.gx_parse.specs.declared.word.Binder.TheVariants as binder
+use Rattle.gx_parse.specs.Words.{binder_of, binding_word}
+use Rattle.gx_parse.specs.Nodes.{Made, Found, Operator, BindingClause, WhereClause, second_value, name_length, tree}
+use Rattle.gx_parse.specs.Tokens.{one_of, gap, gap_then_dollar, barred_words}
+use Rattle.gx_parse.specs.Basics.{operator}
+use Rattle.gx_parse.specs.Grammar.{Phrase, single, word_of, lexeme, at_tokens, place_in}
+use Rattle.gx_parse.specs.Reading.{call, read_in, read_one}
+use Rattle.gx_parse.specs.Types.{written_name}
+use Rattle.gx_parse.specs.Bound.{bound_value, position_made, bound, bound_type, position}
+use Rattle.gx_parse.specs.Lists.{items_before, Grown, OneMore, binding_made, clause_made}
+use Rattle.gx_parse.specs.Parsing.{Added}
+use Rattle.gx_parse.specs.Binding.{head_value, bindings_in, clause_binder, clause_before, clauses_in, clause_value, where_value, flwor_value, first_bound, position_of, head, binding, further_binding, more_bindings, bindings, clause, last_clause, more_clauses, flwor}
+use Rattle.gx_parse.proofs.Chains.{ran_any}
+use Rattle.gx_parse.proofs.Phrases.{in_token, in_both, in_keyed, in_empty, in_left, in_right, in_made, in_rule, loses_done, loses_ran, stays_done}
+use Rattle.gx_parse.proofs.TypesPhrases.{ran_loses}
+use Rattle.gx_parse.proofs.Lists.{bindings_seen, clauses_seen}
+
+module _ (text : List ℕ) (n : ℕ) where
+  abbrev reads : Made → Standing → Standing → Phrase → Type 0
+  reads v a b A = Ran v a b (read_in text n A)
+
+  pub first_bound_read : (place : Place) (v : Made) (a b c : Standing) → place ≡ place_in text (left_of a + 1) → Ran nothing a b (read_one gap) → reads v b c (written_name (place_in text)) → reads (bound_value place (pair nothing v)) a c (first_bound (place_in text))
+  unfolding first_bound
+  first_bound_read place v a b c e h k =
+      subst (λ p. reads (bound_value p (pair nothing v)) a c (first_bound (place_in text))) (sym e)
+      (in_made text n (λ left v. bound_value (place_in text (left + 1)) v) (token gap & written_name (place_in text)) (pair nothing v) a c (in_both text n (token gap) (written_name (place_in text)) nothing v a b c (in_token text n gap nothing a b h) k))
+
+  pub for_position : (b : Binder) (v : Made) (a c : Standing) → b ≡ binder.For → reads v a c (position (place_in text)) → reads v a c (position_of (place_in text) b)
+  unfolding position_of
+  for_position b v a c e h = subst (λ d. reads v a c (position_of (place_in text) d)) (sym e) h
+
+  pub let_position : (b : Binder) (a : Standing) → b ≡ binder.Let → reads (position_made None) a a (position_of (place_in text) b)
+  unfolding position_of
+  let_position b a e = subst (λ d. reads (position_made None) a a (position_of (place_in text) d)) (sym e) (in_made text n (λ left v. position_made None) empty nothing a a (in_empty text n a))
+
+  pub head_read : (b : Binder) (w : Word) (variable : Phrase) (v k p x : Made) (a s0 s1 s2 s3 : Standing) → w ≡ binding_word b → reads v a s0 variable → reads k s0 s1 (bound_type (place_in text)) → reads p s1 s2 (position_of (place_in text) b)
+      → reads x s2 s3 (lexeme (word_of w)) → reads (head_value (pair v (pair k (pair p x)))) a s3 (head (place_in text) b variable)
+  unfolding head
+  head_read b w variable v k p x a s0 s1 s2 s3 e f g h i =
+      in_made text n (λ left v. head_value v) (variable & bound_type (place_in text) & position_of (place_in text) b & lexeme (word_of (binding_word b))) (pair v (pair k (pair p x))) a s3
+      (in_both text n variable (bound_type (place_in text) & position_of (place_in text) b & lexeme (word_of (binding_word b))) v (pair k (pair p x)) a s0 s3 f
+      (in_both text n (bound_type (place_in text)) (position_of (place_in text) b & lexeme (word_of (binding_word b))) k (pair p x) s0 s1 s3 g
+      (in_both text n (position_of (place_in text) b) (lexeme (word_of (binding_word b))) p x s1 s2 s3 h (subst (λ y. reads x s2 s3 (lexeme (word_of y))) e i))))
+
+  -- where the parts behind a variable were not read
+  pub head_stops : (b : Binder) (variable : Phrase) (v w : Made) (a s : Standing) → IsDone s → reads v a s variable → reads w a s (head (place_in text) b variable)
+  unfolding head
+  head_stops b variable v w a s d h =
+      ran_any (head_value (pair v nothing)) w a s (read_in text n (head (place_in text) b variable)) d
+      (in_made text n (λ left v. head_value v) (variable & bound_type (place_in text) & position_of (place_in text) b & lexeme (word_of (binding_word b))) (pair v nothing) a s
+      (in_both text n variable (bound_type (place_in text) & position_of (place_in text) b & lexeme (word_of (binding_word b))) v nothing a s s h
+      (ran_idle nothing s (read_in text n (bound_type (place_in text) & position_of (place_in text) b & lexeme (word_of (binding_word b)))) d)))
+
+  -- bindings
+
+  pub binding_read : (variable : Phrase) (v : Made) (t : SyntaxTree) (a b c : Standing) → reads v a b variable → Ran (tree t) b c (call text (suc n) (single n)) → reads (pair v (tree t)) a c (variable & rule (single n))
+  binding_read variable v t a b c h k = in_both text n variable (rule (single n)) v (tree t) a b c h (in_rule text n n (tree t) b c k)
+
+  pub binding_stops : (variable : Phrase) (v w : Made) (a b : Standing) → IsDone b → reads v a b variable → reads w a b (variable & rule (single n))
+  binding_stops variable v w a b d h =
+      ran_any (pair v nothing) w a b (read_in text n (variable & rule (single n))) d (in_both text n variable (rule (single n)) v nothing a b b h (ran_idle nothing b (read_in text n (rule (single n))) d))
+
+  -- no further binding
+  pub bindings_none : (b : Binder) (k : ℕ) (taken : Bool) (a c : Standing) → taken ≡ false → Looked taken a c (at_tokens (word_of word.Comma ∷ [])) → reads nothing a c (more_bindings (place_in text) n b k)
+  unfolding more_bindings
+  bindings_none b zero taken a c e h =
+      in_right text n (at_tokens (word_of word.Comma ∷ [])) (lexeme (word_of word.Comma) & token (barred_words (set.Only word.Dollar))) empty nothing taken a c c e h (in_empty text n c)
+  bindings_none b (suc k) taken a c e h =
+      in_right text n (at_tokens (word_of word.Comma ∷ [])) (further_binding (place_in text) n b & more_bindings (place_in text) n b k) empty nothing taken a c c e h (in_empty text n c)
+
+  -- one more
+  pub bindings_more : (b : Binder) (k j : ℕ) (x v w : Made) (taken : Bool) (s0 s1 s2 s3 s4 : Standing) → k ≡ suc j → taken ≡ true → Looked taken s0 s1 (at_tokens (word_of word.Comma ∷ [])) → reads x s1 s2 (lexeme (word_of word.Comma))
+      → reads v s2 s3 (head (place_in text) b (bound (place_in text)) & rule (single n)) → reads w s3 s4 (more_bindings (place_in text) n b j) → reads (pair v w) s0 s4 (more_bindings (place_in text) n b k)
+  unfolding more_bindings further_binding binding
+  bindings_more b k j x v w taken s0 s1 s2 s3 s4 l e h f g i =
+      subst (λ m. reads (pair v w) s0 s4 (more_bindings (place_in text) n b m)) (sym l)
+      (in_left text n (at_tokens (word_of word.Comma ∷ [])) (further_binding (place_in text) n b & more_bindings (place_in text) n b j) empty (pair v w) taken s0 s1 s4 e h
+      (in_both text n (further_binding (place_in text) n b) (more_bindings (place_in text) n b j) v w s1 s3 s4
+      (in_made text n (λ left u. second_value u) (lexeme (word_of word.Comma) & head (place_in text) b (bound (place_in text)) & rule (single n)) (pair x v) s1 s3
+      (in_both text n (lexeme (word_of word.Comma)) (head (place_in text) b (bound (place_in text)) & rule (single n)) x v s1 s2 s3 f g)) i))
+
+  -- a comma behind as many as may stand
+  pub bindings_full : (b : Binder) (x : Made) (taken : Bool) (s0 s1 s2 s3 : Standing) → taken ≡ true → Looked taken s0 s1 (at_tokens (word_of word.Comma ∷ [])) → reads x s1 s2 (lexeme (word_of word.Comma))
+      → Ran nothing s2 s3 (read_one (barred_words (set.Only word.Dollar))) → IsDone s3 → reads nothing s0 s3 (more_bindings (place_in text) n b zero)
+  unfolding more_bindings
+  bindings_full b x taken s0 s1 s2 s3 e h f g d =
+      in_left text n (at_tokens (word_of word.Comma ∷ [])) (lexeme (word_of word.Comma) & token (barred_words (set.Only word.Dollar))) empty nothing taken s0 s1 s3 e h
+      (ran_any (pair x nothing) nothing s1 s3 (read_in text n (lexeme (word_of word.Comma) & token (barred_words (set.Only word.Dollar)))) d
+      (in_both text n (lexeme (word_of word.Comma)) (token (barred_words (set.Only word.Dollar))) x nothing s1 s2 s3 f (in_token text n (barred_words (set.Only word.Dollar)) nothing s2 s3 g)))
+
+  pub bindings_read : (b : Binder) (before : Phrase) (none begun list : List Binding) (a c z : Standing) → none ≡ [] → OneMore binding_made none begun a c (read_in text n (before & rule (single n)))
+      → Added begun list (λ others. reads (items_before binding_made others nothing) c z (more_bindings (place_in text) n b 63)) → reads (items_before binding_made list nothing) a z ((before & rule (single n)) & more_bindings (place_in text) n b 63)
+  bindings_read b before none begun list a c z e (inl m) h =
+      subst (λ us. reads (items_before binding_made us nothing) a z ((before & rule (single n)) & more_bindings (place_in text) n b 63)) (sym (h.is ∙ ap (λ us. us ++ h.others) (m.1 ∙ ap (λ us. us ++ m.0 ∷ []) e)))
+      (in_both text n (before & rule (single n)) (more_bindings (place_in text) n b 63) (binding_made m.0) (items_before binding_made h.others nothing) a c z m.2 h.holds)
+  bindings_read b before none begun list a c z e (inr m) h =
+      ran_any (pair nothing (items_before binding_made h.others nothing)) (items_before binding_made list nothing) a z (read_in text n ((before & rule (single n)) & more_bindings (place_in text) n b 63))
+      (stays_done (items_before binding_made h.others nothing) c z (read_in text n (more_bindings (place_in text) n b 63)) m.1 h.holds)
+      (in_both text n (before & rule (single n)) (more_bindings (place_in text) n b 63) nothing (items_before binding_made h.others nothing) a c z (m.2 nothing) h.holds)
+
+  -- clauses
+
+  bindings_are : (b : Binder) (variable : Phrase) (v : Made) (a c : Standing) → reads v a c ((head (place_in text) b variable & rule (single n)) & more_bindings (place_in text) n b 63) → reads v a c (bindings (place_in text) n b variable)
+  unfolding bindings binding
+  bindings_are b variable v a c h = h
+
+  pub clause_read : (place : Place) (w : Word) (b : Binder) (bs : List Binding) (c : Clause) (s0 s1 s2 s3 s4 : Standing) → place ≡ place_in text (left_of s0) → b ≡ binder_of w → Ran (node (Found w)) s0 s1 (read_one (one_of set.Binders)) → Ran nothing s1 s2 (read_one gap)
+      → reads (items_before binding_made bs nothing) s2 s4 ((head (place_in text) b (bound (place_in text)) & rule (single n)) & more_bindings (place_in text) n b 63) → clause_made c ≡ node (BindingClause b place (bindings_of bs)) → reads (clause_made c) s0 s4 (clause (place_in text) n)
+  unfolding clause
+  clause_read place w b bs c s0 s1 s2 s3 s4 e f h i k g =
+      subst (λ v. reads v s0 s4 (clause (place_in text) n)) (sym (g ∙ ap (λ d. node (BindingClause d place (bindings_of bs))) f ∙ ap (λ p. node (BindingClause (binder_of w) p (bindings_of bs))) e ∙ ap (λ us. node (BindingClause (binder_of w) (place_in text (left_of s0)) us)) (sym (bindings_seen bs))))
+      (in_made text n (λ left v. clause_value (place_in text left) v) (keyed (one_of set.Binders) (λ v. token gap & bindings (place_in text) n (clause_binder v) (bound (place_in text)))) (pair (node (Found w)) (pair nothing (items_before binding_made bs nothing))) s0 s4
+      (in_keyed text n (one_of set.Binders) (λ v. token gap & bindings (place_in text) n (clause_binder v) (bound (place_in text))) (node (Found w)) (pair nothing (items_before binding_made bs nothing)) s0 s1 s4 h
+      (in_both text n (token gap) (bindings (place_in text) n (binder_of w) (bound (place_in text))) nothing (items_before binding_made bs nothing) s1 s2 s4 (in_token text n gap nothing s1 s2 i)
+      (bindings_are (binder_of w) (bound (place_in text)) (items_before binding_made bs nothing) s2 s4
+      (subst (λ d. reads (items_before binding_made bs nothing) s2 s4 ((head (place_in text) d (bound (place_in text)) & rule (single n)) & more_bindings (place_in text) n d 63)) f k)))))
+
+  abbrev pub where_part : Phrase
+  where_part = made (λ left v. where_value v) (operator (place_in text) (set.Only word.Where) & rule (single n))
+
+  pub no_where : (taken : Bool) (a c : Standing) → taken ≡ false → Looked taken a c (at_tokens (word_of word.Where ∷ [])) → reads nothing a c (last_clause (place_in text) n)
+  unfolding last_clause
+  no_where taken a c e h = in_right text n (at_tokens (word_of word.Where ∷ [])) (where_part & empty) empty nothing taken a c c e h (in_empty text n c)
+
+  pub where_read : (place : Place) (w : Word) (t : SyntaxTree) (a b c : Standing) → reads (node (Operator place w)) a b (operator (place_in text) (set.Only word.Where)) → Ran (tree t) b c (call text (suc n) (single n)) → reads (node (WhereClause place t)) a c where_part
+  where_read place w t a b c h k =
+      in_made text n (λ left v. where_value v) (operator (place_in text) (set.Only word.Where) & rule (single n)) (pair (node (Operator place w)) (tree t)) a c
+      (in_both text n (operator (place_in text) (set.Only word.Where)) (rule (single n)) (node (Operator place w)) (tree t) a b c h (in_rule text n n (tree t) b c k))
+
+  pub a_where : (v : Made) (taken : Bool) (a b c : Standing) → taken ≡ true → Looked taken a b (at_tokens (word_of word.Where ∷ [])) → reads v b c where_part → reads (pair v nothing) a c (last_clause (place_in text) n)
+  unfolding last_clause
+  a_where v taken a b c e h k = in_left text n (at_tokens (word_of word.Where ∷ [])) (where_part & empty) empty (pair v nothing) taken a b c e h (in_both text n where_part empty v nothing b c c k (in_empty text n c))
+
+  pub clauses_none : (k j : ℕ) (v : Made) (taken : Bool) (a b c : Standing) → k ≡ suc j → taken ≡ false → Looked taken a b (at_tokens (one_of set.Binders ∷ [])) → reads v b c (last_clause (place_in text) n) → reads v a c (more_clauses (place_in text) n k)
+  unfolding more_clauses
+  clauses_none k j v taken a b c l e h i =
+      subst (λ m. reads v a c (more_clauses (place_in text) n m)) (sym l)
+      (in_right text n (at_tokens (one_of set.Binders ∷ [])) (clause (place_in text) n & more_clauses (place_in text) n j) (last_clause (place_in text) n) v taken a b c e h i)
+
+  pub clauses_more : (k j : ℕ) (v w : Made) (taken : Bool) (a b c d : Standing) → k ≡ suc j → taken ≡ true → Looked taken a b (at_tokens (one_of set.Binders ∷ [])) → reads v b c (clause (place_in text) n) → reads w c d (more_clauses (place_in text) n j)
+      → reads (pair v w) a d (more_clauses (place_in text) n k)
+  unfolding more_clauses
+  clauses_more k j v w taken a b c d l e h i g =
+      subst (λ m. reads (pair v w) a d (more_clauses (place_in text) n m)) (sym l)
+      (in_left text n (at_tokens (one_of set.Binders ∷ [])) (clause (place_in text) n & more_clauses (place_in text) n j) (last_clause (place_in text) n) (pair v w) taken a b d e h
+      (in_both text n (clause (place_in text) n) (more_clauses (place_in text) n j) v w b c d i g))
+
+  pub clauses_full : (taken : Bool) (a b c : Standing) → taken ≡ true → Looked taken a b (at_tokens (barred_words set.Binders ∷ [])) → Ran nothing b c (read_one (barred_words set.Binders)) → reads nothing a c (more_clauses (place_in text) n zero)
+  unfolding more_clauses
+  clauses_full taken a b c e h i =
+      in_left text n (at_tokens (barred_words set.Binders ∷ [])) (token (barred_words set.Binders)) (last_clause (place_in text) n) nothing taken a b c e h (in_token text n (barred_words set.Binders) nothing b c i)
+
+  pub clauses_end : (v : Made) (taken : Bool) (a b c : Standing) → taken ≡ false → Looked taken a b (at_tokens (barred_words set.Binders ∷ [])) → reads v b c (last_clause (place_in text) n) → reads v a c (more_clauses (place_in text) n zero)
+  unfolding more_clauses
+  clauses_end v taken a b c e h i =
+      in_right text n (at_tokens (barred_words set.Binders ∷ [])) (token (barred_words set.Binders)) (last_clause (place_in text) n) v taken a b c e h i
+
+  -- a whole FLWOR
+
+  abbrev flwor_parts : Binder → Phrase
+  flwor_parts b = token gap_then_dollar & bindings (place_in text) n b (first_bound (place_in text)) & more_clauses (place_in text) n 63 & lexeme (word_of word.Return) & rule (single n)
+
+  parts_read : (b : Binder) (v bs cs x : Made) (t : SyntaxTree) (s0 s1 s2 s3 s4 s5 : Standing) → Ran nothing s0 s1 (read_one gap_then_dollar)
+      → reads bs s1 s2 ((head (place_in text) b (first_bound (place_in text)) & rule (single n)) & more_bindings (place_in text) n b 63) → reads cs s2 s3 (more_clauses (place_in text) n 63) → reads x s3 s4 (lexeme (word_of word.Return))
+      → Ran (tree t) s4 s5 (call text (suc n) (single n)) → reads (flwor_value b (place_in text (left_of s0 + name_length v)) (pair nothing (pair bs (pair cs (pair x (tree t)))))) s0 s5 (flwor (place_in text) n b v)
+  unfolding flwor
+  parts_read b v bs cs x t s0 s1 s2 s3 s4 s5 h i j k l =
+      in_made text n (λ left u. flwor_value b (place_in text (left + name_length v)) u) (flwor_parts b) (pair nothing (pair bs (pair cs (pair x (tree t))))) s0 s5
+      (in_both text n (token gap_then_dollar) _ nothing _ s0 s1 s5 (in_token text n gap_then_dollar nothing s0 s1 h)
+      (in_both text n (bindings (place_in text) n b (first_bound (place_in text))) _ bs _ s1 s2 s5 (bindings_are b (first_bound (place_in text)) bs s1 s2 i)
+      (in_both text n (more_clauses (place_in text) n 63) _ cs _ s2 s3 s5 j
+      (in_both text n (lexeme (word_of word.Return)) (rule (single n)) x (tree t) s3 s4 s5 k (in_rule text n n (tree t) s4 s5 l)))))
+
+  clause_seen : (b : Binder) (place : Place) (bs : List Binding) (c : Clause) (others : List Clause) → clause_made c ≡ node (BindingClause b place (bindings_of bs)) → clause_before b place (bindings_of bs) (clauses_of others) ≡ clauses_of (c ∷ others)
+  clause_seen b place bs c others e = sym (ap (clause_before b place (bindings_of bs)) (clauses_seen others)) ∙ ap (λ v. clauses_in (pair v (items_before clause_made others nothing))) (sym e) ∙ clauses_seen (c ∷ others)
+
+  pub flwor_read : (b : Binder) (v x : Made) (place : Place) (bs : List Binding) (first : Clause) (begun clauses : List Clause) (t : SyntaxTree) (s0 s1 s2 s3 s4 s5 s6 : Standing) → place ≡ place_in text (left_of s0 + name_length v)
+      → Ran nothing s0 s1 (read_one gap_then_dollar) → reads (items_before binding_made bs nothing) s1 s2 ((head (place_in text) b (first_bound (place_in text)) & rule (single n)) & more_bindings (place_in text) n b 63)
+      → clause_made first ≡ node (BindingClause b place (bindings_of bs)) → Grown [] first begun s2 s3
+      → Added begun clauses (λ others. reads (items_before clause_made others nothing) s3 s4 (more_clauses (place_in text) n 63)) → reads x s4 s5 (lexeme (word_of word.Return)) → Ran (tree t) s5 s6 (call text (suc n) (single n))
+      → reads (tree (located place (flwor_form (clauses_of clauses) false no_key t))) s0 s6 (flwor (place_in text) n b v)
+  flwor_read b v x place bs first begun clauses t s0 s1 s2 s3 s4 s5 s6 e h i f (inl g) m k l =
+      let others = m.others in
+      let are : clause_before b place (bindings_in (items_before binding_made bs nothing)) (clauses_in (items_before clause_made others nothing)) ≡ clauses_of clauses =
+      ap (λ us. clause_before b place us (clauses_in (items_before clause_made others nothing))) (bindings_seen bs) ∙ ap (clause_before b place (bindings_of bs)) (clauses_seen others) ∙ clause_seen b place bs first others f ∙ ap clauses_of (ap (λ us. us ++ others) (sym g.0) ∙ sym m.is)
+      in
+      subst (λ cs. reads (tree (located place (flwor_form cs false no_key t))) s0 s6 (flwor (place_in text) n b v)) are
+      (subst (λ p. reads (flwor_value b p (pair nothing (pair (items_before binding_made bs nothing) (pair (items_before clause_made others nothing) (pair x (tree t)))))) s0 s6 (flwor (place_in text) n b v)) (sym e)
+      (parts_read b v (items_before binding_made bs nothing) (items_before clause_made others nothing) x t s0 s1 s2 s4 s5 s6 h i (subst (λ s. reads (items_before clause_made others nothing) s s4 (more_clauses (place_in text) n 63)) g.1 m.holds) k l))
+  flwor_read b v x place bs first begun clauses t s0 s1 s2 s3 s4 s5 s6 e h i f (inr g) m k l =
+      let d3 = loses_done s2 s3 g.1 in
+      let d4 = stays_done (items_before clause_made m.others nothing) s3 s4 (read_in text n (more_clauses (place_in text) n 63)) d3 m.holds in
+      let d5 = stays_done x s4 s5 (read_in text n (lexeme (word_of word.Return))) d4 k in
+      let d6 = stays_done (tree t) s5 s6 (call text (suc n) (single n)) d5 l in
+      ran_any _ (tree (located place (flwor_form (clauses_of clauses) false no_key t))) s0 s6 (read_in text n (flwor (place_in text) n b v)) d6
+      (parts_read b v nothing (items_before clause_made m.others nothing) x t s0 s1 s3 s4 s5 s6 h
+      (ran_loses (items_before binding_made bs nothing) nothing s1 s2 s3 (read_in text n ((head (place_in text) b (first_bound (place_in text)) & rule (single n)) & more_bindings (place_in text) n b 63)) i g.1) m.holds k l)

@@ -1,0 +1,172 @@
+-- Each Single holds Singles of one level less, so the levels suffice.
+use Rattle.std.proofs.Common.{◌≡◌, ℕ, zero, suc, ◌<◌, Bool, true, false, if◌then◌else◌, List, [], ◌∷◌, Option, Some, None, refl, codes, arith}
+use Rattle.gx_base.specs.declared.place.Place.{Place}
+use Rattle.gx_grammar.specs.Grammar.{token, ◌&◌, keyed, choose, rule, made}
+use Rattle.gx_grammar.specs.Levels.{HasRanksBelow, IsShielded, IsLevelled}
+use Rattle.gx_grammar.proofs.Levels.{below_shields}
+use Rattle.gx_parse.specs.declared.word.Barrier.{Barrier}
+use Rattle.gx_parse.specs.declared.word.Barrier.TheVariants as barrier
+use Rattle.gx_parse.specs.declared.word.Word.TheVariants as word
+use Rattle.gx_parse.specs.declared.word.WordSet.{WordSet}
+use Rattle.gx_parse.specs.declared.word.WordSet.TheVariants as set
+use Rattle.gx_parse.specs.Nodes.{Made, Join, join_binary, join_path, join_comma}
+use Rattle.gx_parse.specs.Tokens.{Token, gap, gap_then_open, gap_not_open, gap_then_neither}
+use Rattle.gx_parse.specs.declared.word.Binder.{Binder}
+use Rattle.gx_parse.specs.Binding.{binder_named}
+use Rattle.gx_parse.proofs.BindingRanks.{flwor_low}
+use Rattle.gx_parse.specs.Grammar.{Production, single, Phrase, at_tokens, is_single, level_at, is_name, is_reserved, operator, more, stop, chain, two, expression, numeral, literal, name, variable_step, dots, parenthesised_step, more_arguments, arguments_in, arguments, behind_name, behind_plain_name, behind_any_name, other_step, step, path_from, more_signs, signed_path, other_operand, ladder, condition, begun, behind_keyword, clauses_or_name, named_single, rules, query, query_language}
+use Rattle.gx_parse.specs.Strings.{string_part, string_parts, quoted, string_of}
+use Rattle.gx_parse.proofs.CastsRanks.{casts_low}
+use Rattle.gx_parse.specs.Fronts.{fronts, rank}
+use Rattle.gx_parse.proofs.Sorted.{taken}
+
+module _ (at : ℕ → Place) where
+  abbrev Low : ℕ → Phrase → Type 0
+  Low n A = HasRanksBelow (query_language at) rank n A
+
+  operator_low : (n : ℕ) (ws : WordSet) → Low n (operator at ws)
+  unfolding operator
+  operator_low n ws = (tt, tt)
+
+  stop_low : (n : ℕ) (ws : WordSet) (b : Barrier) → Low n (stop at ws b)
+  unfolding stop
+  stop_low n ws b = ((operator_low n ws, tt), tt)
+
+  more_low : (n : ℕ) (ws : WordSet) (operand last : Phrase) → Low n operand → Low n last → (count : ℕ) → Low n (more at ws operand last count)
+  unfolding more
+  more_low n ws operand last h k zero = k
+  more_low n ws operand last h k (suc count) = ((operator_low n ws, (h, more_low n ws operand last h k count)), tt)
+
+  chain_low : (n : ℕ) (join : Join) (ws : WordSet) (first operand : Phrase) (b : Barrier) → Low n first → Low n operand → Low n (chain at join ws first operand b)
+  unfolding chain
+  chain_low n join ws first operand b f h = (f, more_low n ws operand (stop at ws b) h (stop_low n ws b) 63)
+
+  two_low : (n : ℕ) (ws : WordSet) (first operand : Phrase) → Low n first → Low n operand → Low n (two at ws first operand)
+  unfolding two more
+  two_low n ws first operand f h = (f, ((operator_low n ws, (h, tt)), tt))
+
+  below : (n : ℕ) → n < suc n
+  below n = omega arith
+
+  expression_low : (n : ℕ) → Low (suc n) (expression at n)
+  unfolding expression
+  expression_low n = chain_low (suc n) join_comma (set.Only word.Comma) (rule (single n)) (rule (single n)) barrier.Single (below n) (below n)
+
+  -- steps
+
+  variable_low : (n : ℕ) → Low n (variable_step at)
+  unfolding variable_step name
+  variable_low n = ((tt, tt), (tt, tt))
+
+  numeral_low : (n : ℕ) → Low n (numeral at)
+  unfolding numeral
+  numeral_low n = (tt, (tt, tt))
+
+  literal_low : (n : ℕ) → Low n (literal at)
+  unfolding literal string_of quoted string_parts string_part
+  literal_low n = (((tt, ((tt, (tt, tt)), tt)), tt), (((tt, ((tt, (tt, tt)), tt)), tt), numeral_low n))
+
+  dots_low : (n : ℕ) → Low n (dots at)
+  unfolding dots
+  dots_low n = (tt, tt)
+
+  parenthesised_low : (n : ℕ) → Low (suc n) (parenthesised_step at n)
+  unfolding parenthesised_step
+  parenthesised_low n = ((tt, tt), ((tt, (tt, tt)), (expression_low n, (tt, tt))))
+
+  inside_low : (n : ℕ) → Low (suc n) (arguments_in at n)
+  unfolding arguments_in more_arguments
+  inside_low n = ((tt, (tt, tt)), ((below n, ((tt, tt), below n)), (tt, tt)))
+
+  arguments_low : (n : ℕ) → Low (suc n) (arguments at n)
+  unfolding arguments
+  arguments_low n = ((tt, tt), inside_low n)
+
+  behind_name_low : (n : ℕ) (v : Made) → Low (suc n) (behind_name at n v)
+  unfolding behind_name
+  behind_name_low n v = (tt, (arguments_low n, tt))
+
+  plain_name_low : (n : ℕ) (t : Token) (v : Made) → Low n (behind_plain_name at t v)
+  unfolding behind_plain_name
+  plain_name_low n t v = tt
+
+  any_name_low : (n : ℕ) (v : Made) → Low (suc n) (behind_any_name at n v)
+  unfolding behind_any_name
+  any_name_low n v = elim (is_reserved v) as (λ b. Low (suc n) (if b then (behind_plain_name at gap v) else (behind_name at n v))) [ true ↦ plain_name_low (suc n) gap v | false ↦ behind_name_low n v ]
+
+  other_step_low : (n : ℕ) → Low (suc n) (other_step at n)
+  unfolding other_step
+  other_step_low n = (variable_low (suc n), (parenthesised_low n, (dots_low (suc n), literal_low (suc n))))
+
+  step_low : (n : ℕ) → Low (suc n) (step at n)
+  unfolding step
+  step_low n = ((λ v. any_name_low n v), other_step_low n)
+
+  -- paths and signs
+
+  path_low : (n : ℕ) (first : Phrase) → Low (suc n) first → Low (suc n) (path_from at n first)
+  unfolding path_from
+  path_low n first f = chain_low (suc n) join_path set.Slashes first (step at n) barrier.Step f (step_low n)
+
+  more_signs_low : (n k : ℕ) → Low n (more_signs at k)
+  unfolding more_signs
+  more_signs_low n zero = (tt, tt)
+  more_signs_low n (suc k) = ((operator_low n set.Signs, more_signs_low n k), tt)
+
+  signed_low : (n k : ℕ) → Low (suc n) (signed_path at n k)
+  unfolding signed_path
+  signed_low n k = (more_signs_low (suc n) k, path_low n (step at n) (step_low n))
+
+  other_operand_low : (n : ℕ) → Low (suc n) (other_operand at n)
+  unfolding other_operand
+  other_operand_low n = (((operator_low (suc n) set.Signs, more_signs_low (suc n) 63), path_low n (step at n) (step_low n)), path_low n (other_step at n) (other_step_low n))
+
+  -- operators
+
+  ladder_low : (k n : ℕ) (first : Phrase) → Low (suc n) first → Low (suc n) (ladder at k n first)
+  unfolding ladder
+  ladder_low zero n first f = casts_low at (suc n) first f
+  ladder_low (suc k) n first f =
+      elim (is_single (level_at k)) as (λ b. Low (suc n) (if b then (two at (set.Operators (level_at k)) (ladder at k n first) (ladder at k n (signed_path at n 64))) else (chain at join_binary (set.Operators (level_at k)) (ladder at k n first) (ladder at k n (signed_path at n 64)) barrier.Single))) [
+        | true ↦ two_low (suc n) (set.Operators (level_at k)) (ladder at k n first) (ladder at k n (signed_path at n 64)) (ladder_low k n first f) (ladder_low k n (signed_path at n 64) (signed_low n 64))
+        | false ↦ chain_low (suc n) join_binary (set.Operators (level_at k)) (ladder at k n first) (ladder at k n (signed_path at n 64)) barrier.Single (ladder_low k n first f) (ladder_low k n (signed_path at n 64) (signed_low n 64))
+      ]
+
+  -- Singles
+
+  condition_low : (n : ℕ) (v : Made) → Low (suc n) (condition at n v)
+  unfolding condition
+  condition_low n v = (tt, (tt, (expression_low n, ((tt, tt), ((tt, tt), (below n, ((tt, tt), below n)))))))
+
+  plain_low : (n : ℕ) (v : Made) → Low (suc n) (ladder at 8 n (path_from at n (behind_plain_name at gap_not_open v)))
+  plain_low n v = ladder_low 8 n (path_from at n (behind_plain_name at gap_not_open v)) (path_low n (behind_plain_name at gap_not_open v) (plain_name_low (suc n) gap_not_open v))
+
+  begun_low : (n : ℕ) (v : Made) → Low (suc n) (begun at n v)
+  unfolding begun
+  begun_low n v =
+      elim (is_name (codes "if") v) as (λ b. Low (suc n) (if b then (choose (at_tokens (gap_then_open ∷ [])) (condition at n v) (ladder at 8 n (path_from at n (behind_plain_name at gap_not_open v)))) else (ladder at 8 n (path_from at n (behind_any_name at n v)))))
+      [ true ↦ (condition_low n v, plain_low n v) | false ↦ ladder_low 8 n (path_from at n (behind_any_name at n v)) (path_low n (behind_any_name at n v) (any_name_low n v)) ]
+
+  keyword_low : (n : ℕ) (v : Made) → Low (suc n) (behind_keyword at n v)
+  unfolding behind_keyword
+  keyword_low n v = (((tt, tt), inside_low n), plain_name_low (suc n) gap_then_neither v)
+
+  clauses_low : (n : ℕ) (v : Made) (b : Option Binder) → Low (suc n) (clauses_or_name at n v b)
+  unfolding clauses_or_name
+  clauses_low n v (Some b) = (flwor_low at n (below n) b v, ladder_low 8 n (path_from at n (behind_keyword at n v)) (path_low n (behind_keyword at n v) (keyword_low n v)))
+  clauses_low n v None = begun_low n v
+
+  named_low : (n : ℕ) (v : Made) → Low (suc n) (named_single at n v)
+  unfolding named_single
+  named_low n v = clauses_low n v (binder_named v)
+
+  production_shielded : (p : Production) → IsShielded (query_language at) (fronts at).takings rank (rank p) (rules at p)
+  production_shielded (single zero) = tt
+  production_shielded (single (suc n)) = below_shields (query_language at) (fronts at).takings rank (suc n) (rules at (single (suc n))) ((λ v. named_low n v), ladder_low 8 n (other_operand at n) (other_operand_low n))
+
+  pub levelled : IsLevelled (query_language at) (fronts at).takings
+  levelled = record { takings = taken at; rank = rank; shielded = production_shielded }
+
+  pub query_ranks : HasRanksBelow (query_language at) levelled.rank 41 (query at)
+  unfolding levelled query
+  query_ranks = (tt, expression_low 40)

@@ -1,0 +1,147 @@
+// The operators with a type on their right.
+
+ghost use Rattle.std.specs.Prelude.{◌≡◌, ℕ, IfOk};
+ghost use Rattle.gx_ast.specs.SyntaxTree.{at};
+ghost use Rattle.gx_grammar.specs.Ran.{Ran, Standing};
+ghost use Rattle.gx_parse.specs.Casts.{cast_form, cast_test, cast_word, casts, test_form, test_second, test_word, type_test};
+ghost use Rattle.gx_parse.specs.Grammar.{Phrase, place_in};
+ghost use Rattle.gx_parse.specs.Nodes.{tree};
+ghost use Rattle.gx_parse.specs.Reading.{read_in};
+
+use crate::parts::{keep, lexeme, operator};
+use crate::reader::Reader;
+use crate::source::Source;
+use crate::types::{sequence_type, single_type};
+use crate::word::{Word, WordSet};
+use gx_ast::expression::{Expr, ExprNode};
+use gx_ast::sequence_type::{SequenceType, SingleType};
+use gx_base::place::Place;
+use std::alloc::{AllocError, Global};
+
+/// The operators with a sequence type (XQuery 1.0, sections 3.12.1 and 3.12.5).
+#[derive(Clone, Copy, Debug, PartialEq, Eq)]
+pub enum TypeTest {
+    InstanceOf,
+    TreatAs,
+}
+
+/// The operators with the type of a cast (XQuery 1.0, sections 3.12.3 and 3.12.4).
+#[derive(Clone, Copy, Debug, PartialEq, Eq)]
+pub enum CastTest {
+    CastableAs,
+    CastAs,
+}
+
+impl TypeTest {
+    // The first word of the operator.
+    fn word(self) -> Word
+        ensures { result ≡ test_word self }
+    {
+        match self {
+            TypeTest::InstanceOf => Word::Instance,
+            TypeTest::TreatAs => Word::Treat,
+        }
+    }
+
+    // The second one.
+    fn second(self) -> Word
+        ensures { result ≡ test_second self }
+    {
+        match self {
+            TypeTest::InstanceOf => Word::Of,
+            TypeTest::TreatAs => Word::As,
+        }
+    }
+}
+
+impl CastTest {
+    // The first word of the operator.
+    fn word(self) -> Word
+        ensures { result ≡ cast_word self }
+    {
+        match self {
+            CastTest::CastableAs => Word::Castable,
+            CastTest::CastAs => Word::Cast,
+        }
+    }
+}
+
+// The tree of an operator with a sequence type.
+fn tested(
+    alloc: Global,
+    place: Place,
+    test: TypeTest,
+    operand: Expr,
+    kind: SequenceType,
+) -> Result<Expr, AllocError>
+    ensures { IfOk result (λ e. e ≡ at place (test_form test operand kind)) }
+{
+    let operand = Box::new(alloc, operand)?;
+    let node = match test {
+        TypeTest::InstanceOf => ExprNode::InstanceOf(operand, kind),
+        TypeTest::TreatAs => ExprNode::TreatAs(operand, kind),
+    };
+    Ok(Expr { place, node })
+}
+
+// The tree of an operator with the type of a cast.
+fn cast(
+    alloc: Global,
+    place: Place,
+    test: CastTest,
+    operand: Expr,
+    kind: SingleType,
+) -> Result<Expr, AllocError>
+    ensures { IfOk result (λ e. e ≡ at place (cast_form test operand kind)) }
+{
+    let operand = Box::new(alloc, operand)?;
+    let node = match test {
+        CastTest::CastableAs => ExprNode::CastableAs(operand, kind),
+        CastTest::CastAs => ExprNode::CastAs(operand, kind),
+    };
+    Ok(Expr { place, node })
+}
+
+// Reads the operator behind its operand, if it stands there.
+fn type_test(reader: &mut Reader<'_>, source: &Source<'_>, test: TypeTest, operand: Expr) -> Expr
+    ensures { (n : ℕ) (before : Phrase) (a : Standing) → Ran (tree operand) a reader.old (read_in source.now n before) → Ran (tree result) a reader.new (read_in source.now n (type_test (place_in source.now) test before)) }
+{
+    let set = WordSet::Only(test.word());
+    if !reader.looks_at(set) {
+        return operand;
+    }
+    let (place, _word) = operator(reader, source, set);
+    lexeme(reader, WordSet::Only(test.second()));
+    let Some(kind) = sequence_type(reader, source) else {
+        return operand;
+    };
+    let made = tested(source.alloc(), place, test, operand, kind);
+    keep(reader, made)
+}
+
+// Reads the operator behind its operand, if it stands there.
+fn cast_test(reader: &mut Reader<'_>, source: &Source<'_>, test: CastTest, operand: Expr) -> Expr
+    ensures { (n : ℕ) (before : Phrase) (a : Standing) → Ran (tree operand) a reader.old (read_in source.now n before) → Ran (tree result) a reader.new (read_in source.now n (cast_test (place_in source.now) test before)) }
+{
+    let set = WordSet::Only(test.word());
+    if !reader.looks_at(set) {
+        return operand;
+    }
+    let (place, _word) = operator(reader, source, set);
+    lexeme(reader, WordSet::Only(Word::As));
+    let Some(kind) = single_type(reader, source) else {
+        return operand;
+    };
+    let made = cast(source.alloc(), place, test, operand, kind);
+    keep(reader, made)
+}
+
+/// Reads the operators with a type behind an operand, each at most once.
+pub fn casts(reader: &mut Reader<'_>, source: &Source<'_>, operand: Expr) -> Expr
+    ensures { (n : ℕ) (before : Phrase) (a : Standing) → Ran (tree operand) a reader.old (read_in source.now n before) → Ran (tree result) a reader.new (read_in source.now n (casts (place_in source.now) before)) }
+{
+    let cast = cast_test(reader, source, CastTest::CastAs, operand);
+    let castable = cast_test(reader, source, CastTest::CastableAs, cast);
+    let treated = type_test(reader, source, TypeTest::TreatAs, castable);
+    type_test(reader, source, TypeTest::InstanceOf, treated)
+}

@@ -1,0 +1,45 @@
+//! Laws of the query grammar.
+
+ghost use Rattle.gx_base.specs.declared.place.Place.{Place};
+ghost use Rattle.gx_grammar.specs.First.{AllOf, IsIn, IsSorted, first_of};
+ghost use Rattle.gx_grammar.specs.Levels.{takes_some};
+ghost use Rattle.gx_grammar.specs.Opening.{Opens};
+ghost use Rattle.gx_parse.specs.Fronts.{fronts};
+ghost use Rattle.gx_parse.specs.Direct.{element_of};
+ghost use Rattle.gx_parse.specs.Grammar.{Phrase, query_language, word_of};
+ghost use Rattle.gx_parse.specs.declared.word.Word.TheVariants.{CloseBrace, TagOpen};
+ghost use Rattle.gx_parse.specs.Strings.{string_of};
+ghost use Rattle.gx_parse.specs.declared.runs.Quote.{Quote};
+ghost use Rattle.gx_parse.specs.Tokens.{Token, opens};
+ghost use Rattle.std.specs.Prelude.{◌≡◌, true, [], ◌∷◌, ℕ, List};
+ghost use Rattle.gx_ast.specs.SyntaxTree.{SyntaxTree};
+ghost use Rattle.gx_parse.specs.Query.{IsQuery, Parses, Parsing};
+
+/// A text has at most one syntax tree.
+pub fn one_tree()
+    ensures { (text : List ℕ) (s t : SyntaxTree) → IsQuery text s → IsQuery text t → s ≡ t }
+{}
+
+/// Bytes are parsed in one way at most: to one tree, or to one refusal.
+pub fn one_parsing()
+    ensures { (bytes : List ℕ) (p q : Parsing) → Parses bytes p → Parses bytes q → p ≡ q }
+{}
+
+/// Bytes are parsed: to a tree, or to a refusal.
+pub fn a_parsing_exists()
+    ensures { (bytes : List ℕ) → (p : Parsing) × Parses bytes p }
+{}
+
+/// Whatever follows a string literal, its first characters decide how it is read.
+pub fn string_literals_decide()
+    ensures { (at : ℕ → Place) (q : Quote) (us : List Token) → IsSorted (query_language at) (fronts at) (string_of at q) us }
+{}
+
+/// Whatever follows a direct element, first characters decide how it is read, where those of the expressions in it do in front
+/// of a `}`, and those of the elements in it do.
+pub fn direct_elements_decide()
+    ensures { (at : ℕ → Place) (expr element : Phrase) → IsSorted (query_language at) (fronts at) expr (word_of CloseBrace ∷ [])
+        → takes_some (query_language at) (fronts at).takings element ≡ true → AllOf (IsIn (word_of TagOpen ∷ [])) (first_of (query_language at) (fronts at) element)
+        → ((x : List ℕ) → opens (word_of TagOpen) x → Opens (query_language at) element x) → ((us : List Token) → IsSorted (query_language at) (fronts at) element us)
+        → (us : List Token) → IsSorted (query_language at) (fronts at) (element_of at expr element (word_of TagOpen)) us }
+{}

@@ -1,0 +1,220 @@
+// Trees of their parts.
+
+ghost use Rattle.std.specs.Prelude.{◌≡◌, IfOk, false};
+ghost use Rattle.gx_ast.specs.SyntaxTree.{at, binary as binary_form, comma, conditional, flwor as flwor_form, no_key, parenthesised as parenthesised_form, path as path_form, signed as signed_form, string as string_form, variable};
+ghost use Rattle.gx_parse.specs.Nodes.{Found, binary_of, dots_value, is_minus, is_slashes, join_binary, join_comma, join_path, name_at, tree};
+ghost use Rattle.gx_parse.specs.Parsing.{called_tree, named_tree};
+ghost use Rattle.gx_parse.specs.Names.{name_made};
+ghost use Rattle.gx_grammar.specs.Value.{node, nothing, pair};
+ghost use Rattle.gx_ast.specs.SyntaxView.{clauses_of, trees_of};
+
+use crate::names::ReadName;
+use crate::word::Word;
+use gx_ast::expression::{BinaryOperator, Clause, Expr, ExprNode};
+use gx_ast::name::NameTest;
+use gx_ast::sequence_type::{AxisStep, NodeTest};
+use gx_base::place::Place;
+use gx_base::text_builder::TextBuilder;
+use std::alloc::{AllocError, Global};
+
+/// An expression that stands for none, and takes no memory.
+pub fn missing() -> Expr {
+    Expr {
+        place: Place { line: 1, column: 1 },
+        node: ExprNode::Context,
+    }
+}
+
+fn binary_operator(word: Word) -> BinaryOperator
+    ensures { result ≡ binary_of word }
+{
+    match word {
+        Word::Or => BinaryOperator::Or,
+        Word::And => BinaryOperator::And,
+        Word::Equal => BinaryOperator::Equal,
+        Word::NotEqual => BinaryOperator::NotEqual,
+        Word::Less => BinaryOperator::Less,
+        Word::LessOrEqual => BinaryOperator::LessOrEqual,
+        Word::Greater => BinaryOperator::Greater,
+        Word::GreaterOrEqual => BinaryOperator::GreaterOrEqual,
+        Word::ValueEqual => BinaryOperator::ValueEqual,
+        Word::ValueNotEqual => BinaryOperator::ValueNotEqual,
+        Word::ValueLess => BinaryOperator::ValueLess,
+        Word::ValueLessOrEqual => BinaryOperator::ValueLessOrEqual,
+        Word::ValueGreater => BinaryOperator::ValueGreater,
+        Word::ValueGreaterOrEqual => BinaryOperator::ValueGreaterOrEqual,
+        Word::Is => BinaryOperator::Is,
+        Word::Precedes => BinaryOperator::Before,
+        Word::Follows => BinaryOperator::After,
+        Word::To => BinaryOperator::To,
+        Word::Plus => BinaryOperator::Add,
+        Word::Minus => BinaryOperator::Subtract,
+        Word::Times => BinaryOperator::Multiply,
+        Word::Divide => BinaryOperator::Divide,
+        Word::DivideInteger => BinaryOperator::DivideInteger,
+        Word::Modulo => BinaryOperator::Modulo,
+        Word::Union | Word::Bar => BinaryOperator::Union,
+        Word::Intersect => BinaryOperator::Intersect,
+        _ => BinaryOperator::Except,
+    }
+}
+
+// Two trees in boxes.
+fn boxes(alloc: Global, left: Expr, right: Expr) -> Result<(Box<Expr>, Box<Expr>), AllocError>
+    ensures { IfOk result (λ b. (b.0.value ≡ left) × (b.1.value ≡ right)) }
+{
+    let left = Box::new(alloc, left)?;
+    let right = Box::new(alloc, right)?;
+    Ok((left, right))
+}
+
+/// Two operands with an operator between.
+pub fn binary(
+    alloc: Global,
+    place: Place,
+    word: Word,
+    left: Expr,
+    right: Expr,
+) -> Result<Expr, AllocError>
+    ensures { IfOk result (λ e. e ≡ join_binary place word left right) }
+{
+    let (left, right) = boxes(alloc, left, right)?;
+    let node = ExprNode::Binary(binary_operator(word), left, right);
+    Ok(Expr { place, node })
+}
+
+/// Two parts of a path.
+pub fn path(
+    alloc: Global,
+    place: Place,
+    word: Word,
+    left: Expr,
+    right: Expr,
+) -> Result<Expr, AllocError>
+    ensures { IfOk result (λ e. e ≡ join_path place word left right) }
+{
+    let (left, right) = boxes(alloc, left, right)?;
+    let node = ExprNode::Path(word == Word::Slashes, left, right);
+    Ok(Expr { place, node })
+}
+
+/// Two expressions with a comma between.
+pub fn sequence(
+    alloc: Global,
+    place: Place,
+    word: Word,
+    left: Expr,
+    right: Expr,
+) -> Result<Expr, AllocError>
+    ensures { IfOk result (λ e. e ≡ join_comma place word left right) }
+{
+    let place = left.place;
+    let (left, right) = boxes(alloc, left, right)?;
+    let node = ExprNode::Sequence(left, right);
+    Ok(Expr { place, node })
+}
+
+/// An expression in parentheses.
+pub fn parenthesised(alloc: Global, place: Place, inner: Expr) -> Result<Expr, AllocError>
+    ensures { IfOk result (λ e. e ≡ at place (parenthesised_form inner)) }
+{
+    let node = ExprNode::Parenthesised(Box::new(alloc, inner)?);
+    Ok(Expr { place, node })
+}
+
+/// An operand with a sign.
+pub fn signed(alloc: Global, place: Place, word: Word, operand: Expr) -> Result<Expr, AllocError>
+    ensures { IfOk result (λ e. e ≡ at place (signed_form (is_minus word) operand)) }
+{
+    let node = ExprNode::Signed(word == Word::Minus, Box::new(alloc, operand)?);
+    Ok(Expr { place, node })
+}
+
+/// A conditional.
+pub fn condition(
+    alloc: Global,
+    place: Place,
+    test: Expr,
+    chosen: Expr,
+    otherwise: Expr,
+) -> Result<Expr, AllocError>
+    ensures { IfOk result (λ e. e ≡ at place (conditional test chosen otherwise)) }
+{
+    let (chosen, otherwise) = boxes(alloc, chosen, otherwise)?;
+    let test = Box::new(alloc, test)?;
+    let node = ExprNode::If(test, chosen, otherwise);
+    Ok(Expr { place, node })
+}
+
+/// A FLWOR without sort keys.
+pub fn flwor(
+    alloc: Global,
+    place: Place,
+    clauses: Vec<Clause>,
+    returned: Expr,
+) -> Result<Expr, AllocError>
+    ensures { IfOk result (λ e. e ≡ at place (flwor_form (clauses_of clauses.items) false no_key returned)) }
+{
+    let returned = Box::new(alloc, returned)?;
+    let node = ExprNode::Flwor(clauses, false, Vec::new(alloc), returned);
+    Ok(Expr { place, node })
+}
+
+/// A step that is a name.
+pub fn named(alloc: Global, place: Place, name: ReadName) -> Result<Expr, AllocError>
+    ensures { IfOk result (λ e. e ≡ named_tree (name_at place (name_made name))) }
+{
+    let name = name.at(alloc, place)?;
+    let place = name.place;
+    let test = NodeTest::Name(NameTest::Named(name));
+    let node = ExprNode::Step(AxisStep { axis: None, test });
+    Ok(Expr { place, node })
+}
+
+/// A call.
+pub fn called(
+    alloc: Global,
+    place: Place,
+    name: ReadName,
+    arguments: Vec<Expr>,
+) -> Result<Expr, AllocError>
+    ensures { IfOk result (λ e. e ≡ called_tree (name_at place (name_made name)) (trees_of arguments.items)) }
+{
+    let name = name.at(alloc, place)?;
+    let place = name.place;
+    let node = ExprNode::Call(name, arguments);
+    Ok(Expr { place, node })
+}
+
+/// A variable.
+pub fn variable(
+    alloc: Global,
+    place: Place,
+    name_place: Place,
+    name: ReadName,
+) -> Result<Expr, AllocError>
+    ensures { IfOk result (λ e. e ≡ at place (variable (name_at name_place (name_made name)))) }
+{
+    let name = name.at(alloc, name_place)?;
+    let node = ExprNode::Variable(name);
+    Ok(Expr { place, node })
+}
+
+/// `.` or `..`.
+pub fn dots(place: Place, word: Word) -> Expr
+    ensures { tree result ≡ dots_value place (pair (node (Found word)) nothing) }
+{
+    let node = match word {
+        Word::Dots => ExprNode::ParentStep,
+        _ => ExprNode::Context,
+    };
+    Expr { place, node }
+}
+
+/// A string literal.
+pub fn string(place: Place, text: TextBuilder) -> Result<Expr, AllocError>
+    ensures { IfOk result (λ e. e ≡ at place (string_form text)) }
+{
+    let node = ExprNode::String(text.finish()?);
+    Ok(Expr { place, node })
+}

@@ -1,0 +1,13 @@
+use Rattle.std.proofs.Common.{refl, subst}
+use Rattle.gx_parse.specs.Query.{refused, RefusesBytes}
+use Rattle.gx_parse.specs.declared.parser.SyntaxRefusal.{SyntaxRefusal}
+use Rattle.gx_processor.proofs.QueryLemmas.{built_refused}
+use Rattle.gx_processor.proofs.query.tree_of.Goals as goal
+
+pub returns-in-Ok-clause-refused : goal.returns-in-Ok-clause-refused
+returns-in-Ok-clause-refused c = built_refused c.args.bytes.now c.in-Ok.tree c.built.result c.in-Ok.ensures.tree c.built.ensures.refused
+
+pub returns-in-Err-Refused-clause-refused : goal.returns-in-Err-Refused-clause-refused
+returns-in-Err-Refused-clause-refused c = λ command.
+    rw (c.in-Err-Refused.place-is, c.rule_code-code.ensures, c.in-Err-Refused.rule-is)
+    (refused c.in-Err-Refused.rule c.in-Err-Refused.place, subst (λ (e : SyntaxRefusal). RefusesBytes e c.args.bytes.now) c.in-Err-Refused.field-0-is c.in-Err-Refused.ensures.refused, refl)
