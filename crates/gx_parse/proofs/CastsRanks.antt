@@ -39,7 +39,7 @@ module _ (at : ℕ → Place) (n : ℕ) where
   unfolding document document_test
   document_low = ((tt, tt), ((tt, tt), ((((tt, tt), tested_low), ((tt, tt), declared_low)), (tt, tt))))
 
-  content_low : (k : KindWord) → Low (content at k)
+  pub content_low : (k : KindWord) → Low (content at k)
   unfolding content named_content declared_content
   content_low kind.Node = inside_low
   content_low kind.Text = inside_low

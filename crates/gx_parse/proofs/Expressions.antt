@@ -23,7 +23,7 @@ use Rattle.gx_parse.specs.Characters.{is_name_start}
 use Rattle.gx_parse.specs.Names.{name_made}
 use Rattle.gx_parse.specs.Nodes.{Node, Made, Arguments, Found, Operator, Tree, name_at, name_length, named_value, second_value, signed_value, condition_value, parenthesised_value, arguments_value, trees_in, is_minus, tree, chain_value, joined_to, whole_tree}
 use Rattle.gx_parse.specs.Tokens.{Token, one_of, gap, gap_then_open, gap_not_open, gap_then_dollar, gap_then_neither, barred, qname}
-use Rattle.gx_parse.specs.Grammar.{Phrase, word_of, lexeme, at_tokens, operator, more, more_signs, single, rules, expression, ladder, other_operand, other_step, step, dots, literal, variable_step, parenthesised_step, more_arguments, arguments_in, arguments, behind_name, behind_plain_name, behind_any_name, path_from, signed_path, condition, begun, behind_keyword, clauses_or_name, named_single, is_name, is_reserved, is_single, level_at, two, chain, query_language, query, place_in}
+use Rattle.gx_parse.specs.Grammar.{Phrase, word_of, lexeme, at_tokens, operator, more, more_signs, single, rules, expression, ladder, other_operand, other_step, step, dots, literal, variable_step, parenthesised_step, more_arguments, arguments_in, arguments, behind_plain_name, behind_any_name, filtered_step, test_or_literal, path_from, signed_path, condition, begun, behind_keyword, clauses_or_name, named_single, is_name, is_reserved, is_single, level_at, two, chain, query_language, query, place_in}
 use Rattle.gx_parse.specs.Casts.{casts}
 use Rattle.gx_parse.specs.declared.word.Binder.{Binder}
 use Rattle.gx_parse.specs.Binding.{binder_named, flwor}
@@ -49,9 +49,12 @@ module _ (text : List ℕ) (n : ℕ) where
   unfolding ladder
   ladder_none first = refl
 
-  pub paths : (first : Phrase) → chain_of (place_in text) n Steps first ≡ path_from (place_in text) n first
+  pub paths : (first : Phrase) → chain_of (place_in text) n Steps (filtered_step (place_in text) n first) ≡ path_from (place_in text) n first
   unfolding chain_of path_from chain
   paths first = refl
+
+  pub path_read : (before : Phrase) (t u : SyntaxTree) (a c : Standing) → Ran (tree u) a c (read_in text n (chain_of (place_in text) n Steps (filtered_step (place_in text) n before))) → Ran (tree u) a c (read_in text n (path_from (place_in text) n before))
+  path_read before t u a c h = subst (λ p. Ran (tree u) a c (read_in text n p)) (paths before) h
 
   pub expressions : chain_of (place_in text) n Singles (rule (single n)) ≡ expression (place_in text) n
   unfolding chain_of expression chain
@@ -99,33 +102,6 @@ module _ (text : List ℕ) (n : ℕ) where
       subst (λ p. Ran (tree (named_tree (name_at p v))) a b (read_in text n (behind_plain_name (place_in text) t v))) (sym e)
       (in_made text n (λ left u. named_value (name_at (place_in text (left + name_length v)) v) u) (token t) nothing a b (in_token text n t nothing a b h))
 
-  pub reserved_read : (v : Made) (place : Place) (a b : Standing) → is_reserved v ≡ true → place ≡ place_in text (left_of a + name_length v) → Ran nothing a b (read_one gap) → Ran (tree (named_tree (name_at place v))) a b (read_in text n (behind_any_name (place_in text) n v))
-  unfolding behind_any_name
-  reserved_read v place a b r e h =
-      subst (λ q. Ran (tree (named_tree (name_at place v))) a b (read_in text n (if q then (behind_plain_name (place_in text) gap v) else (behind_name (place_in text) n v)))) (sym r) (plain_read gap v place a b e h)
-
-  pub unreserved_read : (v u : Made) (a b : Standing) → is_reserved v ≡ false → Ran u a b (read_in text n (behind_name (place_in text) n v)) → Ran u a b (read_in text n (behind_any_name (place_in text) n v))
-  unfolding behind_any_name
-  unreserved_read v u a b r h = subst (λ q. Ran u a b (read_in text n (if q then (behind_plain_name (place_in text) gap v) else (behind_name (place_in text) n v)))) (sym r) h
-
-  pub name_read : (v : Made) (place : Place) (taken : Bool) (a b c : Standing) → place ≡ place_in text (left_of a + name_length v) → Ran nothing a b (read_one gap) → taken ≡ false → Looked taken b c (by_character (is 40))
-      → Ran (tree (named_tree (name_at place v))) a c (read_in text n (behind_name (place_in text) n v))
-  unfolding behind_name
-  name_read v place taken a b c e h f k =
-      subst (λ p. Ran (tree (named_tree (name_at p v))) a c (read_in text n (behind_name (place_in text) n v))) (sym e)
-      (in_made text n (λ left u. named_value (name_at (place_in text (left + name_length v)) v) u) (token gap & choose (by_character (is 40)) (arguments (place_in text) n) empty) (pair nothing nothing) a c
-      (in_both text n (token gap) (choose (by_character (is 40)) (arguments (place_in text) n) empty) nothing nothing a b c (in_token text n gap nothing a b h)
-      (in_right text n (by_character (is 40)) (arguments (place_in text) n) empty nothing taken b c c f k (in_empty text n c))))
-
-  pub call_read : (v : Made) (ts : SyntaxTrees) (place : Place) (taken : Bool) (a b c d : Standing) → place ≡ place_in text (left_of a + name_length v) → Ran nothing a b (read_one gap) → taken ≡ true → Looked taken b c (by_character (is 40))
-      → Ran (node (Arguments ts)) c d (read_in text n (arguments (place_in text) n)) → Ran (tree (called_tree (name_at place v) ts)) a d (read_in text n (behind_name (place_in text) n v))
-  unfolding behind_name
-  call_read v ts place taken a b c d e h f k l =
-      subst (λ p. Ran (tree (called_tree (name_at p v) ts)) a d (read_in text n (behind_name (place_in text) n v))) (sym e)
-      (in_made text n (λ left u. named_value (name_at (place_in text (left + name_length v)) v) u) (token gap & choose (by_character (is 40)) (arguments (place_in text) n) empty) (pair nothing (node (Arguments ts))) a d
-      (in_both text n (token gap) (choose (by_character (is 40)) (arguments (place_in text) n) empty) nothing (node (Arguments ts)) a b d (in_token text n gap nothing a b h)
-      (in_left text n (by_character (is 40)) (arguments (place_in text) n) empty (node (Arguments ts)) taken b c d f k l)))
-
   -- chains
   module _ (m : Members) where
     pub chain_read : (before : Phrase) (t u : SyntaxTree) (a b c : Standing) → Ran (tree t) a b (read_in text n before) → Ran u b c (read_chain text n m (most_of m) t) → Ran (tree u) a c (read_in text n (chain_of (place_in text) n m before))
@@ -146,39 +122,39 @@ module _ (text : List ℕ) (n : ℕ) where
   -- steps that do not begin with a name
   pub step_variable : (v : Made) (taken : Bool) (a b c : Standing) → taken ≡ true → Looked taken a b (by_character (is 36)) → Ran v b c (read_in text n (variable_step (place_in text))) → Ran v a c (read_in text n (other_step (place_in text) n))
   unfolding other_step
-  step_variable v taken a b c e h k = in_left text n (by_character (is 36)) (variable_step (place_in text)) (choose (by_character (is 40)) (parenthesised_step (place_in text) n) (choose (at_tokens (one_of set.Dots ∷ [])) (dots (place_in text)) (literal (place_in text)))) v taken a b c e h k
+  step_variable v taken a b c e h k = in_left text n (by_character (is 36)) (variable_step (place_in text)) (choose (by_character (is 40)) (parenthesised_step (place_in text) n) (choose (at_tokens (one_of set.Dots ∷ [])) (dots (place_in text)) (test_or_literal (place_in text)))) v taken a b c e h k
 
   pub step_parenthesised : (v : Made) (taken one : Bool) (a b c d : Standing) → taken ≡ false → Looked taken a b (by_character (is 36)) → one ≡ true → Looked one b c (by_character (is 40)) → Ran v c d (read_in text n (parenthesised_step (place_in text) n)) → Ran v a d (read_in text n (other_step (place_in text) n))
   unfolding other_step
   step_parenthesised v taken one a b c d e h f i k =
-      in_right text n (by_character (is 36)) (variable_step (place_in text)) (choose (by_character (is 40)) (parenthesised_step (place_in text) n) (choose (at_tokens (one_of set.Dots ∷ [])) (dots (place_in text)) (literal (place_in text)))) v taken a b d e h
-      (in_left text n (by_character (is 40)) (parenthesised_step (place_in text) n) (choose (at_tokens (one_of set.Dots ∷ [])) (dots (place_in text)) (literal (place_in text))) v one b c d f i k)
+      in_right text n (by_character (is 36)) (variable_step (place_in text)) (choose (by_character (is 40)) (parenthesised_step (place_in text) n) (choose (at_tokens (one_of set.Dots ∷ [])) (dots (place_in text)) (test_or_literal (place_in text)))) v taken a b d e h
+      (in_left text n (by_character (is 40)) (parenthesised_step (place_in text) n) (choose (at_tokens (one_of set.Dots ∷ [])) (dots (place_in text)) (test_or_literal (place_in text))) v one b c d f i k)
 
   pub step_dots : (v : Made) (taken one two_dots : Bool) (a b c d e : Standing) → taken ≡ false → Looked taken a b (by_character (is 36)) → one ≡ false → Looked one b c (by_character (is 40)) → two_dots ≡ true → Looked two_dots c d (at_tokens (one_of set.Dots ∷ []))
       → Ran v d e (read_in text n (dots (place_in text))) → Ran v a e (read_in text n (other_step (place_in text) n))
   unfolding other_step
   step_dots v taken one two_dots a b c d e f h g i l j k =
-      in_right text n (by_character (is 36)) (variable_step (place_in text)) (choose (by_character (is 40)) (parenthesised_step (place_in text) n) (choose (at_tokens (one_of set.Dots ∷ [])) (dots (place_in text)) (literal (place_in text)))) v taken a b e f h
-      (in_right text n (by_character (is 40)) (parenthesised_step (place_in text) n) (choose (at_tokens (one_of set.Dots ∷ [])) (dots (place_in text)) (literal (place_in text))) v one b c e g i
-      (in_left text n (at_tokens (one_of set.Dots ∷ [])) (dots (place_in text)) (literal (place_in text)) v two_dots c d e l j k))
+      in_right text n (by_character (is 36)) (variable_step (place_in text)) (choose (by_character (is 40)) (parenthesised_step (place_in text) n) (choose (at_tokens (one_of set.Dots ∷ [])) (dots (place_in text)) (test_or_literal (place_in text)))) v taken a b e f h
+      (in_right text n (by_character (is 40)) (parenthesised_step (place_in text) n) (choose (at_tokens (one_of set.Dots ∷ [])) (dots (place_in text)) (test_or_literal (place_in text))) v one b c e g i
+      (in_left text n (at_tokens (one_of set.Dots ∷ [])) (dots (place_in text)) (test_or_literal (place_in text)) v two_dots c d e l j k))
 
   pub step_literal : (v : Made) (taken one two_dots : Bool) (a b c d e : Standing) → taken ≡ false → Looked taken a b (by_character (is 36)) → one ≡ false → Looked one b c (by_character (is 40)) → two_dots ≡ false → Looked two_dots c d (at_tokens (one_of set.Dots ∷ []))
-      → Ran v d e (read_in text n (literal (place_in text))) → Ran v a e (read_in text n (other_step (place_in text) n))
+      → Ran v d e (read_in text n (test_or_literal (place_in text))) → Ran v a e (read_in text n (other_step (place_in text) n))
   unfolding other_step
   step_literal v taken one two_dots a b c d e f h g i l j k =
-      in_right text n (by_character (is 36)) (variable_step (place_in text)) (choose (by_character (is 40)) (parenthesised_step (place_in text) n) (choose (at_tokens (one_of set.Dots ∷ [])) (dots (place_in text)) (literal (place_in text)))) v taken a b e f h
-      (in_right text n (by_character (is 40)) (parenthesised_step (place_in text) n) (choose (at_tokens (one_of set.Dots ∷ [])) (dots (place_in text)) (literal (place_in text))) v one b c e g i
-      (in_right text n (at_tokens (one_of set.Dots ∷ [])) (dots (place_in text)) (literal (place_in text)) v two_dots c d e l j k))
+      in_right text n (by_character (is 36)) (variable_step (place_in text)) (choose (by_character (is 40)) (parenthesised_step (place_in text) n) (choose (at_tokens (one_of set.Dots ∷ [])) (dots (place_in text)) (test_or_literal (place_in text)))) v taken a b e f h
+      (in_right text n (by_character (is 40)) (parenthesised_step (place_in text) n) (choose (at_tokens (one_of set.Dots ∷ [])) (dots (place_in text)) (test_or_literal (place_in text))) v one b c e g i
+      (in_right text n (at_tokens (one_of set.Dots ∷ [])) (dots (place_in text)) (test_or_literal (place_in text)) v two_dots c d e l j k))
 
   -- a Single whose name was read
   abbrev plain_path : Made → Phrase
   plain_path v = path_from (place_in text) n (behind_plain_name (place_in text) gap_not_open v)
 
-  pub begun_other : (v u : Made) (a b : Standing) → is_name (codes "if") v ≡ false → Ran u a b (read_in text n (ladder (place_in text) 8 n (chain_of (place_in text) n Steps (behind_any_name (place_in text) n v)))) → Ran u a b (read_in text n (begun (place_in text) n v))
+  pub begun_other : (v u : Made) (a b : Standing) → is_name (codes "if") v ≡ false → Ran u a b (read_in text n (ladder (place_in text) 8 n (path_from (place_in text) n (behind_any_name (place_in text) n v)))) → Ran u a b (read_in text n (begun (place_in text) n v))
   unfolding begun
   begun_other v u a b e h =
       subst (λ q. Ran u a b (read_in text n (if q then (choose (at_tokens (gap_then_open ∷ [])) (condition (place_in text) n v) (ladder (place_in text) 8 n (plain_path v))) else (ladder (place_in text) 8 n (path_from (place_in text) n (behind_any_name (place_in text) n v)))))) (sym e)
-      (subst (λ p. Ran u a b (read_in text n (ladder (place_in text) 8 n p))) (paths (behind_any_name (place_in text) n v)) h)
+      h
 
   pub begun_condition : (v u : Made) (taken : Bool) (a b c : Standing) → is_name (codes "if") v ≡ true → taken ≡ true → Looked taken a b (at_tokens (gap_then_open ∷ [])) → Ran u b c (read_in text n (condition (place_in text) n v)) → Ran u a c (read_in text n (begun (place_in text) n v))
   unfolding begun
@@ -186,13 +162,13 @@ module _ (text : List ℕ) (n : ℕ) where
       subst (λ q. Ran u a c (read_in text n (if q then (choose (at_tokens (gap_then_open ∷ [])) (condition (place_in text) n v) (ladder (place_in text) 8 n (plain_path v))) else (ladder (place_in text) 8 n (path_from (place_in text) n (behind_any_name (place_in text) n v)))))) (sym e)
       (in_left text n (at_tokens (gap_then_open ∷ [])) (condition (place_in text) n v) (ladder (place_in text) 8 n (plain_path v)) u taken a b c f h k)
 
-  pub begun_plain : (v u : Made) (taken : Bool) (a b c : Standing) → is_name (codes "if") v ≡ true → taken ≡ false → Looked taken a b (at_tokens (gap_then_open ∷ [])) → Ran u b c (read_in text n (ladder (place_in text) 8 n (chain_of (place_in text) n Steps (behind_plain_name (place_in text) gap_not_open v))))
+  pub begun_plain : (v u : Made) (taken : Bool) (a b c : Standing) → is_name (codes "if") v ≡ true → taken ≡ false → Looked taken a b (at_tokens (gap_then_open ∷ [])) → Ran u b c (read_in text n (ladder (place_in text) 8 n (path_from (place_in text) n (behind_plain_name (place_in text) gap_not_open v))))
       → Ran u a c (read_in text n (begun (place_in text) n v))
   unfolding begun
   begun_plain v u taken a b c e f h k =
       subst (λ q. Ran u a c (read_in text n (if q then (choose (at_tokens (gap_then_open ∷ [])) (condition (place_in text) n v) (ladder (place_in text) 8 n (plain_path v))) else (ladder (place_in text) 8 n (path_from (place_in text) n (behind_any_name (place_in text) n v)))))) (sym e)
       (in_right text n (at_tokens (gap_then_open ∷ [])) (condition (place_in text) n v) (ladder (place_in text) 8 n (plain_path v)) u taken a b c f h
-      (subst (λ p. Ran u b c (read_in text n (ladder (place_in text) 8 n p))) (paths (behind_plain_name (place_in text) gap_not_open v)) k))
+      k)
 
   -- a Single whose name is that of a clause, or is not
   pub named_other : (v u : Made) (a b : Standing) → binder_named v ≡ None → Ran u a b (read_in text n (begun (place_in text) n v)) → Ran u a b (read_in text n (named_single (place_in text) n v))
@@ -208,13 +184,13 @@ module _ (text : List ℕ) (n : ℕ) where
       subst (λ o. Ran u s0 s2 (read_in text n (clauses_or_name (place_in text) n v o))) (sym e)
       (in_left text n (at_tokens (gap_then_dollar ∷ [])) (flwor (place_in text) n b v) (ladder (place_in text) 8 n (keyword_path v)) u taken s0 s1 s2 f h k)
 
-  pub named_keyword : (b : Binder) (v u : Made) (taken : Bool) (s0 s1 s2 : Standing) → binder_named v ≡ Some b → taken ≡ false → Looked taken s0 s1 (at_tokens (gap_then_dollar ∷ [])) → Ran u s1 s2 (read_in text n (ladder (place_in text) 8 n (chain_of (place_in text) n Steps (behind_keyword (place_in text) n v))))
+  pub named_keyword : (b : Binder) (v u : Made) (taken : Bool) (s0 s1 s2 : Standing) → binder_named v ≡ Some b → taken ≡ false → Looked taken s0 s1 (at_tokens (gap_then_dollar ∷ [])) → Ran u s1 s2 (read_in text n (ladder (place_in text) 8 n (path_from (place_in text) n (behind_keyword (place_in text) n v))))
       → Ran u s0 s2 (read_in text n (named_single (place_in text) n v))
   unfolding named_single clauses_or_name
   named_keyword b v u taken s0 s1 s2 e f h k =
       subst (λ o. Ran u s0 s2 (read_in text n (clauses_or_name (place_in text) n v o))) (sym e)
       (in_right text n (at_tokens (gap_then_dollar ∷ [])) (flwor (place_in text) n b v) (ladder (place_in text) 8 n (keyword_path v)) u taken s0 s1 s2 f h
-      (subst (λ p. Ran u s1 s2 (read_in text n (ladder (place_in text) 8 n p))) (paths (behind_keyword (place_in text) n v)) k))
+      k)
 
   abbrev keyword_call : Made → Phrase
   keyword_call v = made (λ left u. named_value (name_at (place_in text (left + name_length v)) v) u) (lexeme gap_then_open & arguments_in (place_in text) n)
@@ -287,14 +263,14 @@ module _ (text : List ℕ) (n : ℕ) where
   makes_tree f t u (GaveUp e) b h = h
   makes_tree f t u Lost b h = h
 
-  pub signed_read : (xs : List Sign) (t wanted : SyntaxTree) (a b c d : Standing) → Ran (signs_before xs nothing) a b (read_in text n (more_signs (place_in text) 64)) → Ran (tree t) b c (read_in text n (chain_of (place_in text) n Steps (step (place_in text) n))) → Makes wanted (wrapped xs t) c d
+  pub signed_read : (xs : List Sign) (t wanted : SyntaxTree) (a b c d : Standing) → Ran (signs_before xs nothing) a b (read_in text n (more_signs (place_in text) 64)) → Ran (tree t) b c (read_in text n (path_from (place_in text) n (step (place_in text) n))) → Makes wanted (wrapped xs t) c d
       → Ran (tree wanted) a d (read_in text n (signed_path (place_in text) n 64))
   unfolding signed_path
   signed_read xs t wanted a b c d h k l =
       ran_makes (tree (wrapped xs t)) (tree wanted) a c d (read_in text n (made (λ left v. signed_value v) (more_signs (place_in text) 64 & path_from (place_in text) n (step (place_in text) n))))
       (subst (λ u. Ran (tree u) a c (read_in text n (made (λ left v. signed_value v) (more_signs (place_in text) 64 & path_from (place_in text) n (step (place_in text) n))))) (signed_wraps xs t)
       (in_made text n (λ left v. signed_value v) (more_signs (place_in text) 64 & path_from (place_in text) n (step (place_in text) n)) (pair (signs_before xs nothing) (tree t)) a c
-      (in_both text n (more_signs (place_in text) 64) (path_from (place_in text) n (step (place_in text) n)) (signs_before xs nothing) (tree t) a b c h (subst (λ p. Ran (tree t) b c (read_in text n p)) (paths (step (place_in text) n)) k))))
+      (in_both text n (more_signs (place_in text) 64) (path_from (place_in text) n (step (place_in text) n)) (signs_before xs nothing) (tree t) a b c h k)))
       (makes_tree (λ u. u) wanted (wrapped xs t) c d l)
 
   -- an operand with signs, and one that begins with no sign
@@ -308,17 +284,17 @@ module _ (text : List ℕ) (n : ℕ) where
   other_path = path_from (place_in text) n (other_step (place_in text) n)
 
   operand_wrapped : (xs : List Sign) (place : Place) (w : Word) (t : SyntaxTree) (taken : Bool) (a b c d e : Standing) → taken ≡ true → Looked taken a b (at_tokens (one_of set.Signs ∷ [])) → Ran (node (Operator place w)) b c (read_in text n (operator (place_in text) set.Signs))
-      → Ran (signs_before xs nothing) c d (read_in text n (more_signs (place_in text) 63)) → Ran (tree t) d e (read_in text n (chain_of (place_in text) n Steps (step (place_in text) n))) → Ran (tree (located place (signed (is_minus w) (wrapped xs t)))) a e (read_in text n (other_operand (place_in text) n))
+      → Ran (signs_before xs nothing) c d (read_in text n (more_signs (place_in text) 63)) → Ran (tree t) d e (read_in text n (path_from (place_in text) n (step (place_in text) n))) → Ran (tree (located place (signed (is_minus w) (wrapped xs t)))) a e (read_in text n (other_operand (place_in text) n))
   unfolding other_operand
   operand_wrapped xs place w t taken a b c d e f h i j k =
       in_left text n (at_tokens (one_of set.Signs ∷ [])) with_all_signs other_path (tree (located place (signed (is_minus w) (wrapped xs t)))) taken a b e f h
       (subst (λ u. Ran (tree (located place (signed (is_minus w) u))) b e (read_in text n with_all_signs)) (signed_wraps xs t)
       (in_made text n (λ left v. signed_value v) signs_and_path (pair (pair (node (Operator place w)) (signs_before xs nothing)) (tree t)) b e
       (in_both text n (operator (place_in text) set.Signs & more_signs (place_in text) 63) (path_from (place_in text) n (step (place_in text) n)) (pair (node (Operator place w)) (signs_before xs nothing)) (tree t) b d e
-      (in_both text n (operator (place_in text) set.Signs) (more_signs (place_in text) 63) (node (Operator place w)) (signs_before xs nothing) b c d i j) (subst (λ p. Ran (tree t) d e (read_in text n p)) (paths (step (place_in text) n)) k))))
+      (in_both text n (operator (place_in text) set.Signs) (more_signs (place_in text) 63) (node (Operator place w)) (signs_before xs nothing) b c d i j) k)))
 
   pub operand_signed : {E : Type 0} (xs : List Sign) (place : Place) (w : Word) (t operand kept : SyntaxTree) (result : Result SyntaxTree E) (taken : Bool) (a b c d e f z : Standing) → taken ≡ true → Looked taken a b (at_tokens (one_of set.Signs ∷ []))
-      → Ran (node (Operator place w)) b c (read_in text n (operator (place_in text) set.Signs)) → Ran (signs_before xs nothing) c d (read_in text n (more_signs (place_in text) 63)) → Ran (tree t) d e (read_in text n (chain_of (place_in text) n Steps (step (place_in text) n)))
+      → Ran (node (Operator place w)) b c (read_in text n (operator (place_in text) set.Signs)) → Ran (signs_before xs nothing) c d (read_in text n (more_signs (place_in text) 63)) → Ran (tree t) d e (read_in text n (path_from (place_in text) n (step (place_in text) n)))
       → Makes operand (wrapped xs t) e f → IfOk result (λ x. x ≡ located place (signed (is_minus w) operand)) → Keeps kept result f z → Ran (tree kept) a z (read_in text n (other_operand (place_in text) n))
   operand_signed xs place w t operand kept result taken a b c d e f z g h i j k l m q =
       ran_keeps kept (located place (signed (is_minus w) operand)) result a f z (read_in text n (other_operand (place_in text) n))
@@ -326,10 +302,10 @@ module _ (text : List ℕ) (n : ℕ) where
       (operand_wrapped xs place w t taken a b c d e g h i j k) (makes_tree (λ u. located place (signed (is_minus w) u)) operand (wrapped xs t) e f l))
       m q
 
-  pub operand_other : (t : SyntaxTree) (taken : Bool) (a b c : Standing) → taken ≡ false → Looked taken a b (at_tokens (one_of set.Signs ∷ [])) → Ran (tree t) b c (read_in text n (chain_of (place_in text) n Steps (other_step (place_in text) n))) → Ran (tree t) a c (read_in text n (other_operand (place_in text) n))
+  pub operand_other : (t : SyntaxTree) (taken : Bool) (a b c : Standing) → taken ≡ false → Looked taken a b (at_tokens (one_of set.Signs ∷ [])) → Ran (tree t) b c (read_in text n (path_from (place_in text) n (other_step (place_in text) n))) → Ran (tree t) a c (read_in text n (other_operand (place_in text) n))
   unfolding other_operand
   operand_other t taken a b c e h k =
-      in_right text n (at_tokens (one_of set.Signs ∷ [])) with_all_signs other_path (tree t) taken a b c e h (subst (λ p. Ran (tree t) b c (read_in text n p)) (paths (other_step (place_in text) n)) k)
+      in_right text n (at_tokens (one_of set.Signs ∷ [])) with_all_signs other_path (tree t) taken a b c e h k
 
 -- a whole query
 pub query_read : (text : List ℕ) (t : SyntaxTree) (a b c : Standing) → Ran nothing a b (read_one gap) → Ran (tree t) b c (read_in text 40 (expression (place_in text) 40)) → Ran (tree t) a c (read_in text 40 (query (place_in text)))

@@ -9,6 +9,7 @@ pub mod NumberScans
 pub mod Chains
 pub mod Phrases
 pub mod Expressions
+pub mod Steps
 pub mod Calls
 pub mod Ranks
 pub mod Verdict
@@ -22,6 +23,8 @@ pub mod BoundPhrases
 pub mod BoundSorted
 pub mod ReferenceTokens
 pub mod StringsSorted
+pub mod NodeTestsSorted
+pub mod NodeTestsPhrases
 pub mod StringsPhrases
 pub mod ReferenceScans
 pub mod DirectSorted

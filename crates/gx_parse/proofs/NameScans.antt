@@ -151,3 +151,14 @@ or_five p q r s t a b c d i e f g h j = or_is ((p || q) || r) s t ∙ or_is (p |
 
 pub or_six : (p q r s t u a b c d i l : Bool) → p ≡ a → q ≡ b → r ≡ c → s ≡ d → t ≡ i → u ≡ l → (((((p || q) || r) || s) || t) || u) ≡ (a || (b || (c || (d || (i || l)))))
 or_six p q r s t u a b c d i l e f g h j k = or_is (((p || q) || r) || s) t u ∙ or_is ((p || q) || r) s (t || u) ∙ or_is (p || q) r (s || (t || u)) ∙ or_is p q (r || (s || (t || u))) ∙ rw (e, f, g, h, j, k) refl
+
+-- NCNames
+
+pub no_ncname : (x : List ℕ) → head_passes is_name_start x ≡ false → (scan_ncname x ≡ None) × (seen_name is_name_start is_name_character x ≡ length x)
+no_ncname [] e = (refl, refl)
+no_ncname (c ∷ x) e = (rw e refl, rw e refl)
+
+pub one_ncname : (x first behind : List ℕ) → head_passes is_name_start x ≡ true → first ≡ run_of is_name_character x → behind ≡ behind_run is_name_character x
+    → (scan_ncname x ≡ Some (characters first, behind)) × (seen_name is_name_start is_name_character x ≡ length behind)
+one_ncname [] first behind e f g = absurd (cc)
+one_ncname (c ∷ x) first behind e f g = (ncname_is c x e ∙ ap₂ (λ p q. Some (characters p, q)) (sym f) (sym g), seen_is c x e ∙ ap length (sym g))

@@ -11,12 +11,19 @@ use Rattle.gx_parse.specs.declared.word.WordSet.{WordSet}
 use Rattle.gx_parse.specs.declared.word.WordSet.TheVariants as set
 use Rattle.gx_parse.specs.Nodes.{Made, Join, join_binary, join_path, join_comma}
 use Rattle.gx_parse.specs.Tokens.{Token, gap, gap_then_open, gap_not_open, gap_then_neither}
+use Rattle.gx_parse.specs.Grammar.{Production, single, Phrase, at_tokens, is_single, level_at, is_name, is_reserved, operator, more, stop, chain, two, expression, numeral, literal, name, variable_step, dots, parenthesised_step, more_arguments, arguments_in, arguments, after_name, after_axis, step_of, behind_plain_name, behind_any_name, test_or_literal, other_step, step, predicate, more_predicates, filtered_step, path_from, more_signs, signed_path, other_operand, ladder, condition, begun, behind_keyword, clauses_or_name, named_single, rules, query, query_language}
 use Rattle.gx_parse.specs.declared.word.Binder.{Binder}
 use Rattle.gx_parse.specs.Binding.{binder_named}
 use Rattle.gx_parse.proofs.BindingRanks.{flwor_low}
-use Rattle.gx_parse.specs.Grammar.{Production, single, Phrase, at_tokens, is_single, level_at, is_name, is_reserved, operator, more, stop, chain, two, expression, numeral, literal, name, variable_step, dots, parenthesised_step, more_arguments, arguments_in, arguments, behind_name, behind_plain_name, behind_any_name, other_step, step, path_from, more_signs, signed_path, other_operand, ladder, condition, begun, behind_keyword, clauses_or_name, named_single, rules, query, query_language}
 use Rattle.gx_parse.specs.Strings.{string_part, string_parts, quoted, string_of}
-use Rattle.gx_parse.proofs.CastsRanks.{casts_low}
+use Rattle.gx_grammar.specs.Grammar.{empty}
+use Rattle.gx_grammar.specs.Apart.{is}
+use Rattle.gx_grammar.specs.First.{by_character}
+use Rattle.gx_ast.specs.declared.name.Axis.{Axis}
+use Rattle.gx_parse.specs.declared.kind_words.KindWord.{KindWord}
+use Rattle.gx_parse.specs.Types.{kind_word}
+use Rattle.gx_parse.specs.NodeTests.{axis_word, wildcard, kind_content, behind_test, node_test, axis_test, attribute_step, wildcard_step}
+use Rattle.gx_parse.proofs.CastsRanks.{casts_low, content_low}
 use Rattle.gx_parse.specs.Fronts.{fronts, rank}
 use Rattle.gx_parse.proofs.Sorted.{taken}
 
@@ -82,21 +89,43 @@ module _ (at : ℕ → Place) where
   unfolding arguments
   arguments_low n = ((tt, tt), inside_low n)
 
-  behind_name_low : (n : ℕ) (v : Made) → Low (suc n) (behind_name at n v)
-  unfolding behind_name
-  behind_name_low n v = (tt, (arguments_low n, tt))
+  kind_content_low : (n : ℕ) (k : Option KindWord) → Low n (kind_content at k)
+  unfolding kind_content
+  kind_content_low n (Some k) = (content_low at n k, tt)
+  kind_content_low n None = tt
+
+  wildcard_low : (n : ℕ) → Low n (wildcard at)
+  unfolding wildcard
+  wildcard_low n = ((tt, (tt, tt)), (tt, tt))
+
+  node_test_low : (n : ℕ) → Low n (node_test at)
+  unfolding node_test behind_test
+  node_test_low n = ((λ v. (tt, kind_content_low n (kind_word v))), wildcard_low n)
+
+  test_or_literal_low : (n : ℕ) → Low n (test_or_literal at)
+  unfolding test_or_literal attribute_step wildcard_step
+  test_or_literal_low n = (((tt, tt), node_test_low n), (wildcard_low n, literal_low n))
+
+  after_name_low : (n : ℕ) (v : Made) → Low (suc n) (after_name at n v)
+  unfolding after_name
+  after_name_low n v = elim (is_reserved v) as (λ b. Low (suc n) (if b then (kind_content at (kind_word v)) else (choose (by_character (is 40)) (arguments at n) empty))) [ true ↦ kind_content_low (suc n) (kind_word v) | false ↦ (arguments_low n, tt) ]
+
+  after_axis_low : (n : ℕ) (a : Option Axis) (v : Made) → Low (suc n) (after_axis at n a v)
+  unfolding after_axis axis_test
+  after_axis_low n (Some a) v = (((tt, tt), node_test_low (suc n)), after_name_low n v)
+  after_axis_low n None v = after_name_low n v
 
   plain_name_low : (n : ℕ) (t : Token) (v : Made) → Low n (behind_plain_name at t v)
   unfolding behind_plain_name
   plain_name_low n t v = tt
 
   any_name_low : (n : ℕ) (v : Made) → Low (suc n) (behind_any_name at n v)
-  unfolding behind_any_name
-  any_name_low n v = elim (is_reserved v) as (λ b. Low (suc n) (if b then (behind_plain_name at gap v) else (behind_name at n v))) [ true ↦ plain_name_low (suc n) gap v | false ↦ behind_name_low n v ]
+  unfolding behind_any_name step_of
+  any_name_low n v = (tt, after_axis_low n (axis_word v) v)
 
   other_step_low : (n : ℕ) → Low (suc n) (other_step at n)
   unfolding other_step
-  other_step_low n = (variable_low (suc n), (parenthesised_low n, (dots_low (suc n), literal_low (suc n))))
+  other_step_low n = (variable_low (suc n), (parenthesised_low n, (dots_low (suc n), test_or_literal_low (suc n))))
 
   step_low : (n : ℕ) → Low (suc n) (step at n)
   unfolding step
@@ -104,9 +133,22 @@ module _ (at : ℕ → Place) where
 
   -- paths and signs
 
+  predicate_low : (n : ℕ) → Low (suc n) (predicate at n)
+  unfolding predicate
+  predicate_low n = ((tt, tt), (expression_low n, (tt, tt)))
+
+  more_predicates_low : (n k : ℕ) → Low (suc n) (more_predicates at n k)
+  unfolding more_predicates
+  more_predicates_low n zero = (tt, tt)
+  more_predicates_low n (suc k) = ((predicate_low n, more_predicates_low n k), tt)
+
+  filtered_low : (n : ℕ) (first : Phrase) → Low (suc n) first → Low (suc n) (filtered_step at n first)
+  unfolding filtered_step
+  filtered_low n first f = (f, more_predicates_low n 64)
+
   path_low : (n : ℕ) (first : Phrase) → Low (suc n) first → Low (suc n) (path_from at n first)
   unfolding path_from
-  path_low n first f = chain_low (suc n) join_path set.Slashes first (step at n) barrier.Step f (step_low n)
+  path_low n first f = chain_low (suc n) join_path set.Slashes (filtered_step at n first) (filtered_step at n (step at n)) barrier.Step (filtered_low n first f) (filtered_low n (step at n) (step_low n))
 
   more_signs_low : (n k : ℕ) → Low n (more_signs at k)
   unfolding more_signs

@@ -19,7 +19,7 @@ use Rattle.gx_parse.specs.Words.{words_of}
 use Rattle.gx_parse.specs.Nodes.{Node, Made}
 use Rattle.gx_parse.specs.Numeral.{IsDigits, OpensNumeral, is_small, scan_literal}
 use Rattle.gx_parse.specs.declared.word.Barrier.{Barrier}
-use Rattle.gx_parse.specs.Tokens.{Token, one_of, qname, number, number_end, gap, gap_then_open, gap_not_open, barred, indication, entries, IsNCName, IsGapHere, begins_at, barrier_fault, limit_code, number_code, derives, opens, faults, begins_gap, begins_number, shape_of, text_run, reference, white, blank, no_attribute, tag_name, cdata_text, gap_then_dollar, gap_then_neither, barred_words, begins_dollar}
+use Rattle.gx_parse.specs.Tokens.{Token, one_of, qname, number, number_end, gap, gap_then_open, gap_not_open, barred, indication, entries, IsNCName, IsGapHere, begins_at, barrier_fault, limit_code, number_code, derives, opens, faults, begins_gap, begins_number, shape_of, text_run, reference, white, blank, no_attribute, tag_name, cdata_text, ncname, gap_then_dollar, gap_then_neither, barred_words, begins_dollar}
 use Rattle.gx_parse.specs.declared.runs.Run.{Run}
 use Rattle.gx_parse.specs.References.{is_text}
 use Rattle.gx_parse.proofs.ReferenceTokens.{reference_begins, fault_begins, reference_opened}
@@ -43,6 +43,10 @@ names_stand x (inr f) = absurd (let e = f.1 in cc e)
 name_opened : (x : List ℕ) → opens_name is_name_start is_name_character x → x ≢ [] → head_passes is_name_start x ≡ true
 name_opened [] o n = absurd (n refl)
 name_opened (c ∷ x) o n = o.0
+
+ncnames_stand : (x : List ℕ) → Stood ncname x → (x ≢ []) × (head_passes is_name_start x ≡ true)
+ncnames_stand x (inl d) = let n = d.2 in full_head is_name_start n.head n.tail n.whole n.begins
+ncnames_stand x (inr f) = absurd (let e = f.1 in cc e)
 
 names_open : (x : List ℕ) → opens qname x → x ≢ [] → head_passes is_name_start x ≡ true
 names_open x (inl o) n = name_opened x o n
@@ -200,6 +204,7 @@ module _ (at : ℕ → Place) where
   shaped no_attribute = tt
   shaped (tag_name cs) = tt
   shaped cdata_text = tt
+  shaped ncname = (ncnames_stand, name_opened)
   shaped gap_then_dollar = (dollars_stand, dollars_open)
   shaped gap_then_neither = tt
   shaped (barred_words ws) = (barred_stand ws, (λ x o. one_of_opened (entries (words_of ws)) x o), (λ x o. one_of_opening (entries (words_of ws)) x o))

@@ -7,7 +7,7 @@ use Rattle.gx_grammar.specs.Opening.{open_token, open_first, open_second, open_m
 use Rattle.gx_grammar.specs.Laws.{LawfulTokens}
 use Rattle.gx_grammar.specs.Levels.{takes_some, AreTakings}
 use Rattle.gx_grammar.specs.Text.{IsReadable}
-use Rattle.gx_grammar.specs.First.{IsIn, AllOf, first_of, first_behind, head_passes, HasHead, AreApart, Stands, AreFronts, IsSorted, CharacterChooses}
+use Rattle.gx_grammar.specs.First.{by_character, IsIn, AllOf, first_of, first_behind, head_passes, HasHead, AreApart, Stands, AreFronts, IsSorted, CharacterChooses}
 use Rattle.gx_grammar.specs.Apart.{Shape, HasShape, all_apart, is, shape_begins, words_begin}
 use Rattle.gx_grammar.proofs.Tokens.{and_parts}
 use Rattle.gx_grammar.proofs.ByCharacter.{character_chooses}
@@ -26,7 +26,7 @@ use Rattle.gx_grammar.specs.Value.{nothing}
 use Rattle.gx_parse.specs.Nodes.{Node, Made, Join, join_binary, join_path, join_comma}
 use Rattle.gx_parse.specs.declared.word.Barrier.{Barrier}
 use Rattle.gx_parse.specs.Tokens.{Token, one_of, qname, number, number_end, gap, gap_then_open, gap_not_open, gap_then_dollar, barred, begins_sign, shape_of, takes, derives, faults}
-use Rattle.gx_parse.specs.Grammar.{Production, single, Phrase, lexeme, word_of, at_tokens, is_single, level_at, is_name, is_reserved, operator, more, stop, chain, two, expression, numeral, literal, name, variable_step, dots, parenthesised_step, more_arguments, arguments_in, arguments, behind_name, behind_plain_name, behind_any_name, other_step, step, path_from, more_signs, signed_path, other_operand, ladder, condition, begun, behind_keyword, clauses_or_name, named_single, rules, query, behind_single, query_language}
+use Rattle.gx_parse.specs.Grammar.{Production, single, Phrase, lexeme, word_of, at_tokens, is_single, level_at, is_name, is_reserved, operator, more, stop, chain, two, expression, numeral, literal, name, variable_step, dots, parenthesised_step, more_arguments, arguments_in, arguments, after_name, after_axis, step_of, behind_plain_name, behind_any_name, test_or_literal, other_step, step, predicate, more_predicates, filtered_step, path_from, more_signs, signed_path, other_operand, ladder, condition, begun, behind_keyword, clauses_or_name, named_single, rules, query, behind_single, query_language}
 use Rattle.gx_parse.specs.Casts.{casts, type_test, cast_test, casts_fit, behind_cast}
 use Rattle.gx_parse.specs.Fronts.{fronts}
 use Rattle.gx_parse.specs.declared.word.Binder.{Binder}
@@ -37,6 +37,12 @@ use Rattle.gx_parse.proofs.CastsSorted.{casts_sorted}
 use Rattle.gx_parse.specs.declared.runs.Quote.TheVariants as quote
 use Rattle.gx_parse.specs.Strings.{quoted, string_of}
 use Rattle.gx_parse.proofs.StringsSorted.{string_sorted}
+use Rattle.gx_ast.specs.declared.name.Axis.{Axis}
+use Rattle.gx_parse.specs.Types.{kind_word, nothing_inside, document, tested, declared, content, named_content, declared_content}
+use Rattle.gx_parse.specs.declared.kind_words.KindWord.{KindWord}
+use Rattle.gx_parse.specs.declared.kind_words.KindWord.TheVariants as kind
+use Rattle.gx_parse.specs.NodeTests.{axis_word, wildcard, kind_content, axis_test, attribute_step, wildcard_step}
+use Rattle.gx_parse.proofs.NodeTestsSorted.{not_open, kind_content_sorted, axis_test_sorted, attribute_step_sorted, wildcard_step_sorted}
 use Rattle.gx_parse.proofs.Hands.{name_no_sign, number_no_sign, number_no_name, points_apart, gaps_apart, dollar_open_apart, dollar_neither_apart, open_neither_apart}
 use Rattle.gx_parse.proofs.BindingSorted.{flwor_sorted}
 
@@ -55,7 +61,7 @@ module _ (at : ℕ → Place) where
   apart ts us e = computed_apart (query_language at) shape_of (shaped at) ts us e
 
   production_takes : (p : Production) → (fronts at).takings.production_takes p ≡ true → Takes (rules at p) ≡ true
-  unfolding ladder casts type_test cast_test chain two other_operand operator path_from other_step variable_step parenthesised_step dots literal string_of quoted numeral
+  unfolding ladder casts type_test cast_test chain two other_operand operator path_from filtered_step other_step variable_step parenthesised_step dots test_or_literal attribute_step wildcard_step wildcard literal string_of quoted numeral
   production_takes (single zero) e = refl
   production_takes (single (suc n)) e = refl
 
@@ -63,10 +69,10 @@ module _ (at : ℕ → Place) where
   taken = record { tokens = tokens_taken; productions = production_takes }
 
   firsts : (p : Production) → AllOf (IsIn ((fronts at).first p)) (first_of (query_language at) (fronts at) (rules at p))
-  unfolding ladder casts type_test cast_test chain two other_operand operator path_from other_step variable_step parenthesised_step dots literal string_of quoted numeral
-  firsts (single zero) = (inr (inr (inr (inr (inr (inr (inr (inr (inl refl)))))))), tt)
+  unfolding ladder casts type_test cast_test chain two other_operand operator path_from filtered_step other_step variable_step parenthesised_step dots test_or_literal attribute_step wildcard_step wildcard literal string_of quoted numeral
+  firsts (single zero) = (inr (inr (inr (inr (inr (inr (inr (inr (inr (inr (inr (inl refl))))))))))), tt)
   firsts (single (suc n)) =
-      (inl refl, (inr (inl refl), (inr (inr (inl refl)), (inr (inr (inr (inl refl))), (inr (inr (inr (inr (inl refl)))), (inr (inr (inr (inr (inr (inl refl))))), (inr (inr (inr (inr (inr (inr (inl refl)))))), (inr (inr (inr (inr (inr (inr (inr (inl refl))))))), tt))))))))
+      (inl refl, (inr (inl refl), (inr (inr (inl refl)), (inr (inr (inr (inl refl))), (inr (inr (inr (inr (inl refl)))), (inr (inr (inr (inr (inr (inl refl))))), (inr (inr (inr (inr (inr (inr (inl refl)))))), (inr (inr (inr (inr (inr (inr (inr (inl refl))))))), (inr (inr (inr (inr (inr (inr (inr (inr (inl refl)))))))), (inr (inr (inr (inr (inr (inr (inr (inr (inr (inl refl))))))))), (inr (inr (inr (inr (inr (inr (inr (inr (inr (inr (inl refl)))))))))), tt)))))))))))
 
   pub right : AreFronts (query_language at) (fronts at)
   right = record { taken = taken; firsts = firsts; follows = λ p y. ((λ h. h), (λ h. h)); follows_cut = λ p y. ((λ h. h), (λ h. h)) }
@@ -120,9 +126,9 @@ module _ (at : ℕ → Place) where
 
   -- steps
 
-  -- no `(` begins these
-  abbrev no_parenthesis : List Token → Bool
-  no_parenthesis us = list_all (λ t. shape_begins 40 false (shape_of t)) us
+  -- neither `(` nor `::` begins these
+  abbrev name_fits : List Token → Bool
+  name_fits us = not_open us && all_apart shape_of (word_of word.Colons ∷ []) us
 
   variable_sorted : (us : List Token) → Sorts (variable_step at) us
   unfolding variable_step name
@@ -154,15 +160,17 @@ module _ (at : ℕ → Place) where
     ),
   )
 
-  quotes_apart : AllOf (λ u. AllOf (λ t. AreApart (query_language at) t u) (one_of set.Dots ∷ [])) (word_of word.Quote ∷ word_of word.Apostrophe ∷ number ∷ [])
-  quotes_apart = let w = apart (one_of set.Dots ∷ []) (word_of word.Quote ∷ word_of word.Apostrophe ∷ []) refl in (w.0, (w.1.0, ((points_apart at, tt), tt)))
+  quotes_apart : AllOf (λ u. AllOf (λ t. AreApart (query_language at) t u) (one_of set.Dots ∷ [])) (word_of word.AtSign ∷ word_of word.AnyPrefix ∷ word_of word.AnyName ∷ word_of word.Quote ∷ word_of word.Apostrophe ∷ number ∷ [])
+  quotes_apart =
+      let w = apart (one_of set.Dots ∷ []) (word_of word.AtSign ∷ word_of word.AnyPrefix ∷ word_of word.AnyName ∷ word_of word.Quote ∷ word_of word.Apostrophe ∷ []) refl in
+      (w.0, (w.1.0, (w.1.1.0, (w.1.1.1.0, (w.1.1.1.1.0, ((points_apart at, tt), tt))))))
 
   dots_sorted : (us : List Token) → Sorts (dots at) us
   unfolding dots
   dots_sorted us = (tt, tt)
 
   abbrev singles : List Token
-  singles = qname ∷ one_of set.Signs ∷ word_of word.Dollar ∷ word_of word.Open ∷ one_of set.Dots ∷ word_of word.Quote ∷ word_of word.Apostrophe ∷ number ∷ barred barrier.Single ∷ []
+  singles = qname ∷ one_of set.Signs ∷ word_of word.Dollar ∷ word_of word.Open ∷ one_of set.Dots ∷ word_of word.AtSign ∷ word_of word.AnyPrefix ∷ word_of word.AnyName ∷ word_of word.Quote ∷ word_of word.Apostrophe ∷ number ∷ barred barrier.Single ∷ []
 
   singles_pass : AllOf (HasHead (query_language at) (is 41) false) singles
   unfolding is_name_start
@@ -203,34 +211,85 @@ module _ (at : ℕ → Place) where
   unfolding arguments
   arguments_sorted n us = ((tt, tt), inside_sorted n us)
 
-  behind_name_sorted : (n : ℕ) (v : Made) (us : List Token) → no_parenthesis us ≡ true → Sorts (behind_name at n v) us
-  unfolding behind_name arguments
-  behind_name_sorted n v us e = (
-    tt,
-    (
+  after_name_sorted : (n : ℕ) (v : Made) (us : List Token) → not_open us ≡ true → Sorts (after_name at n v) us
+  unfolding after_name arguments
+  after_name_sorted n v us e = elim (is_reserved v) as (λ b. Sorts (if b then (kind_content at (kind_word v)) else (choose (by_character (is 40)) (arguments at n) empty)) us) [
+    | true ↦ kind_content_sorted at right (kind_word v) us e
+    | false ↦ (
       character_chooses (query_language at) (is 40) (fronts at) right _ empty us
           (record { takes = refl; passes = computed_heads (query_language at) shape_of (shaped at) 40 true (word_of word.Open ∷ []) refl; fails = computed_heads (query_language at) shape_of (shaped at) 40 false us e }),
       arguments_sorted n us,
       tt,
-    ),
-  )
+    )
+  ]
+
+  kind_content_apart : (k : Option KindWord) (us : List Token) → all_apart shape_of (word_of word.Colons ∷ []) us ≡ true
+      → AllOf (λ u. AllOf (λ t. AreApart (query_language at) t u) (word_of word.Colons ∷ [])) (first_behind (query_language at) (fronts at) (kind_content at k) us)
+  unfolding kind_content content named_content declared_content nothing_inside document tested declared
+  kind_content_apart (Some kind.Node) us e = apart (word_of word.Colons ∷ []) (word_of word.Open ∷ us) e
+  kind_content_apart (Some kind.Text) us e = apart (word_of word.Colons ∷ []) (word_of word.Open ∷ us) e
+  kind_content_apart (Some kind.Document) us e = apart (word_of word.Colons ∷ []) (word_of word.Open ∷ us) e
+  kind_content_apart (Some kind.Element) us e = apart (word_of word.Colons ∷ []) (word_of word.Open ∷ us) e
+  kind_content_apart (Some kind.Attribute) us e = apart (word_of word.Colons ∷ []) (word_of word.Open ∷ us) e
+  kind_content_apart (Some kind.SchemaElement) us e = apart (word_of word.Colons ∷ []) (word_of word.Open ∷ us) e
+  kind_content_apart None us e = apart (word_of word.Colons ∷ []) us e
+
+  after_name_apart : (n : ℕ) (v : Made) (us : List Token) → all_apart shape_of (word_of word.Colons ∷ []) us ≡ true
+      → AllOf (λ u. AllOf (λ t. AreApart (query_language at) t u) (word_of word.Colons ∷ [])) (first_behind (query_language at) (fronts at) (after_name at n v) us)
+  unfolding after_name arguments
+  after_name_apart n v us e =
+      elim (is_reserved v) as (λ b. AllOf (λ u. AllOf (λ t. AreApart (query_language at) t u) (word_of word.Colons ∷ [])) (first_behind (query_language at) (fronts at) (if b then (kind_content at (kind_word v)) else (choose (by_character (is 40)) (arguments at n) empty)) us))
+      [ true ↦ kind_content_apart (kind_word v) us e | false ↦ apart (word_of word.Colons ∷ []) (word_of word.Open ∷ us) e ]
+
+  after_axis_sorted : (n : ℕ) (a : Option Axis) (v : Made) (us : List Token) → name_fits us ≡ true → Sorts (after_axis at n a v) us
+  unfolding after_axis axis_test
+  after_axis_sorted n (Some a) v us e =
+      let p = both (not_open us) (all_apart shape_of (word_of word.Colons ∷ []) us) e in (
+        tokens_choose (query_language at) (lawful at) (fronts at) right (word_of word.Colons ∷ []) _ _ us
+            (record { takes = refl; first = (inl refl, tt); full = (refl, tt); opening = ((λ x o. open_made (open_first (open_first (open_token o)))), tt); apart = after_name_apart n v us p.1 }),
+        axis_test_sorted at right us p.0,
+        after_name_sorted n v us p.0,
+      )
+  after_axis_sorted n None v us e = after_name_sorted n v us (both (not_open us) (all_apart shape_of (word_of word.Colons ∷ []) us) e).0
 
   plain_name_sorted : (t : Token) (v : Made) (us : List Token) → Sorts (behind_plain_name at t v) us
   unfolding behind_plain_name
   plain_name_sorted t v us = tt
 
-  any_name_sorted : (n : ℕ) (v : Made) (us : List Token) → no_parenthesis us ≡ true → Sorts (behind_any_name at n v) us
-  unfolding behind_any_name
-  any_name_sorted n v us e = elim (is_reserved v) as (λ b. Sorts (if b then (behind_plain_name at gap v) else (behind_name at n v)) us) [ true ↦ plain_name_sorted gap v us | false ↦ behind_name_sorted n v us e ]
+  any_name_sorted : (n : ℕ) (v : Made) (us : List Token) → name_fits us ≡ true → Sorts (behind_any_name at n v) us
+  unfolding behind_any_name step_of
+  any_name_sorted n v us e = (tt, after_axis_sorted n (axis_word v) v us e)
 
-  other_step_sorted : (n : ℕ) (us : List Token) → Sorts (other_step at n) us
-  unfolding other_step variable_step parenthesised_step dots literal string_of quoted numeral
-  other_step_sorted n us = (
+  test_or_literal_sorted : (us : List Token) → not_open us ≡ true → Sorts (test_or_literal at) us
+  unfolding test_or_literal attribute_step wildcard_step wildcard literal string_of quoted numeral
+  test_or_literal_sorted us e = (
+    character_chooses (query_language at) (is 64) (fronts at) right _ _ us
+        (record {
+          takes = refl;
+          passes = computed_heads (query_language at) shape_of (shaped at) 64 true (word_of word.AtSign ∷ []) refl;
+          fails = computed_heads (query_language at) shape_of (shaped at) 64 false (word_of word.AnyPrefix ∷ word_of word.AnyName ∷ word_of word.Quote ∷ word_of word.Apostrophe ∷ number ∷ []) refl;
+        }),
+    attribute_step_sorted at right us e,
+    (
+      character_chooses (query_language at) (is 42) (fronts at) right _ _ us
+          (record {
+            takes = refl;
+            passes = computed_heads (query_language at) shape_of (shaped at) 42 true (word_of word.AnyPrefix ∷ word_of word.AnyName ∷ []) refl;
+            fails = computed_heads (query_language at) shape_of (shaped at) 42 false (word_of word.Quote ∷ word_of word.Apostrophe ∷ number ∷ []) refl;
+          }),
+      wildcard_step_sorted at right us,
+      literal_sorted us,
+    ),
+  )
+
+  other_step_sorted : (n : ℕ) (us : List Token) → not_open us ≡ true → Sorts (other_step at n) us
+  unfolding other_step variable_step parenthesised_step dots test_or_literal attribute_step wildcard_step wildcard literal string_of quoted numeral
+  other_step_sorted n us e = (
     character_chooses (query_language at) (is 36) (fronts at) right _ _ us
         (record {
           takes = refl;
           passes = computed_heads (query_language at) shape_of (shaped at) 36 true (word_of word.Dollar ∷ []) refl;
-          fails = computed_heads (query_language at) shape_of (shaped at) 36 false (word_of word.Open ∷ one_of set.Dots ∷ word_of word.Quote ∷ word_of word.Apostrophe ∷ number ∷ []) refl;
+          fails = computed_heads (query_language at) shape_of (shaped at) 36 false (word_of word.Open ∷ one_of set.Dots ∷ word_of word.AtSign ∷ word_of word.AnyPrefix ∷ word_of word.AnyName ∷ word_of word.Quote ∷ word_of word.Apostrophe ∷ number ∷ []) refl;
         }),
     variable_sorted us,
     (
@@ -238,14 +297,14 @@ module _ (at : ℕ → Place) where
           (record {
             takes = refl;
             passes = computed_heads (query_language at) shape_of (shaped at) 40 true (word_of word.Open ∷ []) refl;
-            fails = computed_heads (query_language at) shape_of (shaped at) 40 false (one_of set.Dots ∷ word_of word.Quote ∷ word_of word.Apostrophe ∷ number ∷ []) refl;
+            fails = computed_heads (query_language at) shape_of (shaped at) 40 false (one_of set.Dots ∷ word_of word.AtSign ∷ word_of word.AnyPrefix ∷ word_of word.AnyName ∷ word_of word.Quote ∷ word_of word.Apostrophe ∷ number ∷ []) refl;
           }),
       parenthesised_sorted n us,
       (
         tokens_choose (query_language at) (lawful at) (fronts at) right (one_of set.Dots ∷ []) _ _ us
             (record { takes = refl; first = (inl refl, tt); full = (refl, tt); opening = ((λ x o. open_made (open_first (open_token o))), tt); apart = quotes_apart }),
         dots_sorted us,
-        literal_sorted us,
+        test_or_literal_sorted us e,
       ),
     ),
   )
@@ -255,34 +314,79 @@ module _ (at : ℕ → Place) where
   words_no_name : (ts : List Token) → list_all (λ t. words_begin is_name_start false (shape_of t)) ts ≡ true → AllOf (HasHead (query_language at) is_name_start false) ts
   words_no_name ts e = computed_words (query_language at) shape_of (shaped at) is_name_start false ts e
 
-  step_fails : AllOf (HasHead (query_language at) is_name_start false) (word_of word.Dollar ∷ word_of word.Open ∷ one_of set.Dots ∷ word_of word.Quote ∷ word_of word.Apostrophe ∷ number ∷ [])
+  step_fails : AllOf (HasHead (query_language at) is_name_start false) (word_of word.Dollar ∷ word_of word.Open ∷ one_of set.Dots ∷ word_of word.AtSign ∷ word_of word.AnyPrefix ∷ word_of word.AnyName ∷ word_of word.Quote ∷ word_of word.Apostrophe ∷ number ∷ [])
   unfolding is_name_start
-  step_fails = let w = words_no_name (word_of word.Dollar ∷ word_of word.Open ∷ one_of set.Dots ∷ word_of word.Quote ∷ word_of word.Apostrophe ∷ []) refl in (w.0, (w.1.0, (w.1.1.0, (w.1.1.1.0, (w.1.1.1.1.0, (number_no_name at, tt))))))
+  step_fails =
+      let w = words_no_name (word_of word.Dollar ∷ word_of word.Open ∷ one_of set.Dots ∷ word_of word.AtSign ∷ word_of word.AnyPrefix ∷ word_of word.AnyName ∷ word_of word.Quote ∷ word_of word.Apostrophe ∷ []) refl in
+      (w.0, (w.1.0, (w.1.1.0, (w.1.1.1.0, (w.1.1.1.1.0, (w.1.1.1.1.1.0, (w.1.1.1.1.1.1.0, (w.1.1.1.1.1.1.1.0, (number_no_name at, tt)))))))))
 
   name_passes : HasHead (query_language at) is_name_start true qname
   name_passes = record { stands = (shaped at qname).0; opened = (shaped at qname).1 }
 
-  step_sorted : (n : ℕ) (us : List Token) → no_parenthesis us ≡ true → Sorts (step at n) us
-  unfolding step other_step variable_step parenthesised_step dots literal string_of quoted numeral
+  step_sorted : (n : ℕ) (us : List Token) → name_fits us ≡ true → Sorts (step at n) us
+  unfolding step other_step variable_step parenthesised_step dots test_or_literal attribute_step wildcard_step wildcard literal string_of quoted numeral
   step_sorted n us e = (
     character_chooses (query_language at) is_name_start (fronts at) right _ (other_step at n) us (record { takes = refl; passes = (name_passes, tt); fails = step_fails }),
     (λ v. any_name_sorted n v us e),
-    other_step_sorted n us,
+    other_step_sorted n us (both (not_open us) (all_apart shape_of (word_of word.Colons ∷ []) us) e).0,
   )
 
   -- paths and signs
 
-  abbrev path_fits : List Token → Bool
-  path_fits us = all_apart shape_of (one_of set.Slashes ∷ []) us && no_parenthesis us
+  predicate_sorted : (n : ℕ) (us : List Token) → Sorts (predicate at n) us
+  unfolding predicate
+  predicate_sorted n us = ((tt, tt), (expression_sorted n (word_of word.CloseBracket ∷ []) refl (inr (inr (inr (inr (inl refl)))), tt), (tt, tt)))
 
-  path_sorted : (n : ℕ) (first : Phrase) (us : List Token) → path_fits us ≡ true → Sorts first (one_of set.Slashes ∷ us) → Sorts (path_from at n first) us
+  abbrev predicates_fit : List Token → Bool
+  predicates_fit us = all_apart shape_of (word_of word.OpenBracket ∷ []) us && all_apart shape_of (barred barrier.Predicate ∷ []) us
+
+  more_predicates_sorted : (n k : ℕ) (us : List Token) → predicates_fit us ≡ true → Sorts (more_predicates at n k) us
+  unfolding more_predicates predicate
+  more_predicates_sorted n zero us e = (
+    tokens_choose (query_language at) (lawful at) (fronts at) right (barred barrier.Predicate ∷ []) (token (barred barrier.Predicate)) empty us
+        (record {
+          takes = refl;
+          first = (inl refl, tt);
+          full = (refl, tt);
+          opening = ((λ x o. open_token o), tt);
+          apart = apart (barred barrier.Predicate ∷ []) us (both (all_apart shape_of (word_of word.OpenBracket ∷ []) us) _ e).1;
+        }),
+    tt,
+    tt,
+  )
+  more_predicates_sorted n (suc k) us e = (
+    tokens_choose (query_language at) (lawful at) (fronts at) right (word_of word.OpenBracket ∷ []) _ empty us
+        (record {
+          takes = refl;
+          first = (inl refl, tt);
+          full = (refl, tt);
+          opening = ((λ x o. open_first (open_made (open_first (open_first (open_token o))))), tt);
+          apart = apart (word_of word.OpenBracket ∷ []) us (both (all_apart shape_of (word_of word.OpenBracket ∷ []) us) _ e).0;
+        }),
+    (predicate_sorted n (first_behind (query_language at) (fronts at) (more_predicates at n k) us), more_predicates_sorted n k us e),
+    tt,
+  )
+
+  filtered_sorted : (n : ℕ) (first : Phrase) (us : List Token) → predicates_fit us ≡ true → Sorts first (word_of word.OpenBracket ∷ us) → Sorts (filtered_step at n first) us
+  unfolding filtered_step more_predicates predicate
+  filtered_sorted n first us e f = (f, more_predicates_sorted n 64 us e)
+
+  abbrev path_fits : List Token → Bool
+  path_fits us = all_apart shape_of (one_of set.Slashes ∷ []) us && (predicates_fit (one_of set.Slashes ∷ us) && name_fits (word_of word.OpenBracket ∷ one_of set.Slashes ∷ us))
+
+  path_sorted : (n : ℕ) (first : Phrase) (us : List Token) → path_fits us ≡ true → Sorts first (word_of word.OpenBracket ∷ one_of set.Slashes ∷ us) → Sorts (path_from at n first) us
   unfolding path_from
   path_sorted n first us e f =
-      let p = both (all_apart shape_of (one_of set.Slashes ∷ []) us) (no_parenthesis us) e in
-      chain_sorted join_path set.Slashes first (step at n) barrier.Step us p.0 f (step_sorted n (one_of set.Slashes ∷ us) p.1)
+      let p = both (all_apart shape_of (one_of set.Slashes ∷ []) us) _ e in
+      let q = both (predicates_fit (one_of set.Slashes ∷ us)) _ p.1 in
+      chain_sorted join_path set.Slashes (filtered_step at n first) (filtered_step at n (step at n)) barrier.Step us p.0 (filtered_sorted n first (one_of set.Slashes ∷ us) q.0 f)
+      (filtered_sorted n (step at n) (one_of set.Slashes ∷ us) q.0 (step_sorted n (word_of word.OpenBracket ∷ one_of set.Slashes ∷ us) q.1))
+
+  step_fits : (us : List Token) → path_fits us ≡ true → name_fits (word_of word.OpenBracket ∷ one_of set.Slashes ∷ us) ≡ true
+  step_fits us e = (both (predicates_fit (one_of set.Slashes ∷ us)) _ (both (all_apart shape_of (one_of set.Slashes ∷ []) us) _ e).1).1
 
   abbrev steps : List Token
-  steps = qname ∷ word_of word.Dollar ∷ word_of word.Open ∷ one_of set.Dots ∷ word_of word.Quote ∷ word_of word.Apostrophe ∷ number ∷ []
+  steps = qname ∷ word_of word.Dollar ∷ word_of word.Open ∷ one_of set.Dots ∷ word_of word.AtSign ∷ word_of word.AnyPrefix ∷ word_of word.AnyName ∷ word_of word.Quote ∷ word_of word.Apostrophe ∷ number ∷ []
 
   signs_apart : AllOf (λ u. AllOf (λ t. AreApart (query_language at) t u) (one_of set.Signs ∷ [])) steps
   unfolding is_name_start
@@ -296,8 +400,8 @@ module _ (at : ℕ → Place) where
 
   no_sign_apart : AllOf (λ u. AllOf (λ t. AreApart (query_language at) t u) (barred barrier.Sign ∷ [])) steps
   no_sign_apart =
-      let w = apart (barred barrier.Sign ∷ []) (word_of word.Dollar ∷ word_of word.Open ∷ one_of set.Dots ∷ word_of word.Quote ∷ word_of word.Apostrophe ∷ []) refl in
-      ((sign_apart qname (name_no_sign at), tt), (w.0, (w.1.0, (w.1.1.0, (w.1.1.1.0, (w.1.1.1.1.0, ((sign_apart number (number_no_sign at), tt), tt)))))))
+      let w = apart (barred barrier.Sign ∷ []) (word_of word.Dollar ∷ word_of word.Open ∷ one_of set.Dots ∷ word_of word.AtSign ∷ word_of word.AnyPrefix ∷ word_of word.AnyName ∷ word_of word.Quote ∷ word_of word.Apostrophe ∷ []) refl in
+      ((sign_apart qname (name_no_sign at), tt), (w.0, (w.1.0, (w.1.1.0, (w.1.1.1.0, (w.1.1.1.1.0, (w.1.1.1.1.1.0, (w.1.1.1.1.1.1.0, (w.1.1.1.1.1.1.1.0, ((sign_apart number (number_no_sign at), tt), tt))))))))))
 
   more_signs_sorted : (k : ℕ) → Sorts (more_signs at k) steps
   unfolding more_signs operator
@@ -315,11 +419,11 @@ module _ (at : ℕ → Place) where
   )
 
   signed_sorted : (n k : ℕ) (us : List Token) → path_fits us ≡ true → Sorts (signed_path at n k) us
-  unfolding signed_path path_from chain step other_step variable_step parenthesised_step dots literal string_of quoted numeral
-  signed_sorted n k us e = (more_signs_sorted k, path_sorted n (step at n) us e (step_sorted n (one_of set.Slashes ∷ us) (both (all_apart shape_of (one_of set.Slashes ∷ []) us) (no_parenthesis us) e).1))
+  unfolding signed_path path_from filtered_step chain step other_step variable_step parenthesised_step dots test_or_literal attribute_step wildcard_step wildcard literal string_of quoted numeral
+  signed_sorted n k us e = (more_signs_sorted k, path_sorted n (step at n) us e (step_sorted n (word_of word.OpenBracket ∷ one_of set.Slashes ∷ us) (step_fits us e)))
 
   other_operand_sorted : (n : ℕ) (us : List Token) → path_fits us ≡ true → Sorts (other_operand at n) us
-  unfolding other_operand operator path_from chain step other_step variable_step parenthesised_step dots literal string_of quoted numeral
+  unfolding other_operand operator path_from filtered_step chain step other_step variable_step parenthesised_step dots test_or_literal attribute_step wildcard_step wildcard literal string_of quoted numeral
   other_operand_sorted n us e = (
     tokens_choose (query_language at) (lawful at) (fronts at) right (one_of set.Signs ∷ []) _ _ us
         (record {
@@ -329,8 +433,8 @@ module _ (at : ℕ → Place) where
           opening = ((λ x o. open_made (open_first (open_first (open_made (open_first (open_token o)))))), tt);
           apart = signs_apart.1;
         }),
-    (((tt, tt), more_signs_sorted 63), path_sorted n (step at n) us e (step_sorted n (one_of set.Slashes ∷ us) (both (all_apart shape_of (one_of set.Slashes ∷ []) us) (no_parenthesis us) e).1)),
-    path_sorted n (other_step at n) us e (other_step_sorted n (one_of set.Slashes ∷ us)),
+    (((tt, tt), more_signs_sorted 63), path_sorted n (step at n) us e (step_sorted n (word_of word.OpenBracket ∷ one_of set.Slashes ∷ us) (step_fits us e))),
+    path_sorted n (other_step at n) us e (other_step_sorted n (word_of word.OpenBracket ∷ one_of set.Slashes ∷ us) (both (not_open us) _ (step_fits us e)).0),
   )
 
   -- the levels of operators, before these tokens
@@ -403,13 +507,13 @@ module _ (at : ℕ → Place) where
     ),
   )
 
-  begun_path_sorted : (n : ℕ) (first : Phrase) → Sorts first (one_of set.Slashes ∷ innermost 8 (behind_single at)) → Sorts (ladder at 8 n (path_from at n first)) (behind_single at)
+  begun_path_sorted : (n : ℕ) (first : Phrase) → Sorts first (word_of word.OpenBracket ∷ one_of set.Slashes ∷ innermost 8 (behind_single at)) → Sorts (ladder at 8 n (path_from at n first)) (behind_single at)
   begun_path_sorted n first f = ladder_sorted 8 n (path_from at n first) (behind_single at) levels_fit (path_sorted n first (innermost 8 (behind_single at)) inside_fits f)
 
   if_apart : (n : ℕ) (v : Made) → AllOf (λ u. AllOf (λ t. AreApart (query_language at) t u) (gap_then_open ∷ [])) (first_behind (query_language at) (fronts at) (ladder at 8 n (path_from at n (behind_plain_name at gap_not_open v))) (behind_single at))
-  unfolding ladder casts type_test cast_test two chain path_from behind_plain_name more stop operator
+  unfolding ladder casts type_test cast_test two chain path_from filtered_step more_predicates predicate behind_plain_name more stop operator
   if_apart n v =
-      ((gaps_apart at, tt), apart (gap_then_open ∷ []) (one_of set.Slashes ∷ word_of word.Cast ∷ word_of word.Castable ∷ word_of word.Treat ∷ word_of word.Instance ∷ operators level.Intersect ∷ operators level.Union ∷ operators level.Product ∷ operators level.Sum ∷ operators level.Range ∷ operators level.Comparison ∷ operators level.And ∷ operators level.Or ∷ behind_single at) refl)
+      ((gaps_apart at, tt), apart (gap_then_open ∷ []) (word_of word.OpenBracket ∷ one_of set.Slashes ∷ word_of word.Cast ∷ word_of word.Castable ∷ word_of word.Treat ∷ word_of word.Instance ∷ operators level.Intersect ∷ operators level.Union ∷ operators level.Product ∷ operators level.Sum ∷ operators level.Range ∷ operators level.Comparison ∷ operators level.And ∷ operators level.Or ∷ behind_single at) refl)
 
   if_sorted : (n : ℕ) (v : Made) → Sorts (choose (at_tokens (gap_then_open ∷ [])) (condition at n v) (ladder at 8 n (path_from at n (behind_plain_name at gap_not_open v)))) (behind_single at)
   unfolding condition
@@ -430,7 +534,7 @@ module _ (at : ℕ → Place) where
 
   abbrev behind_word : List Token
   behind_word =
-      one_of set.Slashes ∷ word_of word.Cast ∷ word_of word.Castable ∷ word_of word.Treat ∷ word_of word.Instance ∷ operators level.Intersect ∷ operators level.Union ∷ operators level.Product ∷ operators level.Sum ∷ operators level.Range ∷ operators level.Comparison
+      word_of word.OpenBracket ∷ one_of set.Slashes ∷ word_of word.Cast ∷ word_of word.Castable ∷ word_of word.Treat ∷ word_of word.Instance ∷ operators level.Intersect ∷ operators level.Union ∷ operators level.Product ∷ operators level.Sum ∷ operators level.Range ∷ operators level.Comparison
       ∷ operators level.And ∷ operators level.Or ∷ behind_single at
 
   keyword_sorted : (n : ℕ) (v : Made) (us : List Token) → all_apart shape_of (gap_then_open ∷ []) us ≡ true → Sorts (behind_keyword at n v) us
@@ -443,7 +547,7 @@ module _ (at : ℕ → Place) where
   )
 
   keyword_apart : (n : ℕ) (v : Made) → AllOf (λ u. AllOf (λ t. AreApart (query_language at) t u) (gap_then_dollar ∷ [])) (first_behind (query_language at) (fronts at) (ladder at 8 n (path_from at n (behind_keyword at n v))) (behind_single at))
-  unfolding ladder casts type_test cast_test two chain path_from behind_keyword behind_plain_name more stop operator
+  unfolding ladder casts type_test cast_test two chain path_from filtered_step more_predicates predicate behind_keyword behind_plain_name more stop operator
   keyword_apart n v = ((dollar_open_apart at, tt), ((dollar_neither_apart at, tt), apart (gap_then_dollar ∷ []) behind_word refl))
 
   clauses_sorted : (n : ℕ) (v : Made) (b : Option Binder) → Sorts (clauses_or_name at n v b) (behind_single at)
@@ -461,7 +565,7 @@ module _ (at : ℕ → Place) where
   named_sorted n v = clauses_sorted n v (binder_named v)
 
   single_fails : (n : ℕ) → AllOf (HasHead (query_language at) is_name_start false) (first_behind (query_language at) (fronts at) (ladder at 8 n (other_operand at n)) (behind_single at))
-  unfolding ladder casts type_test cast_test two chain other_operand operator path_from other_step variable_step parenthesised_step dots literal string_of quoted numeral is_name_start
+  unfolding ladder casts type_test cast_test two chain other_operand operator path_from filtered_step other_step variable_step parenthesised_step dots test_or_literal attribute_step wildcard_step wildcard literal string_of quoted numeral is_name_start
   single_fails n = let w = words_no_name (one_of set.Signs ∷ []) refl in (w.0, step_fails)
 
   production_sorted : (p : Production) → Sorts (rules at p) (behind_single at)

@@ -27,7 +27,7 @@ use Rattle.gx_parse.specs.Words.{letters_of, spelling_of, words_of}
 use Rattle.gx_parse.specs.Nodes.{Node, Made}
 use Rattle.gx_parse.specs.Numeral.{together, IsDigits, scan_digits, IsFraction, scan_fraction, starts_point, HasFraction, scan_with_fraction, IsPointed, OpensNumeral, scan_pointed, seen_numeral, has_digit, is_small, IsLiteral, scan_literal, IsNumeral, scan_numeral}
 use Rattle.gx_parse.specs.declared.word.Barrier.{Barrier}
-use Rattle.gx_parse.specs.Tokens.{Token, one_of, qname, number, number_end, gap, gap_then_open, gap_not_open, barred, indication, entry_of, entries, IsNCName, scan_ncname, behind_colon, IsColon, scan_colon, OpensColon, IsLocalPart, OpensLocalPart, scan_local_part, seen_local_part, starts_local_part, HasLocalPart, scan_has_local_part, IsQName, OpensQName, no_value, IsGapHere, scan_gap_here, IsParenthesis, scan_parenthesis, OpensParenthesis, scan_no_parenthesis, OpensNothing, indicators, first_of_two, IsIndicator, OpensIndicator, scan_indicator, seen_indicator, stops_type, IsNoIndicator, scan_no_indicator, begins_at, barrier_fault, limit_code, number_code, derives, opens, scan, seen, faults, takes, begins_gap, begins_number, text_run, reference, white, blank, no_attribute, tag_name, cdata_text, no_characters, begins_attribute, cdata_value, cdata_walk, entity_words, gap_then_dollar, gap_then_neither, barred_words, IsDollar, scan_dollar, OpensDollar, stops_name, IsNeither, scan_neither, word_fault}
+use Rattle.gx_parse.specs.Tokens.{Token, one_of, qname, number, number_end, gap, gap_then_open, gap_not_open, barred, indication, entry_of, entries, IsNCName, scan_ncname, behind_colon, IsColon, scan_colon, OpensColon, IsLocalPart, OpensLocalPart, scan_local_part, seen_local_part, starts_local_part, HasLocalPart, scan_has_local_part, IsQName, OpensQName, no_value, IsGapHere, scan_gap_here, IsParenthesis, scan_parenthesis, OpensParenthesis, scan_no_parenthesis, OpensNothing, indicators, first_of_two, IsIndicator, OpensIndicator, scan_indicator, seen_indicator, stops_type, IsNoIndicator, scan_no_indicator, begins_at, barrier_fault, limit_code, number_code, derives, opens, scan, seen, faults, takes, begins_gap, begins_number, text_run, reference, white, blank, no_attribute, tag_name, cdata_text, ncname, no_characters, begins_attribute, cdata_value, cdata_walk, entity_words, gap_then_dollar, gap_then_neither, barred_words, IsDollar, scan_dollar, OpensDollar, stops_name, IsNeither, scan_neither, word_fault}
 use Rattle.gx_parse.specs.References.{is_text, text_value}
 use Rattle.gx_parse.proofs.ReferenceTokens.{reference_lawful, number_shorter}
 
@@ -267,6 +267,11 @@ word_full word.BraceOpen = refl
 word_full word.TwoOpenBraces = refl
 word_full word.TwoCloseBraces = refl
 word_full word.Equals = refl
+word_full word.OpenBracket = refl
+word_full word.AtSign = refl
+word_full word.Colons = refl
+word_full word.AnyPrefix = refl
+word_full word.AnyName = refl
 word_full word.In = refl
 word_full word.Assign = refl
 word_full word.By = refl
@@ -305,6 +310,7 @@ token_lawful blank = lawful_run no_characters is_white_space no_character
 token_lawful no_attribute = lawful_word nothing [] begins_attribute
 token_lawful (tag_name cs) = lawful_word nothing cs is_name_character
 token_lawful cdata_text = lawful_walk cdata_value cdata_walk 0
+token_lawful ncname = ncname_lawful
 token_lawful gap_then_dollar = then_dollar_lawful
 token_lawful gap_then_neither = then_neither_lawful
 token_lawful (barred_words ws) =
@@ -372,6 +378,7 @@ tokens_taken blank v x y e d = absurd (cc)
 tokens_taken no_attribute v x y e d = absurd (cc)
 tokens_taken (tag_name cs) v x y e d = absurd (cc)
 tokens_taken cdata_text v x y e d = absurd (cc)
+tokens_taken ncname v x y e d = named_shorter is_name_start is_name_character no_character v x y d
 tokens_taken gap_then_dollar v x y e d = let g = gap_behind d.front x d.between d.begins in omega (arith, g, ap length d.ends.spelled)
 tokens_taken gap_then_neither v x y e d = absurd (cc)
 tokens_taken (barred_words ws) v x y e d = absurd d

@@ -11,7 +11,7 @@ use Rattle.gx_parse.specs.Grammar.{query_language, word_of, behind_single, Produ
 abbrev pub fronts : (at : ℕ → Place) → Fronts (query_language at)
 fronts at = record {
   takings = record { token_takes = takes; production_takes = λ p. true };
-  first = λ p. qname ∷ one_of set.Signs ∷ word_of word.Dollar ∷ word_of word.Open ∷ one_of set.Dots ∷ word_of word.Quote ∷ word_of word.Apostrophe ∷ number ∷ barred barrier.Single ∷ [];
+  first = λ p. qname ∷ one_of set.Signs ∷ word_of word.Dollar ∷ word_of word.Open ∷ one_of set.Dots ∷ word_of word.AtSign ∷ word_of word.AnyPrefix ∷ word_of word.AnyName ∷ word_of word.Quote ∷ word_of word.Apostrophe ∷ number ∷ barred barrier.Single ∷ [];
   next = λ p. behind_single at;
 }
 

@@ -7,12 +7,16 @@
 --   Union ::= Inter (("union" | "|") Inter)*        Inter ::= Inst (("intersect" | "except") Inst)*
 --   Inst ::= Treat ("instance" "of" SeqType)?       Treat ::= Castable ("treat" "as" SeqType)?
 --   Castable ::= Cast ("castable" "as" QName "?"?)?   Cast ::= Unary ("cast" "as" QName "?"?)?
---   Unary ::= ("-" | "+")* Path            Path ::= Step (("/" | "//") Step)*
---   Step ::= Literal | "$" QName | "(" Expr? ")" | "." | ".." | QName | QName "(" (Single ("," Single)*)? ")"
--- A Single stands inside at most 39 others, and each chain has at most 64 members.
+--   Unary ::= ("-" | "+")* Path            Path ::= Pred (("/" | "//") Pred)*
+--   Pred ::= Step ("[" Expr "]")*
+--   Step ::= Literal | "$" QName | "(" Expr? ")" | "." | ".." | Forward | QName "(" (Single ("," Single)*)? ")"
+-- A Single stands inside at most 39 others, each chain has at most 64 members, and each step at most 64 predicates.
 use Rattle.std.specs.Prelude.{ℕ, zero, suc, ◌+◌, ◌-◌, List, [], ◌∷◌, ◌==◌, ◌&&◌, ◌||◌, Bool, true, false, Option, Some, None, if◌then◌else◌, length, codes, nat_eq}
 use Rattle.std.specs.Cmp.Lexicographic.{pointwise}
 use Rattle.gx_base.specs.declared.place.Place.{Place}
+use Rattle.gx_ast.specs.declared.name.Axis.{Axis}
+use Rattle.gx_ast.specs.declared.name.QName.{QName}
+use Rattle.gx_ast.specs.SyntaxTree.{at as located, call}
 use Rattle.gx_grammar.specs.Grammar.{Grammar, Guard, token, empty, ◌&◌, keyed, choose, many, rule, made}
 use Rattle.gx_grammar.specs.Value.{Value, nothing, characters, node, pair}
 use Rattle.gx_grammar.specs.Language.{Language}
@@ -36,7 +40,9 @@ use Rattle.gx_parse.specs.declared.word.Binder.{Binder}
 use Rattle.gx_parse.specs.Binding.{binder_named, flwor}
 use Rattle.gx_parse.specs.declared.runs.Quote.TheVariants as quote
 use Rattle.gx_parse.specs.Strings.{string_of}
-use Rattle.gx_parse.specs.Nodes.{Node, Made, Join, join_binary, join_path, join_comma, first_value, second_value, operator_value, chain_value, signed_value, number_value, name_at, name_length, name_value, variable_value, arguments_value, named_value, dots_value, parenthesised_value, condition_value, tree, whole_tree}
+use Rattle.gx_parse.specs.Types.{kind_word}
+use Rattle.gx_parse.specs.NodeTests.{axis_word, test_of, step_tree, axis_test, attribute_step, wildcard_step, kind_content}
+use Rattle.gx_parse.specs.Nodes.{Node, Made, Arguments, Content, Test, predicate_value, filtered_value, Join, join_binary, join_path, join_comma, first_value, second_value, operator_value, chain_value, signed_value, number_value, name_at, name_length, name_value, variable_value, arguments_value, named_value, dots_value, parenthesised_value, condition_value, tree, whole_tree}
 
 -- an operand stands beside at most one other
 abbrev pub is_single : Level → Bool
@@ -64,6 +70,13 @@ is_kind_test v = is_name (codes "comment") v || (is_name (codes "document-node")
 -- a name that no function has (XQuery 1.0, appendix A.3)
 abbrev pub is_reserved : Made → Bool
 is_reserved v = is_element_test v || (is_kind_test v || (is_name (codes "empty-sequence") v || (is_name (codes "if") v || (is_name (codes "item") v || is_name (codes "typeswitch") v))))
+
+-- A name with what stands behind its gap: arguments, the parentheses of a kind test, a test behind `::`, or nothing.
+abbrev pub step_value : Made → QName → Made → Made
+step_value v q (pair space (node (Arguments ts))) = tree (located q.place (call q ts))
+step_value v q (pair space (node (Content c))) = tree (step_tree q.place None (test_of (kind_word v) q (Some c)))
+step_value v q (pair space (node (Test t))) = tree (step_tree q.place (axis_word v) t)
+step_value v q _ = tree (step_tree q.place None (test_of None q None))
 
 -- The place of a token is `at` of the number of characters that are left there.
 module _ (at : ℕ → Place) where
@@ -116,28 +129,52 @@ module _ (at : ℕ → Place) where
   unfoldable pub arguments : ℕ → Phrase
   arguments n = made (λ left v. second_value v) (lexeme (word_of word.Open) & arguments_in n)
 
-  -- what stands behind a name that was read
-  unfoldable pub behind_name : ℕ → Made → Phrase
-  behind_name n v = made (λ left u. named_value (name_at (at (left + name_length v)) v) u) (token gap & choose (by_character (is 40)) (arguments n) empty)
+  -- what stands behind a name and its gap, where no `::` does
+  unfoldable pub after_name : ℕ → Made → Phrase
+  after_name n v = if is_reserved v then (kind_content at (kind_word v)) else (choose (by_character (is 40)) (arguments n) empty)
 
-  -- the same, where no arguments may stand
+  -- a test behind the name of an axis, if `::` stands there
+  unfoldable pub after_axis : ℕ → Option Axis → Made → Phrase
+  after_axis n (Some a) v = choose (at_tokens (word_of word.Colons ∷ [])) (axis_test at) (after_name n v)
+  after_axis n None v = after_name n v
+
+  -- a step whose name was read, with what stands behind it
+  unfoldable pub step_of : Made → Phrase → Phrase
+  step_of v behind = made (λ left u. step_value v (name_at (at (left + name_length v)) v) u) behind
+
+  -- a name that is a step for itself
   unfoldable pub behind_plain_name : Token → Made → Phrase
   behind_plain_name t v = made (λ left u. named_value (name_at (at (left + name_length v)) v) u) (token t)
 
   unfoldable pub behind_any_name : ℕ → Made → Phrase
-  behind_any_name n v = if is_reserved v then (behind_plain_name gap v) else (behind_name n v)
+  behind_any_name n v = step_of v (token gap & after_axis n (axis_word v) v)
+
+  unfoldable pub test_or_literal : Phrase
+  test_or_literal = choose (by_character (is 64)) (attribute_step at) (choose (by_character (is 42)) (wildcard_step at) literal)
 
   unfoldable pub other_step : ℕ → Phrase
   other_step n =
       choose (by_character (is 36)) variable_step
-      (choose (by_character (is 40)) (parenthesised_step n) (choose (at_tokens (one_of set.Dots ∷ [])) dots literal))
+      (choose (by_character (is 40)) (parenthesised_step n) (choose (at_tokens (one_of set.Dots ∷ [])) dots test_or_literal))
 
   unfoldable pub step : ℕ → Phrase
   step n = choose (by_character is_name_start) (made (λ left v. second_value v) (keyed qname (λ v. behind_any_name n v))) (other_step n)
 
+  unfoldable pub predicate : ℕ → Phrase
+  predicate n = made (λ left v. predicate_value v) (lexeme (word_of word.OpenBracket) & expression n & lexeme (word_of word.CloseBracket))
+
+  -- at most so many further predicates
+  unfoldable pub more_predicates : ℕ → ℕ → Phrase
+  more_predicates n zero = choose (at_tokens (barred barrier.Predicate ∷ [])) (token (barred barrier.Predicate)) empty
+  more_predicates n (suc k) = choose (at_tokens (word_of word.OpenBracket ∷ [])) (predicate n & more_predicates n k) empty
+
+  -- a step with its predicates
+  unfoldable pub filtered_step : ℕ → Phrase → Phrase
+  filtered_step n first = made (λ left v. filtered_value v) (first & more_predicates n 64)
+
   -- a path with its first step
   unfoldable pub path_from : ℕ → Phrase → Phrase
-  path_from n first = chain join_path set.Slashes first (step n) barrier.Step
+  path_from n first = chain join_path set.Slashes (filtered_step n first) (filtered_step n (step n)) barrier.Step
 
   -- at most so many further signs
   unfoldable pub more_signs : ℕ → Phrase

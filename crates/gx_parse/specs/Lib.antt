@@ -8,6 +8,7 @@ pub mod Basics
 pub mod Types
 pub mod Casts
 pub mod Strings
+pub mod NodeTests
 pub mod Grammar
 pub mod Fronts
 pub mod GapSteps

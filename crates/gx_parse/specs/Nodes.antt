@@ -4,6 +4,7 @@ use Rattle.gx_base.specs.declared.place.Place.{Place}
 use Rattle.gx_ast.specs.declared.name.QName.{QName}
 use Rattle.gx_ast.specs.declared.name.Variable.{Variable}
 use Rattle.gx_ast.specs.declared.name.NameTest.TheVariants.{Named}
+use Rattle.gx_ast.specs.declared.sequence_type.NodeTest.{NodeTest}
 use Rattle.gx_ast.specs.declared.sequence_type.NodeTest.TheVariants.{Name as by_name}
 use Rattle.gx_ast.specs.declared.sequence_type.TestedName.{TestedName}
 use Rattle.gx_ast.specs.declared.sequence_type.SequenceType.{SequenceType}
@@ -12,7 +13,7 @@ use Rattle.gx_ast.specs.declared.sequence_type.KeyOrder.{KeyOrder}
 use Rattle.gx_ast.specs.declared.sequence_type.BoundVariable.{BoundVariable}
 use Rattle.gx_ast.specs.declared.expression.BinaryOperator.{BinaryOperator}
 use Rattle.gx_ast.specs.declared.expression.BinaryOperator.TheVariants as binary_operator
-use Rattle.gx_ast.specs.SyntaxTree.{SyntaxTree, SyntaxForm, SyntaxTrees, Bindings, at, number, variable, parenthesised, empty_sequence, context_item, call, comma, conditional, binary, signed, path, axis_step, parent_step, no_tree, a_tree}
+use Rattle.gx_ast.specs.SyntaxTree.{SyntaxTree, SyntaxForm, SyntaxTrees, Bindings, at, number, variable, parenthesised, empty_sequence, context_item, call, comma, conditional, binary, signed, path, axis_step, parent_step, filtered, no_tree, a_tree}
 use Rattle.gx_grammar.specs.Value.{Value, nothing, characters, node, pair, no_item, an_item}
 use Rattle.gx_parse.specs.declared.word.Word.{Word}
 use Rattle.gx_parse.specs.declared.word.Binder.{Binder}
@@ -40,6 +41,8 @@ pub data Node : Type 0 where
   MaybeBound : Option Variable → Node
   MaybeType : Option SequenceType → Node
   Ordering : KeyOrder → Node
+  -- of steps: a node test
+  Test : NodeTest → Node
   -- of FLWOR expressions: what a variable is bound by, a clause of `for` or `let`, and one of `where`
   Binds : BoundVariable → Node
   BindingClause : Binder → Place → Bindings → Node
@@ -186,6 +189,22 @@ dots_value place _ = tree (at place context_item)
 abbrev pub parenthesised_value : Place → Made → Made
 parenthesised_value place (pair opening (pair (node (Tree inner)) close)) = tree (at place (parenthesised inner))
 parenthesised_value place _ = tree (at place empty_sequence)
+
+-- `[`, an expression and `]`
+abbrev pub predicate_value : Made → Made
+predicate_value (pair opening (pair inner close)) = inner
+predicate_value _ = nothing
+
+-- predicates in the order written
+abbrev pub predicates_in : Made → SyntaxTrees
+predicates_in (pair (node (Tree t)) others) = a_tree t (predicates_in others)
+predicates_in _ = no_tree
+
+-- a step with its predicates, if any stand there
+abbrev pub filtered_value : Made → Made
+filtered_value (pair (node (Tree t)) (pair p others)) = tree (at (place_of t) (filtered t (predicates_in (pair p others))))
+filtered_value (pair (node (Tree t)) _) = tree t
+filtered_value _ = nothing
 
 -- `(`, a test, `)`, `then`, an expression, `else` and an expression
 abbrev pub condition_value : Place → Made → Made

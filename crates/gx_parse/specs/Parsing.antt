@@ -1,7 +1,8 @@
 -- What the functions of the parser read.
 use Rattle.std.specs.Prelude.{◌≡◌, ℕ, zero, suc, List, [], ◌∷◌, ◌++◌, Bool, true, false, if◌then◌else◌, Result, Ok, Err, None}
 use Rattle.gx_base.specs.declared.place.Place.{Place}
-use Rattle.gx_ast.specs.SyntaxTree.{SyntaxTree, SyntaxTrees, at as located, signed, axis_step, call, a_tree, no_tree}
+use Rattle.gx_ast.specs.SyntaxTree.{SyntaxTree, SyntaxTrees, at as located, signed, axis_step, call, filtered, a_tree, no_tree}
+use Rattle.gx_ast.specs.SyntaxView.{trees_of}
 use Rattle.gx_ast.specs.declared.name.QName.{QName}
 use Rattle.gx_ast.specs.declared.name.NameTest.TheVariants.{Named}
 use Rattle.gx_ast.specs.declared.sequence_type.NodeTest.TheVariants.{Name as by_name}
@@ -17,8 +18,8 @@ use Rattle.gx_parse.specs.declared.word.WordSet.TheVariants as set
 use Rattle.gx_parse.specs.declared.parts.Sign.{Sign}
 use Rattle.gx_parse.specs.declared.members.Members.{Members}
 use Rattle.gx_parse.specs.declared.members.Members.TheVariants.{Singles, Operands, Steps}
-use Rattle.gx_parse.specs.Nodes.{Made, Operator, Join, join_binary, join_path, join_comma, joined_to, chain_value, is_minus, trees_in}
-use Rattle.gx_parse.specs.Grammar.{Phrase, word_of, lexeme, at_tokens, single, level_at, is_single, more, stop, step, signed_path, ladder, place_in}
+use Rattle.gx_parse.specs.Nodes.{Made, Operator, Join, join_binary, join_path, join_comma, joined_to, chain_value, is_minus, trees_in, tree, place_of}
+use Rattle.gx_parse.specs.Grammar.{Phrase, word_of, lexeme, at_tokens, single, level_at, is_single, more, stop, step, filtered_step, signed_path, ladder, place_in}
 use Rattle.gx_parse.specs.Reading.{read_in}
 
 -- of the members of a chain: the words between them, how they are joined, what each is, what stands behind the last
@@ -37,7 +38,7 @@ join_of Steps = join_path
 abbrev pub member_of : (at : ℕ → Place) → ℕ → Members → Phrase
 member_of at n Singles = rule (single n)
 member_of at n (Operands k) = ladder at k n (signed_path at n 64)
-member_of at n Steps = step at n
+member_of at n Steps = filtered_step at n (step at n)
 
 -- there are at most two
 abbrev pub is_pair : Members → Bool
@@ -68,6 +69,20 @@ abbrev pub Keeps : {E : Type 0} → SyntaxTree → Result SyntaxTree E → Stand
 Keeps t (Ok made) before after = (t ≡ made) × (after ≡ before)
 Keeps t (Err e) before after = Loses before after
 
+-- trees in front of others
+abbrev pub trees_before : List SyntaxTree → SyntaxTrees → SyntaxTrees
+trees_before [] ts = ts
+trees_before (u ∷ us) ts = a_tree u (trees_before us ts)
+
+-- predicates that were read, in front of what else was, and a step with them
+abbrev pub predicates_before : List SyntaxTree → Made → Made
+predicates_before [] w = w
+predicates_before (u ∷ us) w = pair (tree u) (predicates_before us w)
+
+abbrev pub filtered_tree : SyntaxTree → List SyntaxTree → SyntaxTree
+filtered_tree t [] = t
+filtered_tree t (u ∷ us) = located (place_of t) (filtered t (trees_of (u ∷ us)))
+
 -- signs that were read, and the operand with them
 abbrev pub signs_before : List Sign → Made → Made
 signs_before [] w = w
@@ -93,11 +108,6 @@ named_tree q = located q.place (axis_step (record { axis = None; test = by_name 
 abbrev pub called_tree : QName → SyntaxTrees → SyntaxTree
 called_tree q ts = located q.place (call q ts)
 
--- trees in front of others
-abbrev pub trees_before : List SyntaxTree → SyntaxTrees → SyntaxTrees
-trees_before [] ts = ts
-trees_before (u ∷ us) ts = a_tree u (trees_before us ts)
-
 -- Items were read, as these trees.
 pub record Listed (trees : List SyntaxTree) (before after : Standing) (read : State → Reading Made) : Type 0 where
   pub value : Made
@@ -109,6 +119,10 @@ pub record Passed (trees : List SyntaxTree) (before here : Standing) (whole rest
   pub front : Made → Made
   pub are : (v : Made) → trees_in (front v) ≡ trees_before trees (trees_in v)
   pub ran : (v : Made) (after : Standing) → Ran v here after rest → Ran (front v) before after whole
+
+-- What is read behind a gap is read, with the gap in front of it, as a whole.
+abbrev pub Passes : Standing → Standing → (State → Reading Made) → (State → Reading Made) → Type 0
+Passes here before read whole = (u : Made) (after : Standing) → Ran u here after read → Ran (pair nothing u) before after whole
 
 -- a further argument, and at most so many
 unfoldable pub read_item : List ℕ → ℕ → State → Reading Made

@@ -57,6 +57,8 @@ pub data Token : Type 0 where
   tag_name : List ℕ → Token
   -- the characters of a CDATA section, with the two `]` behind them
   cdata_text : Token
+  -- an NCName
+  ncname : Token
   -- white space and comments with a `$` behind them, or with neither `$` nor `(`
   gap_then_dollar : Token
   gap_then_neither : Token
@@ -281,7 +283,7 @@ cdata_walk = record { goes = λ n c. not ((n == 2) && (c == 62)) && is_char c; n
 
 -- the first characters of expressions, of steps, and of signs
 abbrev pub begins_step : ℕ → Bool
-begins_step c = is_name_start c || (is_digit c || (c == 46 || (c == 36 || (c == 40 || (c == 34 || c == 39)))))
+begins_step c = is_name_start c || (is_digit c || (c == 46 || (c == 36 || (c == 40 || (c == 34 || (c == 39 || (c == 64 || c == 42)))))))
 
 abbrev pub begins_sign : ℕ → Bool
 begins_sign c = c == 43 || c == 45
@@ -290,6 +292,7 @@ abbrev pub begins_at : Barrier → ℕ → Bool
 begins_at barrier.Single = λ c. begins_step c || begins_sign c
 begins_at barrier.Step = begins_step
 begins_at barrier.Sign = begins_sign
+begins_at barrier.Predicate = λ c. c == 91
 
 -- the codes of the faults: a limit of nesting or of a chain, a number that is too large or too precise, and a reference to
 -- no character
@@ -331,6 +334,7 @@ derives blank = IsRun no_characters is_white_space no_character
 derives no_attribute = IsWord nothing [] begins_attribute
 derives (tag_name cs) = IsWord nothing cs is_name_character
 derives cdata_text = IsWalk cdata_value cdata_walk 0
+derives ncname = IsNCName
 derives gap_then_dollar = AreJoined IsGapHere IsDollar no_value
 derives gap_then_neither = AreJoined IsGapHere IsNeither no_value
 derives (barred_words ws) = Never
@@ -352,6 +356,7 @@ opens blank = opens_run is_white_space
 opens no_attribute = OpensNothing
 opens (tag_name cs) = λ x. IsFrontOf x cs
 opens cdata_text = opens_walk cdata_walk 0
+opens ncname = opens_name is_name_start is_name_character
 opens gap_then_dollar = OpensJoined IsGapHere (OpensGap is_char 0) OpensDollar
 opens gap_then_neither = OpensJoined IsGapHere (OpensGap is_char 0) OpensNothing
 opens (barred_words ws) = OpensOneOf (entries (words_of ws))
@@ -373,6 +378,7 @@ scan blank = scan_run no_characters is_white_space no_character
 scan no_attribute = scan_word nothing [] begins_attribute
 scan (tag_name cs) = scan_word nothing cs is_name_character
 scan cdata_text = scan_walk cdata_value cdata_walk 0
+scan ncname = scan_ncname
 scan gap_then_dollar = scan_joined scan_gap_here scan_dollar no_value
 scan gap_then_neither = scan_joined scan_gap_here scan_neither no_value
 scan (barred_words ws) = scan_never
@@ -394,6 +400,7 @@ seen blank = seen_run is_white_space
 seen no_attribute = seen_word []
 seen (tag_name cs) = seen_word cs
 seen cdata_text = seen_walk cdata_walk 0
+seen ncname = seen_name is_name_start is_name_character
 seen gap_then_dollar = seen_joined scan_gap_here (seen_gap is_char 0) (seen_word (36 ∷ []))
 seen gap_then_neither = seen_joined scan_gap_here (seen_gap is_char 0) (seen_word [])
 seen (barred_words ws) = seen_one_of (entries (words_of ws))
@@ -447,6 +454,7 @@ shape_of blank = shapeless
 shape_of no_attribute = shapeless
 shape_of (tag_name cs) = shapeless
 shape_of cdata_text = shapeless
+shape_of ncname = headed is_name_start
 shape_of gap_then_dollar = headed begins_dollar
 shape_of gap_then_neither = shapeless
 shape_of (barred_words ws) = spelled (spellings (entries (words_of ws)))

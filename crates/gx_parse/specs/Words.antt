@@ -2,7 +2,7 @@
 use Rattle.std.specs.Prelude.{ℕ, List, [], ◌∷◌, codes, Bool, ◌==◌, ◌||◌}
 use Rattle.gx_grammar.specs.Words.{Spelling}
 use Rattle.gx_parse.specs.declared.word.Word.{Word}
-use Rattle.gx_parse.specs.declared.word.Word.TheVariants.{Comma, Open, Close, Dollar, Or, And, Equal, NotEqual, Less, LessOrEqual, Greater, GreaterOrEqual, Precedes, Follows, ValueEqual, ValueNotEqual, ValueLess, ValueLessOrEqual, ValueGreater, ValueGreaterOrEqual, Is, To, Plus, Minus, Times, Divide, DivideInteger, Modulo, Union, Bar, Intersect, Except, Slash, Slashes, Dot, Dots, Then, Else, CloseBracket, CloseBrace, Semicolon, Return, Satisfies, Case, Default, Order, Stable, For, Let, Where, Ascending, Descending, Empty, Question, Element, SchemaElement, Instance, Of, Treat, Castable, Cast, As, At, Greatest, Least, Quote, Apostrophe, QuoteEnd, ApostropheEnd, TwoQuotes, TwoApostrophes, LessEntity, GreaterEntity, AmpersandEntity, QuoteEntity, ApostropheEntity, TagOpen, TagEnd, EmptyTagEnd, EndTagOpen, CdataOpen, BraceOpen, TwoOpenBraces, TwoCloseBraces, Equals, In, Assign, By}
+use Rattle.gx_parse.specs.declared.word.Word.TheVariants.{Comma, Open, Close, Dollar, Or, And, Equal, NotEqual, Less, LessOrEqual, Greater, GreaterOrEqual, Precedes, Follows, ValueEqual, ValueNotEqual, ValueLess, ValueLessOrEqual, ValueGreater, ValueGreaterOrEqual, Is, To, Plus, Minus, Times, Divide, DivideInteger, Modulo, Union, Bar, Intersect, Except, Slash, Slashes, Dot, Dots, Then, Else, CloseBracket, CloseBrace, Semicolon, Return, Satisfies, Case, Default, Order, Stable, For, Let, Where, Ascending, Descending, Empty, Question, Element, SchemaElement, Instance, Of, Treat, Castable, Cast, As, At, Greatest, Least, Quote, Apostrophe, QuoteEnd, ApostropheEnd, TwoQuotes, TwoApostrophes, LessEntity, GreaterEntity, AmpersandEntity, QuoteEntity, ApostropheEntity, TagOpen, TagEnd, EmptyTagEnd, EndTagOpen, CdataOpen, BraceOpen, TwoOpenBraces, TwoCloseBraces, Equals, OpenBracket, AtSign, Colons, AnyPrefix, AnyName, In, Assign, By}
 use Rattle.gx_parse.specs.declared.word.Level.{Level}
 use Rattle.gx_parse.specs.declared.word.Level.TheVariants as level
 use Rattle.gx_parse.specs.declared.word.WordSet.{WordSet}
@@ -99,6 +99,11 @@ letters_of BraceOpen = codes "{"
 letters_of TwoOpenBraces = codes "{{"
 letters_of TwoCloseBraces = codes "}}"
 letters_of Equals = codes "="
+letters_of OpenBracket = codes "["
+letters_of AtSign = codes "@"
+letters_of Colons = codes "::"
+letters_of AnyPrefix = codes "*:"
+letters_of AnyName = codes "*"
 letters_of In = codes "in"
 letters_of Assign = codes ":="
 letters_of By = codes "by"
@@ -148,6 +153,11 @@ ending_of BraceOpen = end.Brace
 ending_of TwoOpenBraces = end.Free
 ending_of TwoCloseBraces = end.Free
 ending_of Equals = end.Free
+ending_of OpenBracket = end.Free
+ending_of AtSign = end.Free
+ending_of Colons = end.Free
+ending_of AnyPrefix = end.Free
+ending_of AnyName = end.Colon
 ending_of Assign = end.Free
 ending_of _ = end.Name
 
@@ -163,6 +173,7 @@ ends_at end.Quote = λ c. c == 34
 ends_at end.Apostrophe = λ c. c == 39
 ends_at end.Tag = λ c. c == 47 || c == 33
 ends_at end.Brace = λ c. c == 123
+ends_at end.Colon = λ c. c == 58
 
 abbrev pub spelling_of : Word → Spelling
 spelling_of w = record { word = letters_of w; test = ends_at (ending_of w) }

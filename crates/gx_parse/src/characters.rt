@@ -93,6 +93,7 @@ pub fn ends_at(ending: Ending, c: char) -> bool
         Ending::Apostrophe => c == '\'',
         Ending::Tag => c == '/' || c == '!',
         Ending::Brace => c == '{',
+        Ending::Colon => c == ':',
     }
 }
 
@@ -105,7 +106,15 @@ fn begins_sign(c: char) -> bool
 fn begins_step(c: char) -> bool
     ensures { result ≡ begins_step c }
 {
-    is_name_start(c) || is_digit(c) || c == '.' || c == '$' || c == '(' || c == '"' || c == '\''
+    is_name_start(c)
+        || is_digit(c)
+        || c == '.'
+        || c == '$'
+        || c == '('
+        || c == '"'
+        || c == '\''
+        || c == '@'
+        || c == '*'
 }
 
 /// Whether what may not begin at a limit would begin with the character.
@@ -116,5 +125,6 @@ pub fn begins_at(barrier: Barrier, c: char) -> bool
         Barrier::Single => begins_step(c) || begins_sign(c),
         Barrier::Step => begins_step(c),
         Barrier::Sign => begins_sign(c),
+        Barrier::Predicate => c == '[',
     }
 }

@@ -11,6 +11,7 @@ pub mod kind_words;
 pub mod laws;
 pub mod members;
 mod names;
+pub mod node_tests;
 mod numbers;
 pub mod parser;
 pub mod parts;

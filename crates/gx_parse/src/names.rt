@@ -2,14 +2,15 @@
 
 ghost use Rattle.std.specs.Prelude.{◌≡◌, ◌≤◌, ◌+◌, [], ◌∷◌, length, IfOk, IfSome, IsNone, MatchOption, Some, None, true, false};
 ghost use Rattle.gx_grammar.specs.First.{head_passes};
-ghost use Rattle.gx_grammar.specs.Tokens.{behind_run, run_of};
+ghost use Rattle.gx_grammar.specs.Tokens.{behind_run, run_of, seen_name};
+ghost use Rattle.gx_grammar.specs.Value.{characters};
 ghost use Rattle.gx_parse.specs.Binding.{binder_named};
 ghost use Rattle.gx_parse.specs.Characters.{is_name_character, is_name_start};
 ghost use Rattle.gx_parse.specs.Grammar.{is_element_test, is_kind_test, is_name, is_reserved};
 ghost use Rattle.gx_parse.specs.Names.{colon_seen, name_made};
 ghost use Rattle.gx_parse.specs.Nodes.{name_at, name_length};
 ghost use Rattle.std.specs.Str.{chars};
-ghost use Rattle.gx_parse.specs.Tokens.{scan_qname, seen_qname, starts_local_part};
+ghost use Rattle.gx_parse.specs.Tokens.{scan_ncname, scan_qname, seen_qname, starts_local_part};
 
 use crate::characters::{is_name_character, is_name_start};
 use crate::word::Binder;
@@ -83,6 +84,33 @@ fn colon_seen(text: &[char]) -> usize
         [':', tail @ ..] => tail.len(),
         _ => text.len(),
     }
+}
+
+/// The NCName that stands at the front of a text, if one does.
+#[derive(Drop)]
+pub struct PartFound<'a> {
+    /// The name, and what is behind it.
+    pub name: Option<(Text, &'a [char])>,
+    /// What is left behind the longest front that opens a name.
+    pub seen: usize,
+}
+
+/// The NCName at the front (Namespaces in XML 1.0, section 3).
+pub fn find_ncname(alloc: Global, text: &[char]) -> Result<PartFound<'_>, AllocError>
+    ensures name { IfOk result (λ f. MatchOption f.name (scan_ncname text.now ≡ None) (λ r. scan_ncname text.now ≡ Some (characters r.0, r.1.now))) }
+    ensures seen { IfOk result (λ f. f.seen ≡ seen_name is_name_start is_name_character text.now) }
+{
+    if !begins_name(text) {
+        return Ok(PartFound {
+            name: None,
+            seen: text.len(),
+        });
+    }
+    let (name, behind) = name_run(alloc, text)?;
+    Ok(PartFound {
+        name: Some((name, behind)),
+        seen: behind.len(),
+    })
 }
 
 /// The QName at the front (Namespaces in XML 1.0, section 4).

@@ -2,27 +2,28 @@
 
 ghost use Rattle.std.specs.Prelude.{◌≡◌, ◌+◌, ◌≤◌, suc, length, IfOk, IfErr};
 ghost use Rattle.gx_ast.specs.SyntaxView.{trees_of};
-ghost use Rattle.gx_grammar.specs.Grammar.{◌&◌, rule};
 ghost use Rattle.gx_grammar.specs.Value.{node, nothing};
+ghost use Rattle.gx_grammar.specs.Grammar.{◌&◌, rule};
 ghost use Rattle.gx_grammar.specs.Ran.{Ran, Standing, left_of};
+ghost use Rattle.gx_parse.specs.Grammar.{Phrase, after_name, arguments, arguments_in, begun, behind_any_name, behind_keyword, condition, expression, filtered_step, ladder, more_arguments, more_predicates, named_single, other_operand, other_step, parenthesised_step, path_from, place_in, predicate, query, signed_path, single, step, step_of};
 ghost use Rattle.gx_parse.specs.Binding.{clause, flwor, last_clause, more_bindings, more_clauses};
-ghost use Rattle.gx_parse.specs.Grammar.{Phrase, arguments, arguments_in, begun, behind_any_name, behind_keyword, condition, expression, ladder, more_arguments, named_single, other_operand, other_step, parenthesised_step, place_in, query, signed_path, single, step};
 ghost use Rattle.gx_parse.specs.Lists.{OneMore, binding_made, clause_made, head_made, items_before};
 ghost use Rattle.gx_parse.specs.Names.{name_made};
 ghost use Rattle.gx_parse.specs.Nodes.{Arguments, Made, name_length, tree};
-ghost use Rattle.gx_parse.specs.Parsing.{Added, Listed, chain_of, member_of};
+ghost use Rattle.gx_parse.specs.Parsing.{Added, Listed, Passes, chain_of, member_of, predicates_before};
 ghost use Rattle.gx_parse.specs.Query.{IsQuery, Parses, RefusesBytes, RefusesText, left_at, parsed, refusal_at, rule_of};
 ghost use Rattle.gx_parse.specs.Reading.{call, read_in};
 ghost use Rattle.gx_parse.specs.Types.{Gave};
 
 use crate::binding::{clause_of, first_head, last_binding, next_head, with_binding, with_clause};
 use crate::casts::casts;
+use crate::kind_words::kind_word;
 use crate::members::Members;
 use crate::names::ReadName;
+use crate::node_tests::{axis_test, axis_word, kind_content, test_or_literal};
 use crate::parts::{dots, joined, keep, last, lexeme, more_signs, operator, variable, with_signs};
 use crate::reader::{End, Reader, Refused};
 use crate::source::Source;
-use crate::strings::literal;
 use crate::trees;
 use crate::word::{Barrier, Binder, Word, WordSet};
 use gx_ast::expression::{Binding, Clause, Expr, ExprNode};
@@ -74,6 +75,9 @@ impl From<AllocError> for SyntaxRefusal {
 
 // So many singles may stand one inside another.
 const LEVELS: u8 = 40;
+
+// So many predicates may stand behind a step.
+const PREDICATES: u8 = 64;
 
 /// The syntax tree of the bytes of a query (XQuery 1.0, section 3), where lines and columns count from 1. White space and
 /// nested comments may stand between tokens (XQuery 1.0, appendix A.2.4.1).
@@ -201,8 +205,69 @@ fn member(reader: &mut Reader<'_>, source: &Source<'_>, levels: u8, members: Mem
             let first = signed_path(reader, source, levels);
             ladder(reader, source, levels, tighter, first)
         }
-        Members::Steps => step(reader, source, levels),
+        Members::Steps => {
+            let first = step(reader, source, levels);
+            filtered(reader, source, levels, first)
+        }
     }
+}
+
+// Reads the predicates of a step behind it.
+#[cycle(parsing)]
+fn filtered(reader: &mut Reader<'_>, source: &Source<'_>, levels: u8, first: Expr) -> Expr
+    ensures { (before : Phrase) (a : Standing) → Ran (tree first) a reader.old (read_in source.now levels before) → Ran (tree result) a reader.new (read_in source.now levels (filtered_step (place_in source.now) levels before)) }
+{
+    let list = more_predicates(reader, source, levels, Vec::new(source.alloc()), PREDICATES);
+    let made = trees::filtered(source.alloc(), first, list);
+    keep(reader, made)
+}
+
+// Reads so many predicates, behind those that were read.
+#[cycle(parsing)]
+fn more_predicates(
+    reader: &mut Reader<'_>,
+    source: &Source<'_>,
+    levels: u8,
+    list: Vec<Expr>,
+    count: u8,
+) -> Vec<Expr>
+    ensures { Added list.items result.items (λ others. Ran (predicates_before others nothing) reader.old reader.new (read_in source.now levels (more_predicates (place_in source.now) levels count))) }
+{
+    let mut list = list;
+    for _ in 0..count {
+        if !reader.looks_at(WordSet::Only(Word::OpenBracket)) {
+            return list;
+        }
+        let next = predicate(reader, source, levels);
+        if list.push(next).is_err() {
+            reader.lose();
+            return list;
+        }
+    }
+    if reader.looks_barred(Barrier::Predicate) {
+        reader.barrier(Barrier::Predicate);
+    }
+    list
+}
+
+// Reads a predicate.
+#[cycle(parsing)]
+fn predicate(reader: &mut Reader<'_>, source: &Source<'_>, levels: u8) -> Expr
+    ensures { Ran (tree result) reader.old reader.new (read_in source.now levels (predicate (place_in source.now) levels)) }
+{
+    lexeme(reader, WordSet::Only(Word::OpenBracket));
+    let inner = expression(reader, source, levels);
+    lexeme(reader, WordSet::Only(Word::CloseBracket));
+    inner
+}
+
+// Reads a path behind its first step, whose predicates were not read.
+#[cycle(parsing)]
+fn path(reader: &mut Reader<'_>, source: &Source<'_>, levels: u8, first: Expr) -> Expr
+    ensures { (before : Phrase) (a : Standing) → Ran (tree first) a reader.old (read_in source.now levels before) → Ran (tree result) a reader.new (read_in source.now levels (path_from (place_in source.now) levels before)) }
+{
+    let step = filtered(reader, source, levels, first);
+    further(reader, source, levels, Members::Steps, step)
 }
 
 // Reads the operators of so many levels behind an operand.
@@ -230,7 +295,7 @@ fn signed_path(reader: &mut Reader<'_>, source: &Source<'_>, levels: u8) -> Expr
 {
     let signs = more_signs(reader, source, Vec::new(source.alloc()), 64);
     let first = step(reader, source, levels);
-    let path = further(reader, source, levels, Members::Steps, first);
+    let path = path(reader, source, levels, first);
     with_signs(reader, source, signs, path)
 }
 
@@ -243,13 +308,13 @@ fn other_operand(reader: &mut Reader<'_>, source: &Source<'_>, levels: u8) -> Ex
         let (place, word) = operator(reader, source, WordSet::Signs);
         let signs = more_signs(reader, source, Vec::new(source.alloc()), 63);
         let first = step(reader, source, levels);
-        let path = further(reader, source, levels, Members::Steps, first);
+        let path = path(reader, source, levels, first);
         let operand = with_signs(reader, source, signs, path);
         let made = trees::signed(source.alloc(), place, word, operand);
         keep(reader, made)
     } else {
         let first = other_step(reader, source, levels);
-        further(reader, source, levels, Members::Steps, first)
+        path(reader, source, levels, first)
     }
 }
 
@@ -282,7 +347,7 @@ fn other_step(reader: &mut Reader<'_>, source: &Source<'_>, levels: u8) -> Expr
     if reader.looks_at(WordSet::Dots) {
         return dots(reader, source);
     }
-    literal(reader, source)
+    test_or_literal(reader, source)
 }
 
 // Reads what stands behind the name of a step, which stood at the place.
@@ -297,10 +362,37 @@ fn named_step(
     requires { place ≡ place_in source.now (left_of reader.now + name_length (name_made name)) }
     ensures { Ran (tree result) reader.old reader.new (read_in source.now levels (behind_any_name (place_in source.now) levels (name_made name))) }
 {
-    let reserved = name.is_reserved();
+    let axis = axis_word(&name);
     reader.gap();
-    if reserved {
-        let made = trees::named(source.alloc(), place, name);
+    let Some(axis) = axis else {
+        return after_name(reader, source, levels, place, name);
+    };
+    if !reader.looks_at(WordSet::Only(Word::Colons)) {
+        return after_name(reader, source, levels, place, name);
+    }
+    let Some(test) = axis_test(reader, source) else {
+        return trees::missing();
+    };
+    trees::step(place, Some(axis), test)
+}
+
+// Reads what stands behind the name of a step and its gap, where no `::` does. The name stood at the place.
+#[cycle(parsing)]
+fn after_name(
+    reader: &mut Reader<'_>,
+    source: &Source<'_>,
+    levels: u8,
+    place: Place,
+    name: ReadName,
+) -> Expr
+    ensures { (whole : Phrase) (a : Standing) → place ≡ place_in source.now (left_of a + name_length (name_made name)) → Passes reader.old a (read_in source.now levels (after_name (place_in source.now) levels (name_made name))) (read_in source.now levels whole) → Ran (tree result) a reader.new (read_in source.now levels (step_of (place_in source.now) (name_made name) whole)) }
+{
+    if name.is_reserved() {
+        let kind = kind_word(&name);
+        let Some(content) = kind_content(reader, source, kind) else {
+            return trees::missing();
+        };
+        let made = trees::tested(source.alloc(), place, kind, name, content);
         return keep(reader, made);
     }
     if !reader.starts_with('(') {
@@ -426,7 +518,7 @@ fn named_single(
         return flwor(reader, source, levels, place, binder);
     }
     let first = keyword_step(reader, source, levels, place, name);
-    let path = further(reader, source, levels, Members::Steps, first);
+    let path = path(reader, source, levels, first);
     ladder(reader, source, levels, 8, path)
 }
 
@@ -605,7 +697,7 @@ fn begun(
 {
     if !name.is("if") {
         let first = named_step(reader, source, levels, place, name);
-        let path = further(reader, source, levels, Members::Steps, first);
+        let path = path(reader, source, levels, first);
         return ladder(reader, source, levels, 8, path);
     }
     if reader.looks_at_parenthesis() {
@@ -614,7 +706,7 @@ fn begun(
     reader.no_parenthesis();
     let made = trees::named(source.alloc(), place, name);
     let first = keep(reader, made);
-    let path = further(reader, source, levels, Members::Steps, first);
+    let path = path(reader, source, levels, first);
     ladder(reader, source, levels, 8, path)
 }
 

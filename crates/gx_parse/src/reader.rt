@@ -12,19 +12,21 @@ ghost use Rattle.gx_parse.specs.Nodes.{Found, name_length};
 ghost use Rattle.gx_parse.specs.Indications.{found_made};
 ghost use Rattle.gx_parse.specs.Names.{name_made};
 ghost use Rattle.gx_parse.specs.Reading.{Ended, NameRead, read_number, read_one};
-ghost use Rattle.gx_parse.specs.Tokens.{barred, barred_words, gap, gap_not_open, gap_then_dollar, gap_then_neither, gap_then_open, indication, number_end, one_of, reference, text_run};
+ghost use Rattle.gx_parse.specs.Tokens.{barred, barred_words, gap, gap_not_open, gap_then_dollar, gap_then_neither, gap_then_open, indication, ncname, number_end, one_of, reference, text_run};
 ghost use Rattle.gx_parse.specs.Parsing.{Added};
 ghost use Rattle.gx_parse.specs.Strings.{parts_of};
+ghost use Rattle.gx_parse.specs.Types.{Gave};
 
 use crate::characters::{begins_at, is_name_start};
 use crate::gap;
 use crate::indication::find_indication;
-use crate::names::{ReadName, find_name};
+use crate::names::{ReadName, find_name, find_ncname};
 use crate::numbers::{LiteralFound, find_number};
 use crate::references::{find_part, find_reference};
 use crate::runs::{Quote, Run, find_text, push_text};
 use crate::scan::find;
 use crate::word::{Barrier, Word, WordSet};
+use gx_base::text::Text;
 use gx_base::text_builder::TextBuilder;
 use gx_num::Number;
 use std::alloc::Global;
@@ -278,6 +280,31 @@ impl Reader<'_> {
             return None;
         }
         let Ok(found) = find_name(alloc, self.rest) else {
+            self.end = Some(End::Lost);
+            return None;
+        };
+        self.far = self.far.min(found.seen);
+        match found.name {
+            Some((name, behind)) => {
+                self.rest = behind;
+                Some(name)
+            }
+            None => {
+                self.end = Some(End::GaveUp(Refused::Unfit(self.far)));
+                None
+            }
+        }
+    }
+
+    /// Reads an NCName.
+    #[tactic(auto, unfolding(crate::specs::Reading::read_one))]
+    pub fn ncname(&mut self, alloc: Global) -> Option<Text>
+        ensures { Gave characters result self.old self.new (read_one ncname) }
+    {
+        if self.end.is_some() {
+            return None;
+        }
+        let Ok(found) = find_ncname(alloc, self.rest) else {
             self.end = Some(End::Lost);
             return None;
         };

@@ -1,17 +1,20 @@
 // Trees of their parts.
 
-ghost use Rattle.std.specs.Prelude.{◌≡◌, IfOk, false};
+ghost use Rattle.std.specs.Prelude.{◌≡◌, IfOk, None, false};
 ghost use Rattle.gx_ast.specs.SyntaxTree.{at, binary as binary_form, comma, conditional, flwor as flwor_form, no_key, parenthesised as parenthesised_form, path as path_form, signed as signed_form, string as string_form, variable};
 ghost use Rattle.gx_parse.specs.Nodes.{Found, binary_of, dots_value, is_minus, is_slashes, join_binary, join_comma, join_path, name_at, tree};
-ghost use Rattle.gx_parse.specs.Parsing.{called_tree, named_tree};
+ghost use Rattle.gx_parse.specs.NodeTests.{step_tree, test_of};
+ghost use Rattle.gx_parse.specs.Parsing.{called_tree, filtered_tree, named_tree};
 ghost use Rattle.gx_parse.specs.Names.{name_made};
 ghost use Rattle.gx_grammar.specs.Value.{node, nothing, pair};
 ghost use Rattle.gx_ast.specs.SyntaxView.{clauses_of, trees_of};
 
+use crate::kind_words::{KindWord, TestContent};
 use crate::names::ReadName;
+use crate::node_tests::test_of;
 use crate::word::Word;
 use gx_ast::expression::{BinaryOperator, Clause, Expr, ExprNode};
-use gx_ast::name::NameTest;
+use gx_ast::name::{Axis, NameTest};
 use gx_ast::sequence_type::{AxisStep, NodeTest};
 use gx_base::place::Place;
 use gx_base::text_builder::TextBuilder;
@@ -168,6 +171,41 @@ pub fn named(alloc: Global, place: Place, name: ReadName) -> Result<Expr, AllocE
     let place = name.place;
     let test = NodeTest::Name(NameTest::Named(name));
     let node = ExprNode::Step(AxisStep { axis: None, test });
+    Ok(Expr { place, node })
+}
+
+/// A step of a test at its first token, with its axis as it is written.
+pub fn step(place: Place, axis: Option<Axis>, test: NodeTest) -> Expr
+    ensures { result ≡ step_tree place axis test }
+{
+    let node = ExprNode::Step(AxisStep { axis, test });
+    Expr { place, node }
+}
+
+/// A step that is a name, or a kind test where its parentheses stand behind the name.
+pub fn tested(
+    alloc: Global,
+    place: Place,
+    kind: Option<KindWord>,
+    name: ReadName,
+    content: Option<TestContent>,
+) -> Result<Expr, AllocError>
+    ensures { IfOk result (λ e. e ≡ step_tree (name_at place (name_made name)).place None (test_of kind (name_at place (name_made name)) content)) }
+{
+    let name = name.at(alloc, place)?;
+    let place = name.place;
+    Ok(step(place, None, test_of(kind, name, content)))
+}
+
+/// A step with its predicates, if there are any.
+pub fn filtered(alloc: Global, step: Expr, predicates: Vec<Expr>) -> Result<Expr, AllocError>
+    ensures { IfOk result (λ e. e ≡ filtered_tree step predicates.items) }
+{
+    if predicates.is_empty() {
+        return Ok(step);
+    }
+    let place = step.place;
+    let node = ExprNode::Filtered(Box::new(alloc, step)?, predicates);
     Ok(Expr { place, node })
 }
 

@@ -93,6 +93,11 @@ pub enum Word {
     TwoOpenBraces,
     TwoCloseBraces,
     Equals,
+    OpenBracket,
+    AtSign,
+    Colons,
+    AnyPrefix,
+    AnyName,
     In,
     Assign,
     By,
@@ -191,6 +196,11 @@ impl Word {
             Word::TwoOpenBraces => &['{', '{'],
             Word::TwoCloseBraces => &['}', '}'],
             Word::Equals => &['='],
+            Word::OpenBracket => &['['],
+            Word::AtSign => &['@'],
+            Word::Colons => &[':', ':'],
+            Word::AnyPrefix => &['*', ':'],
+            Word::AnyName => &['*'],
             Word::In => &['i', 'n'],
             Word::Assign => &[':', '='],
             Word::By => &['b', 'y'],
@@ -242,7 +252,12 @@ impl Word {
             | Word::TwoOpenBraces
             | Word::TwoCloseBraces
             | Word::Equals
-            | Word::Assign => Ending::Free,
+            | Word::Assign
+            | Word::OpenBracket
+            | Word::AtSign
+            | Word::Colons
+            | Word::AnyPrefix => Ending::Free,
+            Word::AnyName => Ending::Colon,
             Word::TagOpen => Ending::Tag,
             Word::BraceOpen => Ending::Brace,
             Word::QuoteEnd => Ending::Quote,
@@ -275,6 +290,8 @@ pub enum Ending {
     Tag,
     /// `{`.
     Brace,
+    /// `:`.
+    Colon,
 }
 
 /// The levels of operators with two operands, from the loosest to the tightest (XQuery 1.0, appendix A.4).
@@ -299,6 +316,8 @@ pub enum Barrier {
     Step,
     /// A sign.
     Sign,
+    /// A predicate.
+    Predicate,
 }
 
 /// Words of which one may stand at a place.

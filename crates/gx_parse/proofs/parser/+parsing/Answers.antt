@@ -1,29 +1,33 @@
 use Rattle.std.specs.Str.{chars}
 use Rattle.gx_ast.specs.SyntaxView.{clauses_of, trees_of}
+use Rattle.std.proofs.Common.{Bool, codes, if◌then◌else◌, ◌≡◌, ◌+◌, ◌-◌, ℕ, suc, zero, refl, sym, ap, subst, ◌∙◌, arith, [], ◌∷◌, ◌++◌, Option, Some, None, inl, inr, false, append-nil}
 use Rattle.gx_ast.specs.declared.expression.Clause.TheVariants.{Where}
-use Rattle.std.proofs.Common.{Bool, codes, if◌then◌else◌, ◌≡◌, ◌+◌, ◌-◌, ℕ, suc, zero, refl, sym, ap, subst, ◌∙◌, arith, [], ◌∷◌, ◌++◌, inl, inr, false, append-nil}
 use Rattle.gx_grammar.specs.Value.{node, nothing, pair}
-use Rattle.gx_grammar.specs.Grammar.{rule, ◌&◌}
+use Rattle.gx_grammar.specs.Grammar.{rule, token, ◌&◌}
 use Rattle.gx_grammar.specs.Ran.{Ran, Makes}
+use Rattle.gx_parse.specs.Nodes.{Arguments, Made, name_at, name_length, tree}
 use Rattle.gx_parse.specs.Bound.{bound}
 use Rattle.gx_parse.specs.Binding.{clause, first_bound, flwor, head, last_clause, more_bindings, more_clauses}
 use Rattle.gx_parse.specs.Lists.{Grown, binding_made, clause_made, head_made, items_before}
-use Rattle.gx_parse.specs.Nodes.{Arguments, Made, name_at, name_length, tree}
 use Rattle.gx_parse.specs.Names.{name_made}
-use Rattle.gx_parse.specs.Grammar.{is_name, behind_keyword, named_single, more_arguments, other_step, at_tokens, begun, behind_any_name, behind_plain_name, condition, ladder, other_operand, parenthesised_step, place_in, single, step}
-use Rattle.gx_parse.specs.Tokens.{gap_then_open, gap_not_open, gap_then_dollar}
+use Rattle.gx_parse.specs.Grammar.{after_axis, filtered_step, more_predicates, path_from, step_of, step_value, is_name, behind_keyword, named_single, more_arguments, other_step, at_tokens, begun, behind_any_name, behind_plain_name, condition, ladder, other_operand, parenthesised_step, place_in, single, step}
+use Rattle.gx_parse.specs.Tokens.{gap, gap_then_open, gap_not_open, gap_then_dollar}
 use Rattle.gx_parse.specs.declared.members.Members.TheVariants.{Steps}
 use Rattle.gx_ast.specs.SyntaxTree.{at, conditional, flwor as flwor_form, no_key, parenthesised}
 use Rattle.gx_grammar.proofs.Ran.{ran_idle}
 use Rattle.gx_parse.specs.Reading.{call, read_in}
-use Rattle.gx_parse.specs.Parsing.{Added, Listed, named_tree, called_tree, most_of, read_chain, chain_of, member_of, wrapped}
+use Rattle.gx_parse.specs.Parsing.{Added, Listed, filtered_tree, named_tree, called_tree, most_of, read_chain, chain_of, member_of, wrapped}
 use Rattle.gx_parse.proofs.Chains.{ran_any, ran_keeps, chain_full}
 use Rattle.gx_parse.proofs.Phrases.{in_rule}
 use Rattle.gx_parse.proofs.NameScans.{literal_name}
+use Rattle.gx_parse.specs.NodeTests.{axis_word, maybe_content, step_tree, test_made, test_of}
+use Rattle.gx_parse.proofs.Phrases.{loses_done, loses_ran}
+use Rattle.std.proofs.lemmas.List.{append_assoc}
+use Rattle.gx_parse.proofs.Steps.{any_name_is, axis_step_read, call_after, filtered_read, kept_value, name_after, name_placed, no_axis, no_colons, one_before, predicate_read, predicates_end, predicates_full, predicates_more, predicates_none, reserved_after, step_read}
+use Rattle.gx_parse.proofs.Calls.{arguments_read, arguments_none, arguments_some, arguments_lost, items_begin, items_end, items_more, items_full, items_lost}
+use Rattle.gx_parse.proofs.Expressions.{named_other, named_flwor, named_keyword, keyword_plain, keyword_called, operand_signed, operand_other, ladder_next, ladder_none, looked_left, begun_other, begun_condition, begun_plain, plain_read, condition_read, nothing_inside, inner_read, signed_read, expression_read, no_single, single_other, single_named, step_other, step_named, path_read, chain_read, no_more, one_more, step_variable, step_parenthesised, step_dots, step_literal}
 use Rattle.gx_parse.proofs.Lists.{one_grown, gone_start, gone_step, gone_end, gone_last, one_added}
 use Rattle.gx_parse.proofs.BindingPhrases.{binding_read, binding_stops, bindings_read, bindings_none, bindings_more, clause_read, where_part, where_read, no_where, a_where, clauses_none, clauses_more, clauses_full, clauses_end, flwor_read}
-use Rattle.gx_parse.proofs.Calls.{arguments_read, arguments_none, arguments_some, arguments_lost, items_begin, items_end, items_more, items_full, items_lost}
-use Rattle.gx_parse.proofs.Expressions.{named_other, named_flwor, named_keyword, keyword_plain, keyword_called, operand_signed, operand_other, ladder_next, ladder_none, looked_left, begun_other, begun_condition, begun_plain, plain_read, condition_read, nothing_inside, inner_read, signed_read, expression_read, no_single, single_other, single_named, step_other, step_named, reserved_read, unreserved_read, name_read, call_read, chain_read, no_more, one_more, step_variable, step_parenthesised, step_dots, step_literal}
 use Rattle.gx_parse.proofs.parser.+parsing.Goals as goal
 
 pub expression-returns : goal.expression-returns
@@ -88,8 +92,8 @@ other_step-returns-then-looks_at t c =
 
 pub other_step-returns : goal.other_step-returns
 other_step-returns t c =
-    step_literal c.args.source.now c.args.levels (tree c.literal.result) c.starts_with.result c.starts_with-2.result c.looks_at.result c.args.reader.now c.starts_with.new.self c.starts_with-2.new.self c.looks_at.new.self c.literal.new.reader
-    c.if-starts_with.false c.starts_with.ensures c.if-starts_with-2.false c.starts_with-2.ensures c.if-looks_at.false c.looks_at.ensures (c.literal.ensures c.args.levels)
+    step_literal c.args.source.now c.args.levels (tree c.test_or_literal.result) c.starts_with.result c.starts_with-2.result c.looks_at.result c.args.reader.now c.starts_with.new.self c.starts_with-2.new.self c.looks_at.new.self c.test_or_literal.new.reader
+    c.if-starts_with.false c.starts_with.ensures c.if-starts_with-2.false c.starts_with-2.ensures c.if-looks_at.false c.looks_at.ensures (c.test_or_literal.ensures c.args.levels)
 
 pub single-returns-then-levels-eq0 : goal.single-returns-then-levels-eq0
 single-returns-then-levels-eq0 t c =
@@ -126,7 +130,7 @@ pub named_single-returns : goal.named_single-returns
 named_single-returns t c =
     let first = behind_keyword (place_in c.args.source.now) c.args.levels (name_made c.args.name) in
     named_keyword c.args.source.now c.args.levels c.in-Some.binder (name_made c.args.name) (tree c.ladder.result) c.looks_at_dollar.result c.args.reader.now c.looks_at_dollar.new.self c.ladder.new.reader (sym c.binder.ensures ∙ c.in-Some.is) c.if-looks_at_dollar.false c.looks_at_dollar.ensures
-    (c.ladder.ensures (chain_of (place_in c.args.source.now) c.args.levels Steps first) c.looks_at_dollar.new.self (c.further-path.ensures first c.looks_at_dollar.new.self c.keyword_step-first.ensures))
+    (c.ladder.ensures (path_from (place_in c.args.source.now) c.args.levels first) c.looks_at_dollar.new.self (c.path-path.ensures first c.looks_at_dollar.new.self c.keyword_step-first.ensures))
 
 pub keyword_step-returns-then-not-looks_at_parenthesis : goal.keyword_step-returns-then-not-looks_at_parenthesis
 keyword_step-returns-then-not-looks_at_parenthesis t c =
@@ -267,8 +271,8 @@ is_if b v e = sym (literal_name b (codes "if") v refl e)
 pub begun-returns-then-not-is : goal.begun-returns-then-not-is
 begun-returns-then-not-is t c =
     begun_other c.args.source.now c.args.levels (name_made c.args.name) (tree c.ladder.result) c.args.reader.now c.ladder.new.reader (is_if c.is.result (name_made c.args.name) c.is.ensures ∙ c.if-not-is.true)
-    (c.ladder.ensures (chain_of (place_in c.args.source.now) c.args.levels Steps (behind_any_name (place_in c.args.source.now) c.args.levels (name_made c.args.name))) c.args.reader.now
-    (c.further-path.ensures (behind_any_name (place_in c.args.source.now) c.args.levels (name_made c.args.name)) c.args.reader.now c.named_step-first.ensures))
+    (c.ladder.ensures (path_from (place_in c.args.source.now) c.args.levels (behind_any_name (place_in c.args.source.now) c.args.levels (name_made c.args.name))) c.args.reader.now
+    (c.path-path.ensures (behind_any_name (place_in c.args.source.now) c.args.levels (name_made c.args.name)) c.args.reader.now c.named_step-first.ensures))
 
 pub begun-returns-then-looks_at_parenthesis : goal.begun-returns-then-looks_at_parenthesis
 begun-returns-then-looks_at_parenthesis t c =
@@ -281,8 +285,8 @@ begun-returns t c =
     let same = looked_left c.args.source.now c.args.levels c.looks_at_parenthesis.result c.args.reader.now c.looks_at_parenthesis.new.self (at_tokens (gap_then_open ∷ [])) c.looks_at_parenthesis.ensures in
     let plain = behind_plain_name (place_in c.args.source.now) gap_not_open (name_made c.args.name) in
     begun_plain c.args.source.now c.args.levels (name_made c.args.name) (tree c.ladder-2.result) c.looks_at_parenthesis.result c.args.reader.now c.looks_at_parenthesis.new.self c.ladder-2.new.reader (is_if c.is.result (name_made c.args.name) c.is.ensures ∙ c.if-not-is.false) c.if-looks_at_parenthesis.false c.looks_at_parenthesis.ensures
-    (c.ladder-2.ensures (chain_of (place_in c.args.source.now) c.args.levels Steps plain) c.looks_at_parenthesis.new.self
-    (c.further-path-2.ensures plain c.looks_at_parenthesis.new.self
+    (c.ladder-2.ensures (path_from (place_in c.args.source.now) c.args.levels plain) c.looks_at_parenthesis.new.self
+    (c.path-path-2.ensures plain c.looks_at_parenthesis.new.self
     (ran_keeps c.keep-first.result (named_tree (name_at c.args.place (name_made c.args.name))) c.named-made.result c.looks_at_parenthesis.new.self c.no_parenthesis.new.self c.keep-first.new.reader (read_in c.args.source.now c.args.levels plain)
     (plain_read c.args.source.now c.args.levels gap_not_open (name_made c.args.name) c.args.place c.looks_at_parenthesis.new.self c.no_parenthesis.new.self (c.requires ∙ ap (λ left. place_in c.args.source.now (left + name_length (name_made c.args.name))) (sym same)) c.no_parenthesis.ensures)
     c.named-made.ensures c.keep-first.ensures)))
@@ -306,42 +310,153 @@ parenthesised-returns t c =
 
 pub signed_path-returns : goal.signed_path-returns
 signed_path-returns t c =
-    signed_read c.args.source.now c.args.levels c.more_signs-signs.ensures.others c.further-path.result c.with_signs.result c.args.reader.now c.more_signs-signs.new.reader c.further-path.new.reader c.with_signs.new.reader (c.more_signs-signs.ensures.holds c.args.levels)
-    (c.further-path.ensures (step (place_in c.args.source.now) c.args.levels) c.more_signs-signs.new.reader c.step-first.ensures)
-    (subst (λ xs. Makes c.with_signs.result (wrapped xs c.further-path.result) c.further-path.new.reader c.with_signs.new.reader) (c.more_signs-signs.ensures.is ∙ ap (λ xs. xs ++ c.more_signs-signs.ensures.others) c.new.ensures.items) c.with_signs.ensures)
+    signed_read c.args.source.now c.args.levels c.more_signs-signs.ensures.others c.path-path.result c.with_signs.result c.args.reader.now c.more_signs-signs.new.reader c.path-path.new.reader c.with_signs.new.reader (c.more_signs-signs.ensures.holds c.args.levels)
+    (c.path-path.ensures (step (place_in c.args.source.now) c.args.levels) c.more_signs-signs.new.reader c.step-first.ensures)
+    (subst (λ xs. Makes c.with_signs.result (wrapped xs c.path-path.result) c.path-path.new.reader c.with_signs.new.reader) (c.more_signs-signs.ensures.is ∙ ap (λ xs. xs ++ c.more_signs-signs.ensures.others) c.new.ensures.items) c.with_signs.ensures)
 
 pub other_operand-returns-then-looks_at : goal.other_operand-returns-then-looks_at
 other_operand-returns-then-looks_at t c =
-    operand_signed c.args.source.now c.args.levels c.more_signs-signs.ensures.others c.operator-word.result.0 c.operator-word.result.1 c.further-path.result c.with_signs-operand.result c.keep.result c.signed-made.result c.looks_at.result
-    c.args.reader.now c.looks_at.new.self c.operator-word.new.reader c.more_signs-signs.new.reader c.further-path.new.reader c.with_signs-operand.new.reader c.keep.new.reader c.if-looks_at.true c.looks_at.ensures (c.operator-word.ensures c.args.levels) (c.more_signs-signs.ensures.holds c.args.levels)
-    (c.further-path.ensures (step (place_in c.args.source.now) c.args.levels) c.more_signs-signs.new.reader c.step-first.ensures)
-    (subst (λ xs. Makes c.with_signs-operand.result (wrapped xs c.further-path.result) c.further-path.new.reader c.with_signs-operand.new.reader) (c.more_signs-signs.ensures.is ∙ ap (λ xs. xs ++ c.more_signs-signs.ensures.others) c.new.ensures.items) c.with_signs-operand.ensures)
+    operand_signed c.args.source.now c.args.levels c.more_signs-signs.ensures.others c.operator-word.result.0 c.operator-word.result.1 c.path-path.result c.with_signs-operand.result c.keep.result c.signed-made.result c.looks_at.result
+    c.args.reader.now c.looks_at.new.self c.operator-word.new.reader c.more_signs-signs.new.reader c.path-path.new.reader c.with_signs-operand.new.reader c.keep.new.reader c.if-looks_at.true c.looks_at.ensures (c.operator-word.ensures c.args.levels) (c.more_signs-signs.ensures.holds c.args.levels)
+    (c.path-path.ensures (step (place_in c.args.source.now) c.args.levels) c.more_signs-signs.new.reader c.step-first.ensures)
+    (subst (λ xs. Makes c.with_signs-operand.result (wrapped xs c.path-path.result) c.path-path.new.reader c.with_signs-operand.new.reader) (c.more_signs-signs.ensures.is ∙ ap (λ xs. xs ++ c.more_signs-signs.ensures.others) c.new.ensures.items) c.with_signs-operand.ensures)
     c.signed-made.ensures c.keep.ensures
 
 pub other_operand-returns-else-looks_at : goal.other_operand-returns-else-looks_at
 other_operand-returns-else-looks_at t c =
-    operand_other c.args.source.now c.args.levels c.further.result c.looks_at.result c.args.reader.now c.looks_at.new.self c.further.new.reader c.if-looks_at.false c.looks_at.ensures
-    (c.further.ensures (other_step (place_in c.args.source.now) c.args.levels) c.looks_at.new.self c.other_step-first.ensures)
+    operand_other c.args.source.now c.args.levels c.path.result c.looks_at.result c.args.reader.now c.looks_at.new.self c.path.new.reader c.if-looks_at.false c.looks_at.ensures
+    (c.path.ensures (other_step (place_in c.args.source.now) c.args.levels) c.looks_at.new.self c.other_step-first.ensures)
 
-pub named_step-returns-then-reserved : goal.named_step-returns-then-reserved
-named_step-returns-then-reserved t c =
-    ran_keeps c.keep.result (named_tree (name_at c.args.place (name_made c.args.name))) c.named-made.result c.args.reader.now c.gap.new.self c.keep.new.reader (read_in c.args.source.now c.args.levels (behind_any_name (place_in c.args.source.now) c.args.levels (name_made c.args.name)))
-    (reserved_read c.args.source.now c.args.levels (name_made c.args.name) c.args.place c.args.reader.now c.gap.new.self (sym c.is_reserved-reserved.ensures ∙ c.if-reserved.true) c.requires c.gap.ensures)
-    c.named-made.ensures c.keep.ensures
+pub named_step-returns-in_default : goal.named_step-returns-in_default
+named_step-returns-in_default t c =
+    any_name_is c.args.source.now c.args.levels (name_made c.args.name) (tree c.after_name.result) c.args.reader.now c.after_name.new.reader
+    (c.after_name.ensures (token gap & after_axis (place_in c.args.source.now) c.args.levels (axis_word (name_made c.args.name)) (name_made c.args.name)) c.args.reader.now c.requires
+    (no_axis c.args.source.now c.args.levels (name_made c.args.name) c.args.reader.now c.gap.new.self (sym c.axis_word-axis.ensures ∙ c.in_default.is) c.gap.ensures))
 
-pub named_step-returns-then-not-starts_with : goal.named_step-returns-then-not-starts_with
-named_step-returns-then-not-starts_with t c =
-    ran_keeps c.keep-then-not-starts_with.result (named_tree (name_at c.args.place (name_made c.args.name))) c.named-made-then-not-starts_with.result c.args.reader.now c.starts_with.new.self c.keep-then-not-starts_with.new.reader (read_in c.args.source.now c.args.levels (behind_any_name (place_in c.args.source.now) c.args.levels (name_made c.args.name)))
-    (unreserved_read c.args.source.now c.args.levels (name_made c.args.name) (tree (named_tree (name_at c.args.place (name_made c.args.name)))) c.args.reader.now c.starts_with.new.self (sym c.is_reserved-reserved.ensures ∙ c.if-reserved.false)
-    (name_read c.args.source.now c.args.levels (name_made c.args.name) c.args.place c.starts_with.result c.args.reader.now c.gap.new.self c.starts_with.new.self c.requires c.gap.ensures c.if-not-starts_with.true c.starts_with.ensures))
-    c.named-made-then-not-starts_with.ensures c.keep-then-not-starts_with.ensures
+pub named_step-returns-then-not-looks_at : goal.named_step-returns-then-not-looks_at
+named_step-returns-then-not-looks_at t c =
+    any_name_is c.args.source.now c.args.levels (name_made c.args.name) (tree c.after_name-then-not-looks_at.result) c.args.reader.now c.after_name-then-not-looks_at.new.reader
+    (c.after_name-then-not-looks_at.ensures (token gap & after_axis (place_in c.args.source.now) c.args.levels (axis_word (name_made c.args.name)) (name_made c.args.name)) c.args.reader.now c.requires
+    (no_colons c.args.source.now c.args.levels (name_made c.args.name) c.in-Some.axis c.looks_at.result c.args.reader.now c.gap.new.self c.looks_at.new.self (sym c.axis_word-axis.ensures ∙ c.in-Some.is) c.gap.ensures c.if-not-looks_at.true c.looks_at.ensures))
+
+pub named_step-returns-in_default-axis_test : goal.named_step-returns-in_default-axis_test
+named_step-returns-in_default-axis_test t c =
+    let done = rw c.in_default-axis_test.is at (c.axis_test.ensures c.args.levels) in
+    ran_any (step_value (name_made c.args.name) (name_at c.args.place (name_made c.args.name)) (pair nothing nothing)) (tree c.missing.result) c.args.reader.now c.axis_test.new.reader (read_in c.args.source.now c.args.levels (behind_any_name (place_in c.args.source.now) c.args.levels (name_made c.args.name))) done.0
+    (axis_step_read c.args.source.now c.args.levels (name_made c.args.name) nothing c.in-Some.axis c.args.place c.looks_at.result c.args.reader.now c.gap.new.self c.looks_at.new.self c.axis_test.new.reader c.requires (sym c.axis_word-axis.ensures ∙ c.in-Some.is) c.gap.ensures c.if-not-looks_at.false c.looks_at.ensures (done.1 nothing))
 
 pub named_step-returns : goal.named_step-returns
 named_step-returns t c =
-    ran_keeps c.keep-2.result (called_tree (name_at c.args.place (name_made c.args.name)) (trees_of c.arguments-arguments.result.items)) c.called-made.result c.args.reader.now c.arguments-arguments.new.reader c.keep-2.new.reader (read_in c.args.source.now c.args.levels (behind_any_name (place_in c.args.source.now) c.args.levels (name_made c.args.name)))
-    (unreserved_read c.args.source.now c.args.levels (name_made c.args.name) (tree (called_tree (name_at c.args.place (name_made c.args.name)) (trees_of c.arguments-arguments.result.items))) c.args.reader.now c.arguments-arguments.new.reader (sym c.is_reserved-reserved.ensures ∙ c.if-reserved.false)
-    (call_read c.args.source.now c.args.levels (name_made c.args.name) (trees_of c.arguments-arguments.result.items) c.args.place c.starts_with.result c.args.reader.now c.gap.new.self c.starts_with.new.self c.arguments-arguments.new.reader c.requires c.gap.ensures c.if-not-starts_with.false c.starts_with.ensures c.arguments-arguments.ensures))
+    let axis = sym c.axis_word-axis.ensures ∙ c.in-Some.is in
+    subst (λ v. Ran v c.args.reader.now c.axis_test.new.reader (read_in c.args.source.now c.args.levels (behind_any_name (place_in c.args.source.now) c.args.levels (name_made c.args.name))))
+    (ap (λ p. tree (step_tree p (axis_word (name_made c.args.name)) c.in-Some-axis_test.test)) (name_placed c.args.place c.args.name) ∙ ap (λ a. tree (step_tree c.args.place a c.in-Some-axis_test.test)) axis ∙ sym (ap tree c.step.ensures))
+    (axis_step_read c.args.source.now c.args.levels (name_made c.args.name) (test_made c.in-Some-axis_test.test) c.in-Some.axis c.args.place c.looks_at.result c.args.reader.now c.gap.new.self c.looks_at.new.self c.axis_test.new.reader c.requires axis c.gap.ensures c.if-not-looks_at.false c.looks_at.ensures (c.in-Some-axis_test.ensures c.args.levels))
+
+pub after_name-returns-in_default : goal.after_name-returns-in_default
+after_name-returns-in_default t c = λ whole a e pass.
+    let done = rw c.in_default.is at (c.kind_content.ensures c.args.levels) in
+    ran_any (step_value (name_made c.args.name) (name_at c.args.place (name_made c.args.name)) (pair nothing nothing)) (tree c.missing.result) a c.kind_content.new.reader (read_in c.args.source.now c.args.levels (step_of (place_in c.args.source.now) (name_made c.args.name) whole)) done.0
+    (step_read c.args.source.now c.args.levels (name_made c.args.name) nothing whole c.args.place c.args.reader.now a c.kind_content.new.reader e pass
+    (reserved_after c.args.source.now c.args.levels (name_made c.args.name) nothing c.kind_word-kind.result c.args.reader.now c.kind_content.new.reader (sym c.is_reserved.ensures ∙ c.if-is_reserved.true) c.kind_word-kind.ensures (done.1 nothing)))
+
+pub after_name-returns-then-is_reserved : goal.after_name-returns-then-is_reserved
+after_name-returns-then-is_reserved t c = λ whole a e pass.
+    let q = name_at c.args.place (name_made c.args.name) in
+    ran_keeps c.keep.result (step_tree q.place None (test_of c.kind_word-kind.result q c.in-Some.content)) c.tested-made.result a c.kind_content.new.reader c.keep.new.reader (read_in c.args.source.now c.args.levels (step_of (place_in c.args.source.now) (name_made c.args.name) whole))
+    (subst (λ v. Ran v a c.kind_content.new.reader (read_in c.args.source.now c.args.levels (step_of (place_in c.args.source.now) (name_made c.args.name) whole))) (kept_value (name_made c.args.name) q c.kind_word-kind.result c.in-Some.content c.kind_word-kind.ensures)
+    (step_read c.args.source.now c.args.levels (name_made c.args.name) (maybe_content c.in-Some.content) whole c.args.place c.args.reader.now a c.kind_content.new.reader e pass
+    (reserved_after c.args.source.now c.args.levels (name_made c.args.name) (maybe_content c.in-Some.content) c.kind_word-kind.result c.args.reader.now c.kind_content.new.reader (sym c.is_reserved.ensures ∙ c.if-is_reserved.true) c.kind_word-kind.ensures (c.in-Some.ensures c.args.levels))))
+    c.tested-made.ensures c.keep.ensures
+
+pub after_name-returns-then-not-starts_with : goal.after_name-returns-then-not-starts_with
+after_name-returns-then-not-starts_with t c = λ whole a e pass.
+    ran_keeps c.keep-then-not-starts_with.result (named_tree (name_at c.args.place (name_made c.args.name))) c.named-made.result a c.starts_with.new.self c.keep-then-not-starts_with.new.reader (read_in c.args.source.now c.args.levels (step_of (place_in c.args.source.now) (name_made c.args.name) whole))
+    (step_read c.args.source.now c.args.levels (name_made c.args.name) nothing whole c.args.place c.args.reader.now a c.starts_with.new.self e pass
+    (name_after c.args.source.now c.args.levels (name_made c.args.name) c.starts_with.result c.args.reader.now c.starts_with.new.self (sym c.is_reserved.ensures ∙ c.if-is_reserved.false) c.if-not-starts_with.true c.starts_with.ensures))
+    c.named-made.ensures c.keep-then-not-starts_with.ensures
+
+pub after_name-returns : goal.after_name-returns
+after_name-returns t c = λ whole a e pass.
+    ran_keeps c.keep-2.result (called_tree (name_at c.args.place (name_made c.args.name)) (trees_of c.arguments-arguments.result.items)) c.called-made.result a c.arguments-arguments.new.reader c.keep-2.new.reader (read_in c.args.source.now c.args.levels (step_of (place_in c.args.source.now) (name_made c.args.name) whole))
+    (step_read c.args.source.now c.args.levels (name_made c.args.name) (node (Arguments (trees_of c.arguments-arguments.result.items))) whole c.args.place c.args.reader.now a c.arguments-arguments.new.reader e pass
+    (call_after c.args.source.now c.args.levels (name_made c.args.name) (node (Arguments (trees_of c.arguments-arguments.result.items))) c.starts_with.result c.args.reader.now c.starts_with.new.self c.arguments-arguments.new.reader (sym c.is_reserved.ensures ∙ c.if-is_reserved.false) c.if-not-starts_with.false c.starts_with.ensures c.arguments-arguments.ensures))
     c.called-made.ensures c.keep-2.ensures
+
+pub member-returns-in-Steps : goal.member-returns-in-Steps
+member-returns-in-Steps t c = subst (λ m. Ran (tree c.filtered.result) c.args.reader.now c.filtered.new.reader (read_in c.args.source.now c.args.levels (member_of (place_in c.args.source.now) c.args.levels m))) (sym c.in-Steps.is) (c.filtered.ensures (step (place_in c.args.source.now) c.args.levels) c.args.reader.now c.step-first.ensures)
+
+pub path-returns : goal.path-returns
+path-returns t c = λ before a h.
+    path_read c.args.source.now c.args.levels before c.args.first c.further.result a c.further.new.reader (c.further.ensures (filtered_step (place_in c.args.source.now) c.args.levels before) a (c.filtered-step.ensures before a h))
+
+pub predicate-returns : goal.predicate-returns
+predicate-returns t c =
+    predicate_read c.args.source.now c.args.levels _ (tree c.expression-inner.result) _ c.args.reader.now c.lexeme.new.reader c.expression-inner.new.reader c.lexeme-2.new.reader (c.lexeme.ensures c.args.source.now c.args.levels) c.expression-inner.ensures (c.lexeme-2.ensures c.args.source.now c.args.levels)
+
+pub filtered-returns : goal.filtered-returns
+filtered-returns t c = λ before a h.
+    let read = c.more_predicates-list.ensures in
+    ran_keeps c.keep.result (filtered_tree c.args.first c.more_predicates-list.result.items) c.filtered-made.result a c.more_predicates-list.new.reader c.keep.new.reader (read_in c.args.source.now c.args.levels (filtered_step (place_in c.args.source.now) c.args.levels before))
+    (subst (λ us. Ran (tree (filtered_tree c.args.first us)) a c.more_predicates-list.new.reader (read_in c.args.source.now c.args.levels (filtered_step (place_in c.args.source.now) c.args.levels before)))
+    (sym (read.is ∙ ap (λ us. us ++ read.others) c.new.ensures.items))
+    (filtered_read c.args.source.now c.args.levels before c.args.first read.others a c.args.reader.now c.more_predicates-list.new.reader h read.holds))
+    c.filtered-made.ensures c.keep.ensures
+
+pub more_predicates-returns-then-not-looks_at : goal.more_predicates-returns-then-not-looks_at
+more_predicates-returns-then-not-looks_at t c = record {
+  others = c.loop.invariant.others;
+  is = c.loop.invariant.is;
+  holds = c.loop.invariant.holds nothing c.looks_at.new.self
+      (predicates_none c.args.source.now c.args.levels (c.args.count - c.loop.counter) c.looks_at.result c.loop.reader c.looks_at.new.self (omega (arith, c.loop-test.true)) c.if-not-looks_at.true c.looks_at.ensures);
+}
+
+pub more_predicates-returns-then-is_err : goal.more_predicates-returns-then-is_err
+more_predicates-returns-then-is_err t c =
+    let done = loses_done c.predicate-next.new.reader c.lose.new.self c.lose.ensures in
+    let left = c.args.count - c.loop.counter in
+    let next = left - 1 in
+    record {
+      others = c.loop.invariant.others;
+      is = c.push.ensures.items ∙ ap (λ b. if b then (c.loop.list.items ++ c.predicate-next.result ∷ []) else c.loop.list.items) c.if-is_err.ensures.negation ∙ c.loop.invariant.is;
+      holds = c.loop.invariant.holds nothing c.lose.new.self
+          (ran_any (pair (tree c.predicate-next.result) nothing) nothing c.loop.reader c.lose.new.self (read_in c.args.source.now c.args.levels (more_predicates (place_in c.args.source.now) c.args.levels left)) done
+          (predicates_more c.args.source.now c.args.levels left next (tree c.predicate-next.result) nothing c.looks_at.result c.loop.reader c.looks_at.new.self c.predicate-next.new.reader c.lose.new.self
+          (omega (arith, c.loop-test.true)) c.if-not-looks_at.false c.looks_at.ensures c.predicate-next.ensures (loses_ran nothing c.predicate-next.new.reader c.lose.new.self (read_in c.args.source.now c.args.levels (more_predicates (place_in c.args.source.now) c.args.levels next)) c.lose.ensures)));
+    }
+
+pub more_predicates-loop-preserved : goal.more_predicates-loop-preserved
+more_predicates-loop-preserved t c =
+    record {
+      others = c.loop.invariant.others ++ c.predicate-next.result ∷ [];
+      is =
+          c.push.ensures.items ∙ ap (λ b. if b then (c.loop.list.items ++ c.predicate-next.result ∷ []) else c.loop.list.items) c.if-is_err.ensures.negation
+          ∙ ap (λ xs. xs ++ c.predicate-next.result ∷ []) c.loop.invariant.is ∙ append_assoc c.args.list.items c.loop.invariant.others (c.predicate-next.result ∷ []);
+      holds = λ w z h.
+          let left = c.args.count - c.loop.counter in
+          let next = c.args.count - (c.loop.counter + 1) in
+          subst (λ v. Ran v c.args.reader.now z (read_in c.args.source.now c.args.levels (more_predicates (place_in c.args.source.now) c.args.levels c.args.count))) (sym (one_before c.loop.invariant.others c.predicate-next.result w))
+          (c.loop.invariant.holds (pair (tree c.predicate-next.result) w) z
+          (predicates_more c.args.source.now c.args.levels left next (tree c.predicate-next.result) w c.looks_at.result c.loop.reader c.looks_at.new.self c.predicate-next.new.reader z
+          (omega (arith, c.loop-test.true)) c.if-not-looks_at.false c.looks_at.ensures c.predicate-next.ensures h));
+    }
+
+pub more_predicates-returns-then-looks_barred : goal.more_predicates-returns-then-looks_barred
+more_predicates-returns-then-looks_barred t c = record {
+  others = c.loop.invariant.others;
+  is = c.loop.invariant.is;
+  holds = c.loop.invariant.holds nothing c.barrier.new.self
+      (subst (λ k. Ran nothing c.loop.reader c.barrier.new.self (read_in c.args.source.now c.args.levels (more_predicates (place_in c.args.source.now) c.args.levels k))) (omega (arith, c.loop-test.false))
+      (predicates_full c.args.source.now c.args.levels c.looks_barred.result c.loop.reader c.looks_barred.new.self c.barrier.new.self c.if-looks_barred.true c.looks_barred.ensures c.barrier.ensures.read));
+}
+
+pub more_predicates-returns-else-looks_barred : goal.more_predicates-returns-else-looks_barred
+more_predicates-returns-else-looks_barred t c = record {
+  others = c.loop.invariant.others;
+  is = c.loop.invariant.is;
+  holds = c.loop.invariant.holds nothing c.looks_barred.new.self
+      (subst (λ k. Ran nothing c.loop.reader c.looks_barred.new.self (read_in c.args.source.now c.args.levels (more_predicates (place_in c.args.source.now) c.args.levels k))) (omega (arith, c.loop-test.false))
+      (predicates_end c.args.source.now c.args.levels c.looks_barred.result c.loop.reader c.looks_barred.new.self c.if-looks_barred.false c.looks_barred.ensures));
+}
 
 pub arguments-returns : goal.arguments-returns
 arguments-returns t c = arguments_read c.args.source.now c.args.levels _ (node (Arguments (trees_of c.arguments_in.result.items))) c.args.reader.now c.lexeme.new.reader c.arguments_in.new.reader (c.lexeme.ensures c.args.source.now c.args.levels) c.arguments_in.ensures

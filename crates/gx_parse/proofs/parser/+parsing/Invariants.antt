@@ -3,18 +3,18 @@ use Rattle.gx_ast.specs.SyntaxTree.{SyntaxTree}
 use Rattle.gx_grammar.specs.Ran.{Standing, Ran, left_of}
 use Rattle.gx_parse.specs.declared.members.Members.{Members}
 use Rattle.gx_parse.specs.declared.members.Members.TheVariants.{Singles, Operands, Steps}
-use Rattle.gx_parse.specs.Nodes.{tree}
-use Rattle.gx_parse.specs.Grammar.{Phrase, ladder, place_in}
+use Rattle.gx_parse.specs.Nodes.{Made, tree}
+use Rattle.gx_parse.specs.Grammar.{Phrase, ladder, more_predicates, place_in}
 use Rattle.gx_parse.specs.Reading.{read_in}
+use Rattle.gx_parse.specs.Parsing.{Added, Passed, predicates_before, most_of, read_chain, read_items}
 use Rattle.gx_parse.specs.Binding.{more_bindings, more_clauses}
 use Rattle.gx_parse.specs.Lists.{Gone, binding_made, clause_made}
-use Rattle.gx_parse.specs.Parsing.{Added, Passed, most_of, read_chain, read_items}
 use Rattle.gx_parse.proofs.parser.+parsing.Given as goal
 
 abbrev rank : Members → ℕ
 rank Singles = 2
-rank (Operands k) = 13 + 3 * k
-rank Steps = 8
+rank (Operands k) = 15 + 3 * k
+rank Steps = 9
 
 abbrev pub decreases-single : goal.decreases-single
 decreases-single l = 1024 * l.levels + 0
@@ -47,25 +47,45 @@ abbrev pub decreases-other_step : goal.decreases-other_step
 decreases-other_step l = 1024 * l.levels + 6
 
 abbrev pub decreases-named_step : goal.decreases-named_step
-decreases-named_step l = 1024 * l.levels + 6
+decreases-named_step l = 1024 * l.levels + 7
 
 abbrev pub decreases-step : goal.decreases-step
-decreases-step l = 1024 * l.levels + 7
+decreases-step l = 1024 * l.levels + 8
+
+abbrev pub decreases-after_name : goal.decreases-after_name
+decreases-after_name l = 1024 * l.levels + 6
+
+abbrev pub decreases-predicate : goal.decreases-predicate
+decreases-predicate l = 1024 * l.levels + 5
+
+abbrev pub decreases-more_predicates : goal.decreases-more_predicates
+decreases-more_predicates l = 1024 * l.levels + 6
+
+abbrev pub decreases-filtered : goal.decreases-filtered
+decreases-filtered l = 1024 * l.levels + 7
+
+abbrev pub decreases-path : goal.decreases-path
+decreases-path l = 1024 * l.levels + 11
 
 abbrev pub decreases-signed_path : goal.decreases-signed_path
-decreases-signed_path l = 1024 * l.levels + 10
+decreases-signed_path l = 1024 * l.levels + 12
 
 abbrev pub decreases-other_operand : goal.decreases-other_operand
-decreases-other_operand l = 1024 * l.levels + 11
+decreases-other_operand l = 1024 * l.levels + 13
 
 abbrev pub decreases-ladder : goal.decreases-ladder
-decreases-ladder l = 1024 * l.levels + (12 + 3 * l.tighter)
+decreases-ladder l = 1024 * l.levels + (14 + 3 * l.tighter)
 
 abbrev pub decreases-begun : goal.decreases-begun
 decreases-begun l = 1024 * l.levels + 1000
 
 abbrev pub invariant-further-loop : goal.invariant-further-loop
 invariant-further-loop l = (v : SyntaxTree) (z : Standing) → Ran v l.reader z (read_chain l.source l.levels l.members (most_of l.members - l.counter) l.tree) → Ran v l.fn.reader z (read_chain l.source l.levels l.members (most_of l.members) l.fn.first)
+
+abbrev pub invariant-more_predicates-loop : goal.invariant-more_predicates-loop
+invariant-more_predicates-loop l =
+    Added l.fn.list.items l.list.items (λ others. (w : Made) (z : Standing) → Ran w l.reader z (read_in l.source l.levels (more_predicates (place_in l.source) l.levels (l.fn.count - l.counter)))
+    → Ran (predicates_before others w) l.fn.reader z (read_in l.source l.levels (more_predicates (place_in l.source) l.levels l.fn.count)))
 
 abbrev pub invariant-ladder-loop-level : goal.invariant-ladder-loop-level
 invariant-ladder-loop-level l = (before : Phrase) (a : Standing) → Ran (tree l.fn.first) a l.fn.reader (read_in l.source l.levels before) → Ran (tree l.tree) a l.reader (read_in l.source l.levels (ladder (place_in l.source) l.level l.levels before))

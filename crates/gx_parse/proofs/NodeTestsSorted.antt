@@ -1,0 +1,92 @@
+-- The guards of node tests decide.
+use Rattle.std.proofs.Common.{◌≡◌, ℕ, Bool, true, false, List, [], ◌∷◌, Option, Some, None, inl, inr, refl}
+use Rattle.std.specs.List.{list_all}
+use Rattle.gx_base.specs.declared.place.Place.{Place}
+use Rattle.gx_grammar.specs.Grammar.{empty, choose}
+use Rattle.gx_grammar.specs.Opening.{open_token, open_first, open_made}
+use Rattle.gx_grammar.specs.Levels.{takes_some}
+use Rattle.gx_grammar.specs.First.{AllOf, first_of, HasHead, AreFronts, IsSorted, by_character}
+use Rattle.gx_grammar.specs.Apart.{is, shape_begins, words_begin}
+use Rattle.gx_grammar.proofs.ByCharacter.{character_chooses}
+use Rattle.gx_grammar.proofs.ByTokens.{tokens_choose}
+use Rattle.gx_grammar.proofs.Apart.{computed_apart, computed_heads, computed_words}
+use Rattle.gx_parse.specs.declared.word.Word.TheVariants as word
+use Rattle.gx_parse.specs.declared.kind_words.KindWord.{KindWord}
+use Rattle.gx_parse.specs.declared.kind_words.KindWord.TheVariants as kind
+use Rattle.gx_parse.specs.Characters.{is_name_start}
+use Rattle.gx_parse.specs.Nodes.{Made}
+use Rattle.gx_parse.specs.Tokens.{Token, qname, shape_of}
+use Rattle.gx_parse.specs.Grammar.{Phrase, word_of, query_language}
+use Rattle.gx_parse.specs.Types.{kind_word, nothing_inside, document, tested, declared, content, named_content, declared_content}
+use Rattle.gx_parse.specs.NodeTests.{wildcard, kind_content, behind_test, node_test, axis_test, attribute_step, wildcard_step}
+use Rattle.gx_parse.specs.Fronts.{fronts}
+use Rattle.gx_parse.proofs.Shapes.{lawful, shaped}
+use Rattle.gx_parse.proofs.TypesSorted.{content_sorted}
+
+-- no `(` begins these
+abbrev pub not_open : List Token → Bool
+not_open us = list_all (λ t. shape_begins 40 false (shape_of t)) us
+
+module _ (at : ℕ → Place) (right : AreFronts (query_language at) (fronts at)) where
+  abbrev Sorts : Phrase → List Token → Type 0
+  Sorts A us = IsSorted (query_language at) (fronts at) A us
+
+  -- a part that begins with `(`, or nothing
+  parentheses_sorted : (A : Phrase) (us : List Token) → takes_some (query_language at) (fronts at).takings A ≡ true → AllOf (HasHead (query_language at) (is 40) true) (first_of (query_language at) (fronts at) A) → not_open us ≡ true → Sorts A us
+      → Sorts (choose (by_character (is 40)) A empty) us
+  parentheses_sorted A us t h e s = (character_chooses (query_language at) (is 40) (fronts at) right A empty us (record { takes = t; passes = h; fails = computed_heads (query_language at) shape_of (shaped at) 40 false us e }), s, tt)
+
+  opening : AllOf (HasHead (query_language at) (is 40) true) (word_of word.Open ∷ [])
+  opening = computed_heads (query_language at) shape_of (shaped at) 40 true (word_of word.Open ∷ []) refl
+
+  pub kind_content_sorted : (k : Option KindWord) (us : List Token) → not_open us ≡ true → Sorts (kind_content at k) us
+  unfolding kind_content content named_content declared_content nothing_inside document tested declared
+  kind_content_sorted (Some kind.Node) us e = parentheses_sorted (content at kind.Node) us refl opening e (content_sorted at right kind.Node us)
+  kind_content_sorted (Some kind.Text) us e = parentheses_sorted (content at kind.Text) us refl opening e (content_sorted at right kind.Text us)
+  kind_content_sorted (Some kind.Document) us e = parentheses_sorted (content at kind.Document) us refl opening e (content_sorted at right kind.Document us)
+  kind_content_sorted (Some kind.Element) us e = parentheses_sorted (content at kind.Element) us refl opening e (content_sorted at right kind.Element us)
+  kind_content_sorted (Some kind.Attribute) us e = parentheses_sorted (content at kind.Attribute) us refl opening e (content_sorted at right kind.Attribute us)
+  kind_content_sorted (Some kind.SchemaElement) us e = parentheses_sorted (content at kind.SchemaElement) us refl opening e (content_sorted at right kind.SchemaElement us)
+  kind_content_sorted None us e = tt
+
+  wildcard_sorted : (us : List Token) → Sorts (wildcard at) us
+  unfolding wildcard
+  wildcard_sorted us = (
+    tokens_choose (query_language at) (lawful at) (fronts at) right (word_of word.AnyPrefix ∷ []) _ _ us
+        (record {
+          takes = refl;
+          first = (inl refl, tt);
+          full = (refl, tt);
+          opening = ((λ x o. open_made (open_first (open_token o))), tt);
+          apart = computed_apart (query_language at) shape_of (shaped at) (word_of word.AnyPrefix ∷ []) (word_of word.AnyName ∷ []) refl;
+        }),
+    (tt, (tt, tt)),
+    (tt, tt),
+  )
+
+  node_test_sorted : (us : List Token) → not_open us ≡ true → Sorts (node_test at) us
+  unfolding node_test wildcard behind_test is_name_start
+  node_test_sorted us e = (
+    character_chooses (query_language at) is_name_start (fronts at) right _ _ us
+        (record {
+          takes = refl;
+          passes = (record { stands = (shaped at qname).0; opened = (shaped at qname).1 }, tt);
+          fails = computed_words (query_language at) shape_of (shaped at) is_name_start false (word_of word.AnyPrefix ∷ word_of word.AnyName ∷ []) refl;
+        }),
+    (λ v. (tt, kind_content_sorted (kind_word v) us e)),
+    wildcard_sorted us,
+  )
+
+  -- Steps of tests are sorted before tokens that do not begin with `(`.
+
+  pub axis_test_sorted : (us : List Token) → not_open us ≡ true → Sorts (axis_test at) us
+  unfolding axis_test
+  axis_test_sorted us e = ((tt, tt), node_test_sorted us e)
+
+  pub attribute_step_sorted : (us : List Token) → not_open us ≡ true → Sorts (attribute_step at) us
+  unfolding attribute_step
+  attribute_step_sorted us e = ((tt, tt), node_test_sorted us e)
+
+  pub wildcard_step_sorted : (us : List Token) → Sorts (wildcard_step at) us
+  unfolding wildcard_step
+  wildcard_step_sorted us = wildcard_sorted us

@@ -1,0 +1,153 @@
+-- How steps are read behind their names, and their predicates.
+use Rattle.std.proofs.Common.{◌≡◌, ◌≤◌, ℕ, zero, suc, ◌+◌, Bool, true, false, if◌then◌else◌, List, [], ◌∷◌, ◌++◌, refl, sym, ap, subst, ◌∙◌, Option, Some, None, arith}
+use Rattle.gx_base.specs.declared.place.Place.{Place}
+use Rattle.gx_ast.specs.declared.name.QName.{QName}
+use Rattle.gx_ast.specs.declared.name.Axis.{Axis}
+use Rattle.gx_ast.specs.SyntaxTree.{SyntaxTree, at as located, filtered, a_tree}
+use Rattle.gx_ast.specs.SyntaxView.{trees_of}
+use Rattle.gx_grammar.specs.Value.{nothing, characters, node, pair}
+use Rattle.gx_grammar.specs.Grammar.{token, empty, ◌&◌, choose, made}
+use Rattle.gx_grammar.specs.Apart.{is}
+use Rattle.gx_grammar.specs.First.{by_character}
+use Rattle.gx_grammar.specs.Reading.{State, Reading}
+use Rattle.gx_grammar.specs.Ran.{Standing, Ran, Looked, left_of}
+use Rattle.gx_parse.specs.declared.word.Barrier.TheVariants as barrier
+use Rattle.gx_parse.specs.declared.word.Word.TheVariants as word
+use Rattle.gx_parse.specs.declared.kind_words.KindWord.{KindWord}
+use Rattle.gx_parse.specs.declared.kind_words.TestContent.{TestContent}
+use Rattle.gx_parse.specs.declared.names.ReadName.{ReadName}
+use Rattle.gx_parse.specs.Names.{name_made, part_made}
+use Rattle.gx_parse.specs.Nodes.{Made, Arguments, name_at, name_length, predicate_value, predicates_in, filtered_value, place_of, tree}
+use Rattle.gx_parse.specs.Tokens.{gap, barred}
+use Rattle.gx_parse.specs.Types.{kind_word}
+use Rattle.gx_parse.specs.NodeTests.{axis_word, test_of, step_tree, maybe_content, kind_content, axis_test}
+use Rattle.gx_parse.specs.Grammar.{Phrase, word_of, lexeme, at_tokens, is_reserved, expression, arguments, after_name, after_axis, step_of, step_value, behind_any_name, predicate, more_predicates, filtered_step, place_in}
+use Rattle.gx_parse.specs.Reading.{read_in, read_one}
+use Rattle.gx_parse.specs.Parsing.{Passes, predicates_before, filtered_tree}
+use Rattle.gx_parse.proofs.Phrases.{in_token, in_both, in_empty, in_left, in_right, in_made}
+
+-- the place of a name that was read
+pub name_placed : (p : Place) (name : ReadName) → (name_at p (name_made name)).place ≡ p
+name_placed p name = go name.second
+  where
+    go : (o : Option (List ℕ)) → (name_at p (pair (characters name.first) (part_made o))).place ≡ p
+    go None = refl
+    go (Some cs) = refl
+
+plain_test : (k : Option KindWord) (q : QName) → test_of None q None ≡ test_of k q None
+plain_test None q = refl
+plain_test (Some k) q = refl
+
+pub kept_value : (v : Made) (q : QName) (k : Option KindWord) (c : Option TestContent) → k ≡ kind_word v → step_value v q (pair nothing (maybe_content c)) ≡ tree (step_tree q.place None (test_of k q c))
+kept_value v q k None e = ap (λ t. tree (step_tree q.place None t)) (plain_test k q)
+kept_value v q k (Some c) e = ap (λ x. tree (step_tree q.place None (test_of x q (Some c)))) (sym e)
+
+predicates_are : (us : List SyntaxTree) → predicates_in (predicates_before us nothing) ≡ trees_of us
+predicates_are [] = refl
+predicates_are (u ∷ us) = ap (a_tree u) (predicates_are us)
+
+pub filtered_is : (t : SyntaxTree) (us : List SyntaxTree) → filtered_value (pair (tree t) (predicates_before us nothing)) ≡ tree (filtered_tree t us)
+filtered_is t [] = refl
+filtered_is t (u ∷ us) = ap (λ ts. tree (located (place_of t) (filtered t (a_tree u ts)))) (predicates_are us)
+
+pub one_before : (us : List SyntaxTree) (u : SyntaxTree) (w : Made) → predicates_before (us ++ u ∷ []) w ≡ predicates_before us (pair (tree u) w)
+one_before [] u w = refl
+one_before (t ∷ us) u w = ap (pair (tree t)) (one_before us u w)
+
+module _ (text : List ℕ) (n : ℕ) where
+  abbrev reading : Phrase → State → Reading Made
+  reading A = read_in text n A
+
+  -- what stands behind a name and its gap
+
+  pub step_read : (v u : Made) (whole : Phrase) (place : Place) (here a z : Standing) → place ≡ place_in text (left_of a + name_length v) → Passes here a (reading (after_name (place_in text) n v)) (reading whole) → Ran u here z (reading (after_name (place_in text) n v))
+      → Ran (step_value v (name_at place v) (pair nothing u)) a z (reading (step_of (place_in text) v whole))
+  unfolding step_of
+  step_read v u whole place here a z e pass h =
+      subst (λ p. Ran (step_value v (name_at p v) (pair nothing u)) a z (reading (step_of (place_in text) v whole))) (sym e)
+      (in_made text n (λ left u. step_value v (name_at (place_in text (left + name_length v)) v) u) whole (pair nothing u) a z (pass u z h))
+
+  abbrev call_part : Phrase
+  call_part = choose (by_character (is 40)) (arguments (place_in text) n) empty
+
+  pub reserved_after : (v u : Made) (k : Option KindWord) (a b : Standing) → is_reserved v ≡ true → k ≡ kind_word v → Ran u a b (reading (kind_content (place_in text) k)) → Ran u a b (reading (after_name (place_in text) n v))
+  unfolding after_name
+  reserved_after v u k a b e s h =
+      subst (λ q. Ran u a b (reading (if q then (kind_content (place_in text) (kind_word v)) else call_part))) (sym e) (subst (λ x. Ran u a b (reading (kind_content (place_in text) x))) s h)
+
+  pub name_after : (v : Made) (taken : Bool) (a b : Standing) → is_reserved v ≡ false → taken ≡ false → Looked taken a b (by_character (is 40)) → Ran nothing a b (reading (after_name (place_in text) n v))
+  unfolding after_name
+  name_after v taken a b e t h =
+      subst (λ q. Ran nothing a b (reading (if q then (kind_content (place_in text) (kind_word v)) else call_part))) (sym e) (in_right text n (by_character (is 40)) (arguments (place_in text) n) empty nothing taken a b b t h (in_empty text n b))
+
+  pub call_after : (v u : Made) (taken : Bool) (a b c : Standing) → is_reserved v ≡ false → taken ≡ true → Looked taken a b (by_character (is 40)) → Ran u b c (reading (arguments (place_in text) n)) → Ran u a c (reading (after_name (place_in text) n v))
+  unfolding after_name
+  call_after v u taken a b c e t h k =
+      subst (λ q. Ran u a c (reading (if q then (kind_content (place_in text) (kind_word v)) else call_part))) (sym e) (in_left text n (by_character (is 40)) (arguments (place_in text) n) empty u taken a b c t h k)
+
+  -- names
+
+  abbrev behind_gap : Made → Phrase
+  behind_gap v = token gap & after_axis (place_in text) n (axis_word v) v
+
+  pub any_name_is : (v u : Made) (a b : Standing) → Ran u a b (reading (step_of (place_in text) v (behind_gap v))) → Ran u a b (reading (behind_any_name (place_in text) n v))
+  unfolding behind_any_name
+  any_name_is v u a b h = h
+
+  pub no_axis : (v : Made) (a b : Standing) → axis_word v ≡ None → Ran nothing a b (read_one gap) → Passes b a (reading (after_name (place_in text) n v)) (reading (behind_gap v))
+  unfolding after_axis
+  no_axis v a b e h = λ u z k.
+      in_both text n (token gap) (after_axis (place_in text) n (axis_word v) v) nothing u a b z (in_token text n gap nothing a b h) (subst (λ o. Ran u b z (reading (after_axis (place_in text) n o v))) (sym e) k)
+
+  pub no_colons : (v : Made) (x : Axis) (taken : Bool) (a b c : Standing) → axis_word v ≡ Some x → Ran nothing a b (read_one gap) → taken ≡ false → Looked taken b c (at_tokens (word_of word.Colons ∷ []))
+      → Passes c a (reading (after_name (place_in text) n v)) (reading (behind_gap v))
+  unfolding after_axis
+  no_colons v x taken a b c e h t l = λ u z k.
+      in_both text n (token gap) (after_axis (place_in text) n (axis_word v) v) nothing u a b z (in_token text n gap nothing a b h)
+      (subst (λ o. Ran u b z (reading (after_axis (place_in text) n o v))) (sym e) (in_right text n (at_tokens (word_of word.Colons ∷ [])) (axis_test (place_in text)) (after_name (place_in text) n v) u taken b c z t l k))
+
+  pub axis_step_read : (v u : Made) (x : Axis) (place : Place) (taken : Bool) (a b c d : Standing) → place ≡ place_in text (left_of a + name_length v) → axis_word v ≡ Some x → Ran nothing a b (read_one gap) → taken ≡ true → Looked taken b c (at_tokens (word_of word.Colons ∷ []))
+      → Ran u c d (reading (axis_test (place_in text))) → Ran (step_value v (name_at place v) (pair nothing u)) a d (reading (behind_any_name (place_in text) n v))
+  unfolding behind_any_name step_of after_axis
+  axis_step_read v u x place taken a b c d p e h t l k =
+      subst (λ q. Ran (step_value v (name_at q v) (pair nothing u)) a d (reading (behind_any_name (place_in text) n v))) (sym p)
+      (in_made text n (λ left u. step_value v (name_at (place_in text (left + name_length v)) v) u) (behind_gap v) (pair nothing u) a d
+      (in_both text n (token gap) (after_axis (place_in text) n (axis_word v) v) nothing u a b d (in_token text n gap nothing a b h)
+      (subst (λ o. Ran u b d (reading (after_axis (place_in text) n o v))) (sym e) (in_left text n (at_tokens (word_of word.Colons ∷ [])) (axis_test (place_in text)) (after_name (place_in text) n v) u taken b c d t l k))))
+
+  -- predicates
+
+  pub predicate_read : (x v y : Made) (a b c d : Standing) → Ran x a b (reading (lexeme (word_of word.OpenBracket))) → Ran v b c (reading (expression (place_in text) n)) → Ran y c d (reading (lexeme (word_of word.CloseBracket))) → Ran v a d (reading (predicate (place_in text) n))
+  unfolding predicate
+  predicate_read x v y a b c d h k l =
+      in_made text n (λ left v. predicate_value v) (lexeme (word_of word.OpenBracket) & expression (place_in text) n & lexeme (word_of word.CloseBracket)) (pair x (pair v y)) a d
+      (in_both text n (lexeme (word_of word.OpenBracket)) (expression (place_in text) n & lexeme (word_of word.CloseBracket)) x (pair v y) a b d h (in_both text n (expression (place_in text) n) (lexeme (word_of word.CloseBracket)) v y b c d k l))
+
+  pub predicates_none : (k : ℕ) (taken : Bool) (a b : Standing) → 1 ≤ k → taken ≡ false → Looked taken a b (at_tokens (word_of word.OpenBracket ∷ [])) → Ran nothing a b (reading (more_predicates (place_in text) n k))
+  unfolding more_predicates
+  predicates_none zero taken a b l t h = absurd (omega (arith, l))
+  predicates_none (suc k) taken a b l t h = in_right text n (at_tokens (word_of word.OpenBracket ∷ [])) (predicate (place_in text) n & more_predicates (place_in text) n k) empty nothing taken a b b t h (in_empty text n b)
+
+  one_more : (k : ℕ) (v w : Made) (taken : Bool) (a b c d : Standing) → taken ≡ true → Looked taken a b (at_tokens (word_of word.OpenBracket ∷ [])) → Ran v b c (reading (predicate (place_in text) n)) → Ran w c d (reading (more_predicates (place_in text) n k))
+      → Ran (pair v w) a d (reading (more_predicates (place_in text) n (suc k)))
+  unfolding more_predicates
+  one_more k v w taken a b c d t h i j =
+      in_left text n (at_tokens (word_of word.OpenBracket ∷ [])) (predicate (place_in text) n & more_predicates (place_in text) n k) empty (pair v w) taken a b d t h (in_both text n (predicate (place_in text) n) (more_predicates (place_in text) n k) v w b c d i j)
+
+  pub predicates_more : (k j : ℕ) (v w : Made) (taken : Bool) (a b c d : Standing) → k ≡ suc j → taken ≡ true → Looked taken a b (at_tokens (word_of word.OpenBracket ∷ [])) → Ran v b c (reading (predicate (place_in text) n)) → Ran w c d (reading (more_predicates (place_in text) n j))
+      → Ran (pair v w) a d (reading (more_predicates (place_in text) n k))
+  predicates_more k j v w taken a b c d l t h i r = subst (λ m. Ran (pair v w) a d (reading (more_predicates (place_in text) n m))) (sym l) (one_more j v w taken a b c d t h i r)
+
+  pub predicates_end : (taken : Bool) (a b : Standing) → taken ≡ false → Looked taken a b (at_tokens (barred barrier.Predicate ∷ [])) → Ran nothing a b (reading (more_predicates (place_in text) n zero))
+  unfolding more_predicates
+  predicates_end taken a b t h = in_right text n (at_tokens (barred barrier.Predicate ∷ [])) (token (barred barrier.Predicate)) empty nothing taken a b b t h (in_empty text n b)
+
+  pub predicates_full : (taken : Bool) (a b c : Standing) → taken ≡ true → Looked taken a b (at_tokens (barred barrier.Predicate ∷ [])) → Ran nothing b c (read_one (barred barrier.Predicate)) → Ran nothing a c (reading (more_predicates (place_in text) n zero))
+  unfolding more_predicates
+  predicates_full taken a b c t h i = in_left text n (at_tokens (barred barrier.Predicate ∷ [])) (token (barred barrier.Predicate)) empty nothing taken a b c t h (in_token text n (barred barrier.Predicate) nothing b c i)
+
+  pub filtered_read : (before : Phrase) (t : SyntaxTree) (us : List SyntaxTree) (a b c : Standing) → Ran (tree t) a b (reading before) → Ran (predicates_before us nothing) b c (reading (more_predicates (place_in text) n 64)) → Ran (tree (filtered_tree t us)) a c (reading (filtered_step (place_in text) n before))
+  unfolding filtered_step
+  filtered_read before t us a b c h k =
+      subst (λ v. Ran v a c (reading (made (λ left v. filtered_value v) (before & more_predicates (place_in text) n 64)))) (filtered_is t us)
+      (in_made text n (λ left v. filtered_value v) (before & more_predicates (place_in text) n 64) (pair (tree t) (predicates_before us nothing)) a c (in_both text n before (more_predicates (place_in text) n 64) (tree t) (predicates_before us nothing) a b c h k))

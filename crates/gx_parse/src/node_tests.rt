@@ -1,0 +1,188 @@
+// The reader of node tests and axes.
+
+ghost use Rattle.std.specs.Prelude.{◌≡◌, ◌+◌, ℕ};
+ghost use Rattle.gx_grammar.specs.Ran.{Ran, left_of};
+ghost use Rattle.gx_parse.specs.Grammar.{place_in, test_or_literal};
+ghost use Rattle.gx_parse.specs.Names.{name_made};
+ghost use Rattle.gx_parse.specs.NodeTests.{attribute_step, axis_test, axis_word, behind_test, kind_content, maybe_content, node_test, test_made, test_of, wildcard, wildcard_step};
+ghost use Rattle.gx_parse.specs.Nodes.{name_length, tree};
+ghost use Rattle.gx_parse.specs.Reading.{read_in};
+ghost use Rattle.gx_parse.specs.Types.{Gave};
+
+use crate::kind_words::{KindWord, TestContent, kind_test, kind_word};
+use crate::names::ReadName;
+use crate::parts::lexeme;
+use crate::reader::Reader;
+use crate::source::Source;
+use crate::strings::literal;
+use crate::trees;
+use crate::types::content;
+use crate::word::{Word, WordSet};
+use gx_ast::expression::Expr;
+use gx_ast::name::{Axis, NameTest, QName};
+use gx_ast::sequence_type::NodeTest;
+use gx_base::place::Place;
+
+/// The axis that the name says (XQuery 1.0, section 3.2.1.1).
+pub fn axis_word(name: &ReadName) -> Option<Axis>
+    ensures { result ≡ axis_word (name_made name.now) }
+{
+    if name.is("child") {
+        return Some(Axis::Child);
+    }
+    if name.is("descendant") {
+        return Some(Axis::Descendant);
+    }
+    if name.is("descendant-or-self") {
+        return Some(Axis::DescendantOrSelf);
+    }
+    if name.is("self") {
+        return Some(Axis::Itself);
+    }
+    if name.is("attribute") {
+        return Some(Axis::Attribute);
+    }
+    if name.is("parent") {
+        return Some(Axis::Parent);
+    }
+    if name.is("ancestor") {
+        return Some(Axis::Ancestor);
+    }
+    if name.is("ancestor-or-self") {
+        return Some(Axis::AncestorOrSelf);
+    }
+    None
+}
+
+/// The test of a name, with what stands in parentheses behind the name of a kind test (XQuery 1.0, section 3.2.1.2).
+pub fn test_of(kind: Option<KindWord>, name: QName, content: Option<TestContent>) -> NodeTest
+    ensures { result ≡ test_of kind name content }
+{
+    let Some(kind) = kind else {
+        return NodeTest::Name(NameTest::Named(name));
+    };
+    let Some(content) = content else {
+        return NodeTest::Name(NameTest::Named(name));
+    };
+    NodeTest::Kind(kind_test(kind, name.place, content))
+}
+
+// Reads `*`, or `*:` and a name.
+fn wildcard(reader: &mut Reader<'_>, source: &Source<'_>) -> Option<NodeTest>
+    ensures { (n : ℕ) → Gave test_made result reader.old reader.new (read_in source.now n (wildcard (place_in source.now))) }
+{
+    let has_prefix = reader.looks_at(WordSet::Only(Word::AnyPrefix));
+    let place = source.place(reader.left());
+    if !has_prefix {
+        lexeme(reader, WordSet::Only(Word::AnyName));
+        return Some(NodeTest::Name(NameTest::Any(place)));
+    }
+    reader.word(WordSet::Only(Word::AnyPrefix));
+    let Some(local) = reader.ncname(source.alloc()) else {
+        return None;
+    };
+    reader.gap();
+    Some(NodeTest::Name(NameTest::AnyNamespace(place, local)))
+}
+
+/// Reads the parentheses of a kind test, if they stand there.
+pub fn kind_content(
+    reader: &mut Reader<'_>,
+    source: &Source<'_>,
+    kind: Option<KindWord>,
+) -> Option<Option<TestContent>>
+    ensures { (n : ℕ) → Gave maybe_content result reader.old reader.new (read_in source.now n (kind_content (place_in source.now) kind)) }
+{
+    let Some(kind) = kind else {
+        return Some(None);
+    };
+    if !reader.starts_with('(') {
+        return Some(None);
+    }
+    let Some(content) = content(reader, source, kind) else {
+        return None;
+    };
+    Some(Some(content))
+}
+
+// Reads a test behind its name, which stood at the place.
+fn behind_test(
+    reader: &mut Reader<'_>,
+    source: &Source<'_>,
+    place: Place,
+    name: ReadName,
+) -> Option<NodeTest>
+    requires { place ≡ place_in source.now (left_of reader.now + name_length (name_made name)) }
+    ensures { (n : ℕ) → Gave test_made result reader.old reader.new (read_in source.now n (behind_test (place_in source.now) (name_made name))) }
+{
+    let kind = kind_word(&name);
+    reader.gap();
+    let Some(content) = kind_content(reader, source, kind) else {
+        return None;
+    };
+    match name.at(source.alloc(), place) {
+        Ok(written) => Some(test_of(kind, written, content)),
+        Err(_) => {
+            reader.lose();
+            None
+        }
+    }
+}
+
+// Reads a node test (XQuery 1.0, section 3.2.1.2).
+fn node_test(reader: &mut Reader<'_>, source: &Source<'_>) -> Option<NodeTest>
+    ensures { (n : ℕ) → Gave test_made result reader.old reader.new (read_in source.now n (node_test (place_in source.now))) }
+{
+    if !reader.starts_name() {
+        return wildcard(reader, source);
+    }
+    let place = source.place(reader.left());
+    let Some(name) = reader.name(source.alloc()) else {
+        return None;
+    };
+    behind_test(reader, source, place, name)
+}
+
+/// Reads `::` and a node test.
+pub fn axis_test(reader: &mut Reader<'_>, source: &Source<'_>) -> Option<NodeTest>
+    ensures { (n : ℕ) → Gave test_made result reader.old reader.new (read_in source.now n (axis_test (place_in source.now))) }
+{
+    lexeme(reader, WordSet::Only(Word::Colons));
+    node_test(reader, source)
+}
+
+// Reads `@` and a node test.
+fn attribute_step(reader: &mut Reader<'_>, source: &Source<'_>) -> Expr
+    ensures { (n : ℕ) → Ran (tree result) reader.old reader.new (read_in source.now n (attribute_step (place_in source.now))) }
+{
+    let place = source.place(reader.left());
+    lexeme(reader, WordSet::Only(Word::AtSign));
+    let Some(test) = node_test(reader, source) else {
+        return trees::missing();
+    };
+    trees::step(place, Some(Axis::Attribute), test)
+}
+
+// Reads a step that is `*`, or `*:` and a name.
+fn wildcard_step(reader: &mut Reader<'_>, source: &Source<'_>) -> Expr
+    ensures { (n : ℕ) → Ran (tree result) reader.old reader.new (read_in source.now n (wildcard_step (place_in source.now))) }
+{
+    let place = source.place(reader.left());
+    let Some(test) = wildcard(reader, source) else {
+        return trees::missing();
+    };
+    trees::step(place, None, test)
+}
+
+/// Reads a step that begins with `@` or `*`, or a literal.
+pub fn test_or_literal(reader: &mut Reader<'_>, source: &Source<'_>) -> Expr
+    ensures { (n : ℕ) → Ran (tree result) reader.old reader.new (read_in source.now n (test_or_literal (place_in source.now))) }
+{
+    if reader.starts_with('@') {
+        return attribute_step(reader, source);
+    }
+    if reader.starts_with('*') {
+        return wildcard_step(reader, source);
+    }
+    literal(reader, source)
+}
