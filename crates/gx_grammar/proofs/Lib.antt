@@ -28,3 +28,4 @@ pub mod Steps
 pub mod Ran
 pub mod Walks
 pub mod Either
+pub mod PublicLaws

@@ -1,26 +1,30 @@
-ghost use Rattle.gx_grammar.specs.Apart.{HasShape, Shape, all_apart, all_words_apart, is, shape_begins, words_begin};
+ghost use Rattle.gx_base.specs.declared.place.Place.{Place};
+ghost use Rattle.gx_grammar.specs.Apart.{HasShape, OpensWord, Shape, Spells, all_apart, all_words_apart, is, shape_begins, words_begin};
+ghost use Rattle.gx_grammar.specs.Decoding.{IsUnreadableAt};
 ghost use Rattle.gx_grammar.specs.Decision.{Chooses, Repeats};
 ghost use Rattle.gx_grammar.specs.Derivation.{Derives};
 ghost use Rattle.gx_grammar.specs.Either.{IsEither, IsMapped, OpensEither, scan_either, scan_mapped, seen_either};
-ghost use Rattle.gx_grammar.specs.First.{AllOf, AreApart, AreFronts, BeginsWith, CharacterChooses, EndsOrStarts, Fronts, HasHead, IsSorted, TokensChoose, by_character, by_tokens};
-ghost use Rattle.gx_grammar.specs.Fitting.{IsFitting, Never, scan_fitting, scan_never};
+ghost use Rattle.gx_grammar.specs.First.{AllOf, AreApart, AreFronts, BeginsWith, CharacterChooses, EndsOrStarts, Fronts, HasHead, IsSorted, TokensChoose, by_character, by_tokens, head_passes};
+ghost use Rattle.gx_grammar.specs.Fitting.{IsEmpty, IsFitting, Never, fault_of, scan_fitting, scan_never};
 ghost use Rattle.gx_grammar.specs.Gaps.{IsGap, OpensGap, scan_gap, seen_gap};
 ghost use Rattle.gx_grammar.specs.Grammar.{Guard, ◌&◌, choose, empty, keyed, made};
 ghost use Rattle.gx_grammar.specs.Halting.{Halts};
-ghost use Rattle.gx_grammar.specs.Joined.{AreJoined, OpensJoined, scan_joined, seen_joined};
+ghost use Rattle.gx_grammar.specs.Joined.{AreJoined, IsOptional, OpensJoined, Tells, scan_joined, scan_optional, seen_joined};
 ghost use Rattle.gx_grammar.specs.Language.{Language, Made, Part};
 ghost use Rattle.gx_grammar.specs.Laws.{IsExact, LawfulTokens};
-ghost use Rattle.gx_grammar.specs.Levels.{HasRanksBelow, IsLevelled, IsNotTooDeep, Takings};
+ghost use Rattle.gx_grammar.specs.Levels.{HasRanksBelow, IsLevelled, IsNotTooDeep, IsShielded, Takings};
 ghost use Rattle.gx_grammar.specs.Opening.{Opens, OpensUpTo};
-ghost use Rattle.gx_grammar.specs.Ran.{Looked, Ran, Standing, left_of};
+ghost use Rattle.gx_grammar.specs.Ran.{IsDone, Looked, Makes, Ran, Standing, left_of};
 ghost use Rattle.gx_grammar.specs.Reading.{Reading, Refusal, State, go_on, notes, read_token, read_with, reads, repeat, start};
 ghost use Rattle.gx_grammar.specs.Text.{AllDecide, IsReadable, IsVerdict, read_text};
-ghost use Rattle.gx_grammar.specs.Tokens.{IsFrontOf, IsNamed, IsRun, IsWord, LawfulToken, no_fault, opens_name, opens_run, scan_name, scan_run, scan_word, seen_name, seen_run, seen_word};
-ghost use Rattle.gx_grammar.specs.Value.{Value, an_item, no_item, pair};
-ghost use Rattle.gx_grammar.specs.Walks.{IsWalk, Walk, opens_walk, scan_walk, seen_walk};
+ghost use Rattle.gx_grammar.specs.Tokens.{IsFrontOf, IsNamed, IsRun, IsWord, LawfulToken, all_pass, behind_common, behind_run, no_fault, opens_name, opens_run, run_of, scan_name, scan_run, scan_word, seen_name, seen_run, seen_word};
+ghost use Rattle.gx_grammar.specs.Value.{Value, an_item, no_item, nothing, pair};
+ghost use Rattle.gx_grammar.specs.Walks.{IsWalk, Walk, behind_walk, opens_walk, scan_walk, seen_walk};
 ghost use Rattle.gx_grammar.specs.Words.{Entry, IsOneOf, OpensOneOf, scan_one_of, seen_one_of, spellings};
 ghost use Rattle.std.specs.List.{list_all};
-ghost use Rattle.std.specs.Prelude.{◌≡◌, ◌<◌, ◌≤◌, ◌+◌, ◌++◌, [], Bool, true, false, IfOk, List, None, Ok, Option, Result, if◌then◌else◌, length, suc, ℕ};
+ghost use Rattle.std.specs.Prelude.{◌≡◌, ◌<◌, ◌≤◌, ◌+◌, ◌++◌, [], Bool, true, false, IfOk, List, None, Ok, Option, Result, if◌then◌else◌, length, suc, take, zero, ℕ};
+ghost use Rattle.std.specs.Str.{IsValidUpTo, chars};
+ghost use Rattle.gx_grammar.specs.Places.{place_at};
 
 /// A language, for contracts alone.
 pub trait HasLanguage {
@@ -73,6 +77,12 @@ pub fn levels_suffice<G: HasLanguage>()
     ensures { (A : Part G.language) → IsReadable G.language A → (k : Takings G.language) (levelled : IsLevelled G.language k) (bound : ℕ)
         → HasRanksBelow G.language levelled.rank bound A → (levels : ℕ) (text : List ℕ) → bound + length text ≤ levels
         → IsNotTooDeep (read_with G.language (reads G.language levels) A (start text)) }
+{}
+
+/// Where the ranks of all productions of a part are low, none needs to stand behind a character.
+pub fn low_ranks_shield<G: HasLanguage>()
+    ensures { (k : Takings G.language) (rank : G.language.Production → ℕ) (n : ℕ) (A : Part G.language)
+        → HasRanksBelow G.language rank n A → IsShielded G.language k rank n A }
 {}
 
 /// A grammar whose guards decide by first tokens, or by first characters, is read exactly.
@@ -130,6 +140,12 @@ pub fn tokens_are_lawful<G: HasLanguage>()
         → LawfulToken (IsGap allowed value) (OpensGap allowed 0) (scan_gap allowed value) (seen_gap allowed 0) no_fault }
 {}
 
+/// The tokens of a language are lawful where each is.
+pub fn each_token_is_lawful<G: HasLanguage>()
+    ensures { ((t : G.language.Token) → LawfulToken (G.language.derives t) (G.language.opens t) (G.language.scan t) (G.language.seen t) (G.language.faults t))
+        → LawfulTokens G.language }
+{}
+
 /// Tokens that others are made of, for contracts alone.
 pub trait HasTokens {
     /// What they are worth.
@@ -152,14 +168,19 @@ pub trait HasTokens {
     ghost seen_behind: { List ℕ → ℕ };
 }
 
-/// A token with a test on its value, a token that may not stand, and a token with another right behind it keep the laws of
-/// tokens where their parts do.
+/// A token with a test on its value, a token that may not stand, a token that need not stand, and a token with another
+/// right behind it keep the laws of tokens where their parts do.
 pub fn made_tokens_are_lawful<T: HasTokens>()
     ensures fitting { LawfulToken T.derives T.opens T.scan T.seen no_fault → (test : T.Worth → Bool) (faults : List ℕ → Option ℕ)
         → ((v : T.Worth) (x y : List ℕ) → T.derives v x y → test v ≡ true → faults x ≡ None) → faults [] ≡ None
         → LawfulToken (IsFitting T.derives test) T.opens (scan_fitting T.scan test) T.seen faults }
     ensures stop { LawfulToken T.derives T.opens T.scan T.seen no_fault → (faults : List ℕ → Option ℕ) → faults [] ≡ None
         → LawfulToken (Never {V = T.Worth}) T.opens scan_never T.seen faults }
+    ensures firm { LawfulToken T.derives T.opens T.scan T.seen no_fault → (code : ℕ) (test : T.Worth → Bool) (v : T.Worth) (x y : List ℕ)
+        → T.derives v x y → test v ≡ true → fault_of code test (T.scan x) ≡ None }
+    ensures barred { (faults : List ℕ → Option ℕ) → faults [] ≡ None → LawfulToken (Never {V = T.Worth}) IsEmpty scan_never length faults }
+    ensures optional { LawfulToken T.derives T.opens T.scan T.seen no_fault → (starts : List ℕ → Bool) (value : T.Worth) → Tells T.derives T.opens starts
+        → LawfulToken (IsOptional T.derives starts value) T.opens (scan_optional T.scan starts value) T.seen no_fault }
     ensures joined { LawfulToken T.derives T.opens T.scan T.seen no_fault → LawfulToken T.derives_behind T.opens_behind T.scan_behind T.seen_behind no_fault
         → (value : T.Worth → T.Worth → T.Worth)
         → LawfulToken (AreJoined T.derives T.derives_behind value) (OpensJoined T.derives T.opens T.opens_behind)
@@ -175,6 +196,31 @@ pub fn spellings_are_apart<G: HasLanguage>()
         → (k : ℕ) (b : Bool) (ts : List G.language.Token) → list_all (λ t. shape_begins k b (shape t)) ts ≡ true → AllOf (HasHead G.language (is k) b) ts }
     ensures words { (shape : G.language.Token → Shape) → ((t : G.language.Token) → HasShape G.language t (shape t))
         → (test : ℕ → Bool) (b : Bool) (ts : List G.language.Token) → list_all (λ t. words_begin test b (shape t)) ts ≡ true → AllOf (HasHead G.language test b) ts }
+    ensures heads_differ { (test : ℕ → Bool) (b c : Bool) (t u : G.language.Token) → (b ≡ c → ⊥)
+        → HasHead G.language test b t → HasHead G.language test c u → AreApart G.language t u }
+{}
+
+/// Tokens that are one of several words stand, and are opened, as the words are.
+pub fn words_are_spelled<G: HasLanguage>()
+    ensures stands { (entries : List (Entry (Made G.language))) (v : Made G.language) (x y : List ℕ)
+        → IsOneOf entries v x y → Spells (spellings entries) x }
+    ensures opened { (entries : List (Entry (Made G.language))) (x : List ℕ) → OpensOneOf entries x → OpensWord (spellings entries) x }
+    ensures opens { (entries : List (Entry (Made G.language))) (x : List ℕ) → OpensWord (spellings entries) x → OpensOneOf entries x }
+{}
+
+/// What is behind the front of a text is no longer than the text.
+pub fn fronts_shorten()
+    ensures common { (word x : List ℕ) → length (behind_common word x) ≤ length x }
+    ensures run { (test : ℕ → Bool) (x : List ℕ) → length (behind_run test x) ≤ length x }
+    ensures walk { (w : Walk) (n : ℕ) (x : List ℕ) → length (behind_walk w n x) ≤ length x }
+{}
+
+/// A run is a front of the text whose characters pass the test. A text whose first character fails a test does so where
+/// its end is cut off.
+pub fn runs_are_fronts()
+    ensures whole { (test : ℕ → Bool) (x : List ℕ) → x ≡ run_of test x ++ behind_run test x }
+    ensures passes { (test : ℕ → Bool) (x : List ℕ) → all_pass test (run_of test x) ≡ true }
+    ensures cut { (test : ℕ → Bool) (y z : List ℕ) → head_passes test (y ++ z) ≡ false → head_passes test y ≡ false }
 {}
 
 /// What the steps of a hand-written reader do together.
@@ -185,6 +231,24 @@ pub fn steps_compose<G: HasLanguage>()
         → Ran v a b (read_token G.language t) → Ran w b c (read_with G.language call (f v)) → Ran (pair v w) a c (read_with G.language call (keyed t f)) }
     ensures made { (call : G.language.Production → State → Reading (Made G.language)) (f : ℕ → Made G.language → Made G.language) (A : Part G.language) (v : Made G.language) (a b : Standing)
         → Ran v a b (read_with G.language call A) → Ran (f (left_of a) v) a b (read_with G.language call (made f A)) }
+    ensures nothing { (call : G.language.Production → State → Reading (Made G.language)) (a : Standing) → Ran nothing a a (read_with G.language call empty) }
+{}
+
+/// Values that are read, for contracts alone.
+pub trait HasWorth {
+    /// What is read.
+    ghost Worth: { Type 0 };
+}
+
+/// A reader that has ended does nothing; and what a step read may be made into something else.
+pub fn values_are_made<T: HasWorth, U: HasWorth>()
+    ensures ended { (v : T.Worth) (here : Standing) (read : State → Reading T.Worth) → IsDone here → Ran v here here read }
+    ensures mapped { (v : T.Worth) (f : T.Worth → U.Worth) (a b : Standing) (first : State → Reading T.Worth)
+        → Ran v a b first → Ran (f v) a b (λ s. go_on (first s) (λ x t. Ok (f x, t))) }
+    ensures makes { (v w : T.Worth) (a b c : Standing) (read : State → Reading T.Worth) → Ran v a b read → Makes w v b c → Ran w a c read }
+    ensures looked { (v : T.Worth) (taken : Bool) (a b c : Standing) (g : Guard) (inner outer : State → Reading T.Worth)
+        → Looked taken a b g → Ran v b c inner
+        → ((s : State) → taken ≡ g.takes s.rest → outer s ≡ inner (notes s (g.seen s.rest))) → Ran v a c outer }
 {}
 
 /// What a hand-written reader does behind a look by a guard.
@@ -193,6 +257,7 @@ pub fn looks_decide<G: HasLanguage>()
         → taken ≡ true → Looked taken a b g → Ran v b c (read_with G.language call A) → Ran v a c (read_with G.language call (choose g A B)) }
     ensures right { (call : G.language.Production → State → Reading (Made G.language)) (g : Guard) (A B : Part G.language) (v : Made G.language) (taken : Bool) (a b c : Standing)
         → taken ≡ false → Looked taken a b g → Ran v b c (read_with G.language call B) → Ran v a c (read_with G.language call (choose g A B)) }
+    ensures full { (g : Guard) (item : State → Reading (Made G.language)) (a : Standing) → Ran no_item a a (repeat g item zero) }
     ensures stop { (g : Guard) (item : State → Reading (Made G.language)) (count : ℕ) (taken : Bool) (a b : Standing)
         → taken ≡ false → Looked taken a b g → Ran no_item a b (repeat g item (suc count)) }
     ensures item { (g : Guard) (item : State → Reading (Made G.language)) (count : ℕ) (v w : Made G.language) (taken : Bool) (a b c d : Standing)
@@ -213,4 +278,10 @@ pub fn chosen_tokens_are_lawful<T: HasTokens>()
         → LawfulToken (IsEither T.derives T.derives_behind) (OpensEither T.opens T.opens_behind) (scan_either T.scan T.scan_behind) (seen_either T.seen T.seen_behind) no_fault }
     ensures mapped { LawfulToken T.derives T.opens T.scan T.seen no_fault → (value : T.Worth → T.Worth)
         → LawfulToken (IsMapped T.derives value) T.opens (scan_mapped T.scan value) T.seen no_fault }
+{}
+
+/// Bytes that are UTF-8 up to a number of them, and no further, cannot be read at the place behind those.
+pub fn unreadable_bytes_have_a_place()
+    ensures { (bytes front : List ℕ) (n : ℕ) (place : Place) → IsValidUpTo bytes n → front ≡ chars (take n bytes)
+        → place ≡ place_at front (length front) → IsUnreadableAt bytes place }
 {}

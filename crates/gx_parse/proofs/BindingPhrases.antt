@@ -1,14 +1,15 @@
 -- What the parts of FLWOR expressions read.
 use Rattle.std.proofs.Common.{◌≡◌, ℕ, zero, suc, ◌+◌, Bool, true, false, List, [], ◌∷◌, ◌++◌, ◌⊎◌, inl, inr, refl, sym, ap, subst, ◌∙◌, Option, Some, None}
 use Rattle.gx_base.specs.declared.place.Place.{Place}
-use Rattle.gx_ast.specs.SyntaxTree.{SyntaxTree, at as located, flwor as flwor_form, no_key}
-use Rattle.gx_ast.specs.SyntaxView.{bindings_of, clauses_of}
+use Rattle.gx_ast.specs.SyntaxTree.{SyntaxTree, at as located, flwor as flwor_form}
+use Rattle.gx_ast.specs.SyntaxView.{bindings_of, clauses_of, keys_of}
 use Rattle.gx_ast.specs.declared.expression.Binding.{Binding}
 use Rattle.gx_ast.specs.declared.expression.Clause.{Clause}
+use Rattle.gx_ast.specs.declared.expression.Key.{Key}
 use Rattle.gx_grammar.specs.Value.{nothing, node, pair}
 use Rattle.gx_grammar.specs.Grammar.{token, empty, ◌&◌, keyed, choose, rule, made}
 use Rattle.gx_grammar.specs.Ran.{Standing, Ran, Looked, IsDone, Loses, left_of}
-use Rattle.gx_grammar.proofs.Ran.{ran_idle}
+use Rattle.gx_grammar.proofs.PublicLaws.{ran_idle}
 use Rattle.gx_parse.specs.declared.word.Word.{Word}
 use Rattle.gx_parse.specs.declared.word.Word.TheVariants as word
 use Rattle.gx_parse.specs.declared.word.WordSet.TheVariants as set
@@ -22,6 +23,7 @@ use Rattle.gx_parse.specs.Grammar.{Phrase, single, word_of, lexeme, at_tokens, p
 use Rattle.gx_parse.specs.Reading.{call, read_in, read_one}
 use Rattle.gx_parse.specs.Types.{written_name}
 use Rattle.gx_parse.specs.Bound.{bound_value, position_made, bound, bound_type, position}
+use Rattle.gx_parse.specs.Keys.{key_made, order_clause_made, is_stable, clause_keys, order_clause}
 use Rattle.gx_parse.specs.Lists.{items_before, Grown, OneMore, binding_made, clause_made}
 use Rattle.gx_parse.specs.Parsing.{Added}
 use Rattle.gx_parse.specs.Binding.{head_value, bindings_in, clause_binder, clause_before, clauses_in, clause_value, where_value, flwor_value, first_bound, position_of, head, binding, further_binding, more_bindings, bindings, clause, last_clause, more_clauses, flwor}
@@ -29,6 +31,7 @@ use Rattle.gx_parse.proofs.Chains.{ran_any}
 use Rattle.gx_parse.proofs.Phrases.{in_token, in_both, in_keyed, in_empty, in_left, in_right, in_made, in_rule, loses_done, loses_ran, stays_done}
 use Rattle.gx_parse.proofs.TypesPhrases.{ran_loses}
 use Rattle.gx_parse.proofs.Lists.{bindings_seen, clauses_seen}
+use Rattle.gx_parse.proofs.KeysPhrases.{stable_seen, clause_keys_seen}
 
 module _ (text : List ℕ) (n : ℕ) where
   abbrev reads : Made → Standing → Standing → Phrase → Type 0
@@ -173,40 +176,45 @@ module _ (text : List ℕ) (n : ℕ) where
   -- a whole FLWOR
 
   abbrev flwor_parts : Binder → Phrase
-  flwor_parts b = token gap_then_dollar & bindings (place_in text) n b (first_bound (place_in text)) & more_clauses (place_in text) n 63 & lexeme (word_of word.Return) & rule (single n)
+  flwor_parts b = token gap_then_dollar & bindings (place_in text) n b (first_bound (place_in text)) & more_clauses (place_in text) n 63 & order_clause (place_in text) n & lexeme (word_of word.Return) & rule (single n)
 
-  parts_read : (b : Binder) (v bs cs x : Made) (t : SyntaxTree) (s0 s1 s2 s3 s4 s5 : Standing) → Ran nothing s0 s1 (read_one gap_then_dollar)
-      → reads bs s1 s2 ((head (place_in text) b (first_bound (place_in text)) & rule (single n)) & more_bindings (place_in text) n b 63) → reads cs s2 s3 (more_clauses (place_in text) n 63) → reads x s3 s4 (lexeme (word_of word.Return))
-      → Ran (tree t) s4 s5 (call text (suc n) (single n)) → reads (flwor_value b (place_in text (left_of s0 + name_length v)) (pair nothing (pair bs (pair cs (pair x (tree t)))))) s0 s5 (flwor (place_in text) n b v)
+  parts_read : (b : Binder) (v bs cs o x : Made) (t : SyntaxTree) (s0 s1 s2 s3 s4 s5 s6 : Standing) → Ran nothing s0 s1 (read_one gap_then_dollar)
+      → reads bs s1 s2 ((head (place_in text) b (first_bound (place_in text)) & rule (single n)) & more_bindings (place_in text) n b 63) → reads cs s2 s3 (more_clauses (place_in text) n 63) → reads o s3 s4 (order_clause (place_in text) n)
+      → reads x s4 s5 (lexeme (word_of word.Return)) → Ran (tree t) s5 s6 (call text (suc n) (single n)) → reads (flwor_value b (place_in text (left_of s0 + name_length v)) (pair nothing (pair bs (pair cs (pair o (pair x (tree t))))))) s0 s6 (flwor (place_in text) n b v)
   unfolding flwor
-  parts_read b v bs cs x t s0 s1 s2 s3 s4 s5 h i j k l =
-      in_made text n (λ left u. flwor_value b (place_in text (left + name_length v)) u) (flwor_parts b) (pair nothing (pair bs (pair cs (pair x (tree t))))) s0 s5
-      (in_both text n (token gap_then_dollar) _ nothing _ s0 s1 s5 (in_token text n gap_then_dollar nothing s0 s1 h)
-      (in_both text n (bindings (place_in text) n b (first_bound (place_in text))) _ bs _ s1 s2 s5 (bindings_are b (first_bound (place_in text)) bs s1 s2 i)
-      (in_both text n (more_clauses (place_in text) n 63) _ cs _ s2 s3 s5 j
-      (in_both text n (lexeme (word_of word.Return)) (rule (single n)) x (tree t) s3 s4 s5 k (in_rule text n n (tree t) s4 s5 l)))))
+  parts_read b v bs cs o x t s0 s1 s2 s3 s4 s5 s6 h i j m k l =
+      in_made text n (λ left u. flwor_value b (place_in text (left + name_length v)) u) (flwor_parts b) (pair nothing (pair bs (pair cs (pair o (pair x (tree t)))))) s0 s6
+      (in_both text n (token gap_then_dollar) _ nothing _ s0 s1 s6 (in_token text n gap_then_dollar nothing s0 s1 h)
+      (in_both text n (bindings (place_in text) n b (first_bound (place_in text))) _ bs _ s1 s2 s6 (bindings_are b (first_bound (place_in text)) bs s1 s2 i)
+      (in_both text n (more_clauses (place_in text) n 63) _ cs _ s2 s3 s6 j
+      (in_both text n (order_clause (place_in text) n) _ o _ s3 s4 s6 m (in_both text n (lexeme (word_of word.Return)) (rule (single n)) x (tree t) s4 s5 s6 k (in_rule text n n (tree t) s5 s6 l))))))
 
   clause_seen : (b : Binder) (place : Place) (bs : List Binding) (c : Clause) (others : List Clause) → clause_made c ≡ node (BindingClause b place (bindings_of bs)) → clause_before b place (bindings_of bs) (clauses_of others) ≡ clauses_of (c ∷ others)
   clause_seen b place bs c others e = sym (ap (clause_before b place (bindings_of bs)) (clauses_seen others)) ∙ ap (λ v. clauses_in (pair v (items_before clause_made others nothing))) (sym e) ∙ clauses_seen (c ∷ others)
 
-  pub flwor_read : (b : Binder) (v x : Made) (place : Place) (bs : List Binding) (first : Clause) (begun clauses : List Clause) (t : SyntaxTree) (s0 s1 s2 s3 s4 s5 s6 : Standing) → place ≡ place_in text (left_of s0 + name_length v)
+  pub flwor_read : (b : Binder) (v x : Made) (place : Place) (bs : List Binding) (first : Clause) (begun clauses : List Clause) (stable : Bool) (keys : List Key) (t : SyntaxTree) (s0 s1 s2 s3 s4 s5 s6 s7 : Standing) → place ≡ place_in text (left_of s0 + name_length v)
       → Ran nothing s0 s1 (read_one gap_then_dollar) → reads (items_before binding_made bs nothing) s1 s2 ((head (place_in text) b (first_bound (place_in text)) & rule (single n)) & more_bindings (place_in text) n b 63)
       → clause_made first ≡ node (BindingClause b place (bindings_of bs)) → Grown [] first begun s2 s3
-      → Added begun clauses (λ others. reads (items_before clause_made others nothing) s3 s4 (more_clauses (place_in text) n 63)) → reads x s4 s5 (lexeme (word_of word.Return)) → Ran (tree t) s5 s6 (call text (suc n) (single n))
-      → reads (tree (located place (flwor_form (clauses_of clauses) false no_key t))) s0 s6 (flwor (place_in text) n b v)
-  flwor_read b v x place bs first begun clauses t s0 s1 s2 s3 s4 s5 s6 e h i f (inl g) m k l =
+      → Added begun clauses (λ others. reads (items_before clause_made others nothing) s3 s4 (more_clauses (place_in text) n 63)) → reads (order_clause_made stable (items_before key_made keys nothing)) s4 s5 (order_clause (place_in text) n)
+      → reads x s5 s6 (lexeme (word_of word.Return)) → Ran (tree t) s6 s7 (call text (suc n) (single n))
+      → reads (tree (located place (flwor_form (clauses_of clauses) stable (keys_of keys) t))) s0 s7 (flwor (place_in text) n b v)
+  flwor_read b v x place bs first begun clauses stable keys t s0 s1 s2 s3 s4 s5 s6 s7 e h i f (inl g) m o k l =
       let others = m.others in
+      let order = order_clause_made stable (items_before key_made keys nothing) in
       let are : clause_before b place (bindings_in (items_before binding_made bs nothing)) (clauses_in (items_before clause_made others nothing)) ≡ clauses_of clauses =
       ap (λ us. clause_before b place us (clauses_in (items_before clause_made others nothing))) (bindings_seen bs) ∙ ap (clause_before b place (bindings_of bs)) (clauses_seen others) ∙ clause_seen b place bs first others f ∙ ap clauses_of (ap (λ us. us ++ others) (sym g.0) ∙ sym m.is)
       in
-      subst (λ cs. reads (tree (located place (flwor_form cs false no_key t))) s0 s6 (flwor (place_in text) n b v)) are
-      (subst (λ p. reads (flwor_value b p (pair nothing (pair (items_before binding_made bs nothing) (pair (items_before clause_made others nothing) (pair x (tree t)))))) s0 s6 (flwor (place_in text) n b v)) (sym e)
-      (parts_read b v (items_before binding_made bs nothing) (items_before clause_made others nothing) x t s0 s1 s2 s4 s5 s6 h i (subst (λ s. reads (items_before clause_made others nothing) s s4 (more_clauses (place_in text) n 63)) g.1 m.holds) k l))
-  flwor_read b v x place bs first begun clauses t s0 s1 s2 s3 s4 s5 s6 e h i f (inr g) m k l =
+      subst (λ cs. reads (tree (located place (flwor_form cs stable (keys_of keys) t))) s0 s7 (flwor (place_in text) n b v)) are
+      (subst (λ is. reads (tree (located place (flwor_form (clause_before b place (bindings_in (items_before binding_made bs nothing)) (clauses_in (items_before clause_made others nothing))) is (keys_of keys) t))) s0 s7 (flwor (place_in text) n b v)) (stable_seen stable (items_before key_made keys nothing))
+      (subst (λ ks. reads (tree (located place (flwor_form (clause_before b place (bindings_in (items_before binding_made bs nothing)) (clauses_in (items_before clause_made others nothing))) (is_stable order) ks t))) s0 s7 (flwor (place_in text) n b v)) (clause_keys_seen stable keys)
+      (subst (λ p. reads (flwor_value b p (pair nothing (pair (items_before binding_made bs nothing) (pair (items_before clause_made others nothing) (pair order (pair x (tree t))))))) s0 s7 (flwor (place_in text) n b v)) (sym e)
+      (parts_read b v (items_before binding_made bs nothing) (items_before clause_made others nothing) order x t s0 s1 s2 s4 s5 s6 s7 h i (subst (λ s. reads (items_before clause_made others nothing) s s4 (more_clauses (place_in text) n 63)) g.1 m.holds) o k l))))
+  flwor_read b v x place bs first begun clauses stable keys t s0 s1 s2 s3 s4 s5 s6 s7 e h i f (inr g) m o k l =
       let d3 = loses_done s2 s3 g.1 in
       let d4 = stays_done (items_before clause_made m.others nothing) s3 s4 (read_in text n (more_clauses (place_in text) n 63)) d3 m.holds in
-      let d5 = stays_done x s4 s5 (read_in text n (lexeme (word_of word.Return))) d4 k in
-      let d6 = stays_done (tree t) s5 s6 (call text (suc n) (single n)) d5 l in
-      ran_any _ (tree (located place (flwor_form (clauses_of clauses) false no_key t))) s0 s6 (read_in text n (flwor (place_in text) n b v)) d6
-      (parts_read b v nothing (items_before clause_made m.others nothing) x t s0 s1 s3 s4 s5 s6 h
-      (ran_loses (items_before binding_made bs nothing) nothing s1 s2 s3 (read_in text n ((head (place_in text) b (first_bound (place_in text)) & rule (single n)) & more_bindings (place_in text) n b 63)) i g.1) m.holds k l)
+      let d5 = stays_done (order_clause_made stable (items_before key_made keys nothing)) s4 s5 (read_in text n (order_clause (place_in text) n)) d4 o in
+      let d6 = stays_done x s5 s6 (read_in text n (lexeme (word_of word.Return))) d5 k in
+      let d7 = stays_done (tree t) s6 s7 (call text (suc n) (single n)) d6 l in
+      ran_any _ (tree (located place (flwor_form (clauses_of clauses) stable (keys_of keys) t))) s0 s7 (read_in text n (flwor (place_in text) n b v)) d7
+      (parts_read b v nothing (items_before clause_made m.others nothing) (order_clause_made stable (items_before key_made keys nothing)) x t s0 s1 s3 s4 s5 s6 s7 h
+      (ran_loses (items_before binding_made bs nothing) nothing s1 s2 s3 (read_in text n ((head (place_in text) b (first_bound (place_in text)) & rule (single n)) & more_bindings (place_in text) n b 63)) i g.1) m.holds o k l)

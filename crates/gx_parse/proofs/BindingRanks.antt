@@ -11,6 +11,7 @@ use Rattle.gx_parse.specs.Bound.{bound, bound_type, position}
 use Rattle.gx_parse.specs.Binding.{first_bound, position_of, head, binding, further_binding, more_bindings, bindings, clause, clause_binder, last_clause, more_clauses, flwor}
 use Rattle.gx_parse.specs.Fronts.{rank}
 use Rattle.gx_parse.proofs.CastsRanks.{written_low, sequence_low}
+use Rattle.gx_parse.proofs.KeysRanks.{order_clause_low}
 
 module _ (at : ℕ → Place) (n : ℕ) (below : n < suc n) where
   abbrev Low : Phrase → Type 0
@@ -61,4 +62,4 @@ module _ (at : ℕ → Place) (n : ℕ) (below : n < suc n) where
 
   pub flwor_low : (b : Binder) (v : Made) → Low (flwor at n b v)
   unfolding flwor
-  flwor_low b v = (tt, (bindings_low b (first_bound at) first_bound_low, (more_clauses_low 63, ((tt, tt), below))))
+  flwor_low b v = (tt, (bindings_low b (first_bound at) first_bound_low, (more_clauses_low 63, (order_clause_low at n below, ((tt, tt), below)))))

@@ -5,8 +5,7 @@ use Rattle.gx_grammar.specs.Grammar.{token, empty, rule}
 use Rattle.gx_grammar.specs.Opening.{open_token, open_first, open_made, open_key}
 use Rattle.gx_grammar.specs.First.{IsIn, AllOf, AreApart, AreFronts, IsSorted}
 use Rattle.gx_grammar.specs.Apart.{all_apart}
-use Rattle.gx_grammar.proofs.ByTokens.{tokens_choose}
-use Rattle.gx_grammar.proofs.Apart.{computed_apart}
+use Rattle.gx_grammar.proofs.PublicLaws.{computed_apart, tokens_choose}
 use Rattle.gx_parse.specs.declared.word.Word.TheVariants as word
 use Rattle.gx_parse.specs.declared.word.WordSet.TheVariants as set
 use Rattle.gx_parse.specs.declared.word.Binder.{Binder}
@@ -16,11 +15,13 @@ use Rattle.gx_parse.specs.Tokens.{Token, one_of, barred_words, shape_of}
 use Rattle.gx_parse.specs.Basics.{operator}
 use Rattle.gx_parse.specs.Grammar.{Phrase, single, word_of, behind_single, query_language}
 use Rattle.gx_parse.specs.Bound.{bound, bound_type, position}
+use Rattle.gx_parse.specs.Keys.{ordered, order_clause}
 use Rattle.gx_parse.specs.Binding.{first_bound, position_of, head, binding, further_binding, more_bindings, bindings, clause, clause_binder, last_clause, more_clauses, flwor}
 use Rattle.gx_parse.specs.Fronts.{fronts}
 use Rattle.gx_parse.proofs.Shapes.{lawful, shaped}
 use Rattle.gx_parse.proofs.TypesSorted.{written_sorted}
 use Rattle.gx_parse.proofs.BoundSorted.{bound_sorted, bound_type_sorted, position_sorted}
+use Rattle.gx_parse.proofs.KeysSorted.{order_clause_sorted}
 
 module _ (at : ℕ → Place) (right : AreFronts (query_language at) (fronts at)) where
   abbrev Sorts : Phrase → List Token → Type 0
@@ -79,6 +80,15 @@ module _ (at : ℕ → Place) (right : AreFronts (query_language at) (fronts at)
   is_return : IsIn (behind_single at) (word_of word.Return)
   is_return = inr (inr (inr (inr (inr (inr (inr (inl refl)))))))
 
+  is_order : IsIn (behind_single at) (word_of word.Order)
+  is_order = inr (inr (inr (inr (inr (inr (inr (inr (inr (inr (inr (inl refl)))))))))))
+
+  is_stable : IsIn (behind_single at) (word_of word.Stable)
+  is_stable = inr (inr (inr (inr (inr (inr (inr (inr (inr (inr (inr (inr (inl refl))))))))))))
+
+  are_behind : AllOf (IsIn (behind_single at)) (word_of word.Stable ∷ word_of word.Order ∷ word_of word.Return ∷ [])
+  are_behind = (is_stable, (is_order, (is_return, tt)))
+
   is_binder : IsIn (behind_single at) (one_of set.Binders)
   is_binder = inr (inr (inr (inr (inr (inr (inr (inr (inr (inr (inr (inr (inr (inl refl)))))))))))))
 
@@ -89,7 +99,7 @@ module _ (at : ℕ → Place) (right : AreFronts (query_language at) (fronts at)
   is_where = inr (inr (inr (inr (inr (inr (inr (inr (inr (inr (inr (inr (inr (inr (inr (inl refl)))))))))))))))
 
   abbrev behind_clauses : List Token
-  behind_clauses = word_of word.Return ∷ []
+  behind_clauses = word_of word.Stable ∷ word_of word.Order ∷ word_of word.Return ∷ []
 
   abbrev behind_clause : Token → List Token
   behind_clause t = t ∷ word_of word.Where ∷ behind_clauses
@@ -103,7 +113,7 @@ module _ (at : ℕ → Place) (right : AreFronts (query_language at) (fronts at)
   last_clause_sorted n = (
     tokens_choose (query_language at) (lawful at) (fronts at) right (word_of word.Where ∷ []) _ empty behind_clauses
         (record { takes = refl; first = (inl refl, tt); full = (refl, tt); opening = ((λ x o. open_first (open_made (open_first (open_made (open_first (open_token o)))))), tt); apart = apart (word_of word.Where ∷ []) behind_clauses refl }),
-    (((tt, tt), (is_return, tt)), tt),
+    (((tt, tt), are_behind), tt),
     tt,
   )
 
@@ -118,22 +128,22 @@ module _ (at : ℕ → Place) (right : AreFronts (query_language at) (fronts at)
   more_clauses_sorted n (suc zero) = (
     tokens_choose (query_language at) (lawful at) (fronts at) right (one_of set.Binders ∷ []) _ (last_clause at n) behind_clauses
         (record { takes = refl; first = (inl refl, tt); full = (refl, tt); opening = ((λ x o. open_first (open_made (open_key o))), tt); apart = apart (one_of set.Binders ∷ []) (word_of word.Where ∷ behind_clauses) refl }),
-    (clause_sorted n (behind_clause (barred_words set.Binders)) refl (is_barred, (is_where, (is_return, tt))), more_clauses_sorted n zero),
+    (clause_sorted n (behind_clause (barred_words set.Binders)) refl (is_barred, (is_where, are_behind)), more_clauses_sorted n zero),
     last_clause_sorted n,
   )
   more_clauses_sorted n (suc (suc k)) = (
     tokens_choose (query_language at) (lawful at) (fronts at) right (one_of set.Binders ∷ []) _ (last_clause at n) behind_clauses
         (record { takes = refl; first = (inl refl, tt); full = (refl, tt); opening = ((λ x o. open_first (open_made (open_key o))), tt); apart = apart (one_of set.Binders ∷ []) (word_of word.Where ∷ behind_clauses) refl }),
-    (clause_sorted n (behind_clause (one_of set.Binders)) refl (is_binder, (is_where, (is_return, tt))), more_clauses_sorted n (suc k)),
+    (clause_sorted n (behind_clause (one_of set.Binders)) refl (is_binder, (is_where, are_behind)), more_clauses_sorted n (suc k)),
     last_clause_sorted n,
   )
 
   pub flwor_sorted : (n : ℕ) (b : Binder) (v : Made) (us : List Token) → AllOf (IsIn (behind_single at)) us → Sorts (flwor at n b v) us
-  unfolding flwor more_clauses clause last_clause operator
+  unfolding flwor more_clauses clause last_clause operator order_clause ordered
   flwor_sorted n b v us f = (
     tt,
     (
-      bindings_sorted n b (first_bound at) (behind_clause (one_of set.Binders)) (λ vs. first_bound_sorted vs) refl (is_binder, (is_where, (is_return, tt))),
-      (more_clauses_sorted n 63, ((tt, tt), f)),
+      bindings_sorted n b (first_bound at) (behind_clause (one_of set.Binders)) (λ vs. first_bound_sorted vs) refl (is_binder, (is_where, are_behind)),
+      (more_clauses_sorted n 63, (order_clause_sorted at right n, ((tt, tt), f))),
     ),
   )

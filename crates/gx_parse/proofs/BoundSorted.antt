@@ -6,9 +6,7 @@ use Rattle.gx_grammar.specs.Grammar.{empty}
 use Rattle.gx_grammar.specs.Opening.{open_token, open_first, open_made}
 use Rattle.gx_grammar.specs.First.{AllOf, AreApart, AreFronts, IsSorted}
 use Rattle.gx_grammar.specs.Apart.{all_apart, is, shape_begins}
-use Rattle.gx_grammar.proofs.ByCharacter.{character_chooses}
-use Rattle.gx_grammar.proofs.ByTokens.{tokens_choose}
-use Rattle.gx_grammar.proofs.Apart.{computed_apart, computed_heads}
+use Rattle.gx_grammar.proofs.PublicLaws.{character_chooses, computed_apart, computed_heads, tokens_choose}
 use Rattle.gx_parse.specs.declared.word.Word.TheVariants as word
 use Rattle.gx_parse.specs.declared.word.WordSet.TheVariants as set
 use Rattle.gx_parse.specs.Tokens.{Token, one_of, shape_of}

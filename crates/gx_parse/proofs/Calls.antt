@@ -8,7 +8,7 @@ use Rattle.gx_grammar.specs.Apart.{is}
 use Rattle.gx_grammar.specs.First.{by_character}
 use Rattle.gx_grammar.specs.Reading.{State, Reading}
 use Rattle.gx_grammar.specs.Ran.{Standing, Going, GaveUp, Lost, Ran, Looked, Loses, left_of}
-use Rattle.gx_grammar.proofs.Ran.{ran_idle, ran_none, ran_item, ran_full}
+use Rattle.gx_grammar.proofs.PublicLaws.{ran_full, ran_idle, ran_item, ran_none}
 use Rattle.gx_parse.specs.declared.word.Word.TheVariants as word
 use Rattle.gx_parse.specs.Nodes.{Made, Arguments, arguments_value, second_value, trees_in, tree}
 use Rattle.gx_parse.specs.Grammar.{Phrase, word_of, lexeme, at_tokens, single, arguments, arguments_in, more_arguments, place_in}

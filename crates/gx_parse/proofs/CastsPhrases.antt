@@ -5,7 +5,7 @@ use Rattle.gx_ast.specs.SyntaxTree.{SyntaxTree}
 use Rattle.gx_grammar.specs.Value.{nothing, node, pair}
 use Rattle.gx_grammar.specs.Grammar.{empty, ◌&◌, choose, made}
 use Rattle.gx_grammar.specs.Ran.{Standing, Ran, Looked, IsDone}
-use Rattle.gx_grammar.proofs.Ran.{ran_idle}
+use Rattle.gx_grammar.proofs.PublicLaws.{ran_idle}
 use Rattle.gx_parse.specs.declared.word.Word.{Word}
 use Rattle.gx_parse.specs.declared.word.Word.TheVariants as word
 use Rattle.gx_parse.specs.declared.word.WordSet.{WordSet}

@@ -6,9 +6,8 @@ use Rattle.gx_grammar.specs.Grammar.{empty}
 use Rattle.gx_grammar.specs.Opening.{open_token, open_first, open_made}
 use Rattle.gx_grammar.specs.First.{AllOf, AreApart, AreFronts, IsSorted}
 use Rattle.gx_grammar.specs.Apart.{all_apart, shapes_apart}
-use Rattle.gx_grammar.proofs.ByTokens.{tokens_choose}
-use Rattle.gx_grammar.proofs.Apart.{computed_apart}
-use Rattle.gx_grammar.proofs.Tokens.{and_parts}
+use Rattle.std.proofs.lemmas.Bool.{and_parts}
+use Rattle.gx_grammar.proofs.PublicLaws.{computed_apart, tokens_choose}
 use Rattle.gx_parse.specs.declared.word.Word.TheVariants as word
 use Rattle.gx_parse.specs.declared.casts.TypeTest.{TypeTest}
 use Rattle.gx_parse.specs.declared.casts.TypeTest.TheVariants as test

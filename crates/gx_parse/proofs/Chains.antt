@@ -6,7 +6,7 @@ use Rattle.gx_grammar.specs.Value.{nothing, node, pair}
 use Rattle.gx_grammar.specs.Grammar.{Guard, empty, ◌&◌, choose, made}
 use Rattle.gx_grammar.specs.Reading.{State, Refusal, Reading, go_on, notes, read_with}
 use Rattle.gx_grammar.specs.Ran.{Standing, Going, GaveUp, Lost, Ran, Looked, IsDone, Loses}
-use Rattle.gx_grammar.proofs.Ran.{ran_looked, ran_map, ran_right, ran_empty}
+use Rattle.gx_grammar.proofs.PublicLaws.{ran_empty, ran_looked, ran_map, ran_right}
 use Rattle.gx_parse.specs.declared.word.Word.{Word}
 use Rattle.gx_parse.specs.declared.members.Members.{Members}
 use Rattle.gx_parse.specs.declared.members.Members.TheVariants.{Operands}

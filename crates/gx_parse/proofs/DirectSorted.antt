@@ -8,9 +8,7 @@ use Rattle.gx_grammar.specs.Tokens.{IsFrontOf}
 use Rattle.gx_grammar.specs.First.{AllOf, IsIn, AreApart, HasHead, IsSorted, Stands, first_of, first_behind, head_passes}
 use Rattle.gx_grammar.specs.Opening.{Opens, open_left, open_right, open_first, open_made, open_token}
 use Rattle.gx_grammar.specs.Apart.{all_apart, is}
-use Rattle.gx_grammar.proofs.ByCharacter.{character_chooses, character_repeats}
-use Rattle.gx_grammar.proofs.ByTokens.{tokens_choose, tokens_repeat}
-use Rattle.gx_grammar.proofs.Apart.{computed_apart, computed_heads, computed_words, apart_by_heads}
+use Rattle.gx_grammar.proofs.PublicLaws.{apart_by_heads, character_chooses, character_repeats, computed_apart, computed_heads, computed_words, tokens_choose, tokens_repeat}
 use Rattle.gx_parse.specs.declared.word.Word.TheVariants as word
 use Rattle.gx_parse.specs.declared.runs.Quote.{Quote}
 use Rattle.gx_parse.specs.declared.runs.Quote.TheVariants as quote

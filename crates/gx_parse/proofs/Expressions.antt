@@ -9,7 +9,7 @@ use Rattle.gx_grammar.specs.Apart.{is}
 use Rattle.gx_grammar.specs.First.{by_character}
 use Rattle.gx_grammar.specs.Reading.{State, Reading, go_on, read_with, repeat}
 use Rattle.gx_grammar.specs.Ran.{Standing, Going, GaveUp, Lost, Ran, Looked, IsDone, Loses, Makes, left_of}
-use Rattle.gx_grammar.proofs.Ran.{ran_idle, ran_makes, ran_none, ran_item}
+use Rattle.gx_grammar.proofs.PublicLaws.{ran_idle, ran_item, ran_makes, ran_none}
 use Rattle.gx_parse.specs.declared.word.Barrier.TheVariants as barrier
 use Rattle.gx_parse.specs.declared.word.Word.{Word}
 use Rattle.gx_parse.specs.declared.word.Word.TheVariants as word

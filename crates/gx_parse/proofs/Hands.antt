@@ -7,11 +7,11 @@ use Rattle.gx_grammar.specs.First.{head_passes, HasHead, AreApart, Stands}
 use Rattle.gx_grammar.specs.Apart.{is, Spells}
 use Rattle.gx_grammar.specs.Words.{spellings}
 use Rattle.gx_grammar.specs.Fitting.{fault_of}
-use Rattle.gx_grammar.proofs.Tokens.{and_parts}
+use Rattle.std.proofs.lemmas.Bool.{and_parts}
+use Rattle.std.proofs.lemmas.Option.{some_pair_parts}
 use Rattle.gx_grammar.specs.Gaps.{Gap, gap_ends, gap_white, comment_begins, comment_ends, comment_goes_on, OpensGap, opens_end, opens_paren, opens_white, opens_begin, opens_close, opens_on}
 use Rattle.gx_grammar.specs.Joined.{AreJoined}
 use Rattle.gx_grammar.specs.Tokens.{IsFrontOf, all_pass, opens_name}
-use Rattle.gx_grammar.proofs.Unique.{same_some}
 use Rattle.gx_parse.specs.declared.word.WordSet.TheVariants as set
 use Rattle.gx_parse.specs.Characters.{is_digit, is_name_start, is_char}
 use Rattle.gx_parse.specs.Words.{words_of}
@@ -171,7 +171,7 @@ module _ (at : ℕ → Place) where
   gaps_never x (inl d) (inl e) =
       let a = d.2 in
       let b = e.2 in
-      let s = same_some (a.front, a.between) (b.front, b.between) (sym (gap_lawful.complete a.front x a.between a.begins) ∙ gap_lawful.complete b.front x b.between b.begins) in
+      let s = some_pair_parts a.front b.front a.between b.between (sym (gap_lawful.complete a.front x a.between a.begins) ∙ gap_lawful.complete b.front x b.between b.begins) in
       let f : head_passes (is 40) b.between ≡ true = ap (head_passes (is 40)) (sym s.1 ∙ a.ends.spelled) in
       let g : head_passes (is 40) b.between ≡ false = ap (head_passes (is 40)) b.ends.spelled ∙ b.ends.ended in
       absurd (cc (f, g))
@@ -193,7 +193,7 @@ module _ (at : ℕ → Place) where
 
   both_gaps : (P Q : Made → List ℕ → List ℕ → Type 0) → ((v w : Made) (y z u : List ℕ) → P v y z → Q w y u → ⊥) → (v w : Made) (x y z : List ℕ) → AreJoined IsGapHere P no_value v x y → AreJoined IsGapHere Q no_value w x z → ⊥
   both_gaps P Q f v w x y z a b =
-      let s = same_some (a.front, a.between) (b.front, b.between) (sym (gap_lawful.complete a.front x a.between a.begins) ∙ gap_lawful.complete b.front x b.between b.begins) in
+      let s = some_pair_parts a.front b.front a.between b.between (sym (gap_lawful.complete a.front x a.between a.begins) ∙ gap_lawful.complete b.front x b.between b.begins) in
       f a.back b.back b.between y z (subst (λ q. P a.back q y) s.1 a.ends) b.ends
 
   dollar_or_open : (x : List ℕ) → Stands {Node = Node} derives faults gap_then_dollar x → Stands {Node = Node} derives faults gap_then_open x → ⊥

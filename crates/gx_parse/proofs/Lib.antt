@@ -5,6 +5,7 @@ pub mod Sorted
 pub mod GapSteps
 pub mod Finding
 pub mod NameScans
+pub mod NameTables
 pub mod NumberScans
 pub mod Chains
 pub mod Phrases
@@ -21,6 +22,9 @@ pub mod CastsPhrases
 pub mod CastsSorted
 pub mod BoundPhrases
 pub mod BoundSorted
+pub mod KeysSorted
+pub mod KeysRanks
+pub mod KeysPhrases
 pub mod ReferenceTokens
 pub mod StringsSorted
 pub mod NodeTestsSorted

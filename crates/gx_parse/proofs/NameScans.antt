@@ -9,7 +9,8 @@ use Rattle.gx_grammar.specs.Value.{nothing, characters, pair}
 use Rattle.gx_grammar.specs.First.{head_passes}
 use Rattle.gx_grammar.specs.Tokens.{run_of, behind_run, unless_passes, scan_run, scan_name, seen_name, seen_word}
 use Rattle.gx_grammar.specs.Joined.{with_front, scan_behind, seen_behind}
-use Rattle.gx_grammar.proofs.Tokens.{run_short, and_parts}
+use Rattle.std.proofs.lemmas.Bool.{and_parts}
+use Rattle.gx_grammar.proofs.PublicLaws.{run_short}
 use Rattle.gx_parse.specs.Characters.{is_name_start, is_name_character, no_character}
 use Rattle.gx_parse.specs.Nodes.{Made}
 use Rattle.gx_parse.specs.Names.{colon_seen, part_made}

@@ -7,9 +7,7 @@ use Rattle.gx_grammar.specs.Opening.{open_token, open_first, open_made}
 use Rattle.gx_grammar.specs.Levels.{takes_some}
 use Rattle.gx_grammar.specs.First.{AllOf, first_of, HasHead, AreFronts, IsSorted, by_character}
 use Rattle.gx_grammar.specs.Apart.{is, shape_begins, words_begin}
-use Rattle.gx_grammar.proofs.ByCharacter.{character_chooses}
-use Rattle.gx_grammar.proofs.ByTokens.{tokens_choose}
-use Rattle.gx_grammar.proofs.Apart.{computed_apart, computed_heads, computed_words}
+use Rattle.gx_grammar.proofs.PublicLaws.{character_chooses, computed_apart, computed_heads, computed_words, tokens_choose}
 use Rattle.gx_parse.specs.declared.word.Word.TheVariants as word
 use Rattle.gx_parse.specs.declared.kind_words.KindWord.{KindWord}
 use Rattle.gx_parse.specs.declared.kind_words.KindWord.TheVariants as kind

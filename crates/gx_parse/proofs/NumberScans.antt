@@ -9,7 +9,8 @@ use Rattle.gx_grammar.specs.Tokens.{all_pass, run_of, behind_run, seen_name}
 use Rattle.gx_grammar.specs.Joined.{with_front, scan_behind, seen_behind}
 use Rattle.gx_grammar.specs.Fitting.{keep_fitting, fault_of}
 use Rattle.gx_grammar.specs.Apart.{is}
-use Rattle.gx_grammar.proofs.Tokens.{run_whole, run_passes, run_short, and_parts}
+use Rattle.std.proofs.lemmas.Bool.{and_parts}
+use Rattle.gx_grammar.proofs.PublicLaws.{run_passes, run_short, run_whole}
 use Rattle.gx_parse.specs.Characters.{is_digit, no_character}
 use Rattle.gx_parse.specs.Nodes.{Node, Made}
 use Rattle.gx_parse.specs.Numeral.{together, scan_digits, scan_fraction, scan_with_fraction, scan_pointed, seen_numeral, has_digit, any_digit, is_small, is_right, number_of, number_or_zero, scan_literal, scan_numeral}

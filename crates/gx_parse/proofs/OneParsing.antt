@@ -11,7 +11,7 @@ use Rattle.gx_grammar.specs.Decoding.{IsUnreadableAt}
 use Rattle.gx_grammar.specs.Places.{place_at}
 use Rattle.gx_grammar.specs.Text.{IsVerdict}
 use Rattle.gx_grammar.specs.Reading.{Refusal, Unfit, Faulty, TooDeep}
-use Rattle.gx_grammar.proofs.Text.{same_verdict}
+use Rattle.gx_grammar.proofs.PublicLaws.{same_verdict}
 use Rattle.gx_parse.specs.declared.parser.SyntaxRule.{SyntaxRule}
 use Rattle.gx_parse.specs.declared.parser.SyntaxRule.TheVariants.{NotUtf8, Syntax, TooNested, LiteralTooLarge, BadReference}
 use Rattle.gx_parse.specs.Nodes.{Made, Tree}

@@ -6,7 +6,7 @@ use Rattle.gx_grammar.specs.Value.{nothing, node, pair}
 use Rattle.gx_grammar.specs.Grammar.{Guard, token, empty, ◌&◌, keyed, choose, rule, made}
 use Rattle.gx_grammar.specs.Reading.{State, Reading, go_on, read_with}
 use Rattle.gx_grammar.specs.Ran.{Standing, Going, GaveUp, Lost, Ran, Looked, IsDone, Loses, Makes, left_of}
-use Rattle.gx_grammar.proofs.Ran.{ran_both, ran_keyed, ran_empty, ran_left, ran_right, ran_made, ran_map}
+use Rattle.gx_grammar.proofs.PublicLaws.{ran_both, ran_empty, ran_keyed, ran_left, ran_made, ran_map, ran_right}
 use Rattle.gx_num.specs.declared.Number.{Number}
 use Rattle.gx_parse.specs.declared.word.Barrier.{Barrier}
 use Rattle.gx_parse.specs.declared.word.Word.{Word}

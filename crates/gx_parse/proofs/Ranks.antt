@@ -3,7 +3,7 @@ use Rattle.std.proofs.Common.{◌≡◌, ℕ, zero, suc, ◌<◌, Bool, true, fa
 use Rattle.gx_base.specs.declared.place.Place.{Place}
 use Rattle.gx_grammar.specs.Grammar.{token, ◌&◌, keyed, choose, rule, made}
 use Rattle.gx_grammar.specs.Levels.{HasRanksBelow, IsShielded, IsLevelled}
-use Rattle.gx_grammar.proofs.Levels.{below_shields}
+use Rattle.gx_grammar.proofs.PublicLaws.{below_shields}
 use Rattle.gx_parse.specs.declared.word.Barrier.{Barrier}
 use Rattle.gx_parse.specs.declared.word.Barrier.TheVariants as barrier
 use Rattle.gx_parse.specs.declared.word.Word.TheVariants as word

@@ -8,8 +8,7 @@ use Rattle.gx_grammar.specs.Tokens.{behind_run, run_of, behind_common, strip, se
 use Rattle.gx_grammar.specs.Walks.{Walk, reached, walk_of, behind_walk, head_goes}
 use Rattle.gx_grammar.specs.Joined.{with_front, scan_behind, seen_behind}
 use Rattle.gx_grammar.specs.Fitting.{keep_fitting}
-use Rattle.gx_grammar.proofs.Tokens.{run_short}
-use Rattle.gx_grammar.proofs.Walks.{walk_short}
+use Rattle.gx_grammar.proofs.PublicLaws.{run_short, walk_short}
 use Rattle.gx_parse.specs.declared.runs.Radix.{Radix}
 use Rattle.gx_parse.specs.Characters.{lies, is_char, no_character}
 use Rattle.gx_parse.specs.Nodes.{Made}

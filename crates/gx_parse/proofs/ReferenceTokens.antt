@@ -7,12 +7,8 @@ use Rattle.gx_grammar.specs.Walks.{all_walk, opens_walk, seen_walk}
 use Rattle.gx_grammar.specs.Words.{scan_one_of}
 use Rattle.gx_grammar.specs.Joined.{scan_behind}
 use Rattle.gx_grammar.specs.Apart.{is}
-use Rattle.gx_grammar.proofs.Tokens.{lawful_word, and_parts}
-use Rattle.gx_grammar.proofs.Walks.{lawful_walk}
-use Rattle.gx_grammar.proofs.Joined.{lawful_joined}
-use Rattle.gx_grammar.proofs.Fitting.{lawful_fitting}
-use Rattle.gx_grammar.proofs.Either.{lawful_either, lawful_mapped}
-use Rattle.gx_grammar.proofs.Words.{lawful_one_of}
+use Rattle.std.proofs.lemmas.Bool.{and_parts}
+use Rattle.gx_grammar.proofs.PublicLaws.{lawful_either, lawful_fitting, lawful_joined, lawful_mapped, lawful_one_of, lawful_walk, lawful_word}
 use Rattle.gx_parse.specs.declared.runs.Radix.{Radix}
 use Rattle.gx_parse.specs.declared.runs.Radix.TheVariants as radix
 use Rattle.gx_parse.specs.Characters.{is_digit, no_character}

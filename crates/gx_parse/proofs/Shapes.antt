@@ -11,8 +11,8 @@ use Rattle.gx_grammar.specs.Fitting.{fault_of, fault_where}
 use Rattle.gx_grammar.specs.Laws.{LawfulTokens}
 use Rattle.gx_grammar.specs.Levels.{AreTakings}
 use Rattle.gx_grammar.specs.Apart.{Spells, HasShape, is}
-use Rattle.gx_grammar.proofs.Tokens.{lawful_tokens, and_parts}
-use Rattle.gx_grammar.proofs.Words.{one_of_spells, one_of_opened, one_of_opening}
+use Rattle.std.proofs.lemmas.Bool.{and_parts}
+use Rattle.gx_grammar.proofs.PublicLaws.{lawful_tokens, one_of_opened, one_of_opening, one_of_spells}
 use Rattle.gx_parse.specs.declared.word.WordSet.{WordSet}
 use Rattle.gx_parse.specs.Characters.{is_digit, is_name_start, is_name_character, is_char, no_character}
 use Rattle.gx_parse.specs.Words.{words_of}

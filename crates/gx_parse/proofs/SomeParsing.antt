@@ -16,7 +16,7 @@ use Rattle.gx_grammar.specs.First.{head_passes}
 use Rattle.gx_grammar.specs.Places.{place_at}
 use Rattle.gx_grammar.specs.Text.{IsVerdict, IsFaulty, read_text}
 use Rattle.gx_grammar.specs.Reading.{Refusal, Unfit, Faulty, TooDeep}
-use Rattle.gx_grammar.proofs.Decoding.{unreadable_at}
+use Rattle.gx_grammar.proofs.PublicLaws.{unreadable_at}
 use Rattle.gx_parse.specs.declared.parser.SyntaxRule.TheVariants.{NotUtf8, Syntax, TooNested, LiteralTooLarge, BadReference}
 use Rattle.gx_parse.specs.declared.runs.Radix.TheVariants as radix
 use Rattle.gx_parse.specs.Numeral.{is_small, scan_literal}

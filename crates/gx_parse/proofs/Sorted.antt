@@ -9,11 +9,8 @@ use Rattle.gx_grammar.specs.Levels.{takes_some, AreTakings}
 use Rattle.gx_grammar.specs.Text.{IsReadable}
 use Rattle.gx_grammar.specs.First.{by_character, IsIn, AllOf, first_of, first_behind, head_passes, HasHead, AreApart, Stands, AreFronts, IsSorted, CharacterChooses}
 use Rattle.gx_grammar.specs.Apart.{Shape, HasShape, all_apart, is, shape_begins, words_begin}
-use Rattle.gx_grammar.proofs.Tokens.{and_parts}
-use Rattle.gx_grammar.proofs.ByCharacter.{character_chooses}
-use Rattle.gx_grammar.proofs.ByTokens.{tokens_choose, tokens_repeat}
-use Rattle.gx_grammar.proofs.Apart.{computed_apart, computed_heads, computed_words, apart_by_heads}
-use Rattle.gx_grammar.proofs.Sorted.{sorted_readable}
+use Rattle.std.proofs.lemmas.Bool.{and_parts}
+use Rattle.gx_grammar.proofs.PublicLaws.{apart_by_heads, character_chooses, computed_apart, computed_heads, computed_words, sorted_readable, tokens_choose, tokens_repeat}
 use Rattle.gx_parse.specs.declared.word.Barrier.TheVariants as barrier
 use Rattle.gx_parse.specs.declared.word.Word.{Word}
 use Rattle.gx_parse.specs.declared.word.Word.TheVariants as word

@@ -8,7 +8,7 @@ use Rattle.gx_grammar.specs.First.{by_character, scans_any, seen_any}
 use Rattle.gx_grammar.specs.Apart.{is}
 use Rattle.gx_grammar.specs.Reading.{State, Reading, taken}
 use Rattle.gx_grammar.specs.Ran.{Standing, Going, GaveUp, Lost, Ran, Looked, Loses, left_of}
-use Rattle.gx_grammar.proofs.Ran.{ran_none, ran_item, ran_full}
+use Rattle.gx_grammar.proofs.PublicLaws.{ran_full, ran_item, ran_none}
 use Rattle.gx_grammar.specs.Words.{IsOneOf}
 use Rattle.gx_parse.specs.declared.word.Word.{Word}
 use Rattle.gx_parse.specs.declared.word.WordSet.TheVariants as set

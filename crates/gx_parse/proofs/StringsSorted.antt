@@ -4,9 +4,7 @@ use Rattle.gx_base.specs.declared.place.Place.{Place}
 use Rattle.gx_grammar.specs.First.{HasHead, AreFronts, IsSorted}
 use Rattle.gx_grammar.specs.Opening.{open_left, open_right, open_token}
 use Rattle.gx_grammar.specs.Apart.{all_apart, is}
-use Rattle.gx_grammar.proofs.ByCharacter.{character_chooses}
-use Rattle.gx_grammar.proofs.ByTokens.{tokens_repeat}
-use Rattle.gx_grammar.proofs.Apart.{computed_apart, computed_heads}
+use Rattle.gx_grammar.proofs.PublicLaws.{character_chooses, computed_apart, computed_heads, tokens_repeat}
 use Rattle.gx_parse.specs.declared.runs.Quote.{Quote}
 use Rattle.gx_parse.specs.declared.runs.Quote.TheVariants as quote
 use Rattle.gx_parse.specs.declared.runs.Run.TheVariants as run

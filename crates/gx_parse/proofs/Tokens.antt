@@ -10,13 +10,8 @@ use Rattle.gx_grammar.specs.Words.{Entry, IsOneOf, OpensOneOf, scan_one_of, seen
 use Rattle.gx_grammar.specs.Joined.{Tells}
 use Rattle.gx_grammar.specs.Fitting.{fault_of, fault_where}
 use Rattle.gx_grammar.specs.Apart.{Spells, OpensWord, all_words_apart, is}
-use Rattle.gx_grammar.proofs.Tokens.{lawful_word, lawful_name, lawful_run, and_parts, head_cut}
-use Rattle.gx_grammar.proofs.Gaps.{lawful_gap}
-use Rattle.gx_grammar.proofs.Words.{lawful_one_of, one_of_spells, one_of_opened, one_of_opening}
-use Rattle.gx_grammar.proofs.Walks.{lawful_walk}
-use Rattle.gx_grammar.proofs.Joined.{lawful_joined, lawful_optional}
-use Rattle.gx_grammar.proofs.Either.{lawful_either}
-use Rattle.gx_grammar.proofs.Fitting.{lawful_fitting, fitting_firm, lawful_barred, lawful_stop}
+use Rattle.std.proofs.lemmas.Bool.{and_parts}
+use Rattle.gx_grammar.proofs.PublicLaws.{fitting_firm, head_cut, lawful_barred, lawful_either, lawful_fitting, lawful_gap, lawful_joined, lawful_name, lawful_one_of, lawful_optional, lawful_run, lawful_stop, lawful_walk, lawful_word, one_of_opened, one_of_opening, one_of_spells}
 use Rattle.gx_parse.specs.declared.word.Word.{Word}
 use Rattle.gx_parse.specs.declared.word.Word.TheVariants as word
 use Rattle.gx_parse.specs.declared.word.Level.TheVariants as level

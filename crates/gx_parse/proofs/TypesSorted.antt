@@ -8,9 +8,7 @@ use Rattle.gx_grammar.specs.First.{IsIn, AllOf, first_of, head_passes, HasHead, 
 use Rattle.gx_grammar.specs.Tokens.{IsFrontOf}
 use Rattle.gx_grammar.specs.Words.{IsOneOf, OpensOneOf}
 use Rattle.gx_grammar.specs.Apart.{all_apart, is}
-use Rattle.gx_grammar.proofs.ByCharacter.{character_chooses}
-use Rattle.gx_grammar.proofs.ByTokens.{tokens_choose}
-use Rattle.gx_grammar.proofs.Apart.{computed_apart, computed_heads}
+use Rattle.gx_grammar.proofs.PublicLaws.{character_chooses, computed_apart, computed_heads, tokens_choose}
 use Rattle.gx_parse.specs.declared.word.Word.TheVariants as word
 use Rattle.gx_parse.specs.declared.kind_words.KindWord.{KindWord}
 use Rattle.gx_parse.specs.declared.kind_words.KindWord.TheVariants as kind

@@ -9,9 +9,7 @@ use Rattle.gx_grammar.specs.Value.{node}
 use Rattle.gx_grammar.specs.Text.{AtEnd, Nowhere, IsVerdict, read_text, whole_only, with_rest}
 use Rattle.gx_grammar.specs.Ran.{Standing, Going, GaveUp, Lost, Ran}
 use Rattle.gx_grammar.specs.Reading.{Refusal, Unfit, Faulty, TooDeep, Reading, start}
-use Rattle.gx_grammar.proofs.Text.{exact_text, same_verdict}
-use Rattle.gx_grammar.proofs.Unique.{unique}
-use Rattle.gx_grammar.proofs.Levels.{never_too_deep}
+use Rattle.gx_grammar.proofs.PublicLaws.{exact_text, never_too_deep, same_verdict, unique}
 use Rattle.gx_parse.specs.Reading.{more_than, call, read_in, refusal_of, Ended}
 use Rattle.gx_parse.specs.Fronts.{fronts}
 use Rattle.gx_parse.specs.declared.parser.SyntaxRule.TheVariants.{NotUtf8, Syntax, TooNested, LiteralTooLarge, BadReference}

@@ -1,11 +1,11 @@
 -- FLWOR expressions.
---   Flwor ::= (For | Let)+ ("where" Single)? "return" Single
+--   Flwor ::= (For | Let)+ ("where" Single)? OrderBy? "return" Single
 --   For ::= "for" Bound ("," Bound)*          Bound ::= Var As? ("at" Var)? "in" Single
 --   Let ::= "let" Given ("," Given)*          Given ::= Var As? ":=" Single
 -- A FLWOR has at most 64 of the clauses `for` and `let`, and each of them at most 64 bindings.
-use Rattle.std.specs.Prelude.{ℕ, zero, suc, ◌+◌, List, [], ◌∷◌, codes, Option, Some, None, false, if◌then◌else◌}
+use Rattle.std.specs.Prelude.{ℕ, zero, suc, ◌+◌, List, [], ◌∷◌, codes, Option, Some, None, if◌then◌else◌}
 use Rattle.gx_base.specs.declared.place.Place.{Place}
-use Rattle.gx_ast.specs.SyntaxTree.{SyntaxTree, Bindings, Clauses, at as located, flwor as flwor_form, no_binding, a_binding, no_clause, for_clause, let_clause, where_clause, no_key}
+use Rattle.gx_ast.specs.SyntaxTree.{SyntaxTree, Bindings, Clauses, at as located, flwor as flwor_form, no_binding, a_binding, no_clause, for_clause, let_clause, where_clause}
 use Rattle.gx_ast.specs.declared.sequence_type.BoundVariable.{BoundVariable}
 use Rattle.gx_grammar.specs.Value.{nothing, node, pair}
 use Rattle.gx_grammar.specs.Grammar.{token, empty, ◌&◌, keyed, choose, rule, made}
@@ -19,6 +19,7 @@ use Rattle.gx_parse.specs.Tokens.{Token, one_of, gap, gap_then_dollar, barred_wo
 use Rattle.gx_parse.specs.Basics.{Phrase, single, word_of, lexeme, at_tokens, operator, is_name}
 use Rattle.gx_parse.specs.Types.{written_name}
 use Rattle.gx_parse.specs.Bound.{bound_value, position_made, bound, bound_type, position}
+use Rattle.gx_parse.specs.Keys.{is_stable, clause_keys, order_clause}
 
 -- the clause that the name begins
 abbrev pub binder_named : Made → Option Binder
@@ -56,9 +57,9 @@ abbrev pub where_value : Made → Made
 where_value (pair (node (Operator place w)) (node (Tree t))) = node (WhereClause place t)
 where_value _ = nothing
 
--- a `$`, the first bindings, the other clauses, `return` and an expression
+-- a `$`, the first bindings, the other clauses, how they are ordered, `return` and an expression
 abbrev pub flwor_value : Binder → Place → Made → Made
-flwor_value b place (pair dollar (pair bs (pair cs (pair w (node (Tree t)))))) = tree (located place (flwor_form (clause_before b place (bindings_in bs) (clauses_in cs)) false no_key t))
+flwor_value b place (pair dollar (pair bs (pair cs (pair order (pair w (node (Tree t))))))) = tree (located place (flwor_form (clause_before b place (bindings_in bs) (clauses_in cs)) (is_stable order) (clause_keys order) t))
 flwor_value b place _ = nothing
 
 -- The place of a token is `at` of the number of characters that are left there.
@@ -106,4 +107,4 @@ module _ (at : ℕ → Place) where
   unfoldable pub flwor : ℕ → Binder → Made → Phrase
   flwor n b v =
       made (λ left u. flwor_value b (at (left + name_length v)) u)
-      (token gap_then_dollar & bindings n b first_bound & more_clauses n 63 & lexeme (word_of word.Return) & rule (single n))
+      (token gap_then_dollar & bindings n b first_bound & more_clauses n 63 & order_clause at n & lexeme (word_of word.Return) & rule (single n))

@@ -19,6 +19,7 @@ pub mod Numbers
 pub mod Parsing
 pub mod Query
 pub mod Bound
+pub mod Keys
 pub mod TextReading
 pub mod Direct
 pub mod Binding

@@ -56,25 +56,7 @@ pub struct TypeTail {
 pub fn kind_word(name: &ReadName) -> Option<KindWord>
     ensures { result ≡ kind_word (name_made name.now) }
 {
-    if name.is("node") {
-        return Some(KindWord::Node);
-    }
-    if name.is("text") {
-        return Some(KindWord::Text);
-    }
-    if name.is("document-node") {
-        return Some(KindWord::Document);
-    }
-    if name.is("element") {
-        return Some(KindWord::Element);
-    }
-    if name.is("attribute") {
-        return Some(KindWord::Attribute);
-    }
-    if name.is("schema-element") {
-        return Some(KindWord::SchemaElement);
-    }
-    None
+    name.among(&KINDS)
 }
 
 /// What the name says at the front of a sequence type.
@@ -150,3 +132,13 @@ pub fn type_of(word: TypeWord, name: QName, tail: TypeTail) -> SequenceType
         TypeWord::Atomic => SequenceType::Items(ItemType::Atomic(name), indicator),
     }
 }
+
+// The names of kind tests.
+const KINDS: [(&str, KindWord); 6] = [
+    ("node", KindWord::Node),
+    ("text", KindWord::Text),
+    ("document-node", KindWord::Document),
+    ("element", KindWord::Element),
+    ("attribute", KindWord::Attribute),
+    ("schema-element", KindWord::SchemaElement),
+];

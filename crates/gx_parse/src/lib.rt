@@ -7,6 +7,7 @@ pub mod casts;
 mod characters;
 mod gap;
 mod indication;
+pub mod keys;
 pub mod kind_words;
 pub mod laws;
 pub mod members;

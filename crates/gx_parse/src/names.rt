@@ -7,7 +7,7 @@ ghost use Rattle.gx_grammar.specs.Value.{characters};
 ghost use Rattle.gx_parse.specs.Binding.{binder_named};
 ghost use Rattle.gx_parse.specs.Characters.{is_name_character, is_name_start};
 ghost use Rattle.gx_parse.specs.Grammar.{is_element_test, is_kind_test, is_name, is_reserved};
-ghost use Rattle.gx_parse.specs.Names.{colon_seen, name_made};
+ghost use Rattle.gx_parse.specs.Names.{colon_seen, name_made, named_in};
 ghost use Rattle.gx_parse.specs.Nodes.{name_at, name_length};
 ghost use Rattle.std.specs.Str.{chars};
 ghost use Rattle.gx_parse.specs.Tokens.{scan_ncname, scan_qname, seen_qname, starts_local_part};
@@ -150,6 +150,19 @@ pub fn find_name(alloc: Global, text: &[char]) -> Result<NameFound<'_>, AllocErr
 }
 
 impl ReadName {
+    /// The value of the first word of the table that is the name, without a prefix.
+    #[tactic(auto, unfolding(crate::specs::Names::named_in))]
+    pub fn among<T: Copy>(&self, table: &[(&str, T)]) -> Option<T>
+        ensures { result ≡ named_in table.now (name_made self.now) }
+    {
+        for (word, value) in table {
+            if self.is(word) {
+                return Some(*value);
+            }
+        }
+        None
+    }
+
     /// Whether the name is this one, without a prefix.
     pub fn is(&self, name: &str) -> bool
         ensures { result ≡ is_name (chars name.now) (name_made self.now) }

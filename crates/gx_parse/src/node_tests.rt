@@ -27,31 +27,7 @@ use gx_base::place::Place;
 pub fn axis_word(name: &ReadName) -> Option<Axis>
     ensures { result ≡ axis_word (name_made name.now) }
 {
-    if name.is("child") {
-        return Some(Axis::Child);
-    }
-    if name.is("descendant") {
-        return Some(Axis::Descendant);
-    }
-    if name.is("descendant-or-self") {
-        return Some(Axis::DescendantOrSelf);
-    }
-    if name.is("self") {
-        return Some(Axis::Itself);
-    }
-    if name.is("attribute") {
-        return Some(Axis::Attribute);
-    }
-    if name.is("parent") {
-        return Some(Axis::Parent);
-    }
-    if name.is("ancestor") {
-        return Some(Axis::Ancestor);
-    }
-    if name.is("ancestor-or-self") {
-        return Some(Axis::AncestorOrSelf);
-    }
-    None
+    name.among(&AXES)
 }
 
 /// The test of a name, with what stands in parentheses behind the name of a kind test (XQuery 1.0, section 3.2.1.2).
@@ -186,3 +162,15 @@ pub fn test_or_literal(reader: &mut Reader<'_>, source: &Source<'_>) -> Expr
     }
     literal(reader, source)
 }
+
+// The names of axes.
+const AXES: [(&str, Axis); 8] = [
+    ("child", Axis::Child),
+    ("descendant", Axis::Descendant),
+    ("descendant-or-self", Axis::DescendantOrSelf),
+    ("self", Axis::Itself),
+    ("attribute", Axis::Attribute),
+    ("parent", Axis::Parent),
+    ("ancestor", Axis::Ancestor),
+    ("ancestor-or-self", Axis::AncestorOrSelf),
+];

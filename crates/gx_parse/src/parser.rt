@@ -1,12 +1,13 @@
 // The parser of queries.
 
-ghost use Rattle.std.specs.Prelude.{◌≡◌, ◌+◌, ◌≤◌, suc, length, IfOk, IfErr};
+ghost use Rattle.std.specs.Prelude.{◌≡◌, ◌+◌, ◌≤◌, ◌∷◌, [], suc, length, IfOk, IfErr};
 ghost use Rattle.gx_ast.specs.SyntaxView.{trees_of};
 ghost use Rattle.gx_grammar.specs.Value.{node, nothing};
 ghost use Rattle.gx_grammar.specs.Grammar.{◌&◌, rule};
-ghost use Rattle.gx_grammar.specs.Ran.{Ran, Standing, left_of};
-ghost use Rattle.gx_parse.specs.Grammar.{Phrase, after_name, arguments, arguments_in, begun, behind_any_name, behind_keyword, condition, expression, filtered_step, ladder, more_arguments, more_predicates, named_single, other_operand, other_step, parenthesised_step, path_from, place_in, predicate, query, signed_path, single, step, step_of};
+ghost use Rattle.gx_grammar.specs.Ran.{Looked, Ran, Standing, left_of};
 ghost use Rattle.gx_parse.specs.Binding.{clause, flwor, last_clause, more_bindings, more_clauses};
+ghost use Rattle.gx_parse.specs.Grammar.{Phrase, after_name, arguments, arguments_in, at_tokens, begun, behind_any_name, behind_keyword, condition, expression, filtered_step, ladder, more_arguments, more_predicates, named_single, other_operand, other_step, parenthesised_step, path_from, place_in, predicate, query, signed_path, single, step, step_of, word_of};
+ghost use Rattle.gx_parse.specs.Keys.{key, key_made, more_keys, order_clause, order_clause_made, ordered};
 ghost use Rattle.gx_parse.specs.Lists.{OneMore, binding_made, clause_made, head_made, items_before};
 ghost use Rattle.gx_parse.specs.Names.{name_made};
 ghost use Rattle.gx_parse.specs.Nodes.{Arguments, Made, name_length, tree};
@@ -14,9 +15,12 @@ ghost use Rattle.gx_parse.specs.Parsing.{Added, Listed, Passes, chain_of, member
 ghost use Rattle.gx_parse.specs.Query.{IsQuery, Parses, RefusesBytes, RefusesText, left_at, parsed, refusal_at, rule_of};
 ghost use Rattle.gx_parse.specs.Reading.{call, read_in};
 ghost use Rattle.gx_parse.specs.Types.{Gave};
+ghost use Rattle.gx_parse.specs.declared.word.Word.TheVariants as word;
 
 use crate::binding::{clause_of, first_head, last_binding, next_head, with_binding, with_clause};
+use crate::bound::key_order;
 use crate::casts::casts;
+use crate::keys::{last_key, with_key};
 use crate::kind_words::kind_word;
 use crate::members::Members;
 use crate::names::ReadName;
@@ -26,7 +30,7 @@ use crate::reader::{End, Reader, Refused};
 use crate::source::Source;
 use crate::trees;
 use crate::word::{Barrier, Binder, Word, WordSet};
-use gx_ast::expression::{Binding, Clause, Expr, ExprNode};
+use gx_ast::expression::{Binding, Clause, Expr, ExprNode, Key};
 use gx_ast::sequence_type::BoundVariable;
 use gx_base::limits::{CHAIN_MEMBERS, FILE_BYTES};
 use gx_base::place::Place;
@@ -563,10 +567,67 @@ fn flwor(
     let first = clause_of(binder, place, list);
     let begun = with_clause(reader, Vec::new(source.alloc()), first);
     let clauses = more_clauses(reader, source, levels, begun);
+    let stable = reader.looks_at(WordSet::Only(Word::Stable));
+    let keys = order_clause(reader, source, levels, stable);
     lexeme(reader, WordSet::Only(Word::Return));
     let returned = single(reader, source, levels);
-    let made = trees::flwor(source.alloc(), place, clauses, returned);
+    let made = trees::flwor(source.alloc(), place, clauses, stable, keys, returned);
     keep(reader, made)
+}
+
+// Reads how a FLWOR is ordered, if that stands there, where `stable` stands first or not.
+#[cycle(parsing)]
+fn order_clause(reader: &mut Reader<'_>, source: &Source<'_>, levels: u8, stable: bool) -> Vec<Key>
+    ensures { (a : Standing) → Looked stable a reader.old (at_tokens (word_of word.Stable ∷ [])) → Ran (order_clause_made stable (items_before key_made result.items nothing)) a reader.new (read_in source.now levels (order_clause (place_in source.now) levels)) }
+{
+    if stable {
+        lexeme(reader, WordSet::Only(Word::Stable));
+        return ordered(reader, source, levels);
+    }
+    if reader.looks_at(WordSet::Only(Word::Order)) {
+        return ordered(reader, source, levels);
+    }
+    Vec::new(source.alloc())
+}
+
+// Reads `order by` and its sort keys.
+#[cycle(parsing)]
+fn ordered(reader: &mut Reader<'_>, source: &Source<'_>, levels: u8) -> Vec<Key>
+    ensures { Ran (items_before key_made result.items nothing) reader.old reader.new (read_in source.now levels (ordered (place_in source.now) levels)) }
+{
+    lexeme(reader, WordSet::Only(Word::Order));
+    lexeme(reader, WordSet::Only(Word::By));
+    let first = key(reader, source, levels);
+    let begun = with_key(reader, Vec::new(source.alloc()), first);
+    more_keys(reader, source, levels, begun)
+}
+
+// Reads further sort keys, each behind a comma.
+#[cycle(parsing)]
+fn more_keys(reader: &mut Reader<'_>, source: &Source<'_>, levels: u8, keys: Vec<Key>) -> Vec<Key>
+    ensures { Added keys.items result.items (λ others. Ran (items_before key_made others nothing) reader.old reader.new (read_in source.now levels (more_keys (place_in source.now) levels 63))) }
+{
+    let mut list = keys;
+    for _ in 0..CHAIN_MEMBERS - 1 {
+        if !reader.looks_at(WordSet::Only(Word::Comma)) {
+            return list;
+        }
+        lexeme(reader, WordSet::Only(Word::Comma));
+        let next = key(reader, source, levels);
+        list = with_key(reader, list, next);
+    }
+    last_key(reader);
+    list
+}
+
+// Reads a sort key.
+#[cycle(parsing)]
+fn key(reader: &mut Reader<'_>, source: &Source<'_>, levels: u8) -> Key
+    ensures { Ran (key_made result) reader.old reader.new (read_in source.now levels (key (place_in source.now) levels)) }
+{
+    let value = single(reader, source, levels);
+    let order = key_order(reader, source);
+    Key { value, order }
 }
 
 // Reads further clauses of `for` and `let`, and then one of `where`, if it stands there.

@@ -1,19 +1,19 @@
 // Trees of their parts.
 
 ghost use Rattle.std.specs.Prelude.{◌≡◌, IfOk, None, false};
-ghost use Rattle.gx_ast.specs.SyntaxTree.{at, binary as binary_form, comma, conditional, flwor as flwor_form, no_key, parenthesised as parenthesised_form, path as path_form, signed as signed_form, string as string_form, variable};
+ghost use Rattle.gx_ast.specs.SyntaxTree.{at, binary as binary_form, comma, conditional, flwor as flwor_form, parenthesised as parenthesised_form, path as path_form, signed as signed_form, string as string_form, variable};
 ghost use Rattle.gx_parse.specs.Nodes.{Found, binary_of, dots_value, is_minus, is_slashes, join_binary, join_comma, join_path, name_at, tree};
 ghost use Rattle.gx_parse.specs.NodeTests.{step_tree, test_of};
 ghost use Rattle.gx_parse.specs.Parsing.{called_tree, filtered_tree, named_tree};
 ghost use Rattle.gx_parse.specs.Names.{name_made};
 ghost use Rattle.gx_grammar.specs.Value.{node, nothing, pair};
-ghost use Rattle.gx_ast.specs.SyntaxView.{clauses_of, trees_of};
+ghost use Rattle.gx_ast.specs.SyntaxView.{clauses_of, keys_of, trees_of};
 
 use crate::kind_words::{KindWord, TestContent};
 use crate::names::ReadName;
 use crate::node_tests::test_of;
 use crate::word::Word;
-use gx_ast::expression::{BinaryOperator, Clause, Expr, ExprNode};
+use gx_ast::expression::{BinaryOperator, Clause, Expr, ExprNode, Key};
 use gx_ast::name::{Axis, NameTest};
 use gx_ast::sequence_type::{AxisStep, NodeTest};
 use gx_base::place::Place;
@@ -149,17 +149,19 @@ pub fn condition(
     Ok(Expr { place, node })
 }
 
-/// A FLWOR without sort keys.
+/// A FLWOR.
 pub fn flwor(
     alloc: Global,
     place: Place,
     clauses: Vec<Clause>,
+    stable: bool,
+    keys: Vec<Key>,
     returned: Expr,
 ) -> Result<Expr, AllocError>
-    ensures { IfOk result (λ e. e ≡ at place (flwor_form (clauses_of clauses.items) false no_key returned)) }
+    ensures { IfOk result (λ e. e ≡ at place (flwor_form (clauses_of clauses.items) stable (keys_of keys.items) returned)) }
 {
     let returned = Box::new(alloc, returned)?;
-    let node = ExprNode::Flwor(clauses, false, Vec::new(alloc), returned);
+    let node = ExprNode::Flwor(clauses, stable, keys, returned);
     Ok(Expr { place, node })
 }
 

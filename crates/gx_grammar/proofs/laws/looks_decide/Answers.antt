@@ -1,4 +1,4 @@
-use Rattle.gx_grammar.proofs.Ran.{ran_left, ran_right, ran_none, ran_item}
+use Rattle.gx_grammar.proofs.Ran.{ran_full, ran_left, ran_right, ran_none, ran_item}
 use Rattle.gx_grammar.proofs.laws.looks_decide.Goals as goal
 
 pub returns-clause-left : goal.returns-clause-left
@@ -12,3 +12,6 @@ returns-clause-stop g c = λ guard item count taken a b e h. ran_none guard item
 
 pub returns-clause-item : goal.returns-clause-item
 returns-clause-item g c = λ guard item count v w taken a b d f e h k l. ran_item guard item count v w taken a b d f e h k l
+
+pub returns-clause-full : goal.returns-clause-full
+returns-clause-full g c = λ guard item a. ran_full guard item a

@@ -1,4 +1,4 @@
-use Rattle.gx_grammar.proofs.Apart.{computed_apart, computed_heads, computed_words}
+use Rattle.gx_grammar.proofs.Apart.{apart_by_heads, computed_apart, computed_heads, computed_words}
 use Rattle.gx_grammar.proofs.laws.spellings_are_apart.Goals as goal
 
 pub returns-clause-apart : goal.returns-clause-apart
@@ -9,3 +9,6 @@ returns-clause-heads g c = λ shape shaped k b ts e. computed_heads g.G.HasLangu
 
 pub returns-clause-words : goal.returns-clause-words
 returns-clause-words g c = λ shape shaped test b ts e. computed_words g.G.HasLanguage.language shape shaped test b ts e
+
+pub returns-clause-heads_differ : goal.returns-clause-heads_differ
+returns-clause-heads_differ g c = λ test b d t u differ h k. apart_by_heads g.G.HasLanguage.language test b d t u differ h k

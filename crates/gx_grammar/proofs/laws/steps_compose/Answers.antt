@@ -1,4 +1,4 @@
-use Rattle.gx_grammar.proofs.Ran.{ran_both, ran_keyed, ran_made}
+use Rattle.gx_grammar.proofs.Ran.{ran_both, ran_empty, ran_keyed, ran_made}
 use Rattle.gx_grammar.proofs.laws.steps_compose.Goals as goal
 
 pub returns-clause-both : goal.returns-clause-both
@@ -9,3 +9,6 @@ returns-clause-keyed g c = λ call t f v w a b d h k. ran_keyed g.G.HasLanguage.
 
 pub returns-clause-made : goal.returns-clause-made
 returns-clause-made g c = λ call f A v a b h. ran_made g.G.HasLanguage.language call f A v a b h
+
+pub returns-clause-nothing : goal.returns-clause-nothing
+returns-clause-nothing g c = λ call a. ran_empty g.G.HasLanguage.language call a

@@ -4,7 +4,7 @@ use Rattle.gx_parse.specs.Grammar.{place_in}
 use Rattle.gx_parse.specs.Reading.{read_in, read_one}
 use Rattle.gx_parse.specs.Tokens.{gap}
 use Rattle.gx_parse.specs.NodeTests.{test_made, wildcard}
-use Rattle.gx_grammar.proofs.Ran.{ran_idle}
+use Rattle.gx_grammar.proofs.PublicLaws.{ran_idle}
 use Rattle.gx_parse.proofs.TypesPhrases.{gave_none}
 use Rattle.gx_parse.proofs.NodeTestsPhrases.{any_read, local_read}
 use Rattle.gx_parse.proofs.node_tests.wildcard.Goals as goal

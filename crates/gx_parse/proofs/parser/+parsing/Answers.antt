@@ -1,5 +1,5 @@
 use Rattle.std.specs.Str.{chars}
-use Rattle.gx_ast.specs.SyntaxView.{clauses_of, trees_of}
+use Rattle.gx_ast.specs.SyntaxView.{clauses_of, keys_of, trees_of}
 use Rattle.std.proofs.Common.{Bool, codes, if◌then◌else◌, ◌≡◌, ◌+◌, ◌-◌, ℕ, suc, zero, refl, sym, ap, subst, ◌∙◌, arith, [], ◌∷◌, ◌++◌, Option, Some, None, inl, inr, false, append-nil}
 use Rattle.gx_ast.specs.declared.expression.Clause.TheVariants.{Where}
 use Rattle.gx_grammar.specs.Value.{node, nothing, pair}
@@ -8,13 +8,14 @@ use Rattle.gx_grammar.specs.Ran.{Ran, Makes}
 use Rattle.gx_parse.specs.Nodes.{Arguments, Made, name_at, name_length, tree}
 use Rattle.gx_parse.specs.Bound.{bound}
 use Rattle.gx_parse.specs.Binding.{clause, first_bound, flwor, head, last_clause, more_bindings, more_clauses}
+use Rattle.gx_parse.specs.Keys.{key, key_made, more_keys}
 use Rattle.gx_parse.specs.Lists.{Grown, binding_made, clause_made, head_made, items_before}
 use Rattle.gx_parse.specs.Names.{name_made}
 use Rattle.gx_parse.specs.Grammar.{after_axis, filtered_step, more_predicates, path_from, step_of, step_value, is_name, behind_keyword, named_single, more_arguments, other_step, at_tokens, begun, behind_any_name, behind_plain_name, condition, ladder, other_operand, parenthesised_step, place_in, single, step}
 use Rattle.gx_parse.specs.Tokens.{gap, gap_then_open, gap_not_open, gap_then_dollar}
 use Rattle.gx_parse.specs.declared.members.Members.TheVariants.{Steps}
-use Rattle.gx_ast.specs.SyntaxTree.{at, conditional, flwor as flwor_form, no_key, parenthesised}
-use Rattle.gx_grammar.proofs.Ran.{ran_idle}
+use Rattle.gx_ast.specs.SyntaxTree.{at, conditional, flwor as flwor_form, parenthesised}
+use Rattle.gx_grammar.proofs.PublicLaws.{ran_idle}
 use Rattle.gx_parse.specs.Reading.{call, read_in}
 use Rattle.gx_parse.specs.Parsing.{Added, Listed, filtered_tree, named_tree, called_tree, most_of, read_chain, chain_of, member_of, wrapped}
 use Rattle.gx_parse.proofs.Chains.{ran_any, ran_keeps, chain_full}
@@ -27,6 +28,7 @@ use Rattle.gx_parse.proofs.Steps.{any_name_is, axis_step_read, call_after, filte
 use Rattle.gx_parse.proofs.Calls.{arguments_read, arguments_none, arguments_some, arguments_lost, items_begin, items_end, items_more, items_full, items_lost}
 use Rattle.gx_parse.proofs.Expressions.{named_other, named_flwor, named_keyword, keyword_plain, keyword_called, operand_signed, operand_other, ladder_next, ladder_none, looked_left, begun_other, begun_condition, begun_plain, plain_read, condition_read, nothing_inside, inner_read, signed_read, expression_read, no_single, single_other, single_named, step_other, step_named, path_read, chain_read, no_more, one_more, step_variable, step_parenthesised, step_dots, step_literal}
 use Rattle.gx_parse.proofs.Lists.{one_grown, gone_start, gone_step, gone_end, gone_last, one_added}
+use Rattle.gx_parse.proofs.KeysPhrases.{key_read, keys_none, keys_more, ordered_read, stable_read, unstable_read, unordered_read}
 use Rattle.gx_parse.proofs.BindingPhrases.{binding_read, binding_stops, bindings_read, bindings_none, bindings_more, clause_read, where_part, where_read, no_where, a_where, clauses_none, clauses_more, clauses_full, clauses_end, flwor_read}
 use Rattle.gx_parse.proofs.parser.+parsing.Goals as goal
 
@@ -149,13 +151,63 @@ keyword_step-returns t c =
 
 pub flwor-returns : goal.flwor-returns
 flwor-returns t c = λ v e.
-    ran_keeps c.keep.result (at c.args.place (flwor_form (clauses_of c.more_clauses-clauses.result.items) false no_key c.single-returned.result)) c.flwor-made.result c.args.reader.now c.single-returned.new.reader c.keep.new.reader (read_in c.args.source.now c.args.levels (flwor (place_in c.args.source.now) c.args.levels c.args.binder v))
-    (flwor_read c.args.source.now c.args.levels c.args.binder v _ c.args.place c.bindings-list.result.items c.clause_of-first.result c.with_clause-begun.result.items c.more_clauses-clauses.result.items c.single-returned.result
-    c.args.reader.now c.dollar.new.self c.bindings-list.new.reader c.with_clause-begun.new.reader c.more_clauses-clauses.new.reader c.lexeme.new.reader c.single-returned.new.reader e c.dollar.ensures
+    ran_keeps c.keep.result (at c.args.place (flwor_form (clauses_of c.more_clauses-clauses.result.items) c.looks_at-stable.result (keys_of c.order_clause-keys.result.items) c.single-returned.result)) c.flwor-made.result c.args.reader.now c.single-returned.new.reader c.keep.new.reader
+    (read_in c.args.source.now c.args.levels (flwor (place_in c.args.source.now) c.args.levels c.args.binder v))
+    (flwor_read c.args.source.now c.args.levels c.args.binder v _ c.args.place c.bindings-list.result.items c.clause_of-first.result c.with_clause-begun.result.items c.more_clauses-clauses.result.items c.looks_at-stable.result c.order_clause-keys.result.items c.single-returned.result
+    c.args.reader.now c.dollar.new.self c.bindings-list.new.reader c.with_clause-begun.new.reader c.more_clauses-clauses.new.reader c.order_clause-keys.new.reader c.lexeme.new.reader c.single-returned.new.reader e c.dollar.ensures
     (c.bindings-list.ensures (head (place_in c.args.source.now) c.args.binder (first_bound (place_in c.args.source.now))) c.dollar.new.self (c.first_head-head.ensures c.args.levels)) c.clause_of-first.ensures
     (subst (λ us. Grown us c.clause_of-first.result c.with_clause-begun.result.items c.bindings-list.new.reader c.with_clause-begun.new.reader) c.new.ensures.items c.with_clause-begun.ensures)
-    c.more_clauses-clauses.ensures (c.lexeme.ensures c.args.source.now c.args.levels) c.single-returned.ensures)
+    c.more_clauses-clauses.ensures (c.order_clause-keys.ensures c.more_clauses-clauses.new.reader c.looks_at-stable.ensures) (c.lexeme.ensures c.args.source.now c.args.levels) c.single-returned.ensures)
     c.flwor-made.ensures c.keep.ensures
+
+pub order_clause-returns-then-stable : goal.order_clause-returns-then-stable
+order_clause-returns-then-stable t c = λ a h.
+    stable_read c.args.source.now c.args.levels c.args.stable _ (items_before key_made c.ordered.result.items nothing) a c.args.reader.now c.lexeme.new.reader c.ordered.new.reader c.if-stable.true h (c.lexeme.ensures c.args.source.now c.args.levels) c.ordered.ensures
+
+pub order_clause-returns-then-looks_at : goal.order_clause-returns-then-looks_at
+order_clause-returns-then-looks_at t c = λ a h.
+    unstable_read c.args.source.now c.args.levels c.args.stable c.looks_at.result (items_before key_made c.ordered-then-looks_at.result.items nothing) a c.args.reader.now c.looks_at.new.self c.ordered-then-looks_at.new.reader c.if-stable.false h c.if-looks_at.true c.looks_at.ensures c.ordered-then-looks_at.ensures
+
+pub order_clause-returns : goal.order_clause-returns
+order_clause-returns t c = λ a h. unordered_read c.args.source.now c.args.levels c.args.stable c.looks_at.result c.new.result.items a c.args.reader.now c.looks_at.new.self c.if-stable.false h c.if-looks_at.false c.looks_at.ensures c.new.ensures.items
+
+pub ordered-returns : goal.ordered-returns
+ordered-returns t c =
+    let text = c.args.source.now in
+    let n = c.args.levels in
+    let item = read_in text n (key (place_in text) n) in
+    ordered_read text n _ _ c.new.result.items c.with_key-begun.result.items c.more_keys.result.items c.args.reader.now c.lexeme.new.reader c.lexeme-2.new.reader c.with_key-begun.new.reader c.more_keys.new.reader (c.lexeme.ensures text n) (c.lexeme-2.ensures text n) c.new.ensures.items
+    (one_grown key_made c.new.result.items c.with_key-begun.result.items c.key-first.result c.lexeme-2.new.reader c.key-first.new.reader c.with_key-begun.new.reader item c.key-first.ensures c.with_key-begun.ensures) c.more_keys.ensures
+
+pub more_keys-loop-init : goal.more_keys-loop-init
+more_keys-loop-init t c = gone_start key_made c.args.keys.items c.args.reader.now _ _ (λ w z h. h)
+
+pub more_keys-returns-then-not-looks_at : goal.more_keys-returns-then-not-looks_at
+more_keys-returns-then-not-looks_at t c =
+    let text = c.args.source.now in
+    let n = c.args.levels in
+    gone_end key_made c.args.keys.items c.loop.list.items c.args.reader.now c.loop.reader c.looks_at.new.self (read_in text n (more_keys (place_in text) n 63)) (read_in text n (more_keys (place_in text) n (63 - c.loop.counter))) c.loop.invariant
+    (keys_none text n (63 - c.loop.counter) c.looks_at.result c.loop.reader c.looks_at.new.self c.if-not-looks_at.true c.looks_at.ensures)
+
+pub more_keys-loop-preserved : goal.more_keys-loop-preserved
+more_keys-loop-preserved t c =
+    let text = c.args.source.now in
+    let n = c.args.levels in
+    let item = read_in text n (key (place_in text) n) in
+    gone_step key_made c.args.keys.items c.loop.list.items c.with_key-list.result.items c.args.reader.now c.loop.reader c.lexeme.new.reader c.with_key-list.new.reader (read_in text n (more_keys (place_in text) n 63)) (read_in text n (more_keys (place_in text) n (63 - c.loop.counter))) item
+    (read_in text n (more_keys (place_in text) n (63 - (c.loop.counter + 1)))) c.loop.invariant
+    (λ v w z h k. keys_more text n (63 - c.loop.counter) (63 - (c.loop.counter + 1)) _ v w c.looks_at.result c.loop.reader c.looks_at.new.self c.lexeme.new.reader c.with_key-list.new.reader z (omega (arith, c.loop-test.true)) c.if-not-looks_at.false c.looks_at.ensures (c.lexeme.ensures text n) h k)
+    (one_grown key_made c.loop.list.items c.with_key-list.result.items c.key-next.result c.lexeme.new.reader c.key-next.new.reader c.with_key-list.new.reader item c.key-next.ensures c.with_key-list.ensures)
+
+pub more_keys-returns : goal.more_keys-returns
+more_keys-returns t c =
+    let text = c.args.source.now in
+    let n = c.args.levels in
+    gone_end key_made c.args.keys.items c.loop.list.items c.args.reader.now c.loop.reader c.last_key.new.reader (read_in text n (more_keys (place_in text) n 63)) (read_in text n (more_keys (place_in text) n (63 - c.loop.counter))) c.loop.invariant
+    (subst (λ k. Ran nothing c.loop.reader c.last_key.new.reader (read_in text n (more_keys (place_in text) n k))) (omega (arith, c.loop-test.false)) (c.last_key.ensures text n))
+
+pub key-returns : goal.key-returns
+key-returns t c = key_read c.args.source.now c.args.levels c.single-value.result _ c.args.reader.now c.single-value.new.reader c.key_order-order.new.reader c.single-value.ensures (c.key_order-order.ensures c.args.levels)
 
 pub more_clauses-loop-init : goal.more_clauses-loop-init
 more_clauses-loop-init t c = gone_start clause_made c.args.clauses.items c.args.reader.now _ _ (λ w z h. h)

@@ -8,6 +8,7 @@ use Rattle.gx_parse.specs.Grammar.{Phrase, ladder, more_predicates, place_in}
 use Rattle.gx_parse.specs.Reading.{read_in}
 use Rattle.gx_parse.specs.Parsing.{Added, Passed, predicates_before, most_of, read_chain, read_items}
 use Rattle.gx_parse.specs.Binding.{more_bindings, more_clauses}
+use Rattle.gx_parse.specs.Keys.{key_made, more_keys}
 use Rattle.gx_parse.specs.Lists.{Gone, binding_made, clause_made}
 use Rattle.gx_parse.proofs.parser.+parsing.Given as goal
 
@@ -130,3 +131,19 @@ invariant-more_bindings-loop l =
 abbrev pub invariant-more_clauses-loop : goal.invariant-more_clauses-loop
 invariant-more_clauses-loop l =
     Gone clause_made l.fn.clauses.items l.list.items l.fn.reader l.reader (read_in l.source l.levels (more_clauses (place_in l.source) l.levels 63)) (read_in l.source l.levels (more_clauses (place_in l.source) l.levels (63 - l.counter)))
+
+abbrev pub decreases-order_clause : goal.decreases-order_clause
+decreases-order_clause l = 1024 * l.levels + 4
+
+abbrev pub decreases-ordered : goal.decreases-ordered
+decreases-ordered l = 1024 * l.levels + 3
+
+abbrev pub decreases-more_keys : goal.decreases-more_keys
+decreases-more_keys l = 1024 * l.levels + 2
+
+abbrev pub decreases-key : goal.decreases-key
+decreases-key l = 1024 * l.levels + 1
+
+abbrev pub invariant-more_keys-loop : goal.invariant-more_keys-loop
+invariant-more_keys-loop l =
+    Gone key_made l.fn.keys.items l.list.items l.fn.reader l.reader (read_in l.source l.levels (more_keys (place_in l.source) l.levels 63)) (read_in l.source l.levels (more_keys (place_in l.source) l.levels (63 - l.counter)))

@@ -1,7 +1,7 @@
 use Rattle.std.proofs.Common.{ap, ◌∙◌}
 use Rattle.gx_ast.specs.SyntaxTree.{SyntaxTree, at, variable}
 use Rattle.gx_grammar.specs.Value.{node, nothing}
-use Rattle.gx_grammar.proofs.Ran.{ran_idle}
+use Rattle.gx_grammar.proofs.PublicLaws.{ran_idle}
 use Rattle.gx_parse.specs.Nodes.{Found, name_at, tree}
 use Rattle.gx_parse.specs.Names.{name_made}
 use Rattle.gx_parse.specs.Tokens.{gap}

@@ -1,5 +1,5 @@
 use Rattle.std.proofs.Common.{ap, arith, length}
-use Rattle.gx_grammar.proofs.Tokens.{behind_short}
+use Rattle.gx_grammar.proofs.PublicLaws.{behind_short}
 use Rattle.gx_parse.proofs.scan.find_word.Goals as goal
 
 pub returns-else-whole-clause-bounded : goal.returns-else-whole-clause-bounded

@@ -3,7 +3,7 @@ use Rattle.gx_grammar.specs.Value.{nothing}
 use Rattle.gx_parse.specs.Grammar.{place_in}
 use Rattle.gx_parse.specs.Reading.{read_in, read_one}
 use Rattle.gx_grammar.specs.Ran.{Ran}
-use Rattle.gx_grammar.proofs.Ran.{ran_idle}
+use Rattle.gx_grammar.proofs.PublicLaws.{ran_idle}
 use Rattle.gx_parse.specs.Types.{content, content_made, item_tail, tail_made}
 use Rattle.gx_parse.proofs.TypesPhrases.{gave_none, item_bare, item_inside}
 use Rattle.gx_parse.specs.Tokens.{indication}

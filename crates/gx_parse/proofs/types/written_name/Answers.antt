@@ -5,7 +5,7 @@ use Rattle.gx_parse.specs.Nodes.{name_at}
 use Rattle.gx_parse.specs.Grammar.{place_in}
 use Rattle.gx_parse.specs.Reading.{read_in, read_one}
 use Rattle.gx_parse.specs.Tokens.{gap}
-use Rattle.gx_grammar.proofs.Ran.{ran_idle}
+use Rattle.gx_grammar.proofs.PublicLaws.{ran_idle}
 use Rattle.gx_parse.specs.Types.{named, written_name}
 use Rattle.gx_parse.proofs.TypesPhrases.{gave_none, loses_ended, ran_loses, written_read}
 use Rattle.gx_grammar.specs.Ran.{Ran}
