@@ -13,10 +13,10 @@ use Rattle.gx_include.specs.declared.letter.Letter.{Letter}
 use Rattle.gx_include.specs.declared.alphabet.Row.{Row}
 use Rattle.gx_include.specs.Step.{all_tests}
 use Rattle.gx_include.specs.Test.{is_taken}
-use Rattle.gx_include.specs.Inclusion.{plain_types, IsWellFormed}
+use Rattle.gx_include.specs.Inclusion.{plain_types, IsWellFormedShape}
 use Rattle.gx_include.specs.Letters.{IsLetter, AreLetters, StandsFor, ServeAll}
 use Rattle.gx_include.specs.Trials.{with_names, IsOther, trial_shapes}
-use Rattle.gx_include.specs.Alphabet.{Entry, entry_of, entry_if, row_entries, rows_below, entries_at, entries_below, IsAlphabet, IsRow}
+use Rattle.gx_include.specs.Alphabet.{LetterEntry, entry_of_letter, entry_if, row_entries, rows_below, entries_at, entries_below, IsAlphabet, IsRow}
 use Rattle.gx_include.proofs.SetReads.{length_tests}
 use Rattle.gx_include.proofs.Lists.{In, in_left, in_right, in_either, in_map, of_map, in_flat, of_flat, got_in, in_got, set_within}
 use Rattle.gx_include.proofs.Decided.{decided}
@@ -50,29 +50,29 @@ module _ (s : SchemaSet) (a b : SequenceType) where
   in_if true y h = inl refl
   in_if false y h = absurd (cc)
 
-  is_entry : Shape → ℕ → Entry
+  is_entry : Shape → ℕ → LetterEntry
   is_entry shape place = (place, shape, all_tests b (is_taken s shape))
 
-  abbrev IsEntry : Entry → Type 0
-  IsEntry e = (shape : Shape) × (place : ℕ) × (get_or (all_tests a (is_taken s shape)) place false ≡ true) × (let made : Entry = (place, shape, all_tests b (is_taken s shape)) in made ≡ e)
+  abbrev IsEntry : LetterEntry → Type 0
+  IsEntry e = (shape : Shape) × (place : ℕ) × (get_or (all_tests a (is_taken s shape)) place false ≡ true) × (let made : LetterEntry = (place, shape, all_tests b (is_taken s shape)) in made ≡ e)
 
-  entry_is : (shapes : List Shape) (bound : ℕ) (e : Entry) → In e (entries_below s a b shapes bound) → IsEntry e
+  entry_is : (shapes : List Shape) (bound : ℕ) (e : LetterEntry) → In e (entries_below s a b shapes bound) → IsEntry e
   entry_is shapes zero e h = absurd h
   entry_is shapes (suc place) e h =
       elim (in_either e (entries_below s a b shapes place) (entries_at s a b shapes place) h) [
         | inl k ↦ entry_is shapes place e k
         | inr k ↦
             let q = of_flat (λ shape. entry_if place shape (all_tests a (is_taken s shape)) (all_tests b (is_taken s shape))) e shapes k in
-            let made : Entry = (place, q.0, all_tests b (is_taken s q.0)) in
+            let made : LetterEntry = (place, q.0, all_tests b (is_taken s q.0)) in
             let r = of_if (get_or (all_tests a (is_taken s q.0)) place false) made e q.2 in
             (q.0, place, r.0, r.1)
       ]
 
   entry_in : (shapes : List Shape) (bound place : ℕ) (shape : Shape) → place < bound → In shape shapes → get_or (all_tests a (is_taken s shape)) place false ≡ true
-      → (let made : Entry = (place, shape, all_tests b (is_taken s shape)) in In made (entries_below s a b shapes bound))
+      → (let made : LetterEntry = (place, shape, all_tests b (is_taken s shape)) in In made (entries_below s a b shapes bound))
   entry_in shapes zero place shape h k g = absurd (omega arith)
   entry_in shapes (suc bound) place shape h k g =
-      let made : Entry = (place, shape, all_tests b (is_taken s shape)) in
+      let made : LetterEntry = (place, shape, all_tests b (is_taken s shape)) in
       elim (cases_lt place bound) [
         | inl l ↦ in_left made (entries_below s a b shapes bound) (entries_at s a b shapes bound) (entry_in shapes bound place shape l k g)
         | inr l ↦
@@ -86,24 +86,24 @@ module _ (s : SchemaSet) (a b : SequenceType) where
     names : List Name
     names = with_names (with_names [] a) b
 
-    letter_entry : (l : Letter) → IsEntry (entry_of l) → IsLetter s a b l
+    letter_entry : (l : Letter) → IsEntry (entry_of_letter l) → IsLetter s a b l
     letter_entry l (shape, place, taken, e) =
-        let at : place ≡ l.place = ap (λ (x : Entry). x.0) e in
-        let has : shape ≡ l.shape = ap (λ (x : Entry). x.1) e in
+        let at : place ≡ l.place = ap (λ (x : LetterEntry). x.0) e in
+        let has : shape ≡ l.shape = ap (λ (x : LetterEntry). x.1) e in
         record {
           left = decided s g l.shape a;
           right = decided s g l.shape b;
           taken = subst (λ n. get_or (all_tests a (is_taken s l.shape)) n false ≡ true) at (subst (λ x. get_or (all_tests a (is_taken s x)) place false ≡ true) has taken);
-          takers = sym (ap (λ (x : Entry). x.2) e) ∙ ap (λ x. all_tests b (is_taken s x)) has;
+          takers = sym (ap (λ (x : LetterEntry). x.2) e) ∙ ap (λ x. all_tests b (is_taken s x)) has;
         }
 
     pub are_letters : AreLetters s a b letters
     are_letters number l e =
         letter_entry l
-        (entry_is (trial_shapes (plain_types s) (with_names (with_names [] a) b ++ is.other ∷ [])) (positions_of a + 1) (entry_of l)
-        (subst (In (entry_of l)) is.are (in_map entry_of l letters (got_in letters number l e))))
+        (entry_is (trial_shapes (plain_types s) (with_names (with_names [] a) b ++ is.other ∷ [])) (positions_of a + 1) (entry_of_letter l)
+        (subst (In (entry_of_letter l)) is.are (in_map entry_of_letter l letters (got_in letters number l e))))
 
-    stands : (x : Shape) → IsWellFormed s x → (place : ℕ) → get_or (all_tests a (is_taken s x)) place false ≡ true → StandsFor s a b letters place x
+    stands : (x : Shape) → IsWellFormedShape s x → (place : ℕ) → get_or (all_tests a (is_taken s x)) place false ≡ true → StandsFor s a b letters place x
     stands x w place h =
         let q = shape_stands s (with_names (with_names [] a) b) is.other is.fresh.new x w in
         let known = both_known a b in
@@ -111,17 +111,17 @@ module _ (s : SchemaSet) (a b : SequenceType) where
         let right : all_tests b (is_taken s q.0) ≡ all_tests b (is_taken s x) = ap (λ ts. false ∷ ts) (tests_alike s (with_names (with_names [] a) b) q.0 x q.2 b known.1) in
         let within : place < positions_of a + 1 = let k = set_within (all_tests a (is_taken s x)) place h in omega (arith, k, length_tests a (is_taken s x)) in
         let e = entry_in (trial_shapes (plain_types s) (with_names (with_names [] a) b ++ is.other ∷ [])) (positions_of a + 1) place q.0 within q.1 (ap (λ ts. get_or ts place false) left ∙ h) in
-        let made : Entry = (place, q.0, all_tests b (is_taken s q.0)) in
-        let m = of_map entry_of made letters (subst (In made) (sym is.are) e) in
+        let made : LetterEntry = (place, q.0, all_tests b (is_taken s q.0)) in
+        let m = of_map entry_of_letter made letters (subst (In made) (sym is.are) e) in
         let n = in_got letters m.0 m.1 in
-        record { number = n.0; letter = m.0; here = n.1; at = ap (λ (y : Entry). y.0) m.2; alike = ap (λ (y : Entry). y.2) m.2 ∙ right }
+        record { number = n.0; letter = m.0; here = n.1; at = ap (λ (y : LetterEntry). y.0) m.2; alike = ap (λ (y : LetterEntry). y.2) m.2 ∙ right }
 
     pub serve_all : ServeAll s a b letters
     serve_all = record { left = λ x w. decided s g x a; right = λ x w. decided s g x b; stands = stands }
 
 -- the answer of the program
 pub alphabet_is : (s : SchemaSet) (a b : SequenceType) (letters : List Letter) (rows : List Row) (shapes : List Shape) (width : ℕ) (other : Name)
-    → IsOther (with_names (with_names [] a) b) other → map entry_of letters ≡ rows_below rows width → All (IsRow s a b) rows → map (λ (row : Row). row.shape) rows ≡ shapes
+    → IsOther (with_names (with_names [] a) b) other → map entry_of_letter letters ≡ rows_below rows width → All (IsRow s a b) rows → map (λ (row : Row). row.shape) rows ≡ shapes
     → shapes ≡ trial_shapes (plain_types s) (with_names (with_names [] a) b ++ other ∷ []) → width ≡ positions_of a + 1 → IsAlphabet s a b letters
 alphabet_is s a b letters rows shapes width other fresh e all f g w = record {
   other = other;

@@ -9,7 +9,7 @@ use Rattle.gx_include.specs.declared.walk.Outcome.{Outcome}
 use Rattle.gx_include.specs.Pairs.{start_pair, is_bad}
 use Rattle.gx_include.specs.Walk.{StateAt, IsKept}
 use Rattle.gx_include.specs.Traced.{Traced}
-use Rattle.gx_include.specs.Outcome.{outcome_at, judged, is_settled, AreGoodBelow, IsBadBelow, HasWalked, IsOutcome}
+use Rattle.gx_include.specs.Outcome.{outcome_at, first_bad_place, is_settled, AreGoodBelow, IsBadBelow, HasWalked, IsOutcome}
 use Rattle.gx_include.proofs.Walks.{one_state}
 use Rattle.gx_include.proofs.Expanding.{start_traced}
 
@@ -24,12 +24,12 @@ module _ (a b : SequenceType) where
       ]
 
   judge_one : (pairs : List (ℕ × List Bool)) (at : ℕ) (pair : ℕ × List Bool) (bad : Option ℕ) (now : Bool) → StateAt pairs at pair → is_bad a b pair ≡ now
-      → IsBadBelow a b pairs at bad → IsBadBelow a b pairs (at + 1) (judged bad now at)
+      → IsBadBelow a b pairs at bad → IsBadBelow a b pairs (at + 1) (first_bad_place bad now at)
   judge_one pairs at pair (Some place) now here e (l, f) = (omega (arith, l), f)
   judge_one pairs at pair None true here e good = (omega arith, record { pair = pair; here = here; bad = e; good = good })
   judge_one pairs at pair None false here e good = good_more pairs at pair here good e
 
-  pub judge_next : (pairs : List (ℕ × List Bool)) (at : ℕ) (pair : ℕ × List Bool) (bad next : Option ℕ) → slice_get pairs at ≡ Some pair → next ≡ judged bad (is_bad a b pair) at
+  pub judge_next : (pairs : List (ℕ × List Bool)) (at : ℕ) (pair : ℕ × List Bool) (bad next : Option ℕ) → slice_get pairs at ≡ Some pair → next ≡ first_bad_place bad (is_bad a b pair) at
       → IsBadBelow a b pairs at bad → IsBadBelow a b pairs (at + 1) next
   judge_next pairs at pair bad next e is h =
       subst (IsBadBelow a b pairs (at + 1)) (sym is)

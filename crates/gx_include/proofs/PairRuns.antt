@@ -12,8 +12,8 @@ use Rattle.gx_include.specs.Step.{single, all_next, all_tests, step_over, is_end
 use Rattle.gx_include.specs.Test.{is_taken}
 use Rattle.gx_include.specs.Walk.{go_by, leads_to}
 use Rattle.gx_include.specs.Pairs.{start_pair, moved_by, pair_step, is_bad}
-use Rattle.gx_include.specs.Runs.{placed, place_step, shape_of, shapes_of, IsRefused}
-use Rattle.gx_include.specs.Inclusion.{IsWellFormed, IsIncluded}
+use Rattle.gx_include.specs.Runs.{placed, place_step, shapes_of_letter, shapes_of, IsRefusedRun}
+use Rattle.gx_include.specs.Inclusion.{IsWellFormedShape, IsIncluded}
 use Rattle.gx_include.specs.Letters.{IsLetter, AreLetters, ServeAll}
 use Rattle.gx_include.proofs.SetReads.{Reads, reads_forward, reads_back, end_reads, reads_end, single_within, larger_reads, member_reads, start_reads, reads_start}
 
@@ -75,7 +75,7 @@ module _ (s : SchemaSet) (a b : SequenceType) (letters : List Letter) where
   one_shape : (run : List ℕ) (number : ℕ) (l : Letter) (rest : List Shape) → slice_get letters number ≡ Some l
       → shapes_of letters run ++ (l.shape ∷ rest) ≡ shapes_of letters (number ∷ run) ++ rest
   one_shape run number l rest e =
-      sym (append_assoc (shapes_of letters run) (l.shape ∷ []) rest) ∙ ap (λ o. (shapes_of letters run ++ shape_of o) ++ rest) (sym e)
+      sym (append_assoc (shapes_of letters run) (l.shape ∷ []) rest) ∙ ap (λ o. (shapes_of letters run ++ shapes_of_letter o) ++ rest) (sym e)
 
   left_goes : (place : ℕ) (l : Letter) (rest : List Shape) → IsLetter s a b l → get_or (all_next a (single place)) l.place false ≡ true
       → Reads s a (single l.place) rest → Reads s a (single place) (l.shape ∷ rest)
@@ -131,7 +131,7 @@ module _ (s : SchemaSet) (a b : SequenceType) (letters : List Letter) where
   not_true false h k = absurd (cc)
 
   pub bad_is_refused : AreLetters s a b letters → (run : List ℕ) (pair : ℕ × List Bool) → leads_to (pair_step a b letters) start_pair run ≡ Some pair → is_bad a b pair ≡ true
-      → IsRefused s a b letters run
+      → IsRefusedRun s a b letters run
   bad_is_refused are run pair e bad =
       let x = along are run pair e in
       let p = and_parts (is_end a (single pair.0)) (not (is_end b pair.1)) bad in (
@@ -150,7 +150,7 @@ module _ (s : SchemaSet) (a b : SequenceType) (letters : List Letter) where
   true_from true h = absurd (h refl)
   true_from false h = refl
 
-  pub refused_is_bad : AreLetters s a b letters → (run : List ℕ) → IsRefused s a b letters run
+  pub refused_is_bad : AreLetters s a b letters → (run : List ℕ) → IsRefusedRun s a b letters run
       → (pair : ℕ × List Bool) × (leads_to (pair_step a b letters) start_pair run ≡ Some pair) × (is_bad a b pair ≡ true)
   refused_is_bad are run r =
       let q = pair_of_run run r.0.0 r.0.1 in
@@ -171,7 +171,7 @@ module _ (s : SchemaSet) (a b : SequenceType) (letters : List Letter) where
   abbrev pub NoneBad : Type 0
   NoneBad = (run : List ℕ) (pair : ℕ × List Bool) → leads_to (pair_step a b letters) start_pair run ≡ Some pair → is_bad a b pair ≡ false
 
-  follows_on : ServeAll s a b letters → NoneBad → (list : List Shape) → EachShape (IsWellFormed s) list → (run : List ℕ) (pair : ℕ × List Bool)
+  follows_on : ServeAll s a b letters → NoneBad → (list : List Shape) → EachShape (IsWellFormedShape s) list → (run : List ℕ) (pair : ℕ × List Bool)
       → leads_to (pair_step a b letters) start_pair run ≡ Some pair → Reads s a (single pair.0) list → Reads s b pair.1 list
   follows_on all none [] wf run pair e h =
       end_reads s b pair.1 (good_end (is_end a (single pair.0)) (is_end b pair.1) (none run pair e) (reads_end s a (single pair.0) h))

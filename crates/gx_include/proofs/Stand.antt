@@ -21,7 +21,7 @@ use Rattle.gx_include.specs.declared.trial.Sort.{Sort}
 use Rattle.gx_include.specs.declared.trial.Sort.TheVariants.{Element, Attribute, Document}
 use Rattle.gx_include.specs.Positions.{tests_of}
 use Rattle.gx_include.specs.Test.{is_taken}
-use Rattle.gx_include.specs.Inclusion.{plain_types, element_types, IsWellFormed}
+use Rattle.gx_include.specs.Inclusion.{plain_types, element_types, IsWellFormedShape}
 use Rattle.gx_include.specs.Trials.{name_of, is_named, with_name, with_names, made, named_shapes, trial_shapes}
 use Rattle.gx_include.proofs.MarksTake.{or_left, or_right}
 use Rattle.gx_include.proofs.Lists.{In, in_left, in_right, in_map, in_flat}
@@ -239,7 +239,7 @@ module _ (s : SchemaSet) (names : List Name) where
     abbrev all_names : List Name
     all_names = names ++ other ∷ []
 
-    pub shape_stands : (x : Shape) → IsWellFormed s x → ShapeStands (trial_shapes (plain_types s) (names ++ other ∷ [])) x
+    pub shape_stands : (x : Shape) → IsWellFormedShape s x → ShapeStands (trial_shapes (plain_types s) (names ++ other ∷ [])) x
     shape_stands (shapes.Atom t) w =
         let u = found (same_type_name t) (plain_types s) w in
         (shapes.Atom u.0, tried_atom all_names (shapes.Atom u.0) (in_map shapes.Atom u.0 (plain_types s) u.1), atoms_alike t u.0 u.2)

@@ -1,36 +1,36 @@
 -- A walk in breadth: the states that are found, each with the run by which it was found.
 use Rattle.std.proofs.Common.{◌≡◌, ℕ, zero, suc, ◌+◌, ◌<◌, ◌≤◌, Bool, true, false, List, [], ◌∷◌, ◌++◌, ◌⊎◌, inl, inr, Option, None, Some, refl, sym, ◌∙◌, ap, subst, get_or, length, arith, length-append}
 use Rattle.std.proofs.lemmas.Bool.{cases_lt}
-use Rattle.gx_include.specs.Walk.{go_by, leads_to, Before, NotAfter, StateAt, run_at, Found, IsClosedBelow, Walked}
+use Rattle.gx_include.specs.Walk.{go_by, leads_to, ComesBefore, NotAfter, StateAt, run_at, Found, IsClosedBelow, Walked}
 
 -- the order of runs
 
-before_trans : (u v w : List ℕ) → Before u v → Before v w → Before u w
+pub before_trans : (u v w : List ℕ) → ComesBefore u v → ComesBefore v w → ComesBefore u w
 before_trans [] [] w h k = absurd h
 before_trans [] (b ∷ v) [] h k = absurd k
 before_trans [] (b ∷ v) (c ∷ w) h k = tt
 before_trans (a ∷ u) [] w h k = absurd h
 before_trans (a ∷ u) (b ∷ v) [] h k = absurd k
 before_trans (a ∷ u) (b ∷ v) (c ∷ w) (inl h) (inl k) = inl (before_trans u v w h k)
-before_trans (a ∷ u) (b ∷ v) (c ∷ w) (inl h) (inr k) = inl (subst (Before u) k.0 h)
-before_trans (a ∷ u) (b ∷ v) (c ∷ w) (inr h) (inl k) = inl (subst (λ x. Before x w) (sym h.0) k)
+before_trans (a ∷ u) (b ∷ v) (c ∷ w) (inl h) (inr k) = inl (subst (ComesBefore u) k.0 h)
+before_trans (a ∷ u) (b ∷ v) (c ∷ w) (inr h) (inl k) = inl (subst (λ x. ComesBefore x w) (sym h.0) k)
 before_trans (a ∷ u) (b ∷ v) (c ∷ w) (inr h) (inr k) = inr (h.0 ∙ k.0, omega (arith, h.1, k.1))
 
-before_itself : (u : List ℕ) → Before u u → ⊥
+pub before_itself : (u : List ℕ) → ComesBefore u u → ⊥
 before_itself [] h = h
 before_itself (a ∷ u) (inl h) = before_itself u h
 before_itself (a ∷ u) (inr h) = omega (arith, h.1)
 
-pub before_longer : (u : List ℕ) (a : ℕ) → Before u (a ∷ u)
+pub before_longer : (u : List ℕ) (a : ℕ) → ComesBefore u (a ∷ u)
 before_longer [] a = tt
 before_longer (b ∷ u) a = inl (before_longer u b)
 
-pub not_after_before : (u v w : List ℕ) → NotAfter u v → Before v w → Before u w
-not_after_before u v w (inl e) k = subst (λ x. Before x w) (sym e) k
+pub not_after_before : (u v w : List ℕ) → NotAfter u v → ComesBefore v w → ComesBefore u w
+not_after_before u v w (inl e) k = subst (λ x. ComesBefore x w) (sym e) k
 not_after_before u v w (inr h) k = before_trans u v w h k
 
-pub before_not_after : (u v w : List ℕ) → Before u v → NotAfter v w → Before u w
-before_not_after u v w h (inl e) = subst (Before u) e h
+pub before_not_after : (u v w : List ℕ) → ComesBefore u v → NotAfter v w → ComesBefore u w
+before_not_after u v w h (inl e) = subst (ComesBefore u) e h
 before_not_after u v w h (inr k) = before_trans u v w h k
 
 pub not_after_trans : (u v w : List ℕ) → NotAfter u v → NotAfter v w → NotAfter u w
@@ -80,7 +80,7 @@ module _ {S : Type 0} (step : S → ℕ → Option S) (start : S) where
   one_first zero s h = ap (λ x. Some x) h.1
   one_first (suc i) s h = absurd (omega (arith, h.0))
 
-  one_bounded : (i : ℕ) → i < 1 → Before (run_at ([] ∷ []) i) (0 ∷ [])
+  one_bounded : (i : ℕ) → i < 1 → ComesBefore (run_at ([] ∷ []) i) (0 ∷ [])
   one_bounded zero h = tt
   one_bounded (suc i) h = absurd (omega arith)
 
@@ -118,7 +118,7 @@ module _ {S : Type 0} (step : S → ℕ → Option S) (start : S) where
   letter_cases a bound h = elim (cases_lt a bound) [ inl k ↦ inl k | inr k ↦ inr (omega arith) ]
 
   bound_grows : (states : List S) (runs : List (List ℕ)) (count at bound : ℕ) → Walked step start states runs count at bound
-      → at < length runs → (i : ℕ) → i < length runs → Before (run_at runs i) ((bound + 1) ∷ run_at runs at)
+      → at < length runs → (i : ℕ) → i < length runs → ComesBefore (run_at runs i) ((bound + 1) ∷ run_at runs at)
   bound_grows states runs count at bound w h i k = before_trans (run_at runs i) (bound ∷ run_at runs at) ((bound + 1) ∷ run_at runs at) (w.bounded h i k) (inr (refl, omega arith))
 
   -- the letter leads to a state that is found
@@ -157,26 +157,26 @@ module _ {S : Type 0} (step : S → ℕ → Option S) (start : S) where
 
   new_ascend : (states : List S) (runs : List (List ℕ)) (count at bound : ℕ) → Walked step start states runs count at bound → at < length runs
       → (i j : ℕ) → i < j → j < length (runs ++ (bound ∷ run_at runs at) ∷ [])
-      → Before (run_at (runs ++ (bound ∷ run_at runs at) ∷ []) i) (run_at (runs ++ (bound ∷ run_at runs at) ∷ []) j)
+      → ComesBefore (run_at (runs ++ (bound ∷ run_at runs at) ∷ []) i) (run_at (runs ++ (bound ∷ run_at runs at) ∷ []) j)
   new_ascend states runs count at bound w within i j h k =
       let longer = length-append runs ((bound ∷ run_at runs at) ∷ []) in
       let front : run_at runs i ≡ run_at (runs ++ (bound ∷ run_at runs at) ∷ []) i = sym (get_or_front runs (bound ∷ run_at runs at) [] i (omega (arith, longer))) in
       elim (cases_lt j (length runs)) [
-        | inl l ↦ subst (Before (run_at (runs ++ (bound ∷ run_at runs at) ∷ []) i)) (sym (get_or_front runs (bound ∷ run_at runs at) [] j l)) (subst (λ x. Before x (run_at runs j)) front (w.ascend i j h l))
+        | inl l ↦ subst (ComesBefore (run_at (runs ++ (bound ∷ run_at runs at) ∷ []) i)) (sym (get_or_front runs (bound ∷ run_at runs at) [] j l)) (subst (λ x. ComesBefore x (run_at runs j)) front (w.ascend i j h l))
         | inr l ↦
-            subst (Before (run_at (runs ++ (bound ∷ run_at runs at) ∷ []) i)) (sym (get_or_end runs (bound ∷ run_at runs at) [] j (omega (arith, longer))))
-            (subst (λ x. Before x (bound ∷ run_at runs at)) front (w.bounded within i (omega (arith, longer))))
+            subst (ComesBefore (run_at (runs ++ (bound ∷ run_at runs at) ∷ []) i)) (sym (get_or_end runs (bound ∷ run_at runs at) [] j (omega (arith, longer))))
+            (subst (λ x. ComesBefore x (bound ∷ run_at runs at)) front (w.bounded within i (omega (arith, longer))))
       ]
 
   new_bounded : (states : List S) (runs : List (List ℕ)) (count at bound : ℕ) → Walked step start states runs count at bound → at < length runs
       → (i : ℕ) → i < length (runs ++ (bound ∷ run_at runs at) ∷ [])
-      → Before (run_at (runs ++ (bound ∷ run_at runs at) ∷ []) i) ((bound + 1) ∷ run_at (runs ++ (bound ∷ run_at runs at) ∷ []) at)
+      → ComesBefore (run_at (runs ++ (bound ∷ run_at runs at) ∷ []) i) ((bound + 1) ∷ run_at (runs ++ (bound ∷ run_at runs at) ∷ []) at)
   new_bounded states runs count at bound w within i k =
       let longer = length-append runs ((bound ∷ run_at runs at) ∷ []) in
-      subst (λ x. Before (run_at (runs ++ (bound ∷ run_at runs at) ∷ []) i) ((bound + 1) ∷ x)) (sym (get_or_front runs (bound ∷ run_at runs at) [] at within))
+      subst (λ x. ComesBefore (run_at (runs ++ (bound ∷ run_at runs at) ∷ []) i) ((bound + 1) ∷ x)) (sym (get_or_front runs (bound ∷ run_at runs at) [] at within))
       (elim (cases_lt i (length runs)) [
-        | inl l ↦ subst (λ x. Before x ((bound + 1) ∷ run_at runs at)) (sym (get_or_front runs (bound ∷ run_at runs at) [] i l)) (bound_grows states runs count at bound w within i l)
-        | inr l ↦ subst (λ x. Before x ((bound + 1) ∷ run_at runs at)) (sym (get_or_end runs (bound ∷ run_at runs at) [] i (omega (arith, longer)))) (inr (refl, omega arith))
+        | inl l ↦ subst (λ x. ComesBefore x ((bound + 1) ∷ run_at runs at)) (sym (get_or_front runs (bound ∷ run_at runs at) [] i l)) (bound_grows states runs count at bound w within i l)
+        | inr l ↦ subst (λ x. ComesBefore x ((bound + 1) ∷ run_at runs at)) (sym (get_or_end runs (bound ∷ run_at runs at) [] i (omega (arith, longer)))) (inr (refl, omega arith))
       ])
 
   new_closing : (states : List S) (runs : List (List ℕ)) (count at bound : ℕ) → Walked step start states runs count at bound → at < length states → (s new : S) → StateAt states at s → step s bound ≡ Some new

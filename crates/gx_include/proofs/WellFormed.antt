@@ -17,10 +17,10 @@ use Rattle.gx_include.specs.declared.trial.Sort.TheVariants.{Element, Attribute,
 use Rattle.gx_include.specs.declared.verdict.Verdict.TheVariants.{Yes, No, TooManyPairs}
 use Rattle.gx_include.specs.Step.{all_tests}
 use Rattle.gx_include.specs.Test.{is_taken}
-use Rattle.gx_include.specs.Inclusion.{plain_types, element_types, IsOneOf, IsWellFormed}
+use Rattle.gx_include.specs.Inclusion.{plain_types, element_types, IsAmongTypes, IsWellFormedShape}
 use Rattle.gx_include.specs.Trials.{with_names, made, named_shapes, trial_shapes}
-use Rattle.gx_include.specs.Runs.{shape_of, shapes_of}
-use Rattle.gx_include.specs.Alphabet.{Entry, entry_of, entry_if, entries_at, entries_below, IsAlphabet}
+use Rattle.gx_include.specs.Runs.{shapes_of_letter, shapes_of}
+use Rattle.gx_include.specs.Alphabet.{LetterEntry, entry_of_letter, entry_if, entries_at, entries_below, IsAlphabet}
 use Rattle.gx_include.specs.Laws.{NoExcludesInclusion}
 use Rattle.gx_include.proofs.MarksTake.{or_left, or_right}
 use Rattle.gx_include.proofs.Lists.{In, in_either, in_map, of_map, of_flat, got_in}
@@ -28,7 +28,7 @@ use Rattle.gx_include.proofs.Alphabets.{of_if}
 
 -- tried shapes
 
-listed : (t : TypeName) (types : List TypeName) → In t types → IsOneOf t types
+listed : (t : TypeName) (types : List TypeName) → In t types → IsAmongTypes t types
 listed t [] h = absurd h
 listed t (u ∷ types) (inl e) = or_left (same_type_name t u) (list_any (same_type_name t) types) (ap (λ x. same_type_name t x) e ∙ type_name_itself t)
 listed t (u ∷ types) (inr h) = or_right (same_type_name t u) (list_any (same_type_name t) types) (listed t types h)
@@ -41,25 +41,25 @@ module _ (s : SchemaSet) where
       let r = of_map (λ t. made sort q.0 t) x types q.2 in
       (q.0, r.0, r.1, r.2)
 
-  an_atom : (x : Shape) → In x (map shapes.Atom (plain_types s)) → IsWellFormed s x
-  an_atom x h = let q = of_map shapes.Atom x (plain_types s) h in subst (IsWellFormed s) q.2 (listed q.0 (plain_types s) q.1)
+  an_atom : (x : Shape) → In x (map shapes.Atom (plain_types s)) → IsWellFormedShape s x
+  an_atom x h = let q = of_map shapes.Atom x (plain_types s) h in subst (IsWellFormedShape s) q.2 (listed q.0 (plain_types s) q.1)
 
-  an_element : (names : List Name) (x : Shape) → In x (named_shapes Element (element_types s) names) → IsWellFormed s x
-  an_element names x h = let q = named Element (element_types s) names x h in subst (IsWellFormed s) q.3 (listed q.1 (element_types s) q.2)
+  an_element : (names : List Name) (x : Shape) → In x (named_shapes Element (element_types s) names) → IsWellFormedShape s x
+  an_element names x h = let q = named Element (element_types s) names x h in subst (IsWellFormedShape s) q.3 (listed q.1 (element_types s) q.2)
 
-  an_attribute : (names : List Name) (x : Shape) → In x (named_shapes Attribute (plain_types s) names) → IsWellFormed s x
-  an_attribute names x h = let q = named Attribute (plain_types s) names x h in subst (IsWellFormed s) q.3 (listed q.1 (plain_types s) q.2)
+  an_attribute : (names : List Name) (x : Shape) → In x (named_shapes Attribute (plain_types s) names) → IsWellFormedShape s x
+  an_attribute names x h = let q = named Attribute (plain_types s) names x h in subst (IsWellFormedShape s) q.3 (listed q.1 (plain_types s) q.2)
 
-  a_document : (names : List Name) (x : Shape) → In x (named_shapes Document (element_types s) names) → IsWellFormed s x
-  a_document names x h = let q = named Document (element_types s) names x h in subst (IsWellFormed s) q.3 (listed q.1 (element_types s) q.2)
+  a_document : (names : List Name) (x : Shape) → In x (named_shapes Document (element_types s) names) → IsWellFormedShape s x
+  a_document names x h = let q = named Document (element_types s) names x h in subst (IsWellFormedShape s) q.3 (listed q.1 (element_types s) q.2)
 
-  another : (x : Shape) → In x (shapes.Text ∷ shapes.Doc None ∷ []) → IsWellFormed s x
-  another x (inl e) = subst (IsWellFormed s) e tt
-  another x (inr (inl e)) = subst (IsWellFormed s) e tt
+  another : (x : Shape) → In x (shapes.Text ∷ shapes.Doc None ∷ []) → IsWellFormedShape s x
+  another x (inl e) = subst (IsWellFormedShape s) e tt
+  another x (inr (inl e)) = subst (IsWellFormedShape s) e tt
   another x (inr (inr h)) = absurd h
 
-  of_five : (x : Shape) (one two three four five : List Shape) → (In x one → IsWellFormed s x) → (In x two → IsWellFormed s x) → (In x three → IsWellFormed s x)
-      → (In x four → IsWellFormed s x) → (In x five → IsWellFormed s x) → In x (one ++ two ++ three ++ four ++ five) → IsWellFormed s x
+  of_five : (x : Shape) (one two three four five : List Shape) → (In x one → IsWellFormedShape s x) → (In x two → IsWellFormedShape s x) → (In x three → IsWellFormedShape s x)
+      → (In x four → IsWellFormedShape s x) → (In x five → IsWellFormedShape s x) → In x (one ++ two ++ three ++ four ++ five) → IsWellFormedShape s x
   of_five x one two three four five f g h i j k =
       elim (in_either x (one ++ two ++ three ++ four) five k) [
         | inr l ↦ j l
@@ -72,43 +72,43 @@ module _ (s : SchemaSet) where
         ]
       ]
 
-  tried_is_well_formed : (names : List Name) (x : Shape) → In x (trial_shapes (plain_types s) names) → IsWellFormed s x
+  tried_is_well_formed : (names : List Name) (x : Shape) → In x (trial_shapes (plain_types s) names) → IsWellFormedShape s x
   tried_is_well_formed names x h =
       of_five x (map shapes.Atom (plain_types s)) (named_shapes Element (element_types s) names) (named_shapes Attribute (plain_types s) names)
       (shapes.Text ∷ shapes.Doc None ∷ []) (named_shapes Document (element_types s) names) (an_atom x) (an_element names x) (an_attribute names x) (another x) (a_document names x) h
 
   -- letters
 
-  entry_tried : (a b : SequenceType) (tried : List Shape) (bound : ℕ) (e : Entry) → In e (entries_below s a b tried bound) → In e.1 tried
+  entry_tried : (a b : SequenceType) (tried : List Shape) (bound : ℕ) (e : LetterEntry) → In e (entries_below s a b tried bound) → In e.1 tried
   entry_tried a b tried zero e h = absurd h
   entry_tried a b tried (suc place) e h =
       elim (in_either e (entries_below s a b tried place) (entries_at s a b tried place) h) [
         | inl k ↦ entry_tried a b tried place e k
         | inr k ↦
             let q = of_flat (λ shape. entry_if place shape (all_tests a (is_taken s shape)) (all_tests b (is_taken s shape))) e tried k in
-            let made : Entry = (place, q.0, all_tests b (is_taken s q.0)) in
+            let made : LetterEntry = (place, q.0, all_tests b (is_taken s q.0)) in
             let r = of_if s a b (get_or (all_tests a (is_taken s q.0)) place false) made e q.2 in
-            subst (λ x. In x tried) (ap (λ (y : Entry). y.1) r.1) q.1
+            subst (λ x. In x tried) (ap (λ (y : LetterEntry). y.1) r.1) q.1
       ]
 
-  each_append : (xs ys : List Shape) → EachShape (IsWellFormed s) xs → EachShape (IsWellFormed s) ys → EachShape (IsWellFormed s) (xs ++ ys)
+  each_append : (xs ys : List Shape) → EachShape (IsWellFormedShape s) xs → EachShape (IsWellFormedShape s) ys → EachShape (IsWellFormedShape s) (xs ++ ys)
   each_append [] ys h k = k
   each_append (x ∷ xs) ys h k = (h.0, each_append xs ys h.1 k)
 
   module _ (a b : SequenceType) (letters : List Letter) (is : IsAlphabet s a b letters) where
-    letter_is : (l : Letter) → In l letters → IsWellFormed s l.shape
+    letter_is : (l : Letter) → In l letters → IsWellFormedShape s l.shape
     letter_is l h =
         tried_is_well_formed (with_names (with_names [] a) b ++ is.other ∷ []) l.shape
-        (entry_tried a b (trial_shapes (plain_types s) (with_names (with_names [] a) b ++ is.other ∷ [])) (positions_of a + 1) (entry_of l) (subst (In (entry_of l)) is.are (in_map entry_of l letters h)))
+        (entry_tried a b (trial_shapes (plain_types s) (with_names (with_names [] a) b ++ is.other ∷ [])) (positions_of a + 1) (entry_of_letter l) (subst (In (entry_of_letter l)) is.are (in_map entry_of_letter l letters h)))
 
-    one_shape : (o : Option Letter) → ((l : Letter) → o ≡ Some l → In l letters) → EachShape (IsWellFormed s) (shape_of o)
+    one_shape : (o : Option Letter) → ((l : Letter) → o ≡ Some l → In l letters) → EachShape (IsWellFormedShape s) (shapes_of_letter o)
     one_shape None f = tt
     one_shape (Some l) f = (letter_is l (f l refl), tt)
 
-    pub run_is_well_formed : (run : List ℕ) → EachShape (IsWellFormed s) (shapes_of letters run)
+    pub run_is_well_formed : (run : List ℕ) → EachShape (IsWellFormedShape s) (shapes_of letters run)
     run_is_well_formed [] = tt
     run_is_well_formed (number ∷ run) =
-        each_append (shapes_of letters run) (shape_of (slice_get letters number)) (run_is_well_formed run) (one_shape (slice_get letters number) (λ l e. got_in letters number l e))
+        each_append (shapes_of letters run) (shapes_of_letter (slice_get letters number)) (run_is_well_formed run) (one_shape (slice_get letters number) (λ l e. got_in letters number l e))
 
 pub no_excludes_inclusion : NoExcludesInclusion
 no_excludes_inclusion s a b limit Yes answer h included = absurd h

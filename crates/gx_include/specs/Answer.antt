@@ -5,10 +5,10 @@ use Rattle.gx_types.specs.SequenceType.{SequenceType}
 use Rattle.gx_include.specs.declared.letter.Letter.{Letter}
 use Rattle.gx_include.specs.declared.verdict.Verdict.{Verdict}
 use Rattle.gx_include.specs.Alphabet.{IsAlphabet}
-use Rattle.gx_include.specs.Verdict.{IsVerdict}
+use Rattle.gx_include.specs.Verdict.{IsVerdictOver}
 
 -- a verdict over the alphabet of both types
 pub record IsAnswer (schemas : SchemaSet) (a b : SequenceType) (limit : Option ℕ) (verdict : Verdict) : Type 0 where
   pub letters : List Letter
   pub alphabet : IsAlphabet schemas a b letters
-  pub verdict_is : IsVerdict schemas a b letters limit verdict
+  pub verdict_is : IsVerdictOver schemas a b letters limit verdict

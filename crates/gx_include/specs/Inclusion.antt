@@ -8,7 +8,7 @@ use Rattle.gx_base.specs.declared.type_name.TypeName.TheVariants as names
 use Rattle.gx_types.specs.declared.shape.Shape.{Shape}
 use Rattle.gx_types.specs.declared.shape.Shape.TheVariants as shapes
 use Rattle.gx_types.specs.SameItemType.{same_type_name}
-use Rattle.gx_types.specs.SchemaSet.{SchemaSet}
+use Rattle.gx_types.specs.SchemaSet.{SchemaSet, declared_types}
 use Rattle.gx_types.specs.SequenceType.{SequenceType}
 use Rattle.gx_types.specs.Takes.{Takes, EachShape}
 
@@ -19,26 +19,26 @@ built_in_types =
 
 -- the types that a shape may have beside xs:untyped: the built-in ones, and then those that are declared
 abbrev pub plain_types : SchemaSet → List TypeName
-plain_types schemas = built_in_types ++ map (λ (declaration : TypeName × TypeName). declaration.0) schemas.bases
+plain_types schemas = built_in_types ++ declared_types schemas
 
 -- the types that an element may have
 abbrev pub element_types : SchemaSet → List TypeName
 element_types schemas = names.Builtin Untyped ∷ plain_types schemas
 
 -- a type, or one that is equal to it, is in a list
-abbrev pub IsOneOf : TypeName → List TypeName → Type 0
-IsOneOf t types = IsTrue (list_any (same_type_name t) types)
+abbrev pub IsAmongTypes : TypeName → List TypeName → Type 0
+IsAmongTypes t types = IsTrue (list_any (same_type_name t) types)
 
 -- a shape of an item that there may be: xs:untyped belongs to elements alone, and no item has the type xs:anyType, xs:anySimpleType
 -- or xs:anyAtomicType
-abbrev pub IsWellFormed : SchemaSet → Shape → Type 0
-IsWellFormed schemas (shapes.Elem name t) = IsOneOf t (element_types schemas)
-IsWellFormed schemas (shapes.Attr name t) = IsOneOf t (plain_types schemas)
-IsWellFormed schemas shapes.Text = Unit {0}
-IsWellFormed schemas (shapes.Doc None) = Unit {0}
-IsWellFormed schemas (shapes.Doc (Some child)) = IsOneOf child.1 (element_types schemas)
-IsWellFormed schemas (shapes.Atom t) = IsOneOf t (plain_types schemas)
+abbrev pub IsWellFormedShape : SchemaSet → Shape → Type 0
+IsWellFormedShape schemas (shapes.Elem name t) = IsAmongTypes t (element_types schemas)
+IsWellFormedShape schemas (shapes.Attr name t) = IsAmongTypes t (plain_types schemas)
+IsWellFormedShape schemas shapes.Text = Unit {0}
+IsWellFormedShape schemas (shapes.Doc None) = Unit {0}
+IsWellFormedShape schemas (shapes.Doc (Some child)) = IsAmongTypes child.1 (element_types schemas)
+IsWellFormedShape schemas (shapes.Atom t) = IsAmongTypes t (plain_types schemas)
 
 -- every list of well-formed shapes that the left type takes is taken by the right type
 abbrev pub IsIncluded : SchemaSet → (a b : SequenceType) → Type 0
-IsIncluded schemas a b = (list : List Shape) → EachShape (IsWellFormed schemas) list → Takes schemas a list → Takes schemas b list
+IsIncluded schemas a b = (list : List Shape) → EachShape (IsWellFormedShape schemas) list → Takes schemas a list → Takes schemas b list

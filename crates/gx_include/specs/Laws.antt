@@ -45,3 +45,16 @@ IsNo TooManyPairs = ⊥
 abbrev pub NoExcludesInclusion : Type 0
 NoExcludesInclusion =
     (schemas : SchemaSet) (a b : SequenceType) (limit : Option ℕ) (verdict : Verdict) → IsAnswer schemas a b limit verdict → IsNo verdict → IsIncluded schemas a b → ⊥
+
+-- two verdicts say the same
+abbrev pub IsSameVerdict : Verdict → Verdict → Type 0
+IsSameVerdict Yes Yes = Unit {0}
+IsSameVerdict (No list) (No other) = list.items ≡ other.items
+IsSameVerdict TooManyPairs TooManyPairs = Unit {0}
+IsSameVerdict _ _ = ⊥
+
+-- there is one answer on two types
+abbrev pub AnswersAreOne : Type 0
+AnswersAreOne =
+    (schemas : SchemaSet) (a b : SequenceType) (limit : Option ℕ) (verdict other : Verdict) → IsAnswer schemas a b limit verdict → IsAnswer schemas a b limit other
+    → IsSameVerdict verdict other

@@ -6,7 +6,7 @@ use Rattle.gx_types.specs.SequenceType.{SequenceType}
 use Rattle.gx_include.specs.declared.letter.Letter.{Letter}
 use Rattle.gx_include.specs.Step.{all_tests}
 use Rattle.gx_include.specs.Test.{is_taken, IsDecided}
-use Rattle.gx_include.specs.Inclusion.{IsWellFormed}
+use Rattle.gx_include.specs.Inclusion.{IsWellFormedShape}
 
 -- a letter's shape is taken at its position of the left type, and its set has the positions of the right type that take it
 pub record IsLetter (schemas : SchemaSet) (a b : SequenceType) (letter : Letter) : Type 0 where
@@ -28,7 +28,7 @@ pub record StandsFor (schemas : SchemaSet) (a b : SequenceType) (letters : List 
 
 -- each well-formed shape that is taken at a position of the left type has a letter there, and is decided
 pub record ServeAll (schemas : SchemaSet) (a b : SequenceType) (letters : List Letter) : Type 0 where
-  pub left : (shape : Shape) → IsWellFormed schemas shape → IsDecided schemas shape a
-  pub right : (shape : Shape) → IsWellFormed schemas shape → IsDecided schemas shape b
-  pub stands : (shape : Shape) → IsWellFormed schemas shape → (place : ℕ) → slice_index_or (all_tests a (is_taken schemas shape)) place false ≡ true
+  pub left : (shape : Shape) → IsWellFormedShape schemas shape → IsDecided schemas shape a
+  pub right : (shape : Shape) → IsWellFormedShape schemas shape → IsDecided schemas shape b
+  pub stands : (shape : Shape) → IsWellFormedShape schemas shape → (place : ℕ) → slice_index_or (all_tests a (is_taken schemas shape)) place false ≡ true
       → StandsFor schemas a b letters place shape

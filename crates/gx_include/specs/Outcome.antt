@@ -21,10 +21,10 @@ outcome_at None = Safe
 outcome_at (Some at) = Bad at
 
 -- the first bad place so far, where the places before this one were judged
-abbrev pub judged : Option ℕ → Bool → ℕ → Option ℕ
-judged (Some place) bad at = Some place
-judged None true at = Some at
-judged None false at = None
+abbrev pub first_bad_place : Option ℕ → Bool → ℕ → Option ℕ
+first_bad_place (Some place) bad at = Some place
+first_bad_place None true at = Some at
+first_bad_place None false at = None
 
 -- a bad place was found, and there is no limit
 abbrev pub is_settled : (limit place : Option ℕ) → Bool

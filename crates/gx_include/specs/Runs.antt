@@ -21,19 +21,19 @@ place_step a letters place number = placed (all_next a (single place)) (slice_ge
 abbrev pub IsComplete : SequenceType → List Letter → List ℕ → Type 0
 IsComplete a letters run = (place : ℕ) × (leads_to (place_step a letters) 0 run ≡ Some place) × (is_end a (single place) ≡ true)
 
-abbrev pub shape_of : Option Letter → List Shape
-shape_of None = []
-shape_of (Some letter) = letter.shape ∷ []
+abbrev pub shapes_of_letter : Option Letter → List Shape
+shapes_of_letter None = []
+shapes_of_letter (Some letter) = letter.shape ∷ []
 
 -- the shapes of the letters of a run, the oldest first
 abbrev pub shapes_of : List Letter → List ℕ → List Shape
 shapes_of letters [] = []
-shapes_of letters (number ∷ run) = shapes_of letters run ++ shape_of (slice_get letters number)
+shapes_of letters (number ∷ run) = shapes_of letters run ++ shapes_of_letter (slice_get letters number)
 
 -- a complete run whose shapes the right type does not take
-abbrev pub IsRefused : SchemaSet → (a b : SequenceType) → List Letter → List ℕ → Type 0
-IsRefused schemas a b letters run = IsComplete a letters run × (Takes schemas b (shapes_of letters run) → ⊥)
+abbrev pub IsRefusedRun : SchemaSet → (a b : SequenceType) → List Letter → List ℕ → Type 0
+IsRefusedRun schemas a b letters run = IsComplete a letters run × (Takes schemas b (shapes_of letters run) → ⊥)
 
 -- the first of these runs: the shortest, and among those the least by its letters from the front
 abbrev pub IsFirstRefused : SchemaSet → (a b : SequenceType) → List Letter → List ℕ → Type 0
-IsFirstRefused schemas a b letters run = IsRefused schemas a b letters run × ((other : List ℕ) → IsRefused schemas a b letters other → NotAfter run other)
+IsFirstRefused schemas a b letters run = IsRefusedRun schemas a b letters run × ((other : List ℕ) → IsRefusedRun schemas a b letters other → NotAfter run other)

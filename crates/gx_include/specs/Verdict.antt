@@ -38,8 +38,8 @@ pub record IsRefutedBy (schemas : SchemaSet) (a b : SequenceType) (letters : Lis
   pub taken : Takes schemas a (shapes_of letters run)
   pub refused : Takes schemas b (shapes_of letters run) → ⊥
 
-abbrev pub IsVerdict : SchemaSet → (a b : SequenceType) → List Letter → Option ℕ → Verdict → Type 0
-IsVerdict schemas a b letters limit Yes = IsIncluded schemas a b × IsWithin a b letters limit
-IsVerdict schemas a b letters limit (No list) =
+abbrev pub IsVerdictOver : SchemaSet → (a b : SequenceType) → List Letter → Option ℕ → Verdict → Type 0
+IsVerdictOver schemas a b letters limit Yes = IsIncluded schemas a b × IsWithin a b letters limit
+IsVerdictOver schemas a b letters limit (No list) =
     IsWithin a b letters limit × ((run : List ℕ) × (list.items ≡ shapes_of letters run) × IsRefutedBy schemas a b letters run)
-IsVerdict schemas a b letters limit TooManyPairs = IsPast a b letters limit
+IsVerdictOver schemas a b letters limit TooManyPairs = IsPast a b letters limit

@@ -13,15 +13,15 @@ module _ {S : Type 0} where
   leads_to step start (letter ∷ run) = go_by step letter (leads_to step start run)
 
 -- a run comes before another one: it is shorter, or as long and smaller at the first letter in which they differ
-abbrev pub Before : List ℕ → List ℕ → Type 0
-Before [] [] = ⊥
-Before [] (b ∷ v) = Unit {0}
-Before (a ∷ u) [] = ⊥
-Before (a ∷ u) (b ∷ v) = Before u v ⊎ ((u ≡ v) × (a < b))
+abbrev pub ComesBefore : List ℕ → List ℕ → Type 0
+ComesBefore [] [] = ⊥
+ComesBefore [] (b ∷ v) = Unit {0}
+ComesBefore (a ∷ u) [] = ⊥
+ComesBefore (a ∷ u) (b ∷ v) = ComesBefore u v ⊎ ((u ≡ v) × (a < b))
 
 -- a run is another one, or comes before it
 abbrev pub NotAfter : List ℕ → List ℕ → Type 0
-NotAfter u v = (u ≡ v) ⊎ Before u v
+NotAfter u v = (u ≡ v) ⊎ ComesBefore u v
 
 -- the state at a place
 abbrev pub StateAt : {X : Type 0} → List X → ℕ → X → Type 0
@@ -51,7 +51,7 @@ module _ {S : Type 0} (step : S → ℕ → Option S) (start : S) where
     pub first : StateAt states 0 start
     pub empty : run_at runs 0 ≡ []
     pub lead : (i : ℕ) (s : S) → StateAt states i s → leads_to step start (run_at runs i) ≡ Some s
-    pub ascend : (i j : ℕ) → i < j → j < length runs → Before (run_at runs i) (run_at runs j)
-    pub bounded : at < length runs → (i : ℕ) → i < length runs → Before (run_at runs i) (bound ∷ run_at runs at)
+    pub ascend : (i j : ℕ) → i < j → j < length runs → ComesBefore (run_at runs i) (run_at runs j)
+    pub bounded : at < length runs → (i : ℕ) → i < length runs → ComesBefore (run_at runs i) (bound ∷ run_at runs at)
     pub closed : (j : ℕ) → j < at → IsClosedBelow states runs j count
     pub closing : IsClosedBelow states runs at bound

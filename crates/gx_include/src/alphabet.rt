@@ -2,7 +2,8 @@
 
 ghost use Rattle.std.specs.Prelude.{◌≡◌, ◌+◌, ◌++◌, [], ◌∷◌, map, IfOk, OnOk};
 ghost use Rattle.std.specs.List.{All};
-ghost use Rattle.gx_include.specs.Alphabet.{entry_of, entry_if, row_entries, rows_below, IsRow, IsAlphabet};
+ghost use Rattle.gx_types.specs.Grounded.{Grounded};
+ghost use Rattle.gx_include.specs.Alphabet.{entry_of_letter, entry_if, row_entries, rows_below, IsRow, IsAlphabet};
 ghost use Rattle.gx_include.specs.Inclusion.{built_in_types};
 ghost use Rattle.gx_include.specs.Trials.{with_names, IsOther, trial_shapes, untyped};
 
@@ -25,18 +26,17 @@ pub struct Row {
     pub right: Vec<bool>,
 }
 
-// The letters of two types. `declared` has the declared types in their order.
+// The letters of two types.
 pub(crate) fn alphabet(
     alloc: Global,
     schemas: &Schemas,
-    declared: &[TypeName],
     left: &Ty,
     right: &Ty,
 ) -> Result<Vec<Letter>, AllocError>
-    requires { declared.now ≡ map (λ (declaration : TypeName × TypeName). declaration.0) schemas.now.bases }
-    ensures { IfOk result (λ letters. IsAlphabet schemas.now left.now right.now letters.items) }
+    ensures letters { IfOk result (λ letters. IsAlphabet schemas.now left.now right.now letters.items) }
+    ensures grounded { OnOk result (Grounded schemas.now.bases) }
 {
-    let shapes = shapes_of_types(alloc, declared, left, right)?;
+    let shapes = shapes_of_types(alloc, schemas.bases(), left, right)?;
     let rows = rows_of(alloc, schemas, left, right, shapes.as_slice())?;
     let width = taking_positions(alloc, schemas, left, &Shape::Text)?.len();
     let letters = letters_of(alloc, rows.as_slice(), width)?;
@@ -46,14 +46,14 @@ pub(crate) fn alphabet(
 // The shapes that are tried for two types.
 fn shapes_of_types(
     alloc: Global,
-    declared: &[TypeName],
+    declarations: &[(TypeName, TypeName)],
     left: &Ty,
     right: &Ty,
 ) -> Result<Vec<Shape>, AllocError>
-    ensures { IfOk result (λ shapes. (other : Name) × IsOther (with_names (with_names [] left.now) right.now) other × (shapes.items ≡ trial_shapes (built_in_types ++ declared.now) (with_names (with_names [] left.now) right.now ++ other ∷ []))) }
+    ensures { IfOk result (λ shapes. (other : Name) × IsOther (with_names (with_names [] left.now) right.now) other × (shapes.items ≡ trial_shapes (built_in_types ++ map (λ (declaration : TypeName × TypeName). declaration.0) declarations.now) (with_names (with_names [] left.now) right.now ++ other ∷ []))) }
 {
     let names = names_of_types(alloc, left, right)?;
-    let types = plain_types(alloc, declared)?;
+    let types = plain_types(alloc, declarations)?;
     let element_types = element_types(alloc, types.as_slice())?;
     let shapes = trials(
         alloc,
@@ -77,8 +77,11 @@ fn names_of_types(alloc: Global, left: &Ty, right: &Ty) -> Result<Vec<Name>, All
 }
 
 // The built-in types that a shape may have beside xs:untyped, and the declared types.
-fn plain_types(alloc: Global, declared: &[TypeName]) -> Result<Vec<TypeName>, AllocError>
-    ensures { IfOk result (λ types. types.items ≡ built_in_types ++ declared.now) }
+fn plain_types(
+    alloc: Global,
+    declarations: &[(TypeName, TypeName)],
+) -> Result<Vec<TypeName>, AllocError>
+    ensures { IfOk result (λ types. types.items ≡ built_in_types ++ map (λ (declaration : TypeName × TypeName). declaration.0) declarations.now) }
 {
     let mut types = vec![in alloc;
         TypeName::Builtin(Builtin::UntypedAtomic),
@@ -101,7 +104,7 @@ fn plain_types(alloc: Global, declared: &[TypeName]) -> Result<Vec<TypeName>, Al
         TypeName::Builtin(Builtin::UnsignedByte),
         TypeName::Builtin(Builtin::Positive),
     ]?;
-    add_types(&mut types, declared)?;
+    add_declared(&mut types, declarations)?;
     Ok(types)
 }
 
@@ -113,6 +116,19 @@ fn element_types(alloc: Global, plain: &[TypeName]) -> Result<Vec<TypeName>, All
     types.push(TypeName::Builtin(Builtin::Untyped))?;
     add_types(&mut types, plain)?;
     Ok(types)
+}
+
+// Puts the types of declarations behind those of a list.
+fn add_declared(
+    types: &mut Vec<TypeName>,
+    declarations: &[(TypeName, TypeName)],
+) -> Result<(), AllocError>
+    ensures { OnOk result (types.new.items ≡ types.old.items ++ map (λ (declaration : TypeName × TypeName). declaration.0) declarations.now) }
+{
+    for declaration in declarations {
+        types.push(declaration.0.clone()?)?;
+    }
+    Ok(())
 }
 
 fn add_types(types: &mut Vec<TypeName>, more: &[TypeName]) -> Result<(), AllocError>
@@ -163,7 +179,7 @@ fn row_of(
 
 // The letters of all places below a bound, by place and then by row.
 fn letters_of(alloc: Global, rows: &[Row], bound: usize) -> Result<Vec<Letter>, AllocError>
-    ensures { IfOk result (λ letters. map entry_of letters.items ≡ rows_below rows.now bound) }
+    ensures { IfOk result (λ letters. map entry_of_letter letters.items ≡ rows_below rows.now bound) }
 {
     let mut letters = Vec::new(alloc);
     for place in 0..bound {
@@ -173,7 +189,7 @@ fn letters_of(alloc: Global, rows: &[Row], bound: usize) -> Result<Vec<Letter>, 
 }
 
 fn add_letters(letters: &mut Vec<Letter>, rows: &[Row], place: usize) -> Result<(), AllocError>
-    ensures { OnOk result (map entry_of letters.new.items ≡ map entry_of letters.old.items ++ row_entries rows.now place) }
+    ensures { OnOk result (map entry_of_letter letters.new.items ≡ map entry_of_letter letters.old.items ++ row_entries rows.now place) }
 {
     for row in rows {
         add_letter(letters, row, place)?;
@@ -183,7 +199,7 @@ fn add_letters(letters: &mut Vec<Letter>, rows: &[Row], place: usize) -> Result<
 
 // Puts a letter behind those of a list, where the place is among those that take the shape.
 fn add_letter(letters: &mut Vec<Letter>, row: &Row, place: usize) -> Result<(), AllocError>
-    ensures { OnOk result (map entry_of letters.new.items ≡ map entry_of letters.old.items ++ entry_if place row.now.shape row.now.left.items row.now.right.items) }
+    ensures { OnOk result (map entry_of_letter letters.new.items ≡ map entry_of_letter letters.old.items ++ entry_if place row.now.shape row.now.left.items row.now.right.items) }
 {
     if is_set(row.left.as_slice(), place) {
         letters.push(letter_of(row, place)?)?;
@@ -192,7 +208,7 @@ fn add_letter(letters: &mut Vec<Letter>, row: &Row, place: usize) -> Result<(), 
 }
 
 fn letter_of(row: &Row, place: usize) -> Result<Letter, AllocError>
-    ensures { IfOk result (λ letter. entry_of letter ≡ (place, row.now.shape, row.now.right.items)) }
+    ensures { IfOk result (λ letter. entry_of_letter letter ≡ (place, row.now.shape, row.now.right.items)) }
 {
     let takers = row.right.clone()?;
     Ok(Letter {

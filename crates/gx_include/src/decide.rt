@@ -5,8 +5,8 @@ ghost use Rattle.gx_types.specs.SchemaSet.{SchemaSet};
 ghost use Rattle.gx_include.specs.Letters.{AreLetters, ServeAll};
 ghost use Rattle.gx_include.specs.Origins.{AreRuns};
 ghost use Rattle.gx_include.specs.Outcome.{IsOutcome};
-ghost use Rattle.gx_include.specs.Runs.{shape_of, shapes_of};
-ghost use Rattle.gx_include.specs.Verdict.{IsVerdict};
+ghost use Rattle.gx_include.specs.Runs.{shapes_of_letter, shapes_of};
+ghost use Rattle.gx_include.specs.Verdict.{IsVerdictOver};
 ghost use Rattle.gx_include.specs.Walk.{run_at};
 
 use crate::letter::Letter;
@@ -27,7 +27,7 @@ pub(crate) fn decide(
     letters: &[Letter],
     limit: Option<usize>,
 ) -> Result<Verdict, AllocError>
-    ensures { IfOk result (λ verdict. (schemas : SchemaSet) → AreLetters schemas left.now right.now letters.now → ServeAll schemas left.now right.now letters.now → IsVerdict schemas left.now right.now letters.now limit verdict) }
+    ensures { IfOk result (λ verdict. (schemas : SchemaSet) → AreLetters schemas left.now right.now letters.now → ServeAll schemas left.now right.now letters.now → IsVerdictOver schemas left.now right.now letters.now limit verdict) }
 {
     let mut pairs = IndexSet::new(alloc);
     let mut origins = Vec::new(alloc);
@@ -74,7 +74,7 @@ fn spell(alloc: Global, letters: &[Letter], run: Vec<usize>) -> Result<Vec<Shape
 
 // Puts the shape of a letter behind those of a list.
 fn add_shape(letters: &[Letter], number: usize, list: &mut Vec<Shape>) -> Result<(), AllocError>
-    ensures { OnOk result (list.new.items ≡ list.old.items ++ shape_of (slice_get letters.now number)) }
+    ensures { OnOk result (list.new.items ≡ list.old.items ++ shapes_of_letter (slice_get letters.now number)) }
 {
     if number < letters.len() {
         list.push(letters[number].shape.clone()?)?;

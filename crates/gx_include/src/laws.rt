@@ -1,6 +1,6 @@
 // Laws over the definitions.
 
-ghost use Rattle.gx_include.specs.Laws.{PastIsNotWithin, FewPairsAreReached, NoExcludesInclusion};
+ghost use Rattle.gx_include.specs.Laws.{AnswersAreOne, PastIsNotWithin, FewPairsAreReached, NoExcludesInclusion};
 
 /// The pairs that are reached are not both past a limit and within it, so `TooManyPairs` comes exactly where they are past it.
 pub fn past_is_not_within()
@@ -16,4 +16,9 @@ pub fn few_pairs_are_reached()
 /// A list that is answered with No has well-formed shapes, so a type that is included in another one is never answered with No.
 pub fn no_excludes_inclusion()
     ensures { NoExcludesInclusion }
+{}
+
+/// There is one answer on two types: the list of a No too is one.
+pub fn answers_are_one()
+    ensures { AnswersAreOne }
 {}

@@ -5,7 +5,7 @@ ghost use Rattle.gx_include.specs.Step.{single, all_next};
 ghost use Rattle.gx_include.specs.Pairs.{start_pair, moved, is_bad};
 ghost use Rattle.gx_include.specs.Origins.{AreRuns, IsNoted, IsNotedIfFound};
 ghost use Rattle.gx_include.specs.Traced.{Traced};
-ghost use Rattle.gx_include.specs.Outcome.{IsOutcome, outcome_at, exceeds, judged, is_settled};
+ghost use Rattle.gx_include.specs.Outcome.{IsOutcome, outcome_at, exceeds, first_bad_place, is_settled};
 ghost use Rattle.gx_include.specs.Walk.{IsKept};
 
 use crate::letter::Letter;
@@ -181,7 +181,7 @@ fn judge(
     at: usize,
     bad: Option<usize>,
 ) -> Result<Option<usize>, AllocError>
-    ensures { IfOk result (λ first. first ≡ judged bad (is_bad left.now right.now pair.now) at) }
+    ensures { IfOk result (λ first. first ≡ first_bad_place bad (is_bad left.now right.now pair.now) at) }
 {
     if bad.is_some() {
         return Ok(bad);

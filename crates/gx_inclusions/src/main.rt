@@ -2,6 +2,7 @@
 #![tactic(auto)]
 
 mod rows;
+mod texts;
 mod types;
 
 use gx_row::not_a_row;
@@ -9,6 +10,7 @@ use gx_row::words::words;
 use rows::{included_row, takes_row};
 use std::alloc::{AllocError, Global};
 use std::io;
+use texts::{read_row, texts_row};
 
 fn main(rt: HostRuntime) -> io::Result<()> {
     for line in rt.lines(rt.alloc()) {
@@ -34,6 +36,8 @@ fn answer(alloc: Global, words: &[&str]) -> Result<String, AllocError> {
     match words {
         ["included", limit, types @ ..] => included_row(alloc, limit, types),
         ["takes", types @ ..] => takes_row(alloc, types),
+        ["read", text] => read_row(alloc, text),
+        ["texts", left, right] => texts_row(alloc, left, right),
         _ => not_a_row(alloc),
     }
 }

@@ -20,14 +20,15 @@ pub fn included_row(alloc: Global, limit: &str, words: &[&str]) -> Result<String
     }
 }
 
-fn verdict_row(
+/// Whether one type is included in another one.
+pub fn verdict_row(
     alloc: Global,
     left: &Ty,
     right: &Ty,
     limit: Option<usize>,
 ) -> Result<String, AllocError> {
     let schemas = Schemas::empty(alloc)?;
-    let verdict = included(alloc, &schemas, &[], left, right, limit)?;
+    let verdict = included(alloc, &schemas, left, right, limit)?;
     match verdict {
         Verdict::Yes => String::from_str(alloc, "yes"),
         Verdict::No(list) => no_row(alloc, list.as_slice()),

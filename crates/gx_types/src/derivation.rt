@@ -74,7 +74,10 @@ fn leads_to(bases: &[(TypeName, TypeName)], t: &TypeName, u: &TypeName, steps: u
 }
 
 // The base that a type is declared with.
-fn declared_base<'a>(bases: &'a [(TypeName, TypeName)], t: &TypeName) -> Option<&'a TypeName>
+pub(crate) fn declared_base<'a>(
+    bases: &'a [(TypeName, TypeName)],
+    t: &TypeName,
+) -> Option<&'a TypeName>
     ensures { option_copied result ≡ declared_base_of bases.now t.now }
 {
     let mut rest = bases;

@@ -1,5 +1,5 @@
 -- The local names of the built-in types (XML Schema 1.0 part 2, section 3).
-use Rattle.std.specs.Prelude.{ℕ, List, codes}
+use Rattle.std.specs.Prelude.{ℕ, List, [], ◌∷◌, codes}
 use Rattle.gx_base.specs.declared.type_name.Builtin.{Builtin}
 use Rattle.gx_base.specs.declared.type_name.Builtin.TheVariants.{AnyType, Untyped, AnySimple, AnyAtomic, UntypedAtomic, Str, NormalizedStr, Token, Boolean, Decimal, Integer, NonPositive, Negative, Long, Int, Short, Byte, NonNegative, UnsignedLong, UnsignedInt, UnsignedShort, UnsignedByte, Positive}
 
@@ -27,3 +27,9 @@ local_name UnsignedInt = codes "unsignedInt"
 local_name UnsignedShort = codes "unsignedShort"
 local_name UnsignedByte = codes "unsignedByte"
 local_name Positive = codes "positiveInteger"
+
+-- all built-in types
+abbrev pub all_builtins : List Builtin
+all_builtins =
+    AnyType ∷ Untyped ∷ AnySimple ∷ AnyAtomic ∷ UntypedAtomic ∷ Str ∷ NormalizedStr ∷ Token ∷ Boolean ∷ Decimal ∷ Integer ∷ NonPositive ∷ Negative ∷ Long ∷ Int ∷ Short ∷ Byte ∷ NonNegative
+    ∷ UnsignedLong ∷ UnsignedInt ∷ UnsignedShort ∷ UnsignedByte ∷ Positive ∷ []

@@ -15,11 +15,15 @@ word = chars
 abbrev pub braced : List ℕ → List ℕ
 braced uri = word (codes "{") ++ uri ++ word (codes "}")
 
+-- the URI of the schema namespace
+abbrev pub schema_namespace : List ℕ
+schema_namespace = word (codes "http://www.w3.org/2001/XMLSchema")
+
 -- what stands before a local part: nothing, `xs:` for the schema namespace, or the URI in braces
 abbrev pub space_text : List ℕ → List ℕ
 space_text uri =
     if same_text uri [] then []
-    else (if same_text uri (word (codes "http://www.w3.org/2001/XMLSchema")) then word (codes "xs:") else braced uri)
+    else (if same_text uri schema_namespace then word (codes "xs:") else braced uri)
 
 abbrev pub name_text : Name → List ℕ
 name_text name = space_text name.uri ++ name.local

@@ -13,7 +13,7 @@ use gx_base::type_name::{Builtin, TypeName};
 use gx_types::item_type::ItemType;
 use std::alloc::{AllocError, Global};
 
-const SCHEMA_NAMESPACE: &str = "http://www.w3.org/2001/XMLSchema";
+pub(crate) const SCHEMA_NAMESPACE: &str = "http://www.w3.org/2001/XMLSchema";
 
 // Adds a word at the end.
 pub(crate) fn write_word(
@@ -145,8 +145,13 @@ fn write_number(alloc: Global, text: &mut TextBuilder, number: u32) -> Result<()
     write_word(alloc, text, digits.as_str())
 }
 
+// Adds the name of an element, an attribute or a type at the end.
 #[tactic(auto, using(std::proofs::Common::append_assoc))]
-fn write_name(alloc: Global, text: &mut TextBuilder, name: &Name) -> Result<(), AllocError>
+pub(crate) fn write_name(
+    alloc: Global,
+    text: &mut TextBuilder,
+    name: &Name,
+) -> Result<(), AllocError>
     ensures { OnOk result (text.new ≡ text.old ++ name_text name.now) }
 {
     write_space(alloc, text, &name.uri)?;

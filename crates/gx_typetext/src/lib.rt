@@ -1,8 +1,21 @@
 //! The texts of types.
 #![tactic(auto)]
 
+mod building;
 mod builtin_name;
 mod context;
+mod gap;
 mod item_text;
+mod known;
+pub mod laws;
+pub mod letters;
+mod names;
+pub mod pieces;
 pub mod print;
+pub mod read;
+pub mod reader;
+mod scan;
 pub mod shapes;
+pub mod steps;
+mod words;
+pub mod written;

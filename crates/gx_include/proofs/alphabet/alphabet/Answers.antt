@@ -1,4 +1,4 @@
-use Rattle.std.proofs.Common.{◌≡◌, ◌+◌, ◌++◌, ◌∷◌, [], ◌∙◌, ap, List, length, arith}
+use Rattle.std.proofs.Common.{◌≡◌, ◌+◌, ◌++◌, ◌∷◌, [], ◌∙◌, ap, List, length, map, arith}
 use Rattle.gx_base.specs.declared.type_name.TypeName.{TypeName}
 use Rattle.gx_types.specs.declared.shape.Shape.TheVariants.{Text}
 use Rattle.gx_types.specs.TypeRules.{positions_of}
@@ -11,8 +11,8 @@ use Rattle.gx_include.proofs.SetReads.{length_tests}
 use Rattle.gx_include.proofs.Alphabets.{alphabet_is}
 use Rattle.gx_include.proofs.alphabet.alphabet.Goals as goal
 
-pub returns : goal.returns
-returns c =
+pub returns-clause-letters : goal.returns-clause-letters
+returns-clause-letters c =
     let shapes = c.in_ok-shapes.ensures in
     let names = with_names (with_names [] c.args.left.now) c.args.right.now ++ shapes.0 ∷ [] in
     let long = ap length c.in_ok-taking_positions.ensures.tests in
@@ -22,5 +22,5 @@ returns c =
     (c.in_ok-letters.ensures ∙ ap (λ (rs : List Row). rows_below rs c.len-width.result) c.as_slice-2.ensures.value)
     c.in_ok-rows.ensures.each
     (c.in_ok-rows.ensures.shapes ∙ c.as_slice.ensures.value)
-    (shapes.2 ∙ ap (λ (ds : List TypeName). trial_shapes (built_in_types ++ ds) names) c.requires)
+    (shapes.2 ∙ ap (λ (ds : List (TypeName × TypeName)). trial_shapes (built_in_types ++ map (λ (declaration : TypeName × TypeName). declaration.0) ds) names) c.bases.ensures.value)
     width
