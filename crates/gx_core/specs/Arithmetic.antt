@@ -17,7 +17,7 @@ use Rattle.gx_model.specs.Forest.{Forest}
 use Rattle.gx_model.specs.Item.{Item, atom, node, Items}
 use Rattle.gx_core.specs.declared.expression.ArithmeticOp.{ArithmeticOp}
 use Rattle.gx_core.specs.declared.expression.ArithmeticOp.TheVariants.{Add, Sub, Mul, Div, IDiv, Mod}
-use Rattle.gx_core.specs.Outcome.{Outcome, gives, raises, wrong, given}
+use Rattle.gx_core.specs.Outcome.{Outcome, gives, raises, given}
 use Rattle.gx_core.specs.Operands.{on_one, on_two}
 
 abbrev pub number_of_value : AtomValue → Option Number

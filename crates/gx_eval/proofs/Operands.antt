@@ -1,5 +1,5 @@
 -- Operands of atomic values.
-use Rattle.std.proofs.Common.{◌≡◌, ◌≤◌, get_or, Bool, false, List, [], ◌∷◌, length, Result, Err, Option, None, Some, refl, sym, ◌∙◌, ap, arith}
+use Rattle.std.proofs.Common.{◌≡◌, ◌≤◌, get_or, Bool, false, List, [], ◌∷◌, length, map, Result, Err, Option, None, Some, refl, sym, ◌∙◌, ap, arith}
 use Rattle.std.specs.Option.{option_map}
 use Rattle.std.specs.Prelude.{is_ok}
 use Rattle.gx_base.specs.declared.code.Code.{Code}
@@ -12,11 +12,13 @@ use Rattle.gx_atomic.specs.declared.casting.CastError.TheVariants.{FORG0001, FOC
 use Rattle.gx_atomic.specs.Cast.{Casts, code_of}
 use Rattle.gx_atomic.specs.Comparison.{Decision, general_comparison}
 use Rattle.gx_atomic.proofs.PublicLaws.{empty_lists_compare_false}
+use Rattle.gx_funcs.specs.Function.{atomic_view}
 use Rattle.gx_model.specs.Forest.{Forest}
 use Rattle.gx_model.specs.Item.{Item, Items, atoms}
 use Rattle.gx_core.specs.Outcome.{Outcome, wrong, given}
 use Rattle.gx_core.specs.Operands.{on_one, on_two}
 use Rattle.gx_core.specs.Comparing.{condition_of, cast_failure, decided, atoms_among, generally_compared}
+use Rattle.gx_core.specs.Calling.{both_there, views_of}
 use Rattle.gx_core.specs.Casting.{cast_outcome, cast_items, castable_items}
 use Rattle.gx_eval.specs.Failing.{FailsSo}
 use Rattle.gx_eval.specs.Answering.{failure_of}
@@ -42,6 +44,10 @@ many_on_the_right (x ∷ w ∷ xs) (y ∷ z ∷ ys) forest next h = refl
 pub atoms_are_among : (xs : List Atomic) → atoms_among (atoms xs) ≡ Some xs
 atoms_are_among [] = refl
 atoms_are_among (x ∷ xs) = ap (option_map (λ ys. x ∷ ys)) (atoms_are_among xs)
+
+pub atoms_are_viewed : (forest : Forest) (xs : List Atomic) → views_of forest (atoms xs) ≡ Some (map atomic_view xs)
+atoms_are_viewed forest [] = refl
+atoms_are_viewed forest (x ∷ xs) = ap (both_there (Some (atomic_view x))) (atoms_are_viewed forest xs)
 
 pub many_are_not_cast : (schemas : SchemaSet) (kind : TypeName) (allows_empty : Bool) (xs : List Atomic) (forest : Forest) → 2 ≤ length xs → cast_items schemas kind allows_empty (atoms xs) forest ≡ wrong
 many_are_not_cast schemas kind allows_empty [] forest h = absurd (omega (arith, h))

@@ -8,7 +8,7 @@ use Rattle.gx_base.specs.declared.type_name.TypeName.{TypeName}
 use Rattle.gx_facets.specs.declared.Atomic.{Atomic}
 use Rattle.gx_funcs.specs.declared.function.Function.{Function}
 use Rattle.gx_funcs.specs.declared.function.Function.TheVariants as functions
-use Rattle.gx_funcs.specs.Function.{applied as applied_function}
+use Rattle.gx_funcs.specs.Function.{ItemView, applied as applied_function}
 use Rattle.gx_model.specs.Forest.{Forest}
 use Rattle.gx_model.specs.Item.{atom, Items, atoms}
 use Rattle.gx_core.specs.declared.expression.BinaryOp.{BinaryOp}
@@ -18,8 +18,8 @@ use Rattle.gx_core.specs.Outcome.{Outcome, gives, raises, wrong, after, given}
 use Rattle.gx_core.specs.BinaryOperators.{class_of}
 use Rattle.gx_core.specs.Arithmetic.{negation}
 use Rattle.gx_core.specs.Casting.{cast_items, castable_items}
-use Rattle.gx_core.specs.Comparing.{condition_of, atoms_among}
-use Rattle.gx_core.specs.Calling.{with_argument, atomic_arguments, answered, called}
+use Rattle.gx_core.specs.Comparing.{condition_of}
+use Rattle.gx_core.specs.Calling.{both_there, views_of, arguments_viewed, answered, called}
 use Rattle.gx_core.specs.Soundness.{TypedExpression}
 use Rattle.gx_core.specs.Expression.{all_parts}
 use Rattle.gx_core.specs.Meaning.{Context, Bindings, Denotation, atomized, binary_meaning, acts, all_of, branch, denoted, meaning, meanings}
@@ -153,14 +153,13 @@ all_wrong zero marks values operands next h = h operands marks values (omega ari
 all_wrong (suc n) [] values operands next h = refl
 all_wrong (suc n) (mark ∷ marks) values operands next h = all_wrong n marks (take mark values) (drop mark values ∷ operands) next (λ all below rest l. h all below rest (omega (arith, l)))
 
-no_second : (function : Function) (a b : List Atomic) (others : List (List Atomic)) → applied_function function (a ∷ b ∷ others) ≡ None
+no_second : (function : Function) (a b : List ItemView) (others : List (List ItemView)) → applied_function function (a ∷ b ∷ others) ≡ None
 no_second functions.True a b others = refl
 no_second functions.False a b others = refl
-no_second functions.Boolean a b others = refl
-no_second functions.Not a b others = refl
+no_second _ a b others = refl
 
-called_with : (function : Function) (forest : Forest) (x y : Option (List Atomic)) (others : Option (List (List Atomic)))
-    → given (with_argument x (with_argument y others)) (λ arguments. given (applied_function function arguments) (λ answer. answered answer forest)) ≡ wrong
+called_with : (function : Function) (forest : Forest) (x y : Option (List ItemView)) (others : Option (List (List ItemView)))
+    → given (both_there x (both_there y others)) (λ arguments. given (applied_function function arguments) (λ answer. answered answer forest)) ≡ wrong
 called_with function forest (Some a) (Some b) (Some others) = ap (λ (found : Option (Result (List Atomic) Code)). given found (λ answer. answered answer forest)) (no_second function a b others)
 called_with function forest (Some a) (Some b) None = refl
 called_with function forest (Some a) None others = refl
@@ -169,7 +168,7 @@ called_with function forest None y others = refl
 too_many : (function : Function) (forest : Forest) (all : List Items) → 2 ≤ length all → called function all forest ≡ wrong
 too_many function forest [] h = absurd (omega (arith, h))
 too_many function forest (x ∷ []) h = absurd (omega (arith, h))
-too_many function forest (x ∷ y ∷ all) h = called_with function forest (atoms_among x) (atoms_among y) (atomic_arguments all)
+too_many function forest (x ∷ y ∷ all) h = called_with function forest (views_of forest x) (views_of forest y) (arguments_viewed forest all)
 
 pub more_are_wrong : (k : Context) (forest : Forest) (function : Function) (work : List Pending) (values : Items) (marks : List ℕ) (bindings : Bindings) (count : ℕ)
     → 2 ≤ count → resume k (Apply (strict.Call function count) ∷ work) values marks bindings forest ≡ wrong

@@ -274,7 +274,7 @@ impl<'a> Evaluation<'a> {
             Strict::Neg => self.apply_negation(),
             Strict::Cast(kind, allows_empty) => self.apply_cast(alloc, &kind, allows_empty),
             Strict::Castable(kind, allows_empty) => self.apply_castable(alloc, &kind, allows_empty),
-            Strict::Call(function, count) => self.apply_call(function, count),
+            Strict::Call(function, count) => self.apply_call(alloc, function, count),
             Strict::Binary(operator) => self.apply_binary(operator),
         }
     }
@@ -345,7 +345,7 @@ impl<'a> Evaluation<'a> {
 
     // No function has more than one argument as yet.
     #[tactic(auto, using(crate::proofs::Resuming::none_applies, crate::proofs::Resuming::none_fails, crate::proofs::Resuming::call_applies, crate::proofs::Resuming::call_fails, crate::proofs::Resuming::more_are_wrong))]
-    fn apply_call(&mut self, function: Function, count: usize) -> Result<(), Failure>
+    fn apply_call(&mut self, alloc: Global, function: Function, count: usize) -> Result<(), Failure>
         ensures value { (k : Context) (forest : Forest) → OnOk result (outcome_of k forest self.new ≡ outcome_with k forest (work.Apply (strict.Call function count)) self.old) }
         ensures failed { (k : Context) (forest : Forest) → IfErr result (λ e. FailsSo e (outcome_with k forest (work.Apply (strict.Call function count)) self.old)) }
     {
@@ -359,7 +359,7 @@ impl<'a> Evaluation<'a> {
                     return Err(Failure::Wrong);
                 };
                 let (_, argument) = cut_at(self.values.as_slice(), mark);
-                let answer = called_with_one(function, argument)?;
+                let answer = called_with_one(alloc, function, argument)?;
                 self.values.truncate(mark);
                 Ok(put(answer, &mut self.values)?)
             }

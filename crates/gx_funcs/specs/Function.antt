@@ -1,40 +1,146 @@
--- The built-in functions, each by its values (Functions and Operators, sections 9.1, 9.3 and 15.1).
-use Rattle.std.specs.Prelude.{ℕ, Bool, true, false, not, List, [], ◌∷◌, Option, Some, None, option_map, Result, Ok}
+-- The table of built-in functions: the name and the parameters of each, the type of its result, and what it answers (Functions and Operators, sections 2.3, 2.4, 9.1, 9.3, 15.1 and 15.4).
+use Rattle.std.specs.Prelude.{ℕ, ℤ, pos, Bool, true, false, not, ◌&&◌, ◌==◌, List, [], ◌∷◌, length, codes, bytes_eq, encode_utf8_all, Option, Some, None, option_map, Result, Ok, if◌then◌else◌}
 use Rattle.gx_base.specs.declared.code.Code.{Code}
+use Rattle.gx_base.specs.declared.code.Code.TheVariants.{XPTY0004, FORG0006}
+use Rattle.gx_base.specs.declared.type_name.Builtin.{Builtin}
 use Rattle.gx_base.specs.declared.type_name.Builtin.TheVariants as types
 use Rattle.gx_base.specs.declared.type_name.TypeName.TheVariants as names
+use Rattle.gx_num.specs.declared.Number.TheVariants.{Int}
 use Rattle.gx_facets.specs.declared.Atomic.{Atomic}
-use Rattle.gx_facets.specs.declared.AtomValue.TheVariants.{Truth}
+use Rattle.gx_facets.specs.declared.AtomValue.TheVariants.{Str, Truth, Num}
+use Rattle.gx_facets.specs.Value.{printed_value}
 use Rattle.gx_atomic.specs.EffectiveBoolean.{effective_boolean_value}
 use Rattle.gx_funcs.specs.declared.function.Function.{Function}
 use Rattle.gx_funcs.specs.declared.function.Function.TheVariants as functions
+use Rattle.gx_funcs.specs.declared.function.Parameter.{Parameter}
+use Rattle.gx_funcs.specs.declared.function.ParameterType.TheVariants as parameters
+
+-- all functions
+abbrev pub all_functions : List Function
+all_functions =
+    functions.True ∷ functions.False ∷ functions.Boolean ∷ functions.Not ∷ functions.Count ∷ functions.Empty ∷ functions.Exists ∷ functions.Data ∷ functions.String ∷ []
+
+-- ---- names
+
+-- the local name of a function
+abbrev pub function_name : Function → List ℕ
+function_name functions.True = codes "true"
+function_name functions.False = codes "false"
+function_name functions.Boolean = codes "boolean"
+function_name functions.Not = codes "not"
+function_name functions.Count = codes "count"
+function_name functions.Empty = codes "empty"
+function_name functions.Exists = codes "exists"
+function_name functions.Data = codes "data"
+function_name functions.String = codes "string"
+
+-- ---- parameters
+
+-- any items
+abbrev pub any_items : Parameter
+any_items = record { takes = parameters.Items; code = XPTY0004 }
+
+-- at most one item
+abbrev pub one_item_at_most : Parameter
+one_item_at_most = record { takes = parameters.OptionalItem; code = XPTY0004 }
+
+-- what has an effective boolean value
+abbrev pub truth_valued : Parameter
+truth_valued = record { takes = parameters.TruthValue; code = FORG0006 }
+
+abbrev pub parameters_of : Function → List Parameter
+parameters_of functions.True = []
+parameters_of functions.False = []
+parameters_of functions.Boolean = truth_valued ∷ []
+parameters_of functions.Not = truth_valued ∷ []
+parameters_of functions.Count = any_items ∷ []
+parameters_of functions.Empty = any_items ∷ []
+parameters_of functions.Exists = any_items ∷ []
+parameters_of functions.Data = any_items ∷ []
+parameters_of functions.String = one_item_at_most ∷ []
 
 -- how many arguments a function has
 abbrev pub arity_of : Function → ℕ
-arity_of functions.True = 0
-arity_of functions.False = 0
-arity_of functions.Boolean = 1
-arity_of functions.Not = 1
+arity_of function = length (parameters_of function)
 
--- a boolean as an atomic value
+-- a function has this name and so many parameters
+abbrev pub is_of_name : (local : List ℕ) → (arity : ℕ) → Function → Bool
+is_of_name local arity function = bytes_eq (encode_utf8_all local) (function_name function) && (arity_of function == arity)
+
+abbrev pub first_named : List Function → (local : List ℕ) → (arity : ℕ) → Option Function
+first_named [] local arity = None
+first_named (function ∷ functions) local arity = if is_of_name local arity function then Some function else first_named functions local arity
+
+-- the function of this local name that has so many parameters
+unfoldable pub function_named : (local : List ℕ) → (arity : ℕ) → Option Function
+function_named local arity = first_named all_functions local arity
+
+-- ---- results
+
+-- the type of the one atomic value that a function answers; what `data` answers is of the type of its argument
+abbrev pub answer_type_of : Function → Option Builtin
+answer_type_of functions.True = Some types.Boolean
+answer_type_of functions.False = Some types.Boolean
+answer_type_of functions.Boolean = Some types.Boolean
+answer_type_of functions.Not = Some types.Boolean
+answer_type_of functions.Count = Some types.Integer
+answer_type_of functions.Empty = Some types.Boolean
+answer_type_of functions.Exists = Some types.Boolean
+answer_type_of functions.Data = None
+answer_type_of functions.String = Some types.Str
+
+-- ---- values
+
+-- an item as a function looks at it: an atomic value, or a node with its string value
+pub data ItemView : Type 0 where
+  atomic_view : (value : Atomic) → ItemView
+  node_view : (string_value : List ℕ) → ItemView
+
+-- a boolean, an integer and a string as atomic values
 abbrev pub truth_atom : Bool → Atomic
 truth_atom truth = record { value = Truth truth; kind = names.Builtin types.Boolean }
 
--- the effective boolean value of atomic values: of more than one there is none
-abbrev pub effective_boolean : List Atomic → Option Bool
-effective_boolean [] = Some false
-effective_boolean (a ∷ []) = Some (effective_boolean_value a.value)
-effective_boolean (a ∷ b ∷ rest) = None
+abbrev pub integer_atom : ℤ → Atomic
+integer_atom i = record { value = Num (Int i); kind = names.Builtin types.Integer }
 
--- a boolean as the answer of a function
-abbrev pub truth_answer : Bool → Result (List Atomic) Code
-truth_answer truth = Ok (truth_atom truth ∷ [])
+abbrev pub string_atom : List ℕ → Atomic
+string_atom characters = record { value = Str characters; kind = names.Builtin types.Str }
+
+-- the effective boolean value: true where the first item is a node; of more than one atomic value there is none
+abbrev pub effective_boolean : List ItemView → Option Bool
+effective_boolean [] = Some false
+effective_boolean (node_view text ∷ rest) = Some true
+effective_boolean (atomic_view a ∷ []) = Some (effective_boolean_value a.value)
+effective_boolean (atomic_view a ∷ b ∷ rest) = None
+
+abbrev pub has_no_item : List ItemView → Bool
+has_no_item [] = true
+has_no_item (item ∷ rest) = false
+
+-- the string value of an item
+abbrev pub string_of_item : ItemView → List ℕ
+string_of_item (atomic_view a) = printed_value a.value
+string_of_item (node_view text) = text
+
+-- the string value of at most one item, which is empty where there is none
+abbrev pub string_of_items : List ItemView → Option (List ℕ)
+string_of_items [] = Some []
+string_of_items (item ∷ []) = Some (string_of_item item)
+string_of_items (item ∷ other ∷ rest) = None
+
+-- one atomic value as the answer of a function
+abbrev pub one_answer : Atomic → Result (List Atomic) Code
+one_answer a = Ok (a ∷ [])
 
 -- what a function answers of its arguments, a value or the code of a dynamic error; nothing where their number is another one
--- or they are not of the types of its parameters
-abbrev pub applied : Function → List (List Atomic) → Option (Result (List Atomic) Code)
-applied functions.True [] = Some (truth_answer true)
-applied functions.False [] = Some (truth_answer false)
-applied functions.Boolean (values ∷ []) = option_map truth_answer (effective_boolean values)
-applied functions.Not (values ∷ []) = option_map (λ truth. truth_answer (not truth)) (effective_boolean values)
+-- or they are not of the types of its parameters, and of `data`, which is an operator of its own
+abbrev pub applied : Function → List (List ItemView) → Option (Result (List Atomic) Code)
+applied functions.True [] = Some (one_answer (truth_atom true))
+applied functions.False [] = Some (one_answer (truth_atom false))
+applied functions.Boolean (items ∷ []) = option_map (λ truth. one_answer (truth_atom truth)) (effective_boolean items)
+applied functions.Not (items ∷ []) = option_map (λ truth. one_answer (truth_atom (not truth))) (effective_boolean items)
+applied functions.Count (items ∷ []) = Some (one_answer (integer_atom (pos (length items))))
+applied functions.Empty (items ∷ []) = Some (one_answer (truth_atom (has_no_item items)))
+applied functions.Exists (items ∷ []) = Some (one_answer (truth_atom (not (has_no_item items))))
+applied functions.String (items ∷ []) = option_map (λ text. one_answer (string_atom text)) (string_of_items items)
 applied _ _ = None

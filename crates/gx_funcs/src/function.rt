@@ -1,14 +1,18 @@
-// The built-in functions.
+// The table of built-in functions.
 
-ghost use Rattle.std.specs.Prelude.{◌≡◌};
-ghost use Rattle.gx_funcs.specs.Function.{arity_of, effective_boolean, truth_atom};
+ghost use Rattle.std.specs.Prelude.{◌≡◌, ◌∷◌, [], ℕ, List, encode_utf8_all, map, Some, None, Ok, IfOk, MatchOption};
+ghost use Rattle.gx_funcs.specs.Function.{applied, arity_of, atomic_view, effective_boolean, function_name, function_named, integer_atom, is_of_name, one_answer, parameters_of, answer_type_of, string_atom, string_of_items, truth_atom};
 
 use gx_atomic::effective_boolean_value;
+use gx_base::code::Code;
+use gx_base::text::Text;
 use gx_base::type_name::{Builtin, TypeName};
-use gx_facets::{AtomValue, Atomic};
+use gx_facets::{AtomValue, Atomic, print_value};
+use gx_num::Number;
+use std::alloc::{AllocError, Global};
 
-/// A built-in function: one variant for each name and number of arguments (Functions and Operators, sections 9.1, 9.3 and
-/// 15.1).
+/// A built-in function: one variant for each name and number of arguments (Functions and Operators, sections 2.3, 2.4, 9.1,
+/// 9.3, 15.1 and 15.4).
 #[derive(Clone, Copy, Debug, PartialEq, Eq)]
 pub enum Function {
     /// `fn:true()`.
@@ -19,24 +23,147 @@ pub enum Function {
     Boolean,
     /// `fn:not(item()*)`, its contrary.
     Not,
+    /// `fn:count(item()*)`, the number of items.
+    Count,
+    /// `fn:empty(item()*)`, whether there is no item.
+    Empty,
+    /// `fn:exists(item()*)`, whether there is one.
+    Exists,
+    /// `fn:data(item()*)`, the typed values, which is an operator of Core.
+    Data,
+    /// `fn:string(item()?)`, the string value.
+    String,
 }
 
+/// What the values of a parameter are.
+#[derive(Clone, Copy, Debug, PartialEq, Eq)]
+pub enum ParameterType {
+    /// `item()*`.
+    Items,
+    /// `item()?`.
+    OptionalItem,
+    /// The types that have an effective boolean value (XQuery 1.0, section 2.4.3).
+    TruthValue,
+}
+
+/// A parameter of a function: what its values are, and the code of an argument of another type.
+#[derive(Clone, Copy, Debug, PartialEq, Eq)]
+pub struct Parameter {
+    pub takes: ParameterType,
+    pub code: Code,
+}
+
+// All functions, each once.
+const FUNCTIONS: [Function; 9] = [
+    Function::True,
+    Function::False,
+    Function::Boolean,
+    Function::Not,
+    Function::Count,
+    Function::Empty,
+    Function::Exists,
+    Function::Data,
+    Function::String,
+];
+
+const ANY_ITEMS: Parameter = Parameter {
+    takes: ParameterType::Items,
+    code: Code::XPTY0004,
+};
+
+const ONE_ITEM_AT_MOST: Parameter = Parameter {
+    takes: ParameterType::OptionalItem,
+    code: Code::XPTY0004,
+};
+
+const TRUTH_VALUED: Parameter = Parameter {
+    takes: ParameterType::TruthValue,
+    code: Code::FORG0006,
+};
+
 impl Function {
+    /// Its local name, in the namespace of functions.
+    pub fn name(self) -> &'static str
+        ensures { result.now ≡ function_name self }
+    {
+        match self {
+            Function::True => "true",
+            Function::False => "false",
+            Function::Boolean => "boolean",
+            Function::Not => "not",
+            Function::Count => "count",
+            Function::Empty => "empty",
+            Function::Exists => "exists",
+            Function::Data => "data",
+            Function::String => "string",
+        }
+    }
+
+    /// Its parameters, in order.
+    pub fn parameters(self) -> &'static [Parameter]
+        ensures { result.now ≡ parameters_of self }
+    {
+        match self {
+            Function::True | Function::False => &[],
+            Function::Boolean | Function::Not => &[TRUTH_VALUED],
+            Function::Count | Function::Empty | Function::Exists | Function::Data => &[ANY_ITEMS],
+            Function::String => &[ONE_ITEM_AT_MOST],
+        }
+    }
+
     /// How many arguments it has.
     pub fn arity(self) -> usize
         ensures { result ≡ arity_of self }
     {
+        self.parameters().len()
+    }
+
+    /// The type of the one atomic value that it answers; none of `data`, whose values are of the types of its argument.
+    pub fn result(self) -> Option<Builtin>
+        ensures { result ≡ answer_type_of self }
+    {
         match self {
-            Function::True | Function::False => 0,
-            Function::Boolean | Function::Not => 1,
+            Function::True
+            | Function::False
+            | Function::Boolean
+            | Function::Not
+            | Function::Empty
+            | Function::Exists => Some(Builtin::Boolean),
+            Function::Count => Some(Builtin::Integer),
+            Function::String => Some(Builtin::Str),
+            Function::Data => None,
         }
     }
 }
 
+// Whether a function has this name and so many parameters.
+fn is_of_name(local: &str, arity: usize, function: Function) -> bool
+    ensures { (characters : List ℕ) → local.now ≡ encode_utf8_all characters → result ≡ is_of_name characters arity function }
+{
+    local == function.name() && function.arity() == arity
+}
+
+/// The function of this local name in the namespace of functions that has so many parameters.
+#[tactic(auto, unfolding(crate::specs::Function::function_named))]
+pub fn find_local(local: &Text, arity: usize) -> Option<Function>
+    ensures { result ≡ function_named local.now arity }
+{
+    let local = local.as_str();
+    let mut left: &[Function] = &FUNCTIONS;
+    while let Some((function, others)) = left.split_first() {
+        if is_of_name(local, arity, *function) {
+            return Some(*function);
+        }
+        left = others;
+    }
+    None
+}
+
 /// The effective boolean value of atomic values: false of none, and of one its own; None exactly where there are more (XQuery
 /// 1.0, section 2.4.3).
+#[tactic(auto, using(crate::proofs::FunctionLemmas::many_have_no_truth))]
 pub fn effective_boolean(values: &[Atomic]) -> Option<bool>
-    ensures { result ≡ effective_boolean values.now }
+    ensures { result ≡ effective_boolean (map atomic_view values.now) }
 {
     match values {
         [] => Some(false),
@@ -52,5 +179,69 @@ pub fn truth_atom(truth: bool) -> Atomic
     Atomic {
         value: AtomValue::Truth(truth),
         kind: TypeName::Builtin(Builtin::Boolean),
+    }
+}
+
+/// An integer as an atomic value.
+pub fn integer_atom(integer: i128) -> Atomic
+    ensures { result ≡ integer_atom integer }
+{
+    Atomic {
+        value: AtomValue::Num(Number::Int(integer)),
+        kind: TypeName::Builtin(Builtin::Integer),
+    }
+}
+
+/// A string as an atomic value.
+pub fn string_atom(text: Text) -> Atomic
+    ensures { result ≡ string_atom text }
+{
+    Atomic {
+        value: AtomValue::Str(text),
+        kind: TypeName::Builtin(Builtin::Str),
+    }
+}
+
+// The string value of at most one atomic value.
+#[tactic(auto, using(crate::proofs::FunctionLemmas::many_have_no_string))]
+fn string_of(alloc: Global, values: &[Atomic]) -> Result<Option<Text>, AllocError>
+    ensures { IfOk result (λ text. text ≡ string_of_items (map atomic_view values.now)) }
+{
+    match values {
+        [] => Ok(Some(Text::empty(alloc)?)),
+        [single] => Ok(Some(print_value(alloc, &single.value)?)),
+        _ => Ok(None),
+    }
+}
+
+/// What a function answers of no argument; None exactly where it has parameters.
+pub fn apply_to_none(function: Function) -> Option<Atomic>
+    ensures { MatchOption result (applied function [] ≡ None) (λ a. applied function [] ≡ Some (one_answer a)) }
+{
+    match function {
+        Function::True => Some(truth_atom(true)),
+        Function::False => Some(truth_atom(false)),
+        _ => None,
+    }
+}
+
+/// What a function answers of one argument of atomic values; None exactly where it has not one parameter, or the argument is not
+/// of its type.
+pub fn apply_to_one(
+    alloc: Global,
+    function: Function,
+    argument: &[Atomic],
+) -> Result<Option<Atomic>, AllocError>
+    ensures { IfOk result (λ answer. MatchOption answer (applied function (map atomic_view argument.now ∷ []) ≡ None)
+        (λ a. applied function (map atomic_view argument.now ∷ []) ≡ Some (one_answer a))) }
+{
+    match function {
+        Function::Boolean => Ok(effective_boolean(argument).map(truth_atom)),
+        Function::Not => Ok(effective_boolean(argument).map(|truth| truth_atom(!truth))),
+        Function::Count => Ok(Some(integer_atom(argument.len() as i128))),
+        Function::Empty => Ok(Some(truth_atom(argument.is_empty()))),
+        Function::Exists => Ok(Some(truth_atom(!argument.is_empty()))),
+        Function::String => Ok(string_of(alloc, argument)?.map(string_atom)),
+        Function::True | Function::False | Function::Data => Ok(None),
     }
 }

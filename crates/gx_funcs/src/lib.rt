@@ -1,4 +1,5 @@
-//! The built-in functions: their parameters, the types of their results, and their values.
+//! The built-in functions: their names, their parameters, the types of their results, and their values.
 #![tactic(auto)]
 
 pub mod function;
+pub mod laws;

@@ -1,5 +1,5 @@
 -- Variables stand in the scopes of their binders, and are numbered once each.
-use Rattle.std.proofs.Common.{◌≡◌, ℕ, ◌+◌, ◌<◌, ◌≤◌, Bool, true, false, ◌||◌, ◌&&◌, List, [], ◌∷◌, ◌++◌, map, Option, Some, None, refl, ◌∙◌, ap, subst, arith, nat_eq, if◌then◌else◌}
+use Rattle.std.proofs.Common.{◌≡◌, ℕ, ◌+◌, ◌<◌, ◌≤◌, Bool, true, false, ◌||◌, List, [], ◌∷◌, ◌++◌, map, Option, Some, None, refl, ◌∙◌, ap, subst, arith, nat_eq, if◌then◌else◌}
 use Rattle.std.proofs.lemmas.Bool.{ne_eqb, eq-eqb}
 use Rattle.gx_base.specs.declared.place.Place.{Place}
 use Rattle.gx_base.specs.declared.code.Code.{Code}
@@ -11,13 +11,12 @@ use Rattle.gx_ast.specs.SyntaxTree.{SyntaxTree, SyntaxForm, SyntaxTrees, Binding
 use Rattle.gx_funcs.specs.declared.function.Function.{Function}
 use Rattle.gx_funcs.specs.declared.function.Function.TheVariants as functions
 use Rattle.gx_core.specs.declared.expression.BinaryOp.{BinaryOp}
-use Rattle.gx_core.specs.declared.expression.Binder.{Binder}
 use Rattle.gx_core.specs.declared.operator.Operator.TheVariants as operators
-use Rattle.gx_core.specs.Expression.{CoreExpression, At, no_parts, one_part, two_parts, core_at}
+use Rattle.gx_core.specs.Expression.{CoreExpression, At, no_parts, core_at}
 use Rattle.gx_core.specs.Invariant.{is_among, IsScoped, numbers_bound, AreDistinct, HasVariablesInOrder}
-use Rattle.gx_normal.specs.Names.{Names, number_of, same_qname, is_known_prefix, nullary_function, unary_function, Target, target, no_target, target_of}
-use Rattle.gx_normal.specs.Constructs.{within, data_around, boolean_around, sequence_of, operator_at, call_at, conditional_at, and_at, or_at, signed_at, cast_at, castable_at, let_at, core_operator, joined_by, joining}
-use Rattle.gx_normal.specs.Normalisation.{Normalised, made, unknown, then_made, or_refused, where_known, where_target, function_of, Continuation, core_of, core_of_form, call_core, bindings_core, clauses_core, normalised}
+use Rattle.gx_normal.specs.Names.{Names, number_of, same_qname, is_known_prefix, function_of, Target, target, no_target, target_of}
+use Rattle.gx_normal.specs.Constructs.{within, data_around, boolean_around, sequence_of, operator_at, call_at, call_of_one, conditional_at, and_at, or_at, signed_at, cast_at, castable_at, let_at, core_operator, joined_by, joining}
+use Rattle.gx_normal.specs.Normalisation.{Normalised, made, unknown, then_made, or_refused, where_target, Continuation, core_of, core_of_form, call_core, bindings_core, clauses_core, normalised}
 
 -- numbers that rise from one on, below another
 abbrev Rise : ℕ → ℕ → List ℕ → Type 0
@@ -109,8 +108,9 @@ data_numbered scope free next e h = record { scoped = (tt, (h.scoped, tt)); risi
 boolean_numbered : JoinsOne boolean_around
 boolean_numbered scope free next e h = record { scoped = (tt, (h.scoped, tt)); rising = rise_alone free next (numbers_bound e) h.rising }
 
-call_numbered : (place : Place) (function : Function) → JoinsOne (λ e. call_at place function (one_part e))
-call_numbered place function scope free next e h = record { scoped = (tt, (h.scoped, tt)); rising = rise_alone free next (numbers_bound e) h.rising }
+call_numbered : (place : Place) (function : Function) → JoinsOne (call_of_one place function)
+call_numbered place functions.Data scope free next e h = record { scoped = (tt, (h.scoped, tt)); rising = rise_alone free next (numbers_bound e) h.rising }
+call_numbered place _ scope free next e h = record { scoped = (tt, (h.scoped, tt)); rising = rise_alone free next (numbers_bound e) h.rising }
 
 cast_numbered : (place : Place) (kind : Builtin) (optional : Bool) → JoinsOne (cast_at place kind optional)
 cast_numbered place kind optional scope free next e h =
@@ -263,10 +263,10 @@ mutual
   form_numbered place (empty_attribute name) names free = tt
 
   call_is_numbered : (place : Place) (name : QName) (arguments : SyntaxTrees) (names : Names) (free : ℕ) → Numbered names free (call_core place name arguments names free)
-  call_is_numbered place name no_tree names free = refused_holds (function_of nullary_function name) place _ _ (IsNumberedSoFar free names) (λ function e. truth_numbered place function (numbers_of names) free)
+  call_is_numbered place name no_tree names free = refused_holds (function_of name 0) place _ _ (IsNumberedSoFar free names) (λ function e. truth_numbered place function (numbers_of names) free)
   call_is_numbered place name (a_tree argument no_tree) names free =
-      refused_holds (function_of unary_function name) place _ _ (IsNumberedSoFar free names)
-      (λ function e. one_numbered names free (core_of argument names free) (λ a. call_at place function (one_part a)) (call_numbered place function) (core_numbered argument names free))
+      refused_holds (function_of name 1) place _ _ (IsNumberedSoFar free names)
+      (λ function e. one_numbered names free (core_of argument names free) (call_of_one place function) (call_numbered place function) (core_numbered argument names free))
   call_is_numbered place name (a_tree argument (a_tree second others)) names free = tt
 
   bindings_numbered : (place : Place) (bindings : Bindings) (next : Continuation) → ((ns : Names) (m : ℕ) → Numbered ns m (next ns m)) → (names : Names) (free : ℕ) → Numbered names free (bindings_core place bindings next names free)

@@ -1,11 +1,9 @@
 -- What each construct of the language stands for in Core, over its parts (XQuery 1.0 and XPath 2.0 Formal Semantics, section 4).
-use Rattle.std.specs.Prelude.{ℕ, Bool, true, false, pos, List, Option, None, Some}
+use Rattle.std.specs.Prelude.{Bool, true, false, pos, Option, None, Some}
 use Rattle.gx_base.specs.declared.place.Place.{Place}
 use Rattle.gx_base.specs.declared.type_name.Builtin.{Builtin}
-use Rattle.gx_base.specs.declared.type_name.Builtin.TheVariants as builtins
 use Rattle.gx_base.specs.declared.type_name.TypeName.TheVariants as names
 use Rattle.gx_num.specs.declared.Number.TheVariants.{Int}
-use Rattle.gx_facets.specs.declared.AtomValue.TheVariants.{Str}
 use Rattle.gx_facets.specs.declared.Atomic.{Atomic}
 use Rattle.gx_ast.specs.declared.expression.BinaryOperator.{BinaryOperator}
 use Rattle.gx_ast.specs.declared.expression.BinaryOperator.TheVariants as written
@@ -38,10 +36,6 @@ boolean_around e = around e (operators.Call functions.Boolean) (one_part e)
 abbrev pub literal_at : Place → Atomic → CoreExpression
 literal_at place value = core_at place place (operators.Lit value) no_parts
 
--- a string as an atomic value
-abbrev pub string_atom : List ℕ → Atomic
-string_atom characters = record { value = Str characters; kind = names.Builtin builtins.Str }
-
 abbrev pub sequence_of : CoreExpression → CoreExpression → CoreExpression
 sequence_of a b = around a operators.Seq (two_parts a b)
 
@@ -51,6 +45,11 @@ operator_at place op a b = core_at place place (operators.Binary op) (two_parts 
 
 abbrev pub call_at : Place → Function → Parts (Unit {0}) → CoreExpression
 call_at place function arguments = core_at place place (operators.Call function) arguments
+
+-- a call of one argument; `data` is an operator of its own
+abbrev pub call_of_one : Place → Function → CoreExpression → CoreExpression
+call_of_one place functions.Data e = core_at place place operators.DataOf (one_part e)
+call_of_one place function e = call_at place function (one_part e)
 
 abbrev pub conditional_at : Place → CoreExpression → CoreExpression → CoreExpression → CoreExpression
 conditional_at place test chosen otherwise = core_at place place operators.If (three_parts (boolean_around test) chosen otherwise)

@@ -1,5 +1,5 @@
 -- The names of a query without a prolog: its prefixes, its variables, its functions and the types of its casts (XQuery 1.0, sections 2.1, 3.1 and 3.12).
-use Rattle.std.specs.Prelude.{ℕ, Bool, true, false, ◌&&◌, ◌||◌, List, [], ◌∷◌, codes, bytes_eq, encode_utf8_all, Option, None, Some, if◌then◌else◌}
+use Rattle.std.specs.Prelude.{ℕ, Bool, ◌&&◌, ◌||◌, List, [], ◌∷◌, codes, bytes_eq, encode_utf8_all, Option, None, Some, if◌then◌else◌}
 use Rattle.gx_base.specs.declared.code.Code.{Code}
 use Rattle.gx_base.specs.declared.code.Code.TheVariants.{XPST0051, XPST0080, XPST0081}
 use Rattle.gx_base.specs.declared.type_name.Builtin.{Builtin}
@@ -7,7 +7,7 @@ use Rattle.gx_base.specs.declared.type_name.Builtin.TheVariants as builtins
 use Rattle.gx_base.specs.Text.{same_text}
 use Rattle.gx_ast.specs.declared.name.QName.{QName}
 use Rattle.gx_funcs.specs.declared.function.Function.{Function}
-use Rattle.gx_funcs.specs.declared.function.Function.TheVariants as functions
+use Rattle.gx_funcs.specs.Function.{function_named}
 
 -- the text is this word of ASCII characters
 abbrev pub is_word : List ℕ → List ℕ → Bool
@@ -34,13 +34,9 @@ number_of (bound ∷ names) name = if same_qname bound.0 name then Some bound.1 
 abbrev pub is_function_prefix : List ℕ → Bool
 is_function_prefix prefix = is_word prefix [] || is_word prefix (codes "fn")
 
-abbrev pub nullary_function : List ℕ → Option Function
-nullary_function local =
-    if is_word local (codes "true") then Some functions.True else (if is_word local (codes "false") then Some functions.False else None)
-
-abbrev pub unary_function : List ℕ → Option Function
-unary_function local =
-    if is_word local (codes "boolean") then Some functions.Boolean else (if is_word local (codes "not") then Some functions.Not else None)
+-- the function of that name with so many parameters
+abbrev pub function_of : QName → (arity : ℕ) → Option Function
+function_of name arity = if is_function_prefix name.prefix then (function_named name.local arity) else None
 
 -- the built-in type of a local name
 abbrev pub builtin_of : List ℕ → Option Builtin

@@ -1,19 +1,18 @@
 -- From syntax trees to Core: the scopes of variables, and what each construct stands for (XQuery 1.0 and XPath 2.0 Formal Semantics, section 4).
-use Rattle.std.specs.Prelude.{ℕ, ◌+◌, Bool, true, false, List, [], ◌∷◌, Option, None, Some, if◌then◌else◌}
+use Rattle.std.specs.Prelude.{ℕ, ◌+◌, [], ◌∷◌, Option, None, Some, if◌then◌else◌}
 use Rattle.gx_base.specs.declared.place.Place.{Place}
 use Rattle.gx_base.specs.declared.code.Code.{Code}
 use Rattle.gx_base.specs.declared.code.Code.TheVariants.{XPST0003, XPST0008, XPST0017, XPST0081}
 use Rattle.gx_base.specs.declared.type_name.Builtin.{Builtin}
 use Rattle.gx_ast.specs.declared.name.QName.{QName}
-use Rattle.gx_ast.specs.declared.sequence_type.SingleType.{SingleType}
 use Rattle.gx_ast.specs.SyntaxTree.{SyntaxTree, SyntaxForm, SyntaxTrees, Bindings, Clauses, at, number, string, variable, parenthesised, empty_sequence, call, comma, flwor, conditional, binary, castable_as, cast_as, signed, no_tree, a_tree, no_binding, a_binding, no_clause, for_clause, let_clause, where_clause, no_key}
-use Rattle.gx_funcs.specs.declared.function.Function.{Function}
+use Rattle.gx_funcs.specs.Function.{string_atom}
 use Rattle.gx_core.specs.declared.expression.Core.{Core}
 use Rattle.gx_core.specs.declared.operator.Operator.TheVariants as operators
 use Rattle.gx_core.specs.Arithmetic.{number_atom}
-use Rattle.gx_core.specs.Expression.{CoreExpression, no_parts, one_part, core_at}
-use Rattle.gx_normal.specs.Names.{Names, is_known_prefix, number_of, is_function_prefix, nullary_function, unary_function, Target, target, no_target, target_of}
-use Rattle.gx_normal.specs.Constructs.{within, literal_at, string_atom, sequence_of, call_at, conditional_at, signed_at, cast_at, castable_at, let_at, joining}
+use Rattle.gx_core.specs.Expression.{CoreExpression, no_parts, core_at}
+use Rattle.gx_normal.specs.Names.{Names, is_known_prefix, number_of, function_of, Target, target, no_target, target_of}
+use Rattle.gx_normal.specs.Constructs.{within, literal_at, sequence_of, call_at, call_of_one, conditional_at, signed_at, cast_at, castable_at, let_at, joining}
 
 -- an expression, with the number that is free after it, or the first refused name
 pub data Normalised : Type 0 where
@@ -40,10 +39,6 @@ where_target (no_target code) place next = unknown place code
 
 abbrev pub variable_at : Place → Option ℕ → ℕ → Normalised
 variable_at place found free = or_refused found place XPST0008 (λ number. made (core_at place place (operators.Var number) no_parts) free)
-
--- a function of that name, where the prefix is one of functions
-abbrev pub function_of : (named : List ℕ → Option Function) → QName → Option Function
-function_of named name = if is_function_prefix name.prefix then (named name.local) else None
 
 abbrev pub Continuation : Type 0
 Continuation = Names → ℕ → Normalised
@@ -78,10 +73,10 @@ abbrev mutual
 
   -- a call of a function, found by its name and its number of arguments
   pub call_core : Place → QName → SyntaxTrees → Names → ℕ → Normalised
-  call_core place name no_tree names free = or_refused (function_of nullary_function name) place XPST0017 (λ function. made (call_at place function no_parts) free)
+  call_core place name no_tree names free = or_refused (function_of name 0) place XPST0017 (λ function. made (call_at place function no_parts) free)
   call_core place name (a_tree argument no_tree) names free =
-      or_refused (function_of unary_function name) place XPST0017
-      (λ function. then_made (core_of argument names free) (λ e. made (call_at place function (one_part e))))
+      or_refused (function_of name 1) place XPST0017
+      (λ function. then_made (core_of argument names free) (λ e. made (call_of_one place function e)))
   call_core place name _ names free = unknown place XPST0017
 
   -- the bindings of a `let`, one inside another, and then what follows them

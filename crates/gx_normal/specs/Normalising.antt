@@ -7,7 +7,7 @@ use Rattle.gx_ast.specs.declared.expression.Clause.{Clause}
 use Rattle.gx_ast.specs.declared.sequence_type.SingleType.{SingleType}
 use Rattle.gx_ast.specs.SyntaxTree.{SyntaxTree, SyntaxForm, cast_as, castable_as}
 use Rattle.gx_ast.specs.SyntaxView.{bindings_of, clauses_of}
-use Rattle.gx_core.specs.Expression.{CoreExpression, one_part}
+use Rattle.gx_core.specs.Expression.{CoreExpression}
 use Rattle.gx_normal.specs.declared.normalise.NameRefusal.{NameRefusal}
 use Rattle.gx_normal.specs.declared.normalise.NameRefusal.TheVariants.{Refused, Memory}
 use Rattle.gx_normal.specs.declared.construct.OneConstruct.{OneConstruct}
@@ -20,7 +20,7 @@ use Rattle.gx_normal.specs.declared.normalising.Task.{Task}
 use Rattle.gx_normal.specs.declared.normalising.Task.TheVariants.{Normalise, Clauses, Bind, Unbind, Target, Finish}
 use Rattle.gx_normal.specs.declared.normalising.Normalising.{Normalising}
 use Rattle.gx_normal.specs.Names.{Names, Target as CastTarget, target, no_target, target_of}
-use Rattle.gx_normal.specs.Constructs.{within, sequence_of, operator_at, call_at, conditional_at, and_at, or_at, signed_at, cast_at, castable_at, let_at}
+use Rattle.gx_normal.specs.Constructs.{within, sequence_of, operator_at, call_of_one, conditional_at, and_at, or_at, signed_at, cast_at, castable_at, let_at}
 use Rattle.gx_normal.specs.Normalisation.{Normalised, made, unknown, core_of, bindings_core, clauses_core}
 
 -- the rest of a normalisation, from the first expression on; the first refused name ends it
@@ -33,7 +33,7 @@ one_made (Within place) e = within place e
 one_made (Sign place minus) e = signed_at place minus e
 one_made (Cast place kind optional) e = cast_at place kind optional e
 one_made (Castable place kind optional) e = castable_at place kind optional e
-one_made (Call place function) e = call_at place function (one_part e)
+one_made (Call place function) e = call_of_one place function e
 
 abbrev pub two_made : TwoConstruct → CoreExpression → CoreExpression → CoreExpression
 two_made Sequence a b = sequence_of a b

@@ -2,10 +2,11 @@
 
 ghost use Rattle.std.specs.Prelude.{◌≡◌, IfOk, Some, None};
 ghost use Rattle.gx_core.specs.Arithmetic.{number_atom};
+ghost use Rattle.gx_funcs.specs.Function.{string_atom};
 ghost use Rattle.gx_core.specs.Expression.{core_at, no_parts, one_part, two_parts};
 ghost use Rattle.gx_core.specs.ExpressionView.{operator_of, parts_of};
 ghost use Rattle.gx_num.specs.declared.Number.TheVariants as numbers;
-ghost use Rattle.gx_normal.specs.Constructs.{boolean_around, call_at, conditional_at, core_operator, data_around, literal_at, operator_at, sequence_of, signed_at, string_atom, within};
+ghost use Rattle.gx_normal.specs.Constructs.{boolean_around, call_at, call_of_one, conditional_at, core_operator, data_around, literal_at, operator_at, sequence_of, signed_at, within};
 ghost use Rattle.gx_normal.specs.Normalising.{one_made, two_made};
 
 use gx_ast::expression::BinaryOperator;
@@ -14,7 +15,7 @@ use gx_base::text::Text;
 use gx_base::type_name::{Builtin, TypeName};
 use gx_core::expression::{BinaryOp, Binder, CoreExpr, CoreForm, E};
 use gx_facets::{AtomValue, Atomic};
-use gx_funcs::function::Function;
+use gx_funcs::function::{Function, string_atom};
 use gx_num::Number;
 use std::alloc::{AllocError, Global};
 
@@ -71,7 +72,7 @@ pub(crate) fn construct_one(
                 CoreForm::Castable(operand, TypeName::Builtin(kind), optional),
             ))
         }
-        OneConstruct::Call(place, function) => call(alloc, place, function, part),
+        OneConstruct::Call(place, function) => call_of_one(alloc, place, function, part),
     }
 }
 
@@ -146,9 +147,8 @@ pub(crate) fn number(place: Place, value: Number) -> CoreExpr
 pub(crate) fn string(place: Place, text: &Text) -> Result<CoreExpr, AllocError>
     ensures { IfOk result (λ e. e ≡ literal_at place (string_atom text.now)) }
 {
-    let value = AtomValue::Str(text.clone()?);
-    let kind = TypeName::Builtin(Builtin::Str);
-    Ok(at(place, CoreForm::Lit(Atomic { value, kind })))
+    let value = string_atom(text.clone()?);
+    Ok(at(place, CoreForm::Lit(value)))
 }
 
 /// A call without arguments.
@@ -215,6 +215,21 @@ fn call(
     let mut arguments = Vec::new(alloc);
     arguments.push(Box::into_inner(argument))?;
     Ok(at(place, CoreForm::Call(function, arguments)))
+}
+
+// A call of one argument, or the operator that `data` is.
+fn call_of_one(
+    alloc: Global,
+    place: Place,
+    function: Function,
+    argument: E,
+) -> Result<CoreExpr, AllocError>
+    ensures { IfOk result (λ e. e ≡ call_of_one place function argument.value) }
+{
+    match function {
+        Function::Data => Ok(at(place, CoreForm::DataOf(argument))),
+        _ => call(alloc, place, function, argument),
+    }
 }
 
 fn boolean_around(alloc: Global, operand: E) -> Result<E, AllocError>

@@ -1,15 +1,14 @@
 // The names of a query without a prolog.
 
 ghost use Rattle.std.specs.Prelude.{◌≡◌, [], ◌∷◌, OnOk, drop};
-ghost use Rattle.gx_normal.specs.Names.{Target as CastTarget, builtin_of, builtin_target, is_function_prefix, is_known_prefix, nullary_function, number_of, same_qname, target_of, unary_function};
+ghost use Rattle.gx_normal.specs.Names.{Target as CastTarget, builtin_of, builtin_target, function_of, is_function_prefix, is_known_prefix, number_of, same_qname, target_of};
 ghost use Rattle.gx_normal.specs.NameRefusal.{IsTarget};
-ghost use Rattle.gx_normal.specs.Normalisation.{function_of};
 
 use gx_ast::name::QName;
 use gx_base::code::Code;
 use gx_base::text::Text;
 use gx_base::type_name::Builtin;
-use gx_funcs::function::Function;
+use gx_funcs::function::{Function, find_local};
 use std::alloc::{AllocError, Global};
 use std::marker::Model;
 
@@ -88,31 +87,14 @@ pub fn is_known_prefix(prefix: &Text) -> bool
         || prefix == "local"
 }
 
-/// The function of that name without parameters.
-pub fn nullary_function(name: &QName) -> Option<Function>
-    ensures { result ≡ function_of nullary_function name.now }
+/// The function of that name with so many parameters.
+pub fn function_of(name: &QName, arity: usize) -> Option<Function>
+    ensures { result ≡ function_of name.now arity }
 {
-    if !is_function_prefix(&name.prefix) {
-        return None;
-    }
-    match name.local.as_str() {
-        "true" => Some(Function::True),
-        "false" => Some(Function::False),
-        _ => None,
-    }
-}
-
-/// The function of that name with one parameter.
-pub fn unary_function(name: &QName) -> Option<Function>
-    ensures { result ≡ function_of unary_function name.now }
-{
-    if !is_function_prefix(&name.prefix) {
-        return None;
-    }
-    match name.local.as_str() {
-        "boolean" => Some(Function::Boolean),
-        "not" => Some(Function::Not),
-        _ => None,
+    if is_function_prefix(&name.prefix) {
+        find_local(&name.local, arity)
+    } else {
+        None
     }
 }
 

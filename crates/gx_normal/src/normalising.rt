@@ -14,7 +14,7 @@ use crate::construct::{
     Construct, OneConstruct, TwoConstruct, at, call_of_none, conditional, construct_one,
     construct_two, core_operator, number, string,
 };
-use crate::names::{Names, is_known_prefix, nullary_function, target_of, unary_function};
+use crate::names::{Names, function_of, is_known_prefix, target_of};
 use crate::normalise::NameRefusal;
 use gx_ast::expression::{BinaryOperator, Binding, Clause, Expr, ExprNode, Key};
 use gx_ast::name::QName;
@@ -248,7 +248,7 @@ impl<'a> Normalising<'a> {
         ensures core { OnOk result (core_left self.new ≡ core_then (call_core place name.now no_tree self.old.names self.old.free) self.old) }
         ensures refused { IfErr result (λ e. EndsRefused e (core_then (call_core place name.now no_tree self.old.names self.old.free) self.old)) }
     {
-        match nullary_function(name) {
+        match function_of(name, 0) {
             Some(function) => Ok(self.parts.push(call_of_none(alloc, place, function))?),
             None => Err(refused(Code::XPST0017, place)),
         }
@@ -263,7 +263,7 @@ impl<'a> Normalising<'a> {
         ensures core { OnOk result (core_left self.new ≡ core_then (call_core place name.now (a_tree argument.now no_tree) self.old.names self.old.free) self.old) }
         ensures refused { IfErr result (λ e. EndsRefused e (core_then (call_core place name.now (a_tree argument.now no_tree) self.old.names self.old.free) self.old)) }
     {
-        match unary_function(name) {
+        match function_of(name, 1) {
             Some(function) => Ok(self.open_one(OneConstruct::Call(place, function), argument)?),
             None => Err(refused(Code::XPST0017, place)),
         }

@@ -8,6 +8,7 @@ pub mod Comparisons
 pub mod Ranges
 pub mod Conditionals
 pub mod Casts
+pub mod CallLemmas
 pub mod Calls
 pub mod SoundTyping
 pub mod Failing

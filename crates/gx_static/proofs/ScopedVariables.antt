@@ -1,12 +1,15 @@
 -- Where each variable stands in the scope of its binder, no variable is rejected.
-use Rattle.std.proofs.Common.{◌≡◌, ◌≢◌, ℕ, Bool, true, false, ◌||◌, List, [], ◌∷◌, ◌++◌, map, Option, Some, None, refl, sym, ◌∙◌, ap, subst, nat_eq, if◌then◌else◌}
+use Rattle.std.proofs.Common.{◌≡◌, ◌≢◌, ℕ, ◌+◌, Bool, true, false, ◌||◌, List, [], ◌∷◌, ◌++◌, map, Option, Some, None, refl, sym, ◌∙◌, ap, subst, nat_eq, if◌then◌else◌}
 use Rattle.gx_base.specs.declared.place.Place.{Place}
 use Rattle.gx_base.specs.declared.code.Code.{Code}
-use Rattle.gx_base.specs.declared.code.Code.TheVariants.{XPST0008, XPTY0004, FOTY0012, FORG0006}
+use Rattle.gx_base.specs.declared.code.Code.TheVariants.{XPST0008, XPTY0004, FOTY0012}
+use Rattle.gx_base.specs.declared.type_name.Builtin.{Builtin}
 use Rattle.gx_types.specs.SchemaSet.{SchemaSet}
 use Rattle.gx_types.specs.SequenceType.{SequenceType}
 use Rattle.gx_funcs.specs.declared.function.Function.{Function}
 use Rattle.gx_funcs.specs.declared.function.Function.TheVariants as functions
+use Rattle.gx_funcs.specs.declared.function.Parameter.{Parameter}
+use Rattle.gx_funcs.specs.Function.{parameters_of, answer_type_of}
 use Rattle.gx_core.specs.declared.expression.BinaryClass.{BinaryClass}
 use Rattle.gx_core.specs.declared.expression.BinaryClass.TheVariants as classes
 use Rattle.gx_core.specs.BinaryOperators.{class_of}
@@ -15,7 +18,7 @@ use Rattle.gx_core.specs.declared.operator.Operator.TheVariants as operators
 use Rattle.gx_core.specs.Expression.{CoreExpression, At, Parts, no_parts, a_part, each_of, annotation_of}
 use Rattle.gx_core.specs.Bindings.{look_up, Types, types_bound, numbers_bound_by}
 use Rattle.gx_core.specs.Invariant.{is_among, IsInScope, IsScoped, ArePartsScoped}
-use Rattle.gx_static.specs.Rule.{has_type, has_none, binary_rule, call_rule, ruling, variable_ruling}
+use Rattle.gx_static.specs.Rule.{has_type, has_none, binary_rule, takes_argument, arguments_rule, answer_rule, call_rule, ruling, variable_ruling}
 use Rattle.gx_static.specs.Judgement.{typed, with_typed, concluded, judged, parts_judged}
 use Rattle.gx_static.specs.Laws.{ScopedVariablesHaveTypes}
 use Rattle.gx_static.proofs.Failing.{IfRejected, made_fails, own_fails}
@@ -57,17 +60,34 @@ binary_code s (classes.Value op) t u code part e = tested_code _ _ XPTY0004 code
 binary_code s (classes.General op) t u code part e = tested_code _ _ XPTY0004 code part (λ x. cc) e
 binary_code s classes.Range t u code part e = tested_code _ _ XPTY0004 code part (λ x. cc) e
 
+-- parameters none of which has the code
+abbrev HaveOtherCodes : List Parameter → Type 0
+HaveOtherCodes [] = Unit {0}
+HaveOtherCodes (p ∷ ps) = (p.code ≢ XPST0008) × HaveOtherCodes ps
+
+parameters_code : (function : Function) → HaveOtherCodes (parameters_of function)
+parameters_code functions.True = tt
+parameters_code functions.False = tt
+parameters_code _ = (λ e. cc, tt)
+
+answer_code : (found : Option Builtin) (code : Code) (part : Option ℕ) → answer_rule found ≡ has_none code part → code ≢ XPST0008
+answer_code None code part e = other_code code part e
+answer_code (Some b) code part e = absurd (cc)
+
+arguments_code : (s : SchemaSet) (ps : List Parameter) (ts : List SequenceType) (number : ℕ) (found : Option Builtin) (code : Code) (part : Option ℕ) → HaveOtherCodes ps
+    → arguments_rule s ps ts number (answer_rule found) ≡ has_none code part → code ≢ XPST0008
+arguments_code s [] [] number found code part h e = answer_code found code part e
+arguments_code s [] (t ∷ ts) number found code part h e = other_code code part e
+arguments_code s (p ∷ ps) [] number found code part h e = other_code code part e
+arguments_code s (p ∷ ps) (t ∷ ts) number found code part h e =
+    elim (takes_argument s p.takes t) as (λ (b : Bool). (if b then arguments_rule s ps ts (number + 1) (answer_rule found) else has_none p.code (Some number)) ≡ has_none code part → code ≢ XPST0008) [
+      | true ↦ λ k. arguments_code s ps ts (number + 1) found code part h.1 k
+      | false ↦ λ k. let same : p.code ≡ code = cc in subst (λ (c : Code). c ≢ XPST0008) same h.0
+    ] e
+
 call_code : (s : SchemaSet) (function : Function) (ts : List SequenceType) (code : Code) (part : Option ℕ) → call_rule s function ts ≡ has_none code part → code ≢ XPST0008
-call_code s functions.True [] code part e = absurd (cc)
-call_code s functions.True (t ∷ ts) code part e = other_code code part e
-call_code s functions.False [] code part e = absurd (cc)
-call_code s functions.False (t ∷ ts) code part e = other_code code part e
-call_code s functions.Boolean [] code part e = other_code code part e
-call_code s functions.Boolean (t ∷ []) code part e = tested_part_code _ _ FORG0006 code (Some 0) part (λ x. cc) e
-call_code s functions.Boolean (t ∷ u ∷ ts) code part e = other_code code part e
-call_code s functions.Not [] code part e = other_code code part e
-call_code s functions.Not (t ∷ []) code part e = tested_part_code _ _ FORG0006 code (Some 0) part (λ x. cc) e
-call_code s functions.Not (t ∷ u ∷ ts) code part e = other_code code part e
+unfolding call_rule
+call_code s function ts code part e = arguments_code s (parameters_of function) ts 0 (answer_type_of function) code part (parameters_code function) e
 
 -- no rule but that of a variable has the code
 ruling_code : (s : SchemaSet) (operator : Operator) (ts : List SequenceType) (types : Types) (code : Code) (part : Option ℕ) → IsInScope (in_scope types) operator → ruling s operator ts types ≡ has_none code part → code ≢ XPST0008

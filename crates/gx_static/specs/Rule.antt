@@ -1,7 +1,7 @@
 -- The static rules: the type that an operator has, from the types of its parts (XQuery 1.0 and XPath 2.0 Formal Semantics, section 4).
-use Rattle.std.specs.Prelude.{ℕ, min, nat_le, Bool, true, false, ◌&&◌, ◌||◌, List, [], ◌∷◌, Option, None, Some, if◌then◌else◌}
+use Rattle.std.specs.Prelude.{ℕ, ◌+◌, min, nat_le, Bool, true, false, ◌&&◌, ◌||◌, List, [], ◌∷◌, Option, None, Some, if◌then◌else◌}
 use Rattle.gx_base.specs.declared.code.Code.{Code}
-use Rattle.gx_base.specs.declared.code.Code.TheVariants.{XPTY0004, XPST0008, FOTY0012, FORG0006}
+use Rattle.gx_base.specs.declared.code.Code.TheVariants.{XPTY0004, XPST0008, FOTY0012}
 use Rattle.gx_base.specs.declared.type_name.Builtin.{Builtin}
 use Rattle.gx_base.specs.declared.type_name.Builtin.TheVariants.{Integer, Decimal, UntypedAtomic, Boolean}
 use Rattle.gx_base.specs.declared.type_name.Builtin.TheVariants as builtins
@@ -21,8 +21,10 @@ use Rattle.gx_types.specs.Occurs.{Occurs}
 use Rattle.gx_types.specs.Occurrence.{occurrence_of, occurs}
 use Rattle.gx_types.specs.TypeRules.{sequence_of, choice_of, times_of}
 use Rattle.gx_funcs.specs.declared.function.Function.{Function}
-use Rattle.gx_funcs.specs.declared.function.Function.TheVariants as functions
-use Rattle.gx_funcs.specs.Function.{arity_of}
+use Rattle.gx_funcs.specs.declared.function.Parameter.{Parameter}
+use Rattle.gx_funcs.specs.declared.function.ParameterType.{ParameterType}
+use Rattle.gx_funcs.specs.declared.function.ParameterType.TheVariants as parameters
+use Rattle.gx_funcs.specs.Function.{parameters_of, arity_of, answer_type_of}
 use Rattle.gx_core.specs.declared.expression.ArithmeticOp.{ArithmeticOp}
 use Rattle.gx_core.specs.declared.expression.ArithmeticOp.TheVariants.{Div, IDiv}
 use Rattle.gx_core.specs.declared.expression.BinaryClass.{BinaryClass}
@@ -207,17 +209,26 @@ abbrev pub has_effective_boolean : SchemaSet → ItemType → Bool
 has_effective_boolean schemas kind =
     is_of_family schemas families.Truth kind || is_of_family schemas families.Text kind || is_of_family schemas families.Number kind
 
--- an argument with an effective boolean value: at most one atomic value
-abbrev pub truth_call_rule : SchemaSet → SequenceType → Ruling
-truth_call_rule schemas argument =
-    if is_at_most_one argument && all_items (has_effective_boolean schemas) argument then has_type (atomic Boolean) else has_none FORG0006 (Some 0)
+-- a parameter takes the values of a type
+abbrev pub takes_argument : SchemaSet → ParameterType → SequenceType → Bool
+takes_argument schemas parameters.Items argument = true
+takes_argument schemas parameters.OptionalItem argument = is_at_most_one argument
+takes_argument schemas parameters.TruthValue argument = is_at_most_one argument && all_items (has_effective_boolean schemas) argument
 
-abbrev pub call_rule : SchemaSet → Function → List SequenceType → Ruling
-call_rule schemas functions.True [] = has_type (atomic Boolean)
-call_rule schemas functions.False [] = has_type (atomic Boolean)
-call_rule schemas functions.Boolean (argument ∷ []) = truth_call_rule schemas argument
-call_rule schemas functions.Not (argument ∷ []) = truth_call_rule schemas argument
-call_rule schemas _ _ = has_none XPTY0004 None
+-- each argument, numbered from this number on, is of the type of its parameter; the first of another type has the code of its parameter
+abbrev pub arguments_rule : SchemaSet → List Parameter → List SequenceType → (number : ℕ) → Ruling → Ruling
+arguments_rule schemas [] [] number ruling = ruling
+arguments_rule schemas (parameter ∷ others) (argument ∷ arguments) number ruling =
+    if takes_argument schemas parameter.takes argument then arguments_rule schemas others arguments (number + 1) ruling else has_none parameter.code (Some number)
+arguments_rule schemas _ _ number ruling = has_none XPTY0004 None
+
+-- the type of the one atomic value that a function answers
+abbrev pub answer_rule : Option Builtin → Ruling
+answer_rule None = has_none XPTY0004 None
+answer_rule (Some builtin) = has_type (atomic builtin)
+
+unfoldable pub call_rule : SchemaSet → Function → List SequenceType → Ruling
+call_rule schemas function arguments = arguments_rule schemas (parameters_of function) arguments 0 (answer_rule (answer_type_of function))
 
 -- how many parts an operator has
 abbrev pub arity : Operator → ℕ

@@ -5,7 +5,8 @@ ghost use Rattle.gx_types.specs.SequenceType.{never};
 ghost use Rattle.gx_types.specs.SameType.{same_type};
 ghost use Rattle.gx_types.specs.TypeRules.{sequence_of};
 ghost use Rattle.gx_core.specs.BinaryOperators.{class_of};
-ghost use Rattle.gx_static.specs.Rule.{rule, arity, has_type, type_if, binary_rule, arithmetic_rule, arithmetic_type, number_type, integer_if, negation_rule, is_at_most_one, is_at_least_one, is_optional_in, both_occur, compared_occur, is_all_in, is_atomic_in, atomic, literal_rule, shown_type, data_rule, all_items, is_atomic, is_of_family, are_of_family, are_of_one_family, value_comparison_rule, are_comparable_items, are_comparable_types, general_comparison_rule, range_rule, conditional_rule, cast_rule, castable_rule, has_effective_boolean, truth_call_rule, call_rule};
+ghost use Rattle.gx_funcs.specs.Function.{answer_type_of};
+ghost use Rattle.gx_static.specs.Rule.{rule, arity, has_type, type_if, binary_rule, arithmetic_rule, arithmetic_type, number_type, integer_if, negation_rule, is_at_most_one, is_at_least_one, is_optional_in, both_occur, compared_occur, is_all_in, is_atomic_in, atomic, literal_rule, shown_type, data_rule, all_items, is_atomic, is_of_family, are_of_family, are_of_one_family, value_comparison_rule, are_comparable_items, are_comparable_types, general_comparison_rule, range_rule, conditional_rule, cast_rule, castable_rule, has_effective_boolean, takes_argument, answer_rule, call_rule};
 ghost use Rattle.gx_static.specs.declared.error.RuleError.TheVariants as errors;
 ghost use Rattle.gx_static.specs.Refusal.{RefusesType};
 
@@ -15,7 +16,7 @@ use gx_base::type_name::{Builtin, TypeName};
 use gx_core::expression::{ArithmeticOp, BinaryClass, BinaryOp};
 use gx_core::operator::Operator;
 use gx_facets::{AtomValue, Atomic};
-use gx_funcs::function::Function;
+use gx_funcs::function::{Function, ParameterType};
 use gx_num::Number;
 use gx_types::derivation::derives;
 use gx_types::item_type::ItemType;
@@ -536,22 +537,32 @@ fn have_effective_booleans(schemas: &Schemas, t: &Ty) -> bool
     }
 }
 
-// The type of a call whose argument has an effective boolean value.
-fn truth_call_type(alloc: Global, schemas: &Schemas, argument: &Ty) -> Result<Ty, RuleError>
-    ensures typed { IfOk result (λ t. truth_call_rule schemas.now argument.now ≡ has_type t) }
-    ensures refused { IfErr result (λ e. RefusesType e (truth_call_rule schemas.now argument.now)) }
+// Whether a parameter takes the values of a type.
+fn takes_argument(schemas: &Schemas, takes: ParameterType, argument: &Ty) -> bool
+    ensures { result ≡ takes_argument schemas.now takes argument.now }
 {
-    if is_at_most_one(argument) && have_effective_booleans(schemas, argument) {
-        Ok(atomic(alloc, Builtin::Boolean)?)
-    } else {
-        Err(RuleError::NoType {
-            code: Code::FORG0006,
-            part: Some(0),
-        })
+    match takes {
+        ParameterType::Items => true,
+        ParameterType::OptionalItem => is_at_most_one(argument),
+        ParameterType::TruthValue => {
+            is_at_most_one(argument) && have_effective_booleans(schemas, argument)
+        }
+    }
+}
+
+// The type of what a function answers.
+fn answer_type(alloc: Global, function: Function) -> Result<Ty, RuleError>
+    ensures typed { IfOk result (λ t. answer_rule (answer_type_of function) ≡ has_type t) }
+    ensures refused { IfErr result (λ e. RefusesType e (answer_rule (answer_type_of function))) }
+{
+    match function.result() {
+        Some(builtin) => Ok(atomic(alloc, builtin)?),
+        None => Err(no_type(Code::XPTY0004)),
     }
 }
 
 // The type of a call of a built-in function.
+#[tactic(auto, using(crate::proofs::CallLemmas::few_parameters), unfolding(crate::specs::Rule::call_rule))]
 pub(crate) fn call_type(
     alloc: Global,
     schemas: &Schemas,
@@ -561,11 +572,26 @@ pub(crate) fn call_type(
     ensures typed { IfOk result (λ t. call_rule schemas.now function arguments.now ≡ has_type t) }
     ensures refused { IfErr result (λ e. RefusesType e (call_rule schemas.now function arguments.now)) }
 {
-    match (function, arguments) {
-        (Function::True, []) => Ok(atomic(alloc, Builtin::Boolean)?),
-        (Function::False, []) => Ok(atomic(alloc, Builtin::Boolean)?),
-        (Function::Boolean, [argument]) => truth_call_type(alloc, schemas, argument),
-        (Function::Not, [argument]) => truth_call_type(alloc, schemas, argument),
-        _ => Err(no_type(Code::XPTY0004)),
+    let mut parameters = function.parameters();
+    let mut left = arguments;
+    let mut number = 0;
+    while let Some((parameter, others)) = parameters.split_first() {
+        let Some((argument, behind)) = left.split_first() else {
+            return Err(no_type(Code::XPTY0004));
+        };
+        if !takes_argument(schemas, parameter.takes, argument) {
+            return Err(RuleError::NoType {
+                code: parameter.code,
+                part: Some(number),
+            });
+        }
+        parameters = others;
+        left = behind;
+        number += 1;
+    }
+    if left.is_empty() {
+        answer_type(alloc, function)
+    } else {
+        Err(no_type(Code::XPTY0004))
     }
 }

@@ -4,9 +4,10 @@ ghost use Rattle.std.specs.Prelude.{◌≡◌, length};
 ghost use Rattle.gx_static.specs.Rule.{arity};
 
 use crate::rows::shown;
+use gx_base::text::Text;
 use gx_core::expression::BinaryOp;
 use gx_core::operator::Operator;
-use gx_funcs::function::Function;
+use gx_funcs::function::find_local;
 use gx_row::names::type_name;
 use gx_row::not_a_row;
 use gx_static::rules::operator_type;
@@ -18,15 +19,20 @@ use std::alloc::{AllocError, Global};
 /// a negation as `neg`, a cast as `cast:TYPE` or `cast?:TYPE`, and a test for one as `castable:TYPE`.
 pub fn operator_row(alloc: Global, word: &str, parts: &[Ty]) -> Result<String, AllocError> {
     match (word, parts) {
-        ("true", []) => ruled(alloc, &Operator::Call(Function::True), parts),
-        ("false", []) => ruled(alloc, &Operator::Call(Function::False), parts),
-        ("boolean", [_]) => ruled(alloc, &Operator::Call(Function::Boolean), parts),
-        ("not", [_]) => ruled(alloc, &Operator::Call(Function::Not), parts),
         ("neg", [_]) => ruled(alloc, &Operator::Neg, parts),
         ("data", [_]) => ruled(alloc, &Operator::DataOf, parts),
-        (word, [_]) => cast_row(alloc, word, parts),
+        (word, [_]) if word.contains(':') => cast_row(alloc, word, parts),
         (word, [_, _]) => binary_row(alloc, word, parts),
         ("if", [_, _, _]) => ruled(alloc, &Operator::If, parts),
+        (word, parts) => call_row(alloc, word, parts),
+    }
+}
+
+fn call_row(alloc: Global, word: &str, parts: &[Ty]) -> Result<String, AllocError> {
+    match find_local(&Text::from_str(alloc, word)?, parts.len()) {
+        Some(function) if function.arity() == parts.len() => {
+            ruled(alloc, &Operator::Call(function), parts)
+        }
         _ => not_a_row(alloc),
     }
 }
