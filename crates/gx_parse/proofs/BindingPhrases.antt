@@ -1,7 +1,7 @@
--- What the parts of FLWOR expressions read.
+-- What the parts of FLWOR expressions and quantified ones read.
 use Rattle.std.proofs.Common.{◌≡◌, ℕ, zero, suc, ◌+◌, Bool, true, false, List, [], ◌∷◌, ◌++◌, ◌⊎◌, inl, inr, refl, sym, ap, subst, ◌∙◌, Option, Some, None}
 use Rattle.gx_base.specs.declared.place.Place.{Place}
-use Rattle.gx_ast.specs.SyntaxTree.{SyntaxTree, at as located, flwor as flwor_form}
+use Rattle.gx_ast.specs.SyntaxTree.{SyntaxTree, at as located, flwor as flwor_form, quantified as quantified_form}
 use Rattle.gx_ast.specs.SyntaxView.{bindings_of, clauses_of, keys_of}
 use Rattle.gx_ast.specs.declared.expression.Binding.{Binding}
 use Rattle.gx_ast.specs.declared.expression.Clause.{Clause}
@@ -13,9 +13,12 @@ use Rattle.gx_grammar.proofs.PublicLaws.{ran_idle}
 use Rattle.gx_parse.specs.declared.word.Word.{Word}
 use Rattle.gx_parse.specs.declared.word.Word.TheVariants as word
 use Rattle.gx_parse.specs.declared.word.WordSet.TheVariants as set
+use Rattle.gx_parse.specs.declared.word.ClauseWord.{ClauseWord}
+use Rattle.gx_parse.specs.declared.word.Opening.{Opening}
+use Rattle.gx_parse.specs.declared.word.Opening.TheVariants as opening_is
 use Rattle.gx_parse.specs.declared.word.Binder.{Binder}
 use Rattle.gx_parse.specs.declared.word.Binder.TheVariants as binder
-use Rattle.gx_parse.specs.Words.{binder_of, binding_word}
+use Rattle.gx_parse.specs.Words.{clause_word_of, binder_in, binding_word}
 use Rattle.gx_parse.specs.Nodes.{Made, Found, Operator, BindingClause, WhereClause, second_value, name_length, tree}
 use Rattle.gx_parse.specs.Tokens.{one_of, gap, gap_then_dollar, barred_words}
 use Rattle.gx_parse.specs.Basics.{operator}
@@ -26,7 +29,7 @@ use Rattle.gx_parse.specs.Bound.{bound_value, position_made, bound, bound_type, 
 use Rattle.gx_parse.specs.Keys.{key_made, order_clause_made, is_stable, clause_keys, order_clause}
 use Rattle.gx_parse.specs.Lists.{items_before, Grown, OneMore, binding_made, clause_made}
 use Rattle.gx_parse.specs.Parsing.{Added}
-use Rattle.gx_parse.specs.Binding.{head_value, bindings_in, clause_binder, clause_before, clauses_in, clause_value, where_value, flwor_value, first_bound, position_of, head, binding, further_binding, more_bindings, bindings, clause, last_clause, more_clauses, flwor}
+use Rattle.gx_parse.specs.Binding.{head_value, bindings_in, word_found, clause_before, clauses_in, clause_value, where_value, flwor_value, quantified_value, first_bound, position_of, head, binding, further_binding, more_bindings, bindings, clause, last_clause, more_clauses, flwor, quantified, opened}
 use Rattle.gx_parse.proofs.Chains.{ran_any}
 use Rattle.gx_parse.proofs.Phrases.{in_token, in_both, in_keyed, in_empty, in_left, in_right, in_made, in_rule, loses_done, loses_ran, stays_done}
 use Rattle.gx_parse.proofs.TypesPhrases.{ran_loses}
@@ -50,6 +53,10 @@ module _ (text : List ℕ) (n : ℕ) where
   pub let_position : (b : Binder) (a : Standing) → b ≡ binder.Let → reads (position_made None) a a (position_of (place_in text) b)
   unfolding position_of
   let_position b a e = subst (λ d. reads (position_made None) a a (position_of (place_in text) d)) (sym e) (in_made text n (λ left v. position_made None) empty nothing a a (in_empty text n a))
+
+  pub quantifier_position : (b : Binder) (a : Standing) → b ≡ binder.Quantifier → reads (position_made None) a a (position_of (place_in text) b)
+  unfolding position_of
+  quantifier_position b a e = subst (λ d. reads (position_made None) a a (position_of (place_in text) d)) (sym e) (in_made text n (λ left v. position_made None) empty nothing a a (in_empty text n a))
 
   pub head_read : (b : Binder) (w : Word) (variable : Phrase) (v k p x : Made) (a s0 s1 s2 s3 : Standing) → w ≡ binding_word b → reads v a s0 variable → reads k s0 s1 (bound_type (place_in text)) → reads p s1 s2 (position_of (place_in text) b)
       → reads x s2 s3 (lexeme (word_of w)) → reads (head_value (pair v (pair k (pair p x)))) a s3 (head (place_in text) b variable)
@@ -122,16 +129,21 @@ module _ (text : List ℕ) (n : ℕ) where
   unfolding bindings binding
   bindings_are b variable v a c h = h
 
-  pub clause_read : (place : Place) (w : Word) (b : Binder) (bs : List Binding) (c : Clause) (s0 s1 s2 s3 s4 : Standing) → place ≡ place_in text (left_of s0) → b ≡ binder_of w → Ran (node (Found w)) s0 s1 (read_one (one_of set.Binders)) → Ran nothing s1 s2 (read_one gap)
-      → reads (items_before binding_made bs nothing) s2 s4 ((head (place_in text) b (bound (place_in text)) & rule (single n)) & more_bindings (place_in text) n b 63) → clause_made c ≡ node (BindingClause b place (bindings_of bs)) → reads (clause_made c) s0 s4 (clause (place_in text) n)
+  -- what the binder of a clause binds
+  of_binder : (b : ClauseWord) (d : Binder) (variable : Phrase) (v : Made) (a c : Standing) → d ≡ binder_in b → reads v a c ((head (place_in text) d variable & rule (single n)) & more_bindings (place_in text) n d 63)
+      → reads v a c ((head (place_in text) (binder_in b) variable & rule (single n)) & more_bindings (place_in text) n (binder_in b) 63)
+  of_binder b d variable v a c e h = subst (λ x. reads v a c ((head (place_in text) x variable & rule (single n)) & more_bindings (place_in text) n x 63)) e h
+
+  pub clause_read : (place : Place) (w : Word) (b : ClauseWord) (d : Binder) (bs : List Binding) (c : Clause) (s0 s1 s2 s3 s4 : Standing) → place ≡ place_in text (left_of s0) → b ≡ clause_word_of w → d ≡ binder_in b → Ran (node (Found w)) s0 s1 (read_one (one_of set.Binders))
+      → Ran nothing s1 s2 (read_one gap) → reads (items_before binding_made bs nothing) s2 s4 ((head (place_in text) d (bound (place_in text)) & rule (single n)) & more_bindings (place_in text) n d 63) → clause_made c ≡ node (BindingClause b place (bindings_of bs))
+      → reads (clause_made c) s0 s4 (clause (place_in text) n)
   unfolding clause
-  clause_read place w b bs c s0 s1 s2 s3 s4 e f h i k g =
-      subst (λ v. reads v s0 s4 (clause (place_in text) n)) (sym (g ∙ ap (λ d. node (BindingClause d place (bindings_of bs))) f ∙ ap (λ p. node (BindingClause (binder_of w) p (bindings_of bs))) e ∙ ap (λ us. node (BindingClause (binder_of w) (place_in text (left_of s0)) us)) (sym (bindings_seen bs))))
-      (in_made text n (λ left v. clause_value (place_in text left) v) (keyed (one_of set.Binders) (λ v. token gap & bindings (place_in text) n (clause_binder v) (bound (place_in text)))) (pair (node (Found w)) (pair nothing (items_before binding_made bs nothing))) s0 s4
-      (in_keyed text n (one_of set.Binders) (λ v. token gap & bindings (place_in text) n (clause_binder v) (bound (place_in text))) (node (Found w)) (pair nothing (items_before binding_made bs nothing)) s0 s1 s4 h
-      (in_both text n (token gap) (bindings (place_in text) n (binder_of w) (bound (place_in text))) nothing (items_before binding_made bs nothing) s1 s2 s4 (in_token text n gap nothing s1 s2 i)
-      (bindings_are (binder_of w) (bound (place_in text)) (items_before binding_made bs nothing) s2 s4
-      (subst (λ d. reads (items_before binding_made bs nothing) s2 s4 ((head (place_in text) d (bound (place_in text)) & rule (single n)) & more_bindings (place_in text) n d 63)) f k)))))
+  clause_read place w b d bs c s0 s1 s2 s3 s4 e f q h i k g =
+      subst (λ v. reads v s0 s4 (clause (place_in text) n)) (sym (g ∙ ap (λ x. node (BindingClause x place (bindings_of bs))) f ∙ ap (λ p. node (BindingClause (clause_word_of w) p (bindings_of bs))) e ∙ ap (λ us. node (BindingClause (clause_word_of w) (place_in text (left_of s0)) us)) (sym (bindings_seen bs))))
+      (in_made text n (λ left v. clause_value (place_in text left) v) (keyed (one_of set.Binders) (λ v. token gap & bindings (place_in text) n (binder_in (word_found v)) (bound (place_in text)))) (pair (node (Found w)) (pair nothing (items_before binding_made bs nothing))) s0 s4
+      (in_keyed text n (one_of set.Binders) (λ v. token gap & bindings (place_in text) n (binder_in (word_found v)) (bound (place_in text))) (node (Found w)) (pair nothing (items_before binding_made bs nothing)) s0 s1 s4 h
+      (in_both text n (token gap) (bindings (place_in text) n (binder_in (clause_word_of w)) (bound (place_in text))) nothing (items_before binding_made bs nothing) s1 s2 s4 (in_token text n gap nothing s1 s2 i)
+      (bindings_are (binder_in (clause_word_of w)) (bound (place_in text)) (items_before binding_made bs nothing) s2 s4 (of_binder (clause_word_of w) d (bound (place_in text)) (items_before binding_made bs nothing) s2 s4 (q ∙ ap binder_in f) k)))))
 
   abbrev pub where_part : Phrase
   where_part = made (λ left v. where_value v) (operator (place_in text) (set.Only word.Where) & rule (single n))
@@ -175,30 +187,30 @@ module _ (text : List ℕ) (n : ℕ) where
 
   -- a whole FLWOR
 
-  abbrev flwor_parts : Binder → Phrase
-  flwor_parts b = token gap_then_dollar & bindings (place_in text) n b (first_bound (place_in text)) & more_clauses (place_in text) n 63 & order_clause (place_in text) n & lexeme (word_of word.Return) & rule (single n)
+  abbrev flwor_parts : ClauseWord → Phrase
+  flwor_parts b = token gap_then_dollar & bindings (place_in text) n (binder_in b) (first_bound (place_in text)) & more_clauses (place_in text) n 63 & order_clause (place_in text) n & lexeme (word_of word.Return) & rule (single n)
 
-  parts_read : (b : Binder) (v bs cs o x : Made) (t : SyntaxTree) (s0 s1 s2 s3 s4 s5 s6 : Standing) → Ran nothing s0 s1 (read_one gap_then_dollar)
-      → reads bs s1 s2 ((head (place_in text) b (first_bound (place_in text)) & rule (single n)) & more_bindings (place_in text) n b 63) → reads cs s2 s3 (more_clauses (place_in text) n 63) → reads o s3 s4 (order_clause (place_in text) n)
+  parts_read : (b : ClauseWord) (v bs cs o x : Made) (t : SyntaxTree) (s0 s1 s2 s3 s4 s5 s6 : Standing) → Ran nothing s0 s1 (read_one gap_then_dollar)
+      → reads bs s1 s2 ((head (place_in text) (binder_in b) (first_bound (place_in text)) & rule (single n)) & more_bindings (place_in text) n (binder_in b) 63) → reads cs s2 s3 (more_clauses (place_in text) n 63) → reads o s3 s4 (order_clause (place_in text) n)
       → reads x s4 s5 (lexeme (word_of word.Return)) → Ran (tree t) s5 s6 (call text (suc n) (single n)) → reads (flwor_value b (place_in text (left_of s0 + name_length v)) (pair nothing (pair bs (pair cs (pair o (pair x (tree t))))))) s0 s6 (flwor (place_in text) n b v)
   unfolding flwor
   parts_read b v bs cs o x t s0 s1 s2 s3 s4 s5 s6 h i j m k l =
       in_made text n (λ left u. flwor_value b (place_in text (left + name_length v)) u) (flwor_parts b) (pair nothing (pair bs (pair cs (pair o (pair x (tree t)))))) s0 s6
       (in_both text n (token gap_then_dollar) _ nothing _ s0 s1 s6 (in_token text n gap_then_dollar nothing s0 s1 h)
-      (in_both text n (bindings (place_in text) n b (first_bound (place_in text))) _ bs _ s1 s2 s6 (bindings_are b (first_bound (place_in text)) bs s1 s2 i)
+      (in_both text n (bindings (place_in text) n (binder_in b) (first_bound (place_in text))) _ bs _ s1 s2 s6 (bindings_are (binder_in b) (first_bound (place_in text)) bs s1 s2 i)
       (in_both text n (more_clauses (place_in text) n 63) _ cs _ s2 s3 s6 j
       (in_both text n (order_clause (place_in text) n) _ o _ s3 s4 s6 m (in_both text n (lexeme (word_of word.Return)) (rule (single n)) x (tree t) s4 s5 s6 k (in_rule text n n (tree t) s5 s6 l))))))
 
-  clause_seen : (b : Binder) (place : Place) (bs : List Binding) (c : Clause) (others : List Clause) → clause_made c ≡ node (BindingClause b place (bindings_of bs)) → clause_before b place (bindings_of bs) (clauses_of others) ≡ clauses_of (c ∷ others)
+  clause_seen : (b : ClauseWord) (place : Place) (bs : List Binding) (c : Clause) (others : List Clause) → clause_made c ≡ node (BindingClause b place (bindings_of bs)) → clause_before b place (bindings_of bs) (clauses_of others) ≡ clauses_of (c ∷ others)
   clause_seen b place bs c others e = sym (ap (clause_before b place (bindings_of bs)) (clauses_seen others)) ∙ ap (λ v. clauses_in (pair v (items_before clause_made others nothing))) (sym e) ∙ clauses_seen (c ∷ others)
 
-  pub flwor_read : (b : Binder) (v x : Made) (place : Place) (bs : List Binding) (first : Clause) (begun clauses : List Clause) (stable : Bool) (keys : List Key) (t : SyntaxTree) (s0 s1 s2 s3 s4 s5 s6 s7 : Standing) → place ≡ place_in text (left_of s0 + name_length v)
-      → Ran nothing s0 s1 (read_one gap_then_dollar) → reads (items_before binding_made bs nothing) s1 s2 ((head (place_in text) b (first_bound (place_in text)) & rule (single n)) & more_bindings (place_in text) n b 63)
+  pub flwor_read : (b : ClauseWord) (d : Binder) (v x : Made) (place : Place) (bs : List Binding) (first : Clause) (begun clauses : List Clause) (stable : Bool) (keys : List Key) (t : SyntaxTree) (s0 s1 s2 s3 s4 s5 s6 s7 : Standing) → d ≡ binder_in b → place ≡ place_in text (left_of s0 + name_length v)
+      → Ran nothing s0 s1 (read_one gap_then_dollar) → reads (items_before binding_made bs nothing) s1 s2 ((head (place_in text) d (first_bound (place_in text)) & rule (single n)) & more_bindings (place_in text) n d 63)
       → clause_made first ≡ node (BindingClause b place (bindings_of bs)) → Grown [] first begun s2 s3
       → Added begun clauses (λ others. reads (items_before clause_made others nothing) s3 s4 (more_clauses (place_in text) n 63)) → reads (order_clause_made stable (items_before key_made keys nothing)) s4 s5 (order_clause (place_in text) n)
       → reads x s5 s6 (lexeme (word_of word.Return)) → Ran (tree t) s6 s7 (call text (suc n) (single n))
       → reads (tree (located place (flwor_form (clauses_of clauses) stable (keys_of keys) t))) s0 s7 (flwor (place_in text) n b v)
-  flwor_read b v x place bs first begun clauses stable keys t s0 s1 s2 s3 s4 s5 s6 s7 e h i f (inl g) m o k l =
+  flwor_read b d v x place bs first begun clauses stable keys t s0 s1 s2 s3 s4 s5 s6 s7 y e h i f (inl g) m o k l =
       let others = m.others in
       let order = order_clause_made stable (items_before key_made keys nothing) in
       let are : clause_before b place (bindings_in (items_before binding_made bs nothing)) (clauses_in (items_before clause_made others nothing)) ≡ clauses_of clauses =
@@ -208,8 +220,8 @@ module _ (text : List ℕ) (n : ℕ) where
       (subst (λ is. reads (tree (located place (flwor_form (clause_before b place (bindings_in (items_before binding_made bs nothing)) (clauses_in (items_before clause_made others nothing))) is (keys_of keys) t))) s0 s7 (flwor (place_in text) n b v)) (stable_seen stable (items_before key_made keys nothing))
       (subst (λ ks. reads (tree (located place (flwor_form (clause_before b place (bindings_in (items_before binding_made bs nothing)) (clauses_in (items_before clause_made others nothing))) (is_stable order) ks t))) s0 s7 (flwor (place_in text) n b v)) (clause_keys_seen stable keys)
       (subst (λ p. reads (flwor_value b p (pair nothing (pair (items_before binding_made bs nothing) (pair (items_before clause_made others nothing) (pair order (pair x (tree t))))))) s0 s7 (flwor (place_in text) n b v)) (sym e)
-      (parts_read b v (items_before binding_made bs nothing) (items_before clause_made others nothing) order x t s0 s1 s2 s4 s5 s6 s7 h i (subst (λ s. reads (items_before clause_made others nothing) s s4 (more_clauses (place_in text) n 63)) g.1 m.holds) o k l))))
-  flwor_read b v x place bs first begun clauses stable keys t s0 s1 s2 s3 s4 s5 s6 s7 e h i f (inr g) m o k l =
+      (parts_read b v (items_before binding_made bs nothing) (items_before clause_made others nothing) order x t s0 s1 s2 s4 s5 s6 s7 h (of_binder b d (first_bound (place_in text)) (items_before binding_made bs nothing) s1 s2 y i) (subst (λ s. reads (items_before clause_made others nothing) s s4 (more_clauses (place_in text) n 63)) g.1 m.holds) o k l))))
+  flwor_read b d v x place bs first begun clauses stable keys t s0 s1 s2 s3 s4 s5 s6 s7 y e h i f (inr g) m o k l =
       let d3 = loses_done s2 s3 g.1 in
       let d4 = stays_done (items_before clause_made m.others nothing) s3 s4 (read_in text n (more_clauses (place_in text) n 63)) d3 m.holds in
       let d5 = stays_done (order_clause_made stable (items_before key_made keys nothing)) s4 s5 (read_in text n (order_clause (place_in text) n)) d4 o in
@@ -217,4 +229,29 @@ module _ (text : List ℕ) (n : ℕ) where
       let d7 = stays_done (tree t) s6 s7 (call text (suc n) (single n)) d6 l in
       ran_any _ (tree (located place (flwor_form (clauses_of clauses) stable (keys_of keys) t))) s0 s7 (read_in text n (flwor (place_in text) n b v)) d7
       (parts_read b v nothing (items_before clause_made m.others nothing) (order_clause_made stable (items_before key_made keys nothing)) x t s0 s1 s3 s4 s5 s6 s7 h
-      (ran_loses (items_before binding_made bs nothing) nothing s1 s2 s3 (read_in text n ((head (place_in text) b (first_bound (place_in text)) & rule (single n)) & more_bindings (place_in text) n b 63)) i g.1) m.holds o k l)
+      (ran_loses (items_before binding_made bs nothing) nothing s1 s2 s3 (read_in text n ((head (place_in text) (binder_in b) (first_bound (place_in text)) & rule (single n)) & more_bindings (place_in text) n (binder_in b) 63)) (of_binder b d (first_bound (place_in text)) (items_before binding_made bs nothing) s1 s2 y i) g.1) m.holds o k l)
+
+  -- a whole quantified expression
+
+  abbrev quantified_parts : Phrase
+  quantified_parts = token gap_then_dollar & bindings (place_in text) n binder.Quantifier (first_bound (place_in text)) & lexeme (word_of word.Satisfies) & rule (single n)
+
+  pub quantified_read : (every : Bool) (v x : Made) (place : Place) (bs : List Binding) (t : SyntaxTree) (s0 s1 s2 s3 s4 : Standing) → place ≡ place_in text (left_of s0 + name_length v) → Ran nothing s0 s1 (read_one gap_then_dollar)
+      → reads (items_before binding_made bs nothing) s1 s2 ((head (place_in text) binder.Quantifier (first_bound (place_in text)) & rule (single n)) & more_bindings (place_in text) n binder.Quantifier 63) → reads x s2 s3 (lexeme (word_of word.Satisfies))
+      → Ran (tree t) s3 s4 (call text (suc n) (single n)) → reads (tree (located place (quantified_form every (bindings_of bs) t))) s0 s4 (quantified (place_in text) n every v)
+  unfolding quantified
+  quantified_read every v x place bs t s0 s1 s2 s3 s4 e h i k l =
+      subst (λ us. reads (tree (located place (quantified_form every us t))) s0 s4 (quantified (place_in text) n every v)) (bindings_seen bs)
+      (subst (λ p. reads (quantified_value every p (pair nothing (pair (items_before binding_made bs nothing) (pair x (tree t))))) s0 s4 (quantified (place_in text) n every v)) (sym e)
+      (in_made text n (λ left u. quantified_value every (place_in text (left + name_length v)) u) quantified_parts (pair nothing (pair (items_before binding_made bs nothing) (pair x (tree t)))) s0 s4
+      (in_both text n (token gap_then_dollar) _ nothing _ s0 s1 s4 (in_token text n gap_then_dollar nothing s0 s1 h)
+      (in_both text n (bindings (place_in text) n binder.Quantifier (first_bound (place_in text))) _ (items_before binding_made bs nothing) _ s1 s2 s4 (bindings_are binder.Quantifier (first_bound (place_in text)) (items_before binding_made bs nothing) s1 s2 i)
+      (in_both text n (lexeme (word_of word.Satisfies)) (rule (single n)) x (tree t) s2 s3 s4 k (in_rule text n n (tree t) s3 s4 l))))))
+
+  pub opened_flwor : (o : Opening) (b : ClauseWord) (v u : Made) (a c : Standing) → o ≡ opening_is.Flwor b → reads u a c (flwor (place_in text) n b v) → reads u a c (opened (place_in text) n o v)
+  unfolding opened
+  opened_flwor o b v u a c e h = subst (λ p. reads u a c (opened (place_in text) n p v)) (sym e) h
+
+  pub opened_quantified : (o : Opening) (every : Bool) (v u : Made) (a c : Standing) → o ≡ opening_is.Quantified every → reads u a c (quantified (place_in text) n every v) → reads u a c (opened (place_in text) n o v)
+  unfolding opened
+  opened_quantified o every v u a c e h = subst (λ p. reads u a c (opened (place_in text) n p v)) (sym e) h

@@ -1,14 +1,16 @@
--- The expressions in a FLWOR are of lower ranks.
-use Rattle.std.proofs.Common.{ℕ, zero, suc, ◌<◌}
+-- The expressions in FLWOR expressions and quantified ones are of lower ranks.
+use Rattle.std.proofs.Common.{ℕ, zero, suc, ◌<◌, Bool}
 use Rattle.gx_base.specs.declared.place.Place.{Place}
 use Rattle.gx_grammar.specs.Levels.{HasRanksBelow}
+use Rattle.gx_parse.specs.declared.word.ClauseWord.{ClauseWord}
 use Rattle.gx_parse.specs.declared.word.Binder.{Binder}
 use Rattle.gx_parse.specs.declared.word.Binder.TheVariants as binder
+use Rattle.gx_parse.specs.Words.{binder_in}
 use Rattle.gx_parse.specs.Nodes.{Made}
 use Rattle.gx_parse.specs.Basics.{operator}
 use Rattle.gx_parse.specs.Grammar.{Phrase, query_language}
 use Rattle.gx_parse.specs.Bound.{bound, bound_type, position}
-use Rattle.gx_parse.specs.Binding.{first_bound, position_of, head, binding, further_binding, more_bindings, bindings, clause, clause_binder, last_clause, more_clauses, flwor}
+use Rattle.gx_parse.specs.Binding.{first_bound, position_of, head, binding, further_binding, more_bindings, bindings, clause, word_found, last_clause, more_clauses, flwor, quantified}
 use Rattle.gx_parse.specs.Fronts.{rank}
 use Rattle.gx_parse.proofs.CastsRanks.{written_low, sequence_low}
 use Rattle.gx_parse.proofs.KeysRanks.{order_clause_low}
@@ -17,7 +19,7 @@ module _ (at : ℕ → Place) (n : ℕ) (below : n < suc n) where
   abbrev Low : Phrase → Type 0
   Low A = HasRanksBelow (query_language at) rank (suc n) A
 
-  bound_low : Low (bound at)
+  pub bound_low : Low (bound at)
   unfolding bound
   bound_low = ((tt, tt), written_low at (suc n))
 
@@ -29,6 +31,7 @@ module _ (at : ℕ → Place) (n : ℕ) (below : n < suc n) where
   unfolding position_of position
   position_low binder.For = (((tt, tt), bound_low), tt)
   position_low binder.Let = tt
+  position_low binder.Quantifier = tt
 
   head_low : (b : Binder) (variable : Phrase) → Low variable → Low (head at b variable)
   unfolding head bound_type
@@ -49,7 +52,7 @@ module _ (at : ℕ → Place) (n : ℕ) (below : n < suc n) where
 
   clause_low : Low (clause at n)
   unfolding clause
-  clause_low = λ v. (tt, bindings_low (clause_binder v) (bound at) bound_low)
+  clause_low = λ v. (tt, bindings_low (binder_in (word_found v)) (bound at) bound_low)
 
   last_clause_low : Low (last_clause at n)
   unfolding last_clause operator
@@ -60,6 +63,10 @@ module _ (at : ℕ → Place) (n : ℕ) (below : n < suc n) where
   more_clauses_low zero = (tt, last_clause_low)
   more_clauses_low (suc k) = ((clause_low, more_clauses_low k), last_clause_low)
 
-  pub flwor_low : (b : Binder) (v : Made) → Low (flwor at n b v)
+  pub flwor_low : (b : ClauseWord) (v : Made) → Low (flwor at n b v)
   unfolding flwor
-  flwor_low b v = (tt, (bindings_low b (first_bound at) first_bound_low, (more_clauses_low 63, (order_clause_low at n below, ((tt, tt), below)))))
+  flwor_low b v = (tt, (bindings_low (binder_in b) (first_bound at) first_bound_low, (more_clauses_low 63, (order_clause_low at n below, ((tt, tt), below)))))
+
+  pub quantified_low : (every : Bool) (v : Made) → Low (quantified at n every v)
+  unfolding quantified
+  quantified_low every v = (tt, (bindings_low binder.Quantifier (first_bound at) first_bound_low, ((tt, tt), below)))

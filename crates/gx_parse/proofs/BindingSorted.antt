@@ -1,4 +1,4 @@
--- The guards of FLWOR expressions decide.
+-- The guards of FLWOR expressions and quantified ones decide.
 use Rattle.std.proofs.Common.{◌≡◌, ℕ, zero, suc, Bool, true, false, List, [], ◌∷◌, ◌++◌, inl, inr, refl}
 use Rattle.gx_base.specs.declared.place.Place.{Place}
 use Rattle.gx_grammar.specs.Grammar.{token, empty, rule}
@@ -8,15 +8,17 @@ use Rattle.gx_grammar.specs.Apart.{all_apart}
 use Rattle.gx_grammar.proofs.PublicLaws.{computed_apart, tokens_choose}
 use Rattle.gx_parse.specs.declared.word.Word.TheVariants as word
 use Rattle.gx_parse.specs.declared.word.WordSet.TheVariants as set
+use Rattle.gx_parse.specs.declared.word.ClauseWord.{ClauseWord}
 use Rattle.gx_parse.specs.declared.word.Binder.{Binder}
 use Rattle.gx_parse.specs.declared.word.Binder.TheVariants as binder
+use Rattle.gx_parse.specs.Words.{binder_in}
 use Rattle.gx_parse.specs.Nodes.{Made}
 use Rattle.gx_parse.specs.Tokens.{Token, one_of, barred_words, shape_of}
 use Rattle.gx_parse.specs.Basics.{operator}
 use Rattle.gx_parse.specs.Grammar.{Phrase, single, word_of, behind_single, query_language}
 use Rattle.gx_parse.specs.Bound.{bound, bound_type, position}
 use Rattle.gx_parse.specs.Keys.{ordered, order_clause}
-use Rattle.gx_parse.specs.Binding.{first_bound, position_of, head, binding, further_binding, more_bindings, bindings, clause, clause_binder, last_clause, more_clauses, flwor}
+use Rattle.gx_parse.specs.Binding.{first_bound, position_of, head, binding, further_binding, more_bindings, bindings, clause, word_found, last_clause, more_clauses, flwor, quantified}
 use Rattle.gx_parse.specs.Fronts.{fronts}
 use Rattle.gx_parse.proofs.Shapes.{lawful, shaped}
 use Rattle.gx_parse.proofs.TypesSorted.{written_sorted}
@@ -40,6 +42,7 @@ module _ (at : ℕ → Place) (right : AreFronts (query_language at) (fronts at)
   unfolding head position_of bound_type position
   head_sorted binder.For variable us s = (s _, (bound_type_sorted at right (word_of word.At ∷ word_of word.In ∷ []) refl refl, (position_sorted at right (word_of word.In ∷ []) refl, (tt, tt))))
   head_sorted binder.Let variable us s = (s _, (bound_type_sorted at right (word_of word.Assign ∷ []) refl refl, (tt, (tt, tt))))
+  head_sorted binder.Quantifier variable us s = (s _, (bound_type_sorted at right (word_of word.In ∷ []) refl refl, (tt, (tt, tt))))
 
   binding_sorted : (n : ℕ) (b : Binder) (variable : Phrase) (us : List Token) → ((vs : List Token) → Sorts variable vs) → AllOf (IsIn (behind_single at)) us → Sorts (binding at n b variable) us
   unfolding binding
@@ -106,7 +109,7 @@ module _ (at : ℕ → Place) (right : AreFronts (query_language at) (fronts at)
 
   clause_sorted : (n : ℕ) (us : List Token) → all_apart shape_of (word_of word.Comma ∷ []) us ≡ true → AllOf (IsIn (behind_single at)) us → Sorts (clause at n) us
   unfolding clause
-  clause_sorted n us e f = λ v. (tt, bindings_sorted n (clause_binder v) (bound at) us (λ vs. bound_sorted at right vs) e f)
+  clause_sorted n us e f = λ v. (tt, bindings_sorted n (binder_in (word_found v)) (bound at) us (λ vs. bound_sorted at right vs) e f)
 
   last_clause_sorted : (n : ℕ) → Sorts (last_clause at n) behind_clauses
   unfolding last_clause operator
@@ -138,12 +141,19 @@ module _ (at : ℕ → Place) (right : AreFronts (query_language at) (fronts at)
     last_clause_sorted n,
   )
 
-  pub flwor_sorted : (n : ℕ) (b : Binder) (v : Made) (us : List Token) → AllOf (IsIn (behind_single at)) us → Sorts (flwor at n b v) us
+  pub flwor_sorted : (n : ℕ) (b : ClauseWord) (v : Made) (us : List Token) → AllOf (IsIn (behind_single at)) us → Sorts (flwor at n b v) us
   unfolding flwor more_clauses clause last_clause operator order_clause ordered
   flwor_sorted n b v us f = (
     tt,
     (
-      bindings_sorted n b (first_bound at) (behind_clause (one_of set.Binders)) (λ vs. first_bound_sorted vs) refl (is_binder, (is_where, are_behind)),
+      bindings_sorted n (binder_in b) (first_bound at) (behind_clause (one_of set.Binders)) (λ vs. first_bound_sorted vs) refl (is_binder, (is_where, are_behind)),
       (more_clauses_sorted n 63, (order_clause_sorted at right n, ((tt, tt), f))),
     ),
   )
+
+  is_satisfies : IsIn (behind_single at) (word_of word.Satisfies)
+  is_satisfies = inr (inr (inr (inr (inr (inr (inr (inr (inl refl))))))))
+
+  pub quantified_sorted : (n : ℕ) (every : Bool) (v : Made) (us : List Token) → AllOf (IsIn (behind_single at)) us → Sorts (quantified at n every v) us
+  unfolding quantified
+  quantified_sorted n every v us f = (tt, (bindings_sorted n binder.Quantifier (first_bound at) (word_of word.Satisfies ∷ []) (λ vs. first_bound_sorted vs) refl (is_satisfies, tt), ((tt, tt), f)))

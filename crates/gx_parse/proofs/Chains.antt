@@ -14,7 +14,7 @@ use Rattle.gx_parse.specs.Nodes.{Node, Made, Tree, Operator, Join, tree, joined_
 use Rattle.gx_parse.specs.Tokens.{one_of}
 use Rattle.gx_parse.specs.Grammar.{Phrase, at_tokens, operator, more, query_language, place_in}
 use Rattle.gx_parse.specs.Reading.{call, read_in}
-use Rattle.gx_parse.specs.Parsing.{set_of, join_of, member_of, last_of, most_of, read_chain, Keeps}
+use Rattle.gx_parse.specs.Parsing.{set_of, join_of, member_of, last_of, most_of, read_chain, KeepsTree}
 
 -- a step, and what depends on its value
 pub ran_bind : {A B : Type 0} (v : A) (w : B) (a b c : Standing) (first : State → Reading A) (next : A → State → Reading B) → Ran v a b first → Ran w b c (next v) → Ran w a c (λ s. go_on (first s) next)
@@ -52,7 +52,7 @@ go_on_each (Err x) f g e = refl
 
 -- what was kept of a tree that was made
 pub ran_kept : {E : Type 0} {A : Type 0} (t wanted : SyntaxTree) (made : Result SyntaxTree E) (v : A) (a b c : Standing) (read : SyntaxTree → State → Reading A)
-    → IfOk made (λ x. x ≡ wanted) → Keeps t made a b → Ran v b c (read t) → Ran v a c (read wanted)
+    → IfOk made (λ x. x ≡ wanted) → KeepsTree t made a b → Ran v b c (read t) → Ran v a c (read wanted)
 ran_kept t wanted (Ok m) v a b c read e k h = subst (λ d. Ran v d c (read wanted)) k.1 (subst (λ x. Ran v b c (read x)) (k.0 ∙ e) h)
 ran_kept t wanted (Err x) v (Going s) b (Going u) read e k h = absurd (let q : Ran v Lost (Going u) (read t) = subst (λ d. Ran v d (Going u) (read t)) k h in cc q)
 ran_kept t wanted (Err x) v (Going s) b (GaveUp r) read e k h = absurd (let q : Ran v Lost (GaveUp r) (read t) = subst (λ d. Ran v d (GaveUp r) (read t)) k h in cc q)
@@ -62,7 +62,7 @@ ran_kept t wanted (Err x) v Lost b c read e k h = let q : Ran v Lost c (read t) 
 
 -- a tree that was kept is what was read
 pub ran_keeps : {E : Type 0} (t wanted : SyntaxTree) (made : Result SyntaxTree E) (a b c : Standing) (read : State → Reading Made)
-    → Ran (tree wanted) a b read → IfOk made (λ x. x ≡ wanted) → Keeps t made b c → Ran (tree t) a c read
+    → Ran (tree wanted) a b read → IfOk made (λ x. x ≡ wanted) → KeepsTree t made b c → Ran (tree t) a c read
 ran_keeps t wanted (Ok m) a b c read h e k = subst (λ d. Ran (tree t) a d read) (sym k.1) (subst (λ x. Ran (tree x) a b read) (sym (k.0 ∙ e)) h)
 ran_keeps t wanted (Err x) (Going s) (Going u) c read h e k = subst (λ d. Ran (tree t) (Going s) d read) (sym k) tt
 ran_keeps t wanted (Err x) (Going s) (GaveUp r) c read h e k = subst (λ d. Ran (tree t) (Going s) d read) (sym k) h
@@ -117,7 +117,7 @@ module _ (text : List ℕ) (n : ℕ) (m : Members) where
   -- one more
   pub chain_goes_on : {E : Type 0} (count : ℕ) (t u v : SyntaxTree) (place : Place) (w : Word) (kept : SyntaxTree) (result : Result SyntaxTree E) (taken : Bool) (a b c d e z : Standing) → taken ≡ true → Looked taken a b (at_tokens (one_of (set_of m) ∷ []))
       → Ran (node (Operator place w)) b c (read_in text n (operator (place_in text) (set_of m))) → Ran (tree u) c d (read_in text n (member_of (place_in text) n m))
-      → IfOk result (λ x. x ≡ join_of m place w t u) → Keeps kept result d e → Ran v e z (read_chain text n m count kept) → Ran v a z (read_chain text n m (suc count) t)
+      → IfOk result (λ x. x ≡ join_of m place w t u) → KeepsTree kept result d e → Ran v e z (read_chain text n m count kept) → Ran v a z (read_chain text n m (suc count) t)
   unfolding read_in read_chain more
   chain_goes_on count t u v place w kept result taken a b c d e z f h i j k l r =
       ran_looked v taken a b z (at_tokens (one_of (set_of m) ∷ [])) (steps_of count t) (read_chain text n m (suc count) t) h

@@ -23,12 +23,15 @@ use Rattle.gx_parse.specs.Characters.{is_name_start}
 use Rattle.gx_parse.specs.Names.{name_made}
 use Rattle.gx_parse.specs.Nodes.{Node, Made, Arguments, Found, Operator, Tree, name_at, name_length, named_value, second_value, signed_value, condition_value, parenthesised_value, arguments_value, trees_in, is_minus, tree, chain_value, joined_to, whole_tree}
 use Rattle.gx_parse.specs.Tokens.{Token, one_of, gap, gap_then_open, gap_not_open, gap_then_dollar, gap_then_neither, barred, qname}
-use Rattle.gx_parse.specs.Grammar.{Phrase, word_of, lexeme, at_tokens, operator, more, more_signs, single, rules, expression, ladder, other_operand, other_step, step, dots, literal, variable_step, parenthesised_step, more_arguments, arguments_in, arguments, behind_plain_name, behind_any_name, filtered_step, test_or_literal, path_from, signed_path, condition, begun, behind_keyword, clauses_or_name, named_single, is_name, is_reserved, is_single, level_at, two, chain, query_language, query, place_in}
+use Rattle.gx_parse.specs.Grammar.{Phrase, word_of, lexeme, at_tokens, operator, more, more_signs, single, rules, expression, ladder, other_operand, other_step, step, dots, literal, variable_step, parenthesised_step, more_arguments, arguments_in, arguments, behind_plain_name, behind_any_name, filtered_step, test_or_literal, path_from, signed_path, condition, branched, branched_or_name, begun, behind_keyword, opened_or_name, named_single, is_name, is_reserved, is_single, level_at, two, chain, query_language, query, place_in}
 use Rattle.gx_parse.specs.Casts.{casts}
-use Rattle.gx_parse.specs.declared.word.Binder.{Binder}
-use Rattle.gx_parse.specs.Binding.{binder_named, flwor}
+use Rattle.gx_parse.specs.declared.word.Opening.{Opening}
+use Rattle.gx_parse.specs.Binding.{opening_named, opened}
+use Rattle.gx_parse.specs.NodeTests.{wildcard_or, any_step}
+use Rattle.gx_parse.specs.declared.word.Branching.{Branching}
+use Rattle.gx_parse.specs.Typeswitch.{branching_named}
 use Rattle.gx_parse.specs.Reading.{NameRead, call, more_than, read_in, read_one}
-use Rattle.gx_parse.specs.Parsing.{Keeps, Listed, join_of, set_of, read_chain, chain_of, is_pair, most_of, member_of, named_tree, called_tree, signs_before, wrapped, read_item, read_items}
+use Rattle.gx_parse.specs.Parsing.{KeepsTree, Listed, join_of, set_of, read_chain, chain_of, is_pair, most_of, member_of, named_tree, called_tree, signs_before, wrapped, read_item, read_items}
 use Rattle.gx_parse.proofs.Chains.{ran_any, ran_keeps, chain_reads, chain_ends, chain_goes_on}
 use Rattle.gx_parse.proofs.Phrases.{in_token, in_both, in_keyed, in_empty, in_left, in_right, in_made, in_rule, signed_wraps, loses_done, stays_done}
 
@@ -64,6 +67,14 @@ module _ (text : List ℕ) (n : ℕ) where
       → Ran (tree u) a c (read_in text n (expression (place_in text) n))
   expression_read t u a b c h k = subst (λ p. Ran (tree u) a c (read_in text n p)) expressions (k (in_rule text n n (tree t) a b h))
 
+  -- what stands behind the name at the front of a Single, and of a step
+
+  abbrev behind_single_name : Made → Phrase
+  behind_single_name v = wildcard_or v (ladder (place_in text) 8 n (path_from (place_in text) n (any_step (place_in text) v))) (named_single (place_in text) n v)
+
+  abbrev behind_step_name : Made → Phrase
+  behind_step_name v = wildcard_or v (any_step (place_in text) v) (behind_any_name (place_in text) n v)
+
   -- a Single where none may stand
   pub no_single : (t : SyntaxTree) (a b : Standing) → Ran nothing a b (read_one (barred barrier.Single)) → IsDone b → Ran (tree t) a b (call text (suc zero) (single zero))
   unfolding call read_one
@@ -76,24 +87,24 @@ module _ (text : List ℕ) (n : ℕ) where
   pub single_other : (t : SyntaxTree) (taken : Bool) (a b c : Standing) → taken ≡ false → Looked taken a b (by_character is_name_start) → Ran (tree t) b c (read_in text n (ladder (place_in text) 8 n (other_operand (place_in text) n))) → Ran (tree t) a c (call text (suc (suc n)) (single (suc n)))
   single_other t taken a b c e h k =
       single_is (tree t) a c
-      (in_right text n (by_character is_name_start) (made (λ left v. second_value v) (keyed qname (λ v. named_single (place_in text) n v))) (ladder (place_in text) 8 n (other_operand (place_in text) n)) (tree t) taken a b c e h k)
+      (in_right text n (by_character is_name_start) (made (λ left v. second_value v) (keyed qname (λ v. behind_single_name v))) (ladder (place_in text) 8 n (other_operand (place_in text) n)) (tree t) taken a b c e h k)
 
-  pub single_named : (t : SyntaxTree) (v : Made) (taken : Bool) (a b c d : Standing) → taken ≡ true → Looked taken a b (by_character is_name_start) → Ran v b c (read_one qname) → Ran (tree t) c d (read_in text n (named_single (place_in text) n v)) → Ran (tree t) a d (call text (suc (suc n)) (single (suc n)))
+  pub single_named : (t : SyntaxTree) (v : Made) (taken : Bool) (a b c d : Standing) → taken ≡ true → Looked taken a b (by_character is_name_start) → Ran v b c (read_one qname) → Ran (tree t) c d (read_in text n (behind_single_name v)) → Ran (tree t) a d (call text (suc (suc n)) (single (suc n)))
   single_named t v taken a b c d e h k l =
       single_is (tree t) a d
-      (in_left text n (by_character is_name_start) (made (λ left v. second_value v) (keyed qname (λ v. named_single (place_in text) n v))) (ladder (place_in text) 8 n (other_operand (place_in text) n)) (tree t) taken a b d e h
-      (in_made text n (λ left v. second_value v) (keyed qname (λ v. named_single (place_in text) n v)) (pair v (tree t)) b d (in_keyed text n qname (λ v. named_single (place_in text) n v) v (tree t) b c d k l)))
+      (in_left text n (by_character is_name_start) (made (λ left v. second_value v) (keyed qname (λ v. behind_single_name v))) (ladder (place_in text) 8 n (other_operand (place_in text) n)) (tree t) taken a b d e h
+      (in_made text n (λ left v. second_value v) (keyed qname (λ v. behind_single_name v)) (pair v (tree t)) b d (in_keyed text n qname (λ v. behind_single_name v) v (tree t) b c d k l)))
 
   -- steps
   pub step_other : (t : SyntaxTree) (taken : Bool) (a b c : Standing) → taken ≡ false → Looked taken a b (by_character is_name_start) → Ran (tree t) b c (read_in text n (other_step (place_in text) n)) → Ran (tree t) a c (read_in text n (step (place_in text) n))
   unfolding step
-  step_other t taken a b c e h k = in_right text n (by_character is_name_start) (made (λ left v. second_value v) (keyed qname (λ v. behind_any_name (place_in text) n v))) (other_step (place_in text) n) (tree t) taken a b c e h k
+  step_other t taken a b c e h k = in_right text n (by_character is_name_start) (made (λ left v. second_value v) (keyed qname (λ v. behind_step_name v))) (other_step (place_in text) n) (tree t) taken a b c e h k
 
-  pub step_named : (t : SyntaxTree) (v : Made) (taken : Bool) (a b c d : Standing) → taken ≡ true → Looked taken a b (by_character is_name_start) → Ran v b c (read_one qname) → Ran (tree t) c d (read_in text n (behind_any_name (place_in text) n v)) → Ran (tree t) a d (read_in text n (step (place_in text) n))
+  pub step_named : (t : SyntaxTree) (v : Made) (taken : Bool) (a b c d : Standing) → taken ≡ true → Looked taken a b (by_character is_name_start) → Ran v b c (read_one qname) → Ran (tree t) c d (read_in text n (behind_step_name v)) → Ran (tree t) a d (read_in text n (step (place_in text) n))
   unfolding step
   step_named t v taken a b c d e h k l =
-      in_left text n (by_character is_name_start) (made (λ left v. second_value v) (keyed qname (λ v. behind_any_name (place_in text) n v))) (other_step (place_in text) n) (tree t) taken a b d e h
-      (in_made text n (λ left v. second_value v) (keyed qname (λ v. behind_any_name (place_in text) n v)) (pair v (tree t)) b d (in_keyed text n qname (λ v. behind_any_name (place_in text) n v) v (tree t) b c d k l))
+      in_left text n (by_character is_name_start) (made (λ left v. second_value v) (keyed qname (λ v. behind_step_name v))) (other_step (place_in text) n) (tree t) taken a b d e h
+      (in_made text n (λ left v. second_value v) (keyed qname (λ v. behind_step_name v)) (pair v (tree t)) b d (in_keyed text n qname (λ v. behind_step_name v) v (tree t) b c d k l))
 
   -- what stands behind a name
   pub plain_read : (t : Token) (v : Made) (place : Place) (a b : Standing) → place ≡ place_in text (left_of a + name_length v) → Ran nothing a b (read_one t) → Ran (tree (named_tree (name_at place v))) a b (read_in text n (behind_plain_name (place_in text) t v))
@@ -114,7 +125,7 @@ module _ (text : List ℕ) (n : ℕ) where
 
     pub one_more : {E : Type 0} (ws : WordSet) (k j : ℕ) (t u v : SyntaxTree) (place : Place) (w : Word) (kept : SyntaxTree) (result : Result SyntaxTree E) (taken : Bool) (a b c d e z : Standing) → ws ≡ set_of m → k ≡ suc j → taken ≡ true
         → Looked taken a b (at_tokens (one_of ws ∷ [])) → Ran (node (Operator place w)) b c (read_in text n (operator (place_in text) ws)) → Ran (tree u) c d (read_in text n (member_of (place_in text) n m))
-        → IfOk result (λ x. x ≡ join_of m place w t u) → Keeps kept result d e → Ran v e z (read_chain text n m j kept) → Ran v a z (read_chain text n m k t)
+        → IfOk result (λ x. x ≡ join_of m place w t u) → KeepsTree kept result d e → Ran v e z (read_chain text n m j kept) → Ran v a z (read_chain text n m k t)
     one_more ws k j t u v place w kept result taken a b c d e z g l f h i r o q x =
         subst (λ y. Ran v a z (read_chain text n m y t)) (sym l)
         (chain_goes_on text n m j t u v place w kept result taken a b c d e z f (subst (λ s. Looked taken a b (at_tokens (one_of s ∷ []))) g h) (subst (λ s. Ran (node (Operator place w)) b c (read_in text n (operator (place_in text) s))) g i) r o q x)
@@ -150,46 +161,43 @@ module _ (text : List ℕ) (n : ℕ) where
   abbrev plain_path : Made → Phrase
   plain_path v = path_from (place_in text) n (behind_plain_name (place_in text) gap_not_open v)
 
-  pub begun_other : (v u : Made) (a b : Standing) → is_name (codes "if") v ≡ false → Ran u a b (read_in text n (ladder (place_in text) 8 n (path_from (place_in text) n (behind_any_name (place_in text) n v)))) → Ran u a b (read_in text n (begun (place_in text) n v))
-  unfolding begun
-  begun_other v u a b e h =
-      subst (λ q. Ran u a b (read_in text n (if q then (choose (at_tokens (gap_then_open ∷ [])) (condition (place_in text) n v) (ladder (place_in text) 8 n (plain_path v))) else (ladder (place_in text) 8 n (path_from (place_in text) n (behind_any_name (place_in text) n v)))))) (sym e)
-      h
+  pub begun_other : (v u : Made) (a b : Standing) → branching_named v ≡ None → Ran u a b (read_in text n (ladder (place_in text) 8 n (path_from (place_in text) n (behind_any_name (place_in text) n v)))) → Ran u a b (read_in text n (begun (place_in text) n v))
+  unfolding begun branched_or_name
+  begun_other v u a b e h = subst (λ o. Ran u a b (read_in text n (branched_or_name (place_in text) n v o))) (sym e) h
 
-  pub begun_condition : (v u : Made) (taken : Bool) (a b c : Standing) → is_name (codes "if") v ≡ true → taken ≡ true → Looked taken a b (at_tokens (gap_then_open ∷ [])) → Ran u b c (read_in text n (condition (place_in text) n v)) → Ran u a c (read_in text n (begun (place_in text) n v))
-  unfolding begun
-  begun_condition v u taken a b c e f h k =
-      subst (λ q. Ran u a c (read_in text n (if q then (choose (at_tokens (gap_then_open ∷ [])) (condition (place_in text) n v) (ladder (place_in text) 8 n (plain_path v))) else (ladder (place_in text) 8 n (path_from (place_in text) n (behind_any_name (place_in text) n v)))))) (sym e)
-      (in_left text n (at_tokens (gap_then_open ∷ [])) (condition (place_in text) n v) (ladder (place_in text) 8 n (plain_path v)) u taken a b c f h k)
+  pub begun_branched : (w : Branching) (v u : Made) (taken : Bool) (a b c : Standing) → branching_named v ≡ Some w → taken ≡ true → Looked taken a b (at_tokens (gap_then_open ∷ [])) → Ran u b c (read_in text n (branched (place_in text) n w v)) → Ran u a c (read_in text n (begun (place_in text) n v))
+  unfolding begun branched_or_name
+  begun_branched w v u taken a b c e f h k =
+      subst (λ o. Ran u a c (read_in text n (branched_or_name (place_in text) n v o))) (sym e)
+      (in_left text n (at_tokens (gap_then_open ∷ [])) (branched (place_in text) n w v) (ladder (place_in text) 8 n (plain_path v)) u taken a b c f h k)
 
-  pub begun_plain : (v u : Made) (taken : Bool) (a b c : Standing) → is_name (codes "if") v ≡ true → taken ≡ false → Looked taken a b (at_tokens (gap_then_open ∷ [])) → Ran u b c (read_in text n (ladder (place_in text) 8 n (path_from (place_in text) n (behind_plain_name (place_in text) gap_not_open v))))
+  pub begun_plain : (w : Branching) (v u : Made) (taken : Bool) (a b c : Standing) → branching_named v ≡ Some w → taken ≡ false → Looked taken a b (at_tokens (gap_then_open ∷ [])) → Ran u b c (read_in text n (ladder (place_in text) 8 n (path_from (place_in text) n (behind_plain_name (place_in text) gap_not_open v))))
       → Ran u a c (read_in text n (begun (place_in text) n v))
-  unfolding begun
-  begun_plain v u taken a b c e f h k =
-      subst (λ q. Ran u a c (read_in text n (if q then (choose (at_tokens (gap_then_open ∷ [])) (condition (place_in text) n v) (ladder (place_in text) 8 n (plain_path v))) else (ladder (place_in text) 8 n (path_from (place_in text) n (behind_any_name (place_in text) n v)))))) (sym e)
-      (in_right text n (at_tokens (gap_then_open ∷ [])) (condition (place_in text) n v) (ladder (place_in text) 8 n (plain_path v)) u taken a b c f h
-      k)
+  unfolding begun branched_or_name
+  begun_plain w v u taken a b c e f h k =
+      subst (λ o. Ran u a c (read_in text n (branched_or_name (place_in text) n v o))) (sym e)
+      (in_right text n (at_tokens (gap_then_open ∷ [])) (branched (place_in text) n w v) (ladder (place_in text) 8 n (plain_path v)) u taken a b c f h k)
 
-  -- a Single whose name is that of a clause, or is not
-  pub named_other : (v u : Made) (a b : Standing) → binder_named v ≡ None → Ran u a b (read_in text n (begun (place_in text) n v)) → Ran u a b (read_in text n (named_single (place_in text) n v))
-  unfolding named_single clauses_or_name
-  named_other v u a b e h = subst (λ o. Ran u a b (read_in text n (clauses_or_name (place_in text) n v o))) (sym e) h
+  -- a Single whose name is that of a clause or a quantifier, or is not
+  pub named_other : (v u : Made) (a b : Standing) → opening_named v ≡ None → Ran u a b (read_in text n (begun (place_in text) n v)) → Ran u a b (read_in text n (named_single (place_in text) n v))
+  unfolding named_single opened_or_name
+  named_other v u a b e h = subst (λ o. Ran u a b (read_in text n (opened_or_name (place_in text) n v o))) (sym e) h
 
   abbrev keyword_path : Made → Phrase
   keyword_path v = path_from (place_in text) n (behind_keyword (place_in text) n v)
 
-  pub named_flwor : (b : Binder) (v u : Made) (taken : Bool) (s0 s1 s2 : Standing) → binder_named v ≡ Some b → taken ≡ true → Looked taken s0 s1 (at_tokens (gap_then_dollar ∷ [])) → Ran u s1 s2 (read_in text n (flwor (place_in text) n b v)) → Ran u s0 s2 (read_in text n (named_single (place_in text) n v))
-  unfolding named_single clauses_or_name
-  named_flwor b v u taken s0 s1 s2 e f h k =
-      subst (λ o. Ran u s0 s2 (read_in text n (clauses_or_name (place_in text) n v o))) (sym e)
-      (in_left text n (at_tokens (gap_then_dollar ∷ [])) (flwor (place_in text) n b v) (ladder (place_in text) 8 n (keyword_path v)) u taken s0 s1 s2 f h k)
+  pub named_opened : (o : Opening) (v u : Made) (taken : Bool) (s0 s1 s2 : Standing) → opening_named v ≡ Some o → taken ≡ true → Looked taken s0 s1 (at_tokens (gap_then_dollar ∷ [])) → Ran u s1 s2 (read_in text n (opened (place_in text) n o v)) → Ran u s0 s2 (read_in text n (named_single (place_in text) n v))
+  unfolding named_single opened_or_name
+  named_opened o v u taken s0 s1 s2 e f h k =
+      subst (λ p. Ran u s0 s2 (read_in text n (opened_or_name (place_in text) n v p))) (sym e)
+      (in_left text n (at_tokens (gap_then_dollar ∷ [])) (opened (place_in text) n o v) (ladder (place_in text) 8 n (keyword_path v)) u taken s0 s1 s2 f h k)
 
-  pub named_keyword : (b : Binder) (v u : Made) (taken : Bool) (s0 s1 s2 : Standing) → binder_named v ≡ Some b → taken ≡ false → Looked taken s0 s1 (at_tokens (gap_then_dollar ∷ [])) → Ran u s1 s2 (read_in text n (ladder (place_in text) 8 n (path_from (place_in text) n (behind_keyword (place_in text) n v))))
+  pub named_keyword : (o : Opening) (v u : Made) (taken : Bool) (s0 s1 s2 : Standing) → opening_named v ≡ Some o → taken ≡ false → Looked taken s0 s1 (at_tokens (gap_then_dollar ∷ [])) → Ran u s1 s2 (read_in text n (ladder (place_in text) 8 n (path_from (place_in text) n (behind_keyword (place_in text) n v))))
       → Ran u s0 s2 (read_in text n (named_single (place_in text) n v))
-  unfolding named_single clauses_or_name
-  named_keyword b v u taken s0 s1 s2 e f h k =
-      subst (λ o. Ran u s0 s2 (read_in text n (clauses_or_name (place_in text) n v o))) (sym e)
-      (in_right text n (at_tokens (gap_then_dollar ∷ [])) (flwor (place_in text) n b v) (ladder (place_in text) 8 n (keyword_path v)) u taken s0 s1 s2 f h
+  unfolding named_single opened_or_name
+  named_keyword o v u taken s0 s1 s2 e f h k =
+      subst (λ p. Ran u s0 s2 (read_in text n (opened_or_name (place_in text) n v p))) (sym e)
+      (in_right text n (at_tokens (gap_then_dollar ∷ [])) (opened (place_in text) n o v) (ladder (place_in text) 8 n (keyword_path v)) u taken s0 s1 s2 f h
       k)
 
   abbrev keyword_call : Made → Phrase
@@ -295,7 +303,7 @@ module _ (text : List ℕ) (n : ℕ) where
 
   pub operand_signed : {E : Type 0} (xs : List Sign) (place : Place) (w : Word) (t operand kept : SyntaxTree) (result : Result SyntaxTree E) (taken : Bool) (a b c d e f z : Standing) → taken ≡ true → Looked taken a b (at_tokens (one_of set.Signs ∷ []))
       → Ran (node (Operator place w)) b c (read_in text n (operator (place_in text) set.Signs)) → Ran (signs_before xs nothing) c d (read_in text n (more_signs (place_in text) 63)) → Ran (tree t) d e (read_in text n (path_from (place_in text) n (step (place_in text) n)))
-      → Makes operand (wrapped xs t) e f → IfOk result (λ x. x ≡ located place (signed (is_minus w) operand)) → Keeps kept result f z → Ran (tree kept) a z (read_in text n (other_operand (place_in text) n))
+      → Makes operand (wrapped xs t) e f → IfOk result (λ x. x ≡ located place (signed (is_minus w) operand)) → KeepsTree kept result f z → Ran (tree kept) a z (read_in text n (other_operand (place_in text) n))
   operand_signed xs place w t operand kept result taken a b c d e f z g h i j k l m q =
       ran_keeps kept (located place (signed (is_minus w) operand)) result a f z (read_in text n (other_operand (place_in text) n))
       (ran_makes (tree (located place (signed (is_minus w) (wrapped xs t)))) (tree (located place (signed (is_minus w) operand))) a e f (read_in text n (other_operand (place_in text) n))

@@ -37,3 +37,6 @@ pub mod BindingSorted
 pub mod BindingRanks
 pub mod Lists
 pub mod BindingPhrases
+pub mod TypeswitchSorted
+pub mod TypeswitchRanks
+pub mod TypeswitchPhrases

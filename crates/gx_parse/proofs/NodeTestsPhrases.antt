@@ -14,13 +14,13 @@ use Rattle.gx_parse.specs.declared.word.Word.TheVariants as word
 use Rattle.gx_parse.specs.declared.kind_words.KindWord.{KindWord}
 use Rattle.gx_parse.specs.declared.kind_words.TestContent.{TestContent}
 use Rattle.gx_parse.specs.Characters.{is_name_start}
-use Rattle.gx_parse.specs.Nodes.{Made, name_at, name_length, second_value, tree}
-use Rattle.gx_parse.specs.Tokens.{one_of, qname, ncname, gap}
+use Rattle.gx_parse.specs.Nodes.{Made, name_at, name_length, has_prefix, second_value, tree}
+use Rattle.gx_parse.specs.Tokens.{one_of, qname, ncname, local_wildcard, gap}
 use Rattle.gx_parse.specs.declared.word.WordSet.{WordSet}
 use Rattle.gx_parse.specs.Grammar.{Phrase, word_of, lexeme, at_tokens, literal, test_or_literal, place_in}
 use Rattle.gx_parse.specs.Reading.{read_in, read_one}
 use Rattle.gx_parse.specs.Types.{Gave, kind_word, content, content_made}
-use Rattle.gx_parse.specs.NodeTests.{test_of, step_tree, test_made, maybe_content, local_value, any_value, test_value, step_made, wildcard, kind_content, behind_test, node_test, axis_test, attribute_step, wildcard_step}
+use Rattle.gx_parse.specs.NodeTests.{test_of, step_tree, test_made, maybe_content, local_value, any_value, test_value, step_made, wildcard_made, in_namespace, if_wildcard, wildcard_or, wildcard, kind_content, behind_test, any_test, any_step, node_test, axis_test, attribute_step, wildcard_step}
 use Rattle.gx_parse.proofs.Chains.{ran_any}
 use Rattle.gx_parse.proofs.Phrases.{in_token, in_both, in_keyed, in_empty, in_left, in_right, in_made}
 
@@ -82,27 +82,71 @@ module _ (text : List ℕ) (n : ℕ) where
       (in_made text n (λ left u. test_value (kind_word v) (name_at (place_in text (left + name_length v)) v) u) (token gap & kind_content (place_in text) (kind_word v)) (pair nothing u) a c
       (in_both text n (token gap) (kind_content (place_in text) (kind_word v)) nothing u a b c (in_token text n gap nothing a b h) (subst (λ x. Ran u b c (reading (kind_content (place_in text) x))) s r))))
 
+  -- what stands behind a name with `:*`, and behind one without
+
+  abbrev wildcard_parts : Made → Phrase → Phrase → Phrase
+  wildcard_parts v any other = keyed (local_wildcard (has_prefix v)) (λ w. if_wildcard w any other)
+
+  read_as : (found wanted prefixed : Bool) (v : Made) (a b : Standing) → found ≡ wanted → prefixed ≡ has_prefix v → Ran (wildcard_made found) a b (read_one (local_wildcard prefixed)) → Ran (wildcard_made wanted) a b (read_one (local_wildcard (has_prefix v)))
+  read_as found wanted prefixed v a b e f h = subst (λ x. Ran (wildcard_made x) a b (read_one (local_wildcard (has_prefix v)))) e (subst (λ p. Ran (wildcard_made found) a b (read_one (local_wildcard p))) f h)
+
+  pub wildcard_stands : (found prefixed : Bool) (v u : Made) (any other : Phrase) (a b c : Standing) → found ≡ true → prefixed ≡ has_prefix v → Ran (wildcard_made found) a b (read_one (local_wildcard prefixed)) → Ran u b c (reading any) → Ran u a c (reading (wildcard_or v any other))
+  unfolding wildcard_or
+  wildcard_stands found prefixed v u any other a b c e f h k =
+      in_made text n (λ left w. second_value w) (wildcard_parts v any other) (pair (wildcard_made true) u) a c
+      (in_keyed text n (local_wildcard (has_prefix v)) (λ w. if_wildcard w any other) (wildcard_made true) u a b c (read_as found true prefixed v a b e f h) k)
+
+  pub no_wildcard : (found prefixed : Bool) (v u : Made) (any other : Phrase) (a b c : Standing) → found ≡ false → prefixed ≡ has_prefix v → Ran (wildcard_made found) a b (read_one (local_wildcard prefixed)) → Ran u b c (reading other) → Ran u a c (reading (wildcard_or v any other))
+  unfolding wildcard_or
+  no_wildcard found prefixed v u any other a b c e f h k =
+      in_made text n (λ left w. second_value w) (wildcard_parts v any other) (pair (wildcard_made false) u) a c
+      (in_keyed text n (local_wildcard (has_prefix v)) (λ w. if_wildcard w any other) (wildcard_made false) u a b c (read_as found false prefixed v a b e f h) k)
+
+  pub wildcard_gave : (found prefixed : Bool) (v : Made) (o : Option NodeTest) (any other : Phrase) (a b c : Standing) → found ≡ true → prefixed ≡ has_prefix v → Ran (wildcard_made found) a b (read_one (local_wildcard prefixed)) → Gave test_made o b c (reading any)
+      → Gave test_made o a c (reading (wildcard_or v any other))
+  wildcard_gave found prefixed v None any other a b c e f h g = (g.0, λ w. wildcard_stands found prefixed v w any other a b c e f h (g.1 w))
+  wildcard_gave found prefixed v (Some t) any other a b c e f h g = wildcard_stands found prefixed v (test_made t) any other a b c e f h g
+
+  pub other_gave : (found prefixed : Bool) (v : Made) (o : Option NodeTest) (any other : Phrase) (a b c : Standing) → found ≡ false → prefixed ≡ has_prefix v → Ran (wildcard_made found) a b (read_one (local_wildcard prefixed)) → Gave test_made o b c (reading other)
+      → Gave test_made o a c (reading (wildcard_or v any other))
+  other_gave found prefixed v None any other a b c e f h g = (g.0, λ w. no_wildcard found prefixed v w any other a b c e f h (g.1 w))
+  other_gave found prefixed v (Some t) any other a b c e f h g = no_wildcard found prefixed v (test_made t) any other a b c e f h g
+
+  pub any_test_read : (v : Made) (place : Place) (a b : Standing) → place ≡ place_in text ((left_of a + 2) + name_length v) → Ran nothing a b (read_one gap) → Ran (test_made (in_namespace (name_at place v))) a b (reading (any_test (place_in text) v))
+  unfolding any_test
+  any_test_read v place a b e h =
+      subst (λ p. Ran (test_made (in_namespace (name_at p v))) a b (reading (any_test (place_in text) v))) (sym e)
+      (in_made text n (λ left u. test_made (in_namespace (name_at (place_in text ((left + 2) + name_length v)) v))) (token gap) nothing a b (in_token text n gap nothing a b h))
+
+  pub any_step_read : (v u : Made) (place : Place) (a b : Standing) → place ≡ place_in text ((left_of a + 2) + name_length v) → Ran u a b (reading (any_test (place_in text) v)) → Ran (step_made place None u) a b (reading (any_step (place_in text) v))
+  unfolding any_step
+  any_step_read v u place a b e h =
+      subst (λ p. Ran (step_made p None u) a b (reading (any_step (place_in text) v))) (sym e) (in_made text n (λ left u. step_made (place_in text ((left + 2) + name_length v)) None u) (any_test (place_in text) v) u a b h)
+
+  abbrev pub behind_test_name : Made → Phrase
+  behind_test_name v = wildcard_or v (any_test (place_in text) v) (behind_test (place_in text) v)
+
   abbrev named_test : Phrase
-  named_test = made (λ left v. second_value v) (keyed qname (λ v. behind_test (place_in text) v))
+  named_test = made (λ left v. second_value v) (keyed qname (λ v. behind_test_name v))
 
   pub node_wildcard : (o : Option NodeTest) (taken : Bool) (a b c : Standing) → taken ≡ false → Looked taken a b (by_character is_name_start) → Gave test_made o b c (reading (wildcard (place_in text))) → Gave test_made o a c (reading (node_test (place_in text)))
   unfolding node_test
   node_wildcard None taken a b c t h g = (g.0, λ v. in_right text n (by_character is_name_start) named_test (wildcard (place_in text)) v taken a b c t h (g.1 v))
   node_wildcard (Some o) taken a b c t h g = in_right text n (by_character is_name_start) named_test (wildcard (place_in text)) (test_made o) taken a b c t h g
 
-  named_read : (v u : Made) (taken : Bool) (a b c d : Standing) → taken ≡ true → Looked taken a b (by_character is_name_start) → Ran v b c (read_one qname) → Ran u c d (reading (behind_test (place_in text) v)) → Ran u a d (reading (node_test (place_in text)))
+  named_read : (v u : Made) (taken : Bool) (a b c d : Standing) → taken ≡ true → Looked taken a b (by_character is_name_start) → Ran v b c (read_one qname) → Ran u c d (reading (behind_test_name v)) → Ran u a d (reading (node_test (place_in text)))
   unfolding node_test
   named_read v u taken a b c d t h k l =
       in_left text n (by_character is_name_start) named_test (wildcard (place_in text)) u taken a b d t h
-      (in_made text n (λ left v. second_value v) (keyed qname (λ v. behind_test (place_in text) v)) (pair v u) b d (in_keyed text n qname (λ v. behind_test (place_in text) v) v u b c d k l))
+      (in_made text n (λ left v. second_value v) (keyed qname (λ v. behind_test_name v)) (pair v u) b d (in_keyed text n qname (λ v. behind_test_name v) v u b c d k l))
 
-  pub node_named : (v : Made) (o : Option NodeTest) (taken : Bool) (a b c d : Standing) → taken ≡ true → Looked taken a b (by_character is_name_start) → Ran v b c (read_one qname) → Gave test_made o c d (reading (behind_test (place_in text) v))
+  pub node_named : (v : Made) (o : Option NodeTest) (taken : Bool) (a b c d : Standing) → taken ≡ true → Looked taken a b (by_character is_name_start) → Ran v b c (read_one qname) → Gave test_made o c d (reading (behind_test_name v))
       → Gave test_made o a d (reading (node_test (place_in text)))
   node_named v None taken a b c d t h k g = (g.0, λ w. named_read v w taken a b c d t h k (g.1 w))
   node_named v (Some o) taken a b c d t h k g = named_read v (test_made o) taken a b c d t h k g
 
   -- no name was read
-  pub node_done : (taken : Bool) (a b c : Standing) → taken ≡ true → Looked taken a b (by_character is_name_start) → IsDone c → Ran nothing b c (read_one qname) → Ran nothing c c (reading (behind_test (place_in text) nothing)) → Gave test_made None a c (reading (node_test (place_in text)))
+  pub node_done : (taken : Bool) (a b c : Standing) → taken ≡ true → Looked taken a b (by_character is_name_start) → IsDone c → Ran nothing b c (read_one qname) → Ran nothing c c (reading (behind_test_name nothing)) → Gave test_made None a c (reading (node_test (place_in text)))
   node_done taken a b c t h d k l = (d, λ w. ran_any nothing w a c (reading (node_test (place_in text))) d (named_read nothing nothing taken a b c c t h k l))
 
   axis_reads : (x v : Made) (a b c : Standing) → Ran x a b (reading (lexeme (word_of word.Colons))) → Ran v b c (reading (node_test (place_in text))) → Ran v a c (reading (axis_test (place_in text)))

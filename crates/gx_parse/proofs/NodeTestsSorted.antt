@@ -3,6 +3,7 @@ use Rattle.std.proofs.Common.{◌≡◌, ℕ, Bool, true, false, List, [], ◌�
 use Rattle.std.specs.List.{list_all}
 use Rattle.gx_base.specs.declared.place.Place.{Place}
 use Rattle.gx_grammar.specs.Grammar.{empty, choose}
+use Rattle.gx_grammar.specs.Value.{nothing, characters, node, pair, no_item, an_item}
 use Rattle.gx_grammar.specs.Opening.{open_token, open_first, open_made}
 use Rattle.gx_grammar.specs.Levels.{takes_some}
 use Rattle.gx_grammar.specs.First.{AllOf, first_of, HasHead, AreFronts, IsSorted, by_character}
@@ -16,7 +17,7 @@ use Rattle.gx_parse.specs.Nodes.{Made}
 use Rattle.gx_parse.specs.Tokens.{Token, qname, shape_of}
 use Rattle.gx_parse.specs.Grammar.{Phrase, word_of, query_language}
 use Rattle.gx_parse.specs.Types.{kind_word, nothing_inside, document, tested, declared, content, named_content, declared_content}
-use Rattle.gx_parse.specs.NodeTests.{wildcard, kind_content, behind_test, node_test, axis_test, attribute_step, wildcard_step}
+use Rattle.gx_parse.specs.NodeTests.{if_wildcard, wildcard_or, wildcard, kind_content, behind_test, any_test, node_test, axis_test, attribute_step, wildcard_step}
 use Rattle.gx_parse.specs.Fronts.{fronts}
 use Rattle.gx_parse.proofs.Shapes.{lawful, shaped}
 use Rattle.gx_parse.proofs.TypesSorted.{content_sorted}
@@ -62,8 +63,28 @@ module _ (at : ℕ → Place) (right : AreFronts (query_language at) (fronts at)
     (tt, tt),
   )
 
+  if_wildcard_sorted : (w : Made) (any other : Phrase) (us : List Token) → Sorts any us → Sorts other us → Sorts (if_wildcard w any other) us
+  if_wildcard_sorted nothing any other us s t = t
+  if_wildcard_sorted (characters cs) any other us s t = s
+  if_wildcard_sorted (node x) any other us s t = s
+  if_wildcard_sorted (pair x y) any other us s t = s
+  if_wildcard_sorted no_item any other us s t = s
+  if_wildcard_sorted (an_item x y) any other us s t = s
+
+  pub wildcard_or_sorted : (v : Made) (any other : Phrase) (us : List Token) → Sorts any us → Sorts other us → Sorts (wildcard_or v any other) us
+  unfolding wildcard_or
+  wildcard_or_sorted v any other us s t = λ w. if_wildcard_sorted w any other us s t
+
+  behind_test_sorted : (v : Made) (us : List Token) → not_open us ≡ true → Sorts (behind_test at v) us
+  unfolding behind_test
+  behind_test_sorted v us e = (tt, kind_content_sorted (kind_word v) us e)
+
+  pub any_test_sorted : (v : Made) (us : List Token) → Sorts (any_test at v) us
+  unfolding any_test
+  any_test_sorted v us = tt
+
   node_test_sorted : (us : List Token) → not_open us ≡ true → Sorts (node_test at) us
-  unfolding node_test wildcard behind_test is_name_start
+  unfolding node_test wildcard is_name_start
   node_test_sorted us e = (
     character_chooses (query_language at) is_name_start (fronts at) right _ _ us
         (record {
@@ -71,7 +92,7 @@ module _ (at : ℕ → Place) (right : AreFronts (query_language at) (fronts at)
           passes = (record { stands = (shaped at qname).0; opened = (shaped at qname).1 }, tt);
           fails = computed_words (query_language at) shape_of (shaped at) is_name_start false (word_of word.AnyPrefix ∷ word_of word.AnyName ∷ []) refl;
         }),
-    (λ v. (tt, kind_content_sorted (kind_word v) us e)),
+    (λ v. wildcard_or_sorted v (any_test at v) (behind_test at v) us (any_test_sorted v us) (behind_test_sorted v us e)),
     wildcard_sorted us,
   )
 

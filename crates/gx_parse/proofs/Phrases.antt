@@ -20,7 +20,7 @@ use Rattle.gx_parse.specs.Nodes.{Node, Made, Found, Operator, Name, operator_val
 use Rattle.gx_parse.specs.Tokens.{Token, one_of, gap, barred, number, number_end, qname}
 use Rattle.gx_parse.specs.Grammar.{Phrase, word_of, lexeme, at_tokens, operator, stop, numeral, name, variable_step, dots, more_signs, single, query_language, place_in}
 use Rattle.gx_parse.specs.Reading.{call, read_in, read_one, read_number}
-use Rattle.gx_parse.specs.Parsing.{set_of, last_of, is_pair, barrier_of, signs_before, wrapped, Keeps}
+use Rattle.gx_parse.specs.Parsing.{set_of, last_of, is_pair, barrier_of, signs_before, wrapped, KeepsTree}
 use Rattle.gx_parse.specs.Numeral.{number_in}
 use Rattle.gx_parse.proofs.Chains.{ran_any, ran_bind, go_on_twice}
 
@@ -173,7 +173,7 @@ signed_wraps [] t = refl
 signed_wraps (y ∷ xs) t = ap (λ u. located y.place (signed (is_minus y.word) u)) (signed_wraps xs t)
 
 -- a tree that was kept on the way to another
-pub makes_kept : {E : Type 0} (f : SyntaxTree → SyntaxTree) (t wanted : SyntaxTree) (result : Result SyntaxTree E) (w : SyntaxTree) (a b z : Standing) → IfOk result (λ x. x ≡ wanted) → Keeps t result a b → Makes w (f t) b z → Makes w (f wanted) a z
+pub makes_kept : {E : Type 0} (f : SyntaxTree → SyntaxTree) (t wanted : SyntaxTree) (result : Result SyntaxTree E) (w : SyntaxTree) (a b z : Standing) → IfOk result (λ x. x ≡ wanted) → KeepsTree t result a b → Makes w (f t) b z → Makes w (f wanted) a z
 makes_kept f t wanted (Ok m) w a b z e k h = subst (λ d. Makes w (f wanted) d z) k.1 (subst (λ x. Makes w (f x) b z) (k.0 ∙ e) h)
 makes_kept f t wanted (Err x) w (Going s) b z e k h = let q : Makes w (f t) Lost z = subst (λ d. Makes w (f t) d z) k h in subst (λ d. Makes w (f wanted) (Going s) d) (sym q) tt
 makes_kept f t wanted (Err x) w (GaveUp r) b z e k h = let q : Makes w (f t) (GaveUp r) z = subst (λ d. Makes w (f t) d z) k h in q

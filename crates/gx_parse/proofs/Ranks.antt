@@ -11,18 +11,24 @@ use Rattle.gx_parse.specs.declared.word.WordSet.{WordSet}
 use Rattle.gx_parse.specs.declared.word.WordSet.TheVariants as set
 use Rattle.gx_parse.specs.Nodes.{Made, Join, join_binary, join_path, join_comma}
 use Rattle.gx_parse.specs.Tokens.{Token, gap, gap_then_open, gap_not_open, gap_then_neither}
-use Rattle.gx_parse.specs.Grammar.{Production, single, Phrase, at_tokens, is_single, level_at, is_name, is_reserved, operator, more, stop, chain, two, expression, numeral, literal, name, variable_step, dots, parenthesised_step, more_arguments, arguments_in, arguments, after_name, after_axis, step_of, behind_plain_name, behind_any_name, test_or_literal, other_step, step, predicate, more_predicates, filtered_step, path_from, more_signs, signed_path, other_operand, ladder, condition, begun, behind_keyword, clauses_or_name, named_single, rules, query, query_language}
-use Rattle.gx_parse.specs.declared.word.Binder.{Binder}
-use Rattle.gx_parse.specs.Binding.{binder_named}
-use Rattle.gx_parse.proofs.BindingRanks.{flwor_low}
+use Rattle.gx_parse.specs.Grammar.{Production, single, Phrase, at_tokens, is_single, level_at, is_name, is_reserved, operator, more, stop, chain, two, expression, numeral, literal, name, variable_step, dots, parenthesised_step, more_arguments, arguments_in, arguments, after_name, after_axis, step_of, behind_plain_name, behind_any_name, test_or_literal, other_step, step, predicate, more_predicates, filtered_step, path_from, more_signs, signed_path, other_operand, ladder, condition, typeswitch, branched, branched_or_name, begun, behind_keyword, opened_or_name, named_single, rules, query, query_language}
+use Rattle.gx_parse.specs.declared.word.Opening.{Opening}
+use Rattle.gx_parse.specs.declared.word.Opening.TheVariants as opening_is
+use Rattle.gx_parse.specs.Binding.{opening_named, opened}
+use Rattle.gx_parse.proofs.BindingRanks.{flwor_low, quantified_low}
+use Rattle.gx_parse.specs.declared.word.Branching.{Branching}
+use Rattle.gx_parse.specs.declared.word.Branching.TheVariants as branching_is
+use Rattle.gx_parse.specs.Typeswitch.{branching_named}
+use Rattle.gx_parse.proofs.TypeswitchRanks.{cases_low, default_head_low}
 use Rattle.gx_parse.specs.Strings.{string_part, string_parts, quoted, string_of}
 use Rattle.gx_grammar.specs.Grammar.{empty}
+use Rattle.gx_grammar.specs.Value.{nothing, characters, node, pair, no_item, an_item}
 use Rattle.gx_grammar.specs.Apart.{is}
 use Rattle.gx_grammar.specs.First.{by_character}
 use Rattle.gx_ast.specs.declared.name.Axis.{Axis}
 use Rattle.gx_parse.specs.declared.kind_words.KindWord.{KindWord}
 use Rattle.gx_parse.specs.Types.{kind_word}
-use Rattle.gx_parse.specs.NodeTests.{axis_word, wildcard, kind_content, behind_test, node_test, axis_test, attribute_step, wildcard_step}
+use Rattle.gx_parse.specs.NodeTests.{if_wildcard, wildcard_or, axis_word, wildcard, kind_content, behind_test, any_test, any_step, node_test, axis_test, attribute_step, wildcard_step}
 use Rattle.gx_parse.proofs.CastsRanks.{casts_low, content_low}
 use Rattle.gx_parse.specs.Fronts.{fronts, rank}
 use Rattle.gx_parse.proofs.Sorted.{taken}
@@ -98,9 +104,33 @@ module _ (at : ℕ → Place) where
   unfolding wildcard
   wildcard_low n = ((tt, (tt, tt)), (tt, tt))
 
+  if_wildcard_low : (n : ℕ) (w : Made) (any other : Phrase) → Low n any → Low n other → Low n (if_wildcard w any other)
+  if_wildcard_low n nothing any other s t = t
+  if_wildcard_low n (characters cs) any other s t = s
+  if_wildcard_low n (node x) any other s t = s
+  if_wildcard_low n (pair x y) any other s t = s
+  if_wildcard_low n no_item any other s t = s
+  if_wildcard_low n (an_item x y) any other s t = s
+
+  wildcard_or_low : (n : ℕ) (v : Made) (any other : Phrase) → Low n any → Low n other → Low n (wildcard_or v any other)
+  unfolding wildcard_or
+  wildcard_or_low n v any other s t = λ w. if_wildcard_low n w any other s t
+
+  behind_test_low : (n : ℕ) (v : Made) → Low n (behind_test at v)
+  unfolding behind_test
+  behind_test_low n v = (tt, kind_content_low n (kind_word v))
+
+  any_test_low : (n : ℕ) (v : Made) → Low n (any_test at v)
+  unfolding any_test
+  any_test_low n v = tt
+
+  any_step_low : (n : ℕ) (v : Made) → Low n (any_step at v)
+  unfolding any_step
+  any_step_low n v = any_test_low n v
+
   node_test_low : (n : ℕ) → Low n (node_test at)
-  unfolding node_test behind_test
-  node_test_low n = ((λ v. (tt, kind_content_low n (kind_word v))), wildcard_low n)
+  unfolding node_test
+  node_test_low n = ((λ v. wildcard_or_low n v (any_test at v) (behind_test at v) (any_test_low n v) (behind_test_low n v)), wildcard_low n)
 
   test_or_literal_low : (n : ℕ) → Low n (test_or_literal at)
   unfolding test_or_literal attribute_step wildcard_step
@@ -129,7 +159,7 @@ module _ (at : ℕ → Place) where
 
   step_low : (n : ℕ) → Low (suc n) (step at n)
   unfolding step
-  step_low n = ((λ v. any_name_low n v), other_step_low n)
+  step_low n = ((λ v. wildcard_or_low (suc n) v (any_step at v) (behind_any_name at n v) (any_step_low (suc n) v) (any_name_low n v)), other_step_low n)
 
   -- paths and signs
 
@@ -183,28 +213,48 @@ module _ (at : ℕ → Place) where
   plain_low : (n : ℕ) (v : Made) → Low (suc n) (ladder at 8 n (path_from at n (behind_plain_name at gap_not_open v)))
   plain_low n v = ladder_low 8 n (path_from at n (behind_plain_name at gap_not_open v)) (path_low n (behind_plain_name at gap_not_open v) (plain_name_low (suc n) gap_not_open v))
 
+  typeswitch_low : (n : ℕ) (v : Made) → Low (suc n) (typeswitch at n v)
+  unfolding typeswitch
+  typeswitch_low n v = (tt, (tt, (expression_low n, ((tt, tt), (cases_low at n (below n), (default_head_low at n (below n), below n))))))
+
+  branched_low : (n : ℕ) (v : Made) (b : Branching) → Low (suc n) (branched at n b v)
+  unfolding branched
+  branched_low n v branching_is.If = condition_low n v
+  branched_low n v branching_is.Typeswitch = typeswitch_low n v
+
+  branched_or_name_low : (n : ℕ) (v : Made) (b : Option Branching) → Low (suc n) (branched_or_name at n v b)
+  unfolding branched_or_name
+  branched_or_name_low n v (Some b) = (branched_low n v b, plain_low n v)
+  branched_or_name_low n v None = ladder_low 8 n (path_from at n (behind_any_name at n v)) (path_low n (behind_any_name at n v) (any_name_low n v))
+
   begun_low : (n : ℕ) (v : Made) → Low (suc n) (begun at n v)
   unfolding begun
-  begun_low n v =
-      elim (is_name (codes "if") v) as (λ b. Low (suc n) (if b then (choose (at_tokens (gap_then_open ∷ [])) (condition at n v) (ladder at 8 n (path_from at n (behind_plain_name at gap_not_open v)))) else (ladder at 8 n (path_from at n (behind_any_name at n v)))))
-      [ true ↦ (condition_low n v, plain_low n v) | false ↦ ladder_low 8 n (path_from at n (behind_any_name at n v)) (path_low n (behind_any_name at n v) (any_name_low n v)) ]
+  begun_low n v = branched_or_name_low n v (branching_named v)
 
   keyword_low : (n : ℕ) (v : Made) → Low (suc n) (behind_keyword at n v)
   unfolding behind_keyword
   keyword_low n v = (((tt, tt), inside_low n), plain_name_low (suc n) gap_then_neither v)
 
-  clauses_low : (n : ℕ) (v : Made) (b : Option Binder) → Low (suc n) (clauses_or_name at n v b)
-  unfolding clauses_or_name
-  clauses_low n v (Some b) = (flwor_low at n (below n) b v, ladder_low 8 n (path_from at n (behind_keyword at n v)) (path_low n (behind_keyword at n v) (keyword_low n v)))
-  clauses_low n v None = begun_low n v
+  opened_low : (n : ℕ) (v : Made) (o : Opening) → Low (suc n) (opened at n o v)
+  unfolding opened
+  opened_low n v (opening_is.Flwor b) = flwor_low at n (below n) b v
+  opened_low n v (opening_is.Quantified every) = quantified_low at n (below n) every v
+
+  opened_or_name_low : (n : ℕ) (v : Made) (o : Option Opening) → Low (suc n) (opened_or_name at n v o)
+  unfolding opened_or_name
+  opened_or_name_low n v (Some o) = (opened_low n v o, ladder_low 8 n (path_from at n (behind_keyword at n v)) (path_low n (behind_keyword at n v) (keyword_low n v)))
+  opened_or_name_low n v None = begun_low n v
 
   named_low : (n : ℕ) (v : Made) → Low (suc n) (named_single at n v)
   unfolding named_single
-  named_low n v = clauses_low n v (binder_named v)
+  named_low n v = opened_or_name_low n v (opening_named v)
+
+  any_single_low : (n : ℕ) (v : Made) → Low (suc n) (ladder at 8 n (path_from at n (any_step at v)))
+  any_single_low n v = ladder_low 8 n (path_from at n (any_step at v)) (path_low n (any_step at v) (any_step_low (suc n) v))
 
   production_shielded : (p : Production) → IsShielded (query_language at) (fronts at).takings rank (rank p) (rules at p)
   production_shielded (single zero) = tt
-  production_shielded (single (suc n)) = below_shields (query_language at) (fronts at).takings rank (suc n) (rules at (single (suc n))) ((λ v. named_low n v), ladder_low 8 n (other_operand at n) (other_operand_low n))
+  production_shielded (single (suc n)) = below_shields (query_language at) (fronts at).takings rank (suc n) (rules at (single (suc n))) ((λ v. wildcard_or_low (suc n) v (ladder at 8 n (path_from at n (any_step at v))) (named_single at n v) (any_single_low n v) (named_low n v)), ladder_low 8 n (other_operand at n) (other_operand_low n))
 
   pub levelled : IsLevelled (query_language at) (fronts at).takings
   levelled = record { takings = taken at; rank = rank; shielded = production_shielded }

@@ -19,7 +19,7 @@ use Rattle.gx_parse.specs.Words.{words_of}
 use Rattle.gx_parse.specs.Nodes.{Node, Made}
 use Rattle.gx_parse.specs.Numeral.{IsDigits, OpensNumeral, is_small, scan_literal}
 use Rattle.gx_parse.specs.declared.word.Barrier.{Barrier}
-use Rattle.gx_parse.specs.Tokens.{Token, one_of, qname, number, number_end, gap, gap_then_open, gap_not_open, barred, indication, entries, IsNCName, IsGapHere, begins_at, barrier_fault, limit_code, number_code, derives, opens, faults, begins_gap, begins_number, shape_of, text_run, reference, white, blank, no_attribute, tag_name, cdata_text, ncname, gap_then_dollar, gap_then_neither, barred_words, begins_dollar}
+use Rattle.gx_parse.specs.Tokens.{Token, one_of, qname, number, number_end, gap, gap_then_open, gap_not_open, barred, indication, entries, IsNCName, IsGapHere, begins_at, barrier_fault, limit_code, number_code, derives, opens, faults, begins_gap, begins_number, shape_of, text_run, reference, white, blank, no_attribute, tag_name, cdata_text, ncname, local_wildcard, gap_then_dollar, gap_then_neither, barred_words, begins_dollar}
 use Rattle.gx_parse.specs.declared.runs.Run.{Run}
 use Rattle.gx_parse.specs.References.{is_text}
 use Rattle.gx_parse.proofs.ReferenceTokens.{reference_begins, fault_begins, reference_opened}
@@ -205,6 +205,7 @@ module _ (at : ℕ → Place) where
   shaped (tag_name cs) = tt
   shaped cdata_text = tt
   shaped ncname = (ncnames_stand, name_opened)
+  shaped (local_wildcard b) = tt
   shaped gap_then_dollar = (dollars_stand, dollars_open)
   shaped gap_then_neither = tt
   shaped (barred_words ws) = (barred_stand ws, (λ x o. one_of_opened (entries (words_of ws)) x o), (λ x o. one_of_opening (entries (words_of ws)) x o))

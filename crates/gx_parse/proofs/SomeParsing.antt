@@ -23,7 +23,7 @@ use Rattle.gx_parse.specs.Numeral.{is_small, scan_literal}
 use Rattle.gx_parse.specs.References.{closes}
 use Rattle.gx_parse.specs.Words.{words_of}
 use Rattle.gx_parse.specs.Nodes.{Node, Made, Tree, tree, whole_tree}
-use Rattle.gx_parse.specs.Tokens.{Token, one_of, qname, number, number_end, gap, gap_then_open, gap_not_open, barred, indication, text_run, reference, white, blank, no_attribute, tag_name, cdata_text, ncname, gap_then_dollar, gap_then_neither, barred_words, entries, faults, begins_at, scan_reference, limit_code, number_code, reference_code}
+use Rattle.gx_parse.specs.Tokens.{Token, one_of, qname, number, number_end, gap, gap_then_open, gap_not_open, barred, indication, text_run, reference, white, blank, no_attribute, tag_name, cdata_text, ncname, local_wildcard, gap_then_dollar, gap_then_neither, barred_words, entries, faults, begins_at, scan_reference, limit_code, number_code, reference_code}
 use Rattle.gx_parse.specs.Grammar.{Phrase, query_language, query, place_in}
 use Rattle.gx_parse.specs.Reading.{more_than}
 use Rattle.gx_parse.specs.Query.{IsQuery, IsText, Parsing, parsed, refused, Parses}
@@ -79,6 +79,7 @@ token_codes no_attribute x code e = absurd (not_none code e)
 token_codes (tag_name cs) x code e = absurd (not_none code e)
 token_codes cdata_text x code e = absurd (not_none code e)
 token_codes ncname x code e = absurd (not_none code e)
+token_codes (local_wildcard b) x code e = absurd (not_none code e)
 token_codes gap_then_dollar x code e = absurd (not_none code e)
 token_codes gap_then_neither x code e = absurd (not_none code e)
 token_codes (barred_words ws) x code e = inl (word_codes (scan_one_of (entries (words_of ws)) x) code e)

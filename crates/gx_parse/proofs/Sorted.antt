@@ -7,7 +7,7 @@ use Rattle.gx_grammar.specs.Opening.{open_token, open_first, open_second, open_m
 use Rattle.gx_grammar.specs.Laws.{LawfulTokens}
 use Rattle.gx_grammar.specs.Levels.{takes_some, AreTakings}
 use Rattle.gx_grammar.specs.Text.{IsReadable}
-use Rattle.gx_grammar.specs.First.{by_character, IsIn, AllOf, first_of, first_behind, head_passes, HasHead, AreApart, Stands, AreFronts, IsSorted, CharacterChooses}
+use Rattle.gx_grammar.specs.First.{by_character, IsIn, AllOf, first_of, first_behind, head_passes, HasHead, AreApart, Stands, AreFronts, IsSorted, CharacterChooses, TokensChoose}
 use Rattle.gx_grammar.specs.Apart.{Shape, HasShape, all_apart, is, shape_begins, words_begin}
 use Rattle.std.proofs.lemmas.Bool.{and_parts}
 use Rattle.gx_grammar.proofs.PublicLaws.{apart_by_heads, character_chooses, computed_apart, computed_heads, computed_words, sorted_readable, tokens_choose, tokens_repeat}
@@ -23,11 +23,12 @@ use Rattle.gx_grammar.specs.Value.{nothing}
 use Rattle.gx_parse.specs.Nodes.{Node, Made, Join, join_binary, join_path, join_comma}
 use Rattle.gx_parse.specs.declared.word.Barrier.{Barrier}
 use Rattle.gx_parse.specs.Tokens.{Token, one_of, qname, number, number_end, gap, gap_then_open, gap_not_open, gap_then_dollar, barred, begins_sign, shape_of, takes, derives, faults}
-use Rattle.gx_parse.specs.Grammar.{Production, single, Phrase, lexeme, word_of, at_tokens, is_single, level_at, is_name, is_reserved, operator, more, stop, chain, two, expression, numeral, literal, name, variable_step, dots, parenthesised_step, more_arguments, arguments_in, arguments, after_name, after_axis, step_of, behind_plain_name, behind_any_name, test_or_literal, other_step, step, predicate, more_predicates, filtered_step, path_from, more_signs, signed_path, other_operand, ladder, condition, begun, behind_keyword, clauses_or_name, named_single, rules, query, behind_single, query_language}
+use Rattle.gx_parse.specs.Grammar.{Production, single, Phrase, lexeme, word_of, at_tokens, is_single, level_at, is_name, is_reserved, operator, more, stop, chain, two, expression, numeral, literal, name, variable_step, dots, parenthesised_step, more_arguments, arguments_in, arguments, after_name, after_axis, step_of, behind_plain_name, behind_any_name, test_or_literal, other_step, step, predicate, more_predicates, filtered_step, path_from, more_signs, signed_path, other_operand, ladder, condition, typeswitch, branched, branched_or_name, begun, behind_keyword, opened_or_name, named_single, rules, query, behind_single, query_language}
 use Rattle.gx_parse.specs.Casts.{casts, type_test, cast_test, casts_fit, behind_cast}
 use Rattle.gx_parse.specs.Fronts.{fronts}
-use Rattle.gx_parse.specs.declared.word.Binder.{Binder}
-use Rattle.gx_parse.specs.Binding.{binder_named, flwor}
+use Rattle.gx_parse.specs.declared.word.Opening.{Opening}
+use Rattle.gx_parse.specs.declared.word.Opening.TheVariants as opening_is
+use Rattle.gx_parse.specs.Binding.{opening_named, opened, flwor, quantified}
 use Rattle.gx_parse.proofs.Tokens.{tokens_taken}
 use Rattle.gx_parse.proofs.Shapes.{lawful, shaped}
 use Rattle.gx_parse.proofs.CastsSorted.{casts_sorted}
@@ -38,10 +39,14 @@ use Rattle.gx_ast.specs.declared.name.Axis.{Axis}
 use Rattle.gx_parse.specs.Types.{kind_word, nothing_inside, document, tested, declared, content, named_content, declared_content}
 use Rattle.gx_parse.specs.declared.kind_words.KindWord.{KindWord}
 use Rattle.gx_parse.specs.declared.kind_words.KindWord.TheVariants as kind
-use Rattle.gx_parse.specs.NodeTests.{axis_word, wildcard, kind_content, axis_test, attribute_step, wildcard_step}
-use Rattle.gx_parse.proofs.NodeTestsSorted.{not_open, kind_content_sorted, axis_test_sorted, attribute_step_sorted, wildcard_step_sorted}
+use Rattle.gx_parse.specs.NodeTests.{any_step, axis_word, wildcard, kind_content, axis_test, attribute_step, wildcard_step}
+use Rattle.gx_parse.proofs.NodeTestsSorted.{not_open, wildcard_or_sorted, any_test_sorted, kind_content_sorted, axis_test_sorted, attribute_step_sorted, wildcard_step_sorted}
 use Rattle.gx_parse.proofs.Hands.{name_no_sign, number_no_sign, number_no_name, points_apart, gaps_apart, dollar_open_apart, dollar_neither_apart, open_neither_apart}
-use Rattle.gx_parse.proofs.BindingSorted.{flwor_sorted}
+use Rattle.gx_parse.proofs.BindingSorted.{flwor_sorted, quantified_sorted}
+use Rattle.gx_parse.specs.declared.word.Branching.{Branching}
+use Rattle.gx_parse.specs.declared.word.Branching.TheVariants as branching_is
+use Rattle.gx_parse.specs.Typeswitch.{branching_named, case_head, case, more_cases, cases, default_head}
+use Rattle.gx_parse.proofs.TypeswitchSorted.{cases_sorted, default_head_sorted}
 
 -- both tests of a pair
 both : (a b : Bool) → (a && b) ≡ true → (a ≡ true) × (b ≡ true)
@@ -320,11 +325,15 @@ module _ (at : ℕ → Place) where
   name_passes : HasHead (query_language at) is_name_start true qname
   name_passes = record { stands = (shaped at qname).0; opened = (shaped at qname).1 }
 
+  any_step_sorted : (v : Made) (us : List Token) → Sorts (any_step at v) us
+  unfolding any_step
+  any_step_sorted v us = any_test_sorted at right v us
+
   step_sorted : (n : ℕ) (us : List Token) → name_fits us ≡ true → Sorts (step at n) us
   unfolding step other_step variable_step parenthesised_step dots test_or_literal attribute_step wildcard_step wildcard literal string_of quoted numeral
   step_sorted n us e = (
     character_chooses (query_language at) is_name_start (fronts at) right _ (other_step at n) us (record { takes = refl; passes = (name_passes, tt); fails = step_fails }),
-    (λ v. any_name_sorted n v us e),
+    (λ v. wildcard_or_sorted at right v (any_step at v) (behind_any_name at n v) us (any_step_sorted v us) (any_name_sorted n v us e)),
     other_step_sorted n us (both (not_open us) (all_apart shape_of (word_of word.Colons ∷ []) us) e).0,
   )
 
@@ -512,20 +521,32 @@ module _ (at : ℕ → Place) where
   if_apart n v =
       ((gaps_apart at, tt), apart (gap_then_open ∷ []) (word_of word.OpenBracket ∷ one_of set.Slashes ∷ word_of word.Cast ∷ word_of word.Castable ∷ word_of word.Treat ∷ word_of word.Instance ∷ operators level.Intersect ∷ operators level.Union ∷ operators level.Product ∷ operators level.Sum ∷ operators level.Range ∷ operators level.Comparison ∷ operators level.And ∷ operators level.Or ∷ behind_single at) refl)
 
-  if_sorted : (n : ℕ) (v : Made) → Sorts (choose (at_tokens (gap_then_open ∷ [])) (condition at n v) (ladder at 8 n (path_from at n (behind_plain_name at gap_not_open v)))) (behind_single at)
-  unfolding condition
-  if_sorted n v = (
-    tokens_choose (query_language at) (lawful at) (fronts at) right (gap_then_open ∷ []) _ _ (behind_single at)
-        (record { takes = refl; first = (inl refl, tt); full = (refl, tt); opening = ((λ x o. open_made (open_first (open_token o))), tt); apart = if_apart n v }),
-    condition_sorted n v,
+  typeswitch_sorted : (n : ℕ) (v : Made) → Sorts (typeswitch at n v) (behind_single at)
+  unfolding typeswitch cases more_cases case case_head default_head
+  typeswitch_sorted n v = (tt, (tt, (expression_sorted n (word_of word.Close ∷ []) refl (inr (inl refl), tt), ((tt, tt), (cases_sorted at right n, (default_head_sorted at right [], all_behind))))))
+
+  branched_sorted : (n : ℕ) (v : Made) (b : Branching) → Sorts (branched at n b v) (behind_single at)
+  unfolding branched
+  branched_sorted n v branching_is.If = condition_sorted n v
+  branched_sorted n v branching_is.Typeswitch = typeswitch_sorted n v
+
+  branched_choose : (n : ℕ) (v : Made) (b : Branching) → TokensChoose (query_language at) (fronts at) (gap_then_open ∷ []) (branched at n b v) (ladder at 8 n (path_from at n (behind_plain_name at gap_not_open v))) (behind_single at)
+  unfolding branched condition typeswitch
+  branched_choose n v branching_is.If = record { takes = refl; first = (inl refl, tt); full = (refl, tt); opening = ((λ x o. open_made (open_first (open_token o))), tt); apart = if_apart n v }
+  branched_choose n v branching_is.Typeswitch = record { takes = refl; first = (inl refl, tt); full = (refl, tt); opening = ((λ x o. open_made (open_first (open_token o))), tt); apart = if_apart n v }
+
+  branched_or_name_sorted : (n : ℕ) (v : Made) (b : Option Branching) → Sorts (branched_or_name at n v b) (behind_single at)
+  unfolding branched_or_name
+  branched_or_name_sorted n v (Some b) = (
+    tokens_choose (query_language at) (lawful at) (fronts at) right (gap_then_open ∷ []) _ _ (behind_single at) (branched_choose n v b),
+    branched_sorted n v b,
     begun_path_sorted n (behind_plain_name at gap_not_open v) (plain_name_sorted gap_not_open v _),
   )
+  branched_or_name_sorted n v None = begun_path_sorted n (behind_any_name at n v) (any_name_sorted n v _ refl)
 
   begun_sorted : (n : ℕ) (v : Made) → Sorts (begun at n v) (behind_single at)
   unfolding begun
-  begun_sorted n v =
-      elim (is_name (codes "if") v) as (λ b. Sorts (if b then (choose (at_tokens (gap_then_open ∷ [])) (condition at n v) (ladder at 8 n (path_from at n (behind_plain_name at gap_not_open v)))) else (ladder at 8 n (path_from at n (behind_any_name at n v)))) (behind_single at))
-      [ true ↦ if_sorted n v | false ↦ begun_path_sorted n (behind_any_name at n v) (any_name_sorted n v _ refl) ]
+  begun_sorted n v = branched_or_name_sorted n v (branching_named v)
 
   -- the names of clauses
 
@@ -547,19 +568,25 @@ module _ (at : ℕ → Place) where
   unfolding ladder casts type_test cast_test two chain path_from filtered_step more_predicates predicate behind_keyword behind_plain_name more stop operator
   keyword_apart n v = ((dollar_open_apart at, tt), ((dollar_neither_apart at, tt), apart (gap_then_dollar ∷ []) behind_word refl))
 
-  clauses_sorted : (n : ℕ) (v : Made) (b : Option Binder) → Sorts (clauses_or_name at n v b) (behind_single at)
-  unfolding clauses_or_name flwor
-  clauses_sorted n v (Some b) = (
+  opened_or_name_sorted : (n : ℕ) (v : Made) (o : Option Opening) → Sorts (opened_or_name at n v o) (behind_single at)
+  unfolding opened_or_name opened flwor quantified
+  opened_or_name_sorted n v (Some (opening_is.Flwor b)) = (
     tokens_choose (query_language at) (lawful at) (fronts at) right (gap_then_dollar ∷ []) _ _ (behind_single at)
         (record { takes = refl; first = (inl refl, tt); full = (refl, tt); opening = ((λ x o. open_made (open_first (open_token o))), tt); apart = keyword_apart n v }),
     flwor_sorted at right n b v (behind_single at) all_behind,
     begun_path_sorted n (behind_keyword at n v) (keyword_sorted n v _ refl),
   )
-  clauses_sorted n v None = begun_sorted n v
+  opened_or_name_sorted n v (Some (opening_is.Quantified every)) = (
+    tokens_choose (query_language at) (lawful at) (fronts at) right (gap_then_dollar ∷ []) _ _ (behind_single at)
+        (record { takes = refl; first = (inl refl, tt); full = (refl, tt); opening = ((λ x o. open_made (open_first (open_token o))), tt); apart = keyword_apart n v }),
+    quantified_sorted at right n every v (behind_single at) all_behind,
+    begun_path_sorted n (behind_keyword at n v) (keyword_sorted n v _ refl),
+  )
+  opened_or_name_sorted n v None = begun_sorted n v
 
   named_sorted : (n : ℕ) (v : Made) → Sorts (named_single at n v) (behind_single at)
   unfolding named_single
-  named_sorted n v = clauses_sorted n v (binder_named v)
+  named_sorted n v = opened_or_name_sorted n v (opening_named v)
 
   single_fails : (n : ℕ) → AllOf (HasHead (query_language at) is_name_start false) (first_behind (query_language at) (fronts at) (ladder at 8 n (other_operand at n)) (behind_single at))
   unfolding ladder casts type_test cast_test two chain other_operand operator path_from filtered_step other_step variable_step parenthesised_step dots test_or_literal attribute_step wildcard_step wildcard literal string_of quoted numeral is_name_start
@@ -569,7 +596,7 @@ module _ (at : ℕ → Place) where
   production_sorted (single zero) = tt
   production_sorted (single (suc n)) = (
     character_chooses (query_language at) is_name_start (fronts at) right _ (ladder at 8 n (other_operand at n)) (behind_single at) (record { takes = refl; passes = (name_passes, tt); fails = single_fails n }),
-    (λ v. named_sorted n v),
+    (λ v. wildcard_or_sorted at right v (ladder at 8 n (path_from at n (any_step at v))) (named_single at n v) (behind_single at) (begun_path_sorted n (any_step at v) (any_step_sorted v _)) (named_sorted n v)),
     ladder_sorted 8 n (other_operand at n) (behind_single at) levels_fit (other_operand_sorted n (innermost 8 (behind_single at)) inside_fits),
   )
 

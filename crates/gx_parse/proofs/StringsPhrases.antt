@@ -22,7 +22,7 @@ use Rattle.gx_parse.specs.References.{quote_of}
 use Rattle.gx_parse.specs.Tokens.{text_run, reference, gap, entries, scan, seen, faults, reference_fault, reference_code}
 use Rattle.gx_parse.specs.Grammar.{Phrase, word_of, at_tokens, numeral, literal, place_in}
 use Rattle.gx_parse.specs.Reading.{read_one, read_in}
-use Rattle.gx_parse.specs.Parsing.{Added, Keeps}
+use Rattle.gx_parse.specs.Parsing.{Added, KeepsTree}
 use Rattle.gx_parse.specs.Strings.{opening_of, closing_of, doubled_of, part_text, texts_in, text_in, string_value, string_part, parts_of, string_parts, quoted, string_of}
 use Rattle.gx_parse.specs.TextReading.{TextRead, read_part, read_parts, PartsRead, Pushes}
 use Rattle.gx_parse.proofs.Tokens.{token_lawful}
@@ -254,7 +254,7 @@ module _ (q : Quote) where
 
 module _ (source : List ℕ) (n : ℕ) where
   pub string_read : {E : Type 0} (q : Quote) (place : Place) (text : List ℕ) (t : SyntaxTree) (result : Result SyntaxTree E) (a b c d : Standing) → place ≡ place_in source (left_of a) → TextRead (quoted q) text_in text a b → Ran nothing b c (read_one gap)
-      → IfOk result (λ x. x ≡ located place (string text)) → Keeps t result c d → Ran (tree t) a d (read_in source n (string_of (place_in source) q))
+      → IfOk result (λ x. x ≡ located place (string text)) → KeepsTree t result c d → Ran (tree t) a d (read_in source n (string_of (place_in source) q))
   unfolding string_of
   string_read q place text t result a b c d e r h i k =
       ran_keeps t (located place (string text)) result a c d (read_in source n (string_of (place_in source) q))

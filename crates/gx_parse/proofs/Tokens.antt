@@ -22,7 +22,7 @@ use Rattle.gx_parse.specs.Words.{letters_of, spelling_of, words_of}
 use Rattle.gx_parse.specs.Nodes.{Node, Made}
 use Rattle.gx_parse.specs.Numeral.{together, IsDigits, scan_digits, IsFraction, scan_fraction, starts_point, HasFraction, scan_with_fraction, IsPointed, OpensNumeral, scan_pointed, seen_numeral, has_digit, is_small, IsLiteral, scan_literal, IsNumeral, scan_numeral}
 use Rattle.gx_parse.specs.declared.word.Barrier.{Barrier}
-use Rattle.gx_parse.specs.Tokens.{Token, one_of, qname, number, number_end, gap, gap_then_open, gap_not_open, barred, indication, entry_of, entries, IsNCName, scan_ncname, behind_colon, IsColon, scan_colon, OpensColon, IsLocalPart, OpensLocalPart, scan_local_part, seen_local_part, starts_local_part, HasLocalPart, scan_has_local_part, IsQName, OpensQName, no_value, IsGapHere, scan_gap_here, IsParenthesis, scan_parenthesis, OpensParenthesis, scan_no_parenthesis, OpensNothing, indicators, first_of_two, IsIndicator, OpensIndicator, scan_indicator, seen_indicator, stops_type, IsNoIndicator, scan_no_indicator, begins_at, barrier_fault, limit_code, number_code, derives, opens, scan, seen, faults, takes, begins_gap, begins_number, text_run, reference, white, blank, no_attribute, tag_name, cdata_text, ncname, no_characters, begins_attribute, cdata_value, cdata_walk, entity_words, gap_then_dollar, gap_then_neither, barred_words, IsDollar, scan_dollar, OpensDollar, stops_name, IsNeither, scan_neither, word_fault}
+use Rattle.gx_parse.specs.Tokens.{Token, one_of, qname, number, number_end, gap, gap_then_open, gap_not_open, barred, indication, entry_of, entries, IsNCName, scan_ncname, behind_colon, IsColon, scan_colon, OpensColon, IsLocalPart, OpensLocalPart, scan_local_part, seen_local_part, starts_local_part, HasLocalPart, scan_has_local_part, IsQName, OpensQName, no_value, IsGapHere, scan_gap_here, IsParenthesis, scan_parenthesis, OpensParenthesis, scan_no_parenthesis, OpensNothing, indicators, first_of_two, IsIndicator, OpensIndicator, scan_indicator, seen_indicator, stops_type, IsNoIndicator, scan_no_indicator, begins_at, barrier_fault, limit_code, number_code, derives, opens, scan, seen, faults, takes, begins_gap, begins_number, text_run, reference, white, blank, no_attribute, tag_name, cdata_text, ncname, local_wildcard, wildcard_letters, IsLocalWildcard, scan_local_wildcard, starts_local_wildcard, no_characters, begins_attribute, cdata_value, cdata_walk, entity_words, gap_then_dollar, gap_then_neither, barred_words, IsDollar, scan_dollar, OpensDollar, stops_name, IsNeither, scan_neither, word_fault}
 use Rattle.gx_parse.specs.References.{is_text, text_value}
 use Rattle.gx_parse.proofs.ReferenceTokens.{reference_lawful, number_shorter}
 
@@ -81,6 +81,29 @@ has_local_lawful : LawfulToken HasLocalPart OpensLocalPart scan_has_local_part s
 has_local_lawful =
     lawful_optional IsLocalPart OpensLocalPart scan_local_part seen_local_part local_lawful starts_local_part nothing
     (record { begins = local_begins; stays = local_stays; grows = local_grows; empty = inl (58 ∷ [], refl) })
+
+wildcard_begins : (v : Made) (x y : List ℕ) → IsLocalWildcard v x y → starts_local_wildcard x ≡ true
+wildcard_begins v x y d = ap starts_local_wildcard d.spelled
+
+wildcard_stays : (x z : List ℕ) → starts_local_wildcard (x ++ z) ≡ false → starts_local_wildcard x ≡ false
+wildcard_stays [] z e = refl
+wildcard_stays (c ∷ []) z e = refl
+wildcard_stays (c ∷ d ∷ x) z e = e
+
+wildcard_grows : (x z : List ℕ) → starts_local_wildcard x ≡ false → (starts_local_wildcard (x ++ z) ≡ false) ⊎ IsFrontOf x wildcard_letters
+wildcard_grows [] z e = inr (58 ∷ 42 ∷ [], refl)
+wildcard_grows (c ∷ []) [] e = inl refl
+wildcard_grows (c ∷ []) (d ∷ z) e = go (58 == c) refl
+  where
+    go : (b : Bool) → (58 == c) ≡ b → (starts_local_wildcard (c ∷ d ∷ z) ≡ false) ⊎ IsFrontOf (c ∷ []) wildcard_letters
+    go true f = inr (42 ∷ [], ap (λ a. a ∷ 42 ∷ []) (eqb-true 58 c f))
+    go false f = inl (ap (λ b. b && (42 == d)) f)
+wildcard_grows (c ∷ d ∷ x) z e = inl e
+
+wildcard_lawful : LawfulToken (derives (local_wildcard false)) (opens (local_wildcard false)) (scan (local_wildcard false)) (seen (local_wildcard false)) no_fault
+wildcard_lawful =
+    lawful_optional IsLocalWildcard (λ x. IsFrontOf x wildcard_letters) scan_local_wildcard (seen_word wildcard_letters) (lawful_word (characters wildcard_letters) wildcard_letters no_character) starts_local_wildcard nothing
+    (record { begins = wildcard_begins; stays = wildcard_stays; grows = wildcard_grows; empty = (58 ∷ 42 ∷ [], refl) })
 
 qname_lawful : LawfulToken (derives qname) (opens qname) (scan qname) (seen qname) no_fault
 qname_lawful =
@@ -306,6 +329,8 @@ token_lawful no_attribute = lawful_word nothing [] begins_attribute
 token_lawful (tag_name cs) = lawful_word nothing cs is_name_character
 token_lawful cdata_text = lawful_walk cdata_value cdata_walk 0
 token_lawful ncname = ncname_lawful
+token_lawful (local_wildcard true) = lawful_word nothing [] no_character
+token_lawful (local_wildcard false) = wildcard_lawful
 token_lawful gap_then_dollar = then_dollar_lawful
 token_lawful gap_then_neither = then_neither_lawful
 token_lawful (barred_words ws) =
@@ -374,6 +399,7 @@ tokens_taken no_attribute v x y e d = absurd (cc)
 tokens_taken (tag_name cs) v x y e d = absurd (cc)
 tokens_taken cdata_text v x y e d = absurd (cc)
 tokens_taken ncname v x y e d = named_shorter is_name_start is_name_character no_character v x y d
+tokens_taken (local_wildcard b) v x y e d = absurd (cc)
 tokens_taken gap_then_dollar v x y e d = let g = gap_behind d.front x d.between d.begins in omega (arith, g, ap length d.ends.spelled)
 tokens_taken gap_then_neither v x y e d = absurd (cc)
 tokens_taken (barred_words ws) v x y e d = absurd d

@@ -1,5 +1,5 @@
 -- The grammar of the language.
---   Expr ::= Single ("," Single)*          Single ::= Flwor | "if" "(" Expr ")" "then" Single "else" Single | Or
+--   Expr ::= Single ("," Single)*          Single ::= Flwor | Some | Switch | "if" "(" Expr ")" "then" Single "else" Single | Or
 --   Or ::= And ("or" And)*                 And ::= Comp ("and" Comp)*
 --   Comp ::= Range (("=" | "!=" | "<" | "<=" | ">" | ">=" | "eq" | "ne" | "lt" | "le" | "gt" | "ge" | "is" | "<<" | ">>") Range)?
 --   Range ::= Add ("to" Add)?              Add ::= Mul (("+" | "-") Mul)*
@@ -36,12 +36,15 @@ use Rattle.gx_parse.specs.Tokens.{Token, one_of, qname, number, number_end, gap,
 pub use Rattle.gx_parse.specs.Basics.{Production, single, Phrase, lexeme, word_of, at_tokens, is_name}
 unfoldable pub use Rattle.gx_parse.specs.Basics.{operator, name}
 use Rattle.gx_parse.specs.Casts.{casts}
-use Rattle.gx_parse.specs.declared.word.Binder.{Binder}
-use Rattle.gx_parse.specs.Binding.{binder_named, flwor}
+use Rattle.gx_parse.specs.declared.word.Opening.{Opening}
+use Rattle.gx_parse.specs.declared.word.Branching.{Branching}
+use Rattle.gx_parse.specs.declared.word.Branching.TheVariants as branching_is
+use Rattle.gx_parse.specs.Binding.{opening_named, opened}
+use Rattle.gx_parse.specs.Typeswitch.{branching_named, typeswitch_value, cases, default_head}
 use Rattle.gx_parse.specs.declared.runs.Quote.TheVariants as quote
 use Rattle.gx_parse.specs.Strings.{string_of}
 use Rattle.gx_parse.specs.Types.{kind_word}
-use Rattle.gx_parse.specs.NodeTests.{axis_word, test_of, step_tree, axis_test, attribute_step, wildcard_step, kind_content}
+use Rattle.gx_parse.specs.NodeTests.{axis_word, test_of, step_tree, wildcard_or, any_step, axis_test, attribute_step, wildcard_step, kind_content}
 use Rattle.gx_parse.specs.Nodes.{Node, Made, Arguments, Content, Test, predicate_value, filtered_value, Join, join_binary, join_path, join_comma, first_value, second_value, operator_value, chain_value, signed_value, number_value, name_at, name_length, name_value, variable_value, arguments_value, named_value, dots_value, parenthesised_value, condition_value, tree, whole_tree}
 
 -- an operand stands beside at most one other
@@ -158,7 +161,7 @@ module _ (at : ℕ → Place) where
       (choose (by_character (is 40)) (parenthesised_step n) (choose (at_tokens (one_of set.Dots ∷ [])) dots test_or_literal))
 
   unfoldable pub step : ℕ → Phrase
-  step n = choose (by_character is_name_start) (made (λ left v. second_value v) (keyed qname (λ v. behind_any_name n v))) (other_step n)
+  step n = choose (by_character is_name_start) (made (λ left v. second_value v) (keyed qname (λ v. wildcard_or v (any_step at v) (behind_any_name n v)))) (other_step n)
 
   unfoldable pub predicate : ℕ → Phrase
   predicate n = made (λ left v. predicate_value v) (lexeme (word_of word.OpenBracket) & expression n & lexeme (word_of word.CloseBracket))
@@ -201,29 +204,42 @@ module _ (at : ℕ → Place) where
       made (λ left u. condition_value (at (left + name_length v)) u)
       (token gap_then_open & token gap & expression n & lexeme (word_of word.Close) & lexeme (word_of word.Then) & rule (single n) & lexeme (word_of word.Else) & rule (single n))
 
+  -- a typeswitch behind its word
+  unfoldable pub typeswitch : ℕ → Made → Phrase
+  typeswitch n v =
+      made (λ left u. typeswitch_value (at (left + name_length v)) u)
+      (token gap_then_open & token gap & expression n & lexeme (word_of word.Close) & cases at n & default_head at & rule (single n))
+
+  -- what a name begins, behind it
+  unfoldable pub branched : ℕ → Branching → Made → Phrase
+  branched n branching_is.If v = condition n v
+  branched n branching_is.Typeswitch v = typeswitch n v
+
+  -- a Single whose name was read, where the name is `if` or `typeswitch`, or not
+  unfoldable pub branched_or_name : ℕ → Made → Option Branching → Phrase
+  branched_or_name n v (Some b) = choose (at_tokens (gap_then_open ∷ [])) (branched n b v) (ladder 8 n (path_from n (behind_plain_name gap_not_open v)))
+  branched_or_name n v None = ladder 8 n (path_from n (behind_any_name n v))
+
   -- a Single whose name was read
   unfoldable pub begun : ℕ → Made → Phrase
-  begun n v =
-      if is_name (codes "if") v
-      then (choose (at_tokens (gap_then_open ∷ [])) (condition n v) (ladder 8 n (path_from n (behind_plain_name gap_not_open v))))
-      else (ladder 8 n (path_from n (behind_any_name n v)))
+  begun n v = branched_or_name n v (branching_named v)
 
-  -- the name of a clause, where no clause begins
+  -- the name of a clause or a quantifier, where none begins
   unfoldable pub behind_keyword : ℕ → Made → Phrase
   behind_keyword n v =
       choose (at_tokens (gap_then_open ∷ [])) (made (λ left u. named_value (name_at (at (left + name_length v)) v) u) (lexeme gap_then_open & arguments_in n)) (behind_plain_name gap_then_neither v)
 
-  -- a Single whose name was read, where the name is that of a clause or not
-  unfoldable pub clauses_or_name : ℕ → Made → Option Binder → Phrase
-  clauses_or_name n v (Some b) = choose (at_tokens (gap_then_dollar ∷ [])) (flwor at n b v) (ladder 8 n (path_from n (behind_keyword n v)))
-  clauses_or_name n v None = begun n v
+  -- a Single whose name was read, where the name is that of a clause or a quantifier, or not
+  unfoldable pub opened_or_name : ℕ → Made → Option Opening → Phrase
+  opened_or_name n v (Some o) = choose (at_tokens (gap_then_dollar ∷ [])) (opened at n o v) (ladder 8 n (path_from n (behind_keyword n v)))
+  opened_or_name n v None = begun n v
 
   unfoldable pub named_single : ℕ → Made → Phrase
-  named_single n v = clauses_or_name n v (binder_named v)
+  named_single n v = opened_or_name n v (opening_named v)
 
   abbrev pub rules : Production → Phrase
   rules (single zero) = token (barred barrier.Single)
-  rules (single (suc n)) = choose (by_character is_name_start) (made (λ left v. second_value v) (keyed qname (λ v. named_single n v))) (ladder 8 n (other_operand n))
+  rules (single (suc n)) = choose (by_character is_name_start) (made (λ left v. second_value v) (keyed qname (λ v. wildcard_or v (ladder 8 n (path_from n (any_step at v))) (named_single n v)))) (ladder 8 n (other_operand n))
 
   -- 40 Singles may stand one inside another
   unfoldable pub query : Phrase
@@ -233,7 +249,7 @@ module _ (at : ℕ → Place) where
   abbrev pub behind_single : List Token
   behind_single =
       word_of word.Comma ∷ word_of word.Close ∷ word_of word.Then ∷ word_of word.Else ∷ word_of word.CloseBracket ∷ word_of word.CloseBrace ∷ word_of word.Semicolon ∷ word_of word.Return ∷ word_of word.Satisfies ∷ word_of word.Case ∷ word_of word.Default
-      ∷ word_of word.Order ∷ word_of word.Stable ∷ one_of set.Binders ∷ barred_words set.Binders ∷ word_of word.Where ∷ one_of set.Directions ∷ word_of word.Empty ∷ []
+      ∷ word_of word.Order ∷ word_of word.Stable ∷ one_of set.Binders ∷ barred_words set.Binders ∷ word_of word.Where ∷ one_of set.Directions ∷ word_of word.Empty ∷ barred_words (set.Only word.Case) ∷ []
 
   abbrev pub query_language : Language
   query_language = record {

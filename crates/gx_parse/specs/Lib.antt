@@ -23,4 +23,5 @@ pub mod Keys
 pub mod TextReading
 pub mod Direct
 pub mod Binding
+pub mod Typeswitch
 pub mod Lists

@@ -8,7 +8,7 @@ use Rattle.gx_ast.specs.SyntaxView.{bindings_of}
 use Rattle.gx_grammar.specs.Value.{nothing, node, pair}
 use Rattle.gx_grammar.specs.Reading.{State, Reading}
 use Rattle.gx_grammar.specs.Ran.{Standing, Ran, IsDone, Loses}
-use Rattle.gx_parse.specs.declared.word.Binder.TheVariants as binder
+use Rattle.gx_parse.specs.declared.word.ClauseWord.TheVariants as clause_word
 use Rattle.gx_parse.specs.Nodes.{Made, Binds, BindingClause, WhereClause, tree}
 use Rattle.gx_parse.specs.Parsing.{Added}
 
@@ -36,6 +36,6 @@ abbrev pub binding_made : Binding → Made
 binding_made b = pair (head_made b.bound) (tree b.value)
 
 abbrev pub clause_made : Clause → Made
-clause_made (For place bs) = node (BindingClause binder.For place (bindings_of bs.items))
-clause_made (Let place bs) = node (BindingClause binder.Let place (bindings_of bs.items))
+clause_made (For place bs) = node (BindingClause clause_word.For place (bindings_of bs.items))
+clause_made (Let place bs) = node (BindingClause clause_word.Let place (bindings_of bs.items))
 clause_made (Where place t) = node (WhereClause place t)

@@ -1,7 +1,7 @@
 -- Node tests and axes (XQuery 1.0, section 3.2.1).
 --   Forward ::= (AxisName "::" | "@")? NodeTest
---   NodeTest ::= Kind | QName | "*" | "*:" NCName
-use Rattle.std.specs.Prelude.{ℕ, ◌+◌, [], ◌∷◌, if◌then◌else◌, codes, Option, Some, None}
+--   NodeTest ::= Kind | QName | "*" | NCName ":*" | "*:" NCName
+use Rattle.std.specs.Prelude.{ℕ, ◌+◌, [], ◌∷◌, Bool, true, false, if◌then◌else◌, codes, Option, Some, None}
 use Rattle.gx_base.specs.declared.place.Place.{Place}
 use Rattle.gx_ast.specs.declared.name.QName.{QName}
 use Rattle.gx_ast.specs.declared.name.Axis.{Axis}
@@ -18,8 +18,8 @@ use Rattle.gx_parse.specs.Characters.{is_name_start}
 use Rattle.gx_parse.specs.declared.word.Word.TheVariants as word
 use Rattle.gx_parse.specs.declared.kind_words.KindWord.{KindWord}
 use Rattle.gx_parse.specs.declared.kind_words.TestContent.{TestContent}
-use Rattle.gx_parse.specs.Nodes.{Made, Content, Test, second_value, name_at, name_length, tree}
-use Rattle.gx_parse.specs.Tokens.{qname, ncname, gap}
+use Rattle.gx_parse.specs.Nodes.{Made, Content, Test, second_value, name_at, name_length, has_prefix, tree}
+use Rattle.gx_parse.specs.Tokens.{qname, ncname, local_wildcard, wildcard_letters, gap}
 use Rattle.gx_parse.specs.Basics.{Phrase, word_of, lexeme, at_tokens, is_name}
 use Rattle.gx_parse.specs.Types.{kind_word, kind_test, content, content_made}
 
@@ -61,6 +61,15 @@ local_value place _ = nothing
 abbrev pub any_value : Place → Made → Made
 any_value place v = test_made (node_test_is.Name (name_test.Any place))
 
+-- a `:*` that was read, or none
+abbrev pub wildcard_made : Bool → Made
+wildcard_made true = characters wildcard_letters
+wildcard_made false = nothing
+
+-- any name in the namespace of a prefix, which was read as a name
+abbrev pub in_namespace : QName → NodeTest
+in_namespace q = node_test_is.Name (name_test.AnyInNamespace q.place q.local)
+
 -- a gap, and what stands in parentheses behind it
 abbrev pub test_value : Option KindWord → QName → Made → Made
 test_value k q (pair space (node (Content c))) = test_made (test_of k q (Some c))
@@ -70,6 +79,15 @@ test_value k q _ = test_made (test_of k q None)
 abbrev pub step_made : Place → Option Axis → Made → Made
 step_made place a (node (Test t)) = tree (step_tree place a t)
 step_made place a _ = nothing
+
+-- what stands behind a name with `:*`, and behind one without
+abbrev pub if_wildcard : Made → Phrase → Phrase → Phrase
+if_wildcard nothing any other = other
+if_wildcard _ any other = any
+
+-- `:*` right behind a name with the first of these, or the second
+unfoldable pub wildcard_or : Made → Phrase → Phrase → Phrase
+wildcard_or v any other = made (λ left u. second_value u) (keyed (local_wildcard (has_prefix v)) (λ w. if_wildcard w any other))
 
 -- The place of a token is `at` of the number of characters that are left there.
 module _ (at : ℕ → Place) where
@@ -87,8 +105,12 @@ module _ (at : ℕ → Place) where
   unfoldable pub behind_test : Made → Phrase
   behind_test v = made (λ left u. test_value (kind_word v) (name_at (at (left + name_length v)) v) u) (token gap & kind_content (kind_word v))
 
+  -- the gap behind a name and `:*`, as a test
+  unfoldable pub any_test : Made → Phrase
+  any_test v = made (λ left u. test_made (in_namespace (name_at (at ((left + 2) + name_length v)) v))) (token gap)
+
   unfoldable pub node_test : Phrase
-  node_test = choose (by_character is_name_start) (made (λ left v. second_value v) (keyed qname (λ v. behind_test v))) wildcard
+  node_test = choose (by_character is_name_start) (made (λ left v. second_value v) (keyed qname (λ v. wildcard_or v (any_test v) (behind_test v)))) wildcard
 
   -- `::` and a test
   unfoldable pub axis_test : Phrase
@@ -97,6 +119,10 @@ module _ (at : ℕ → Place) where
   -- `@` and a test
   unfoldable pub attribute_step : Phrase
   attribute_step = made (λ left v. step_made (at left) (Some axis.Attribute) (second_value v)) (lexeme (word_of word.AtSign) & node_test)
+
+  -- the gap behind a name and `:*`, as a step
+  unfoldable pub any_step : Made → Phrase
+  any_step v = made (λ left u. step_made (at ((left + 2) + name_length v)) None u) (any_test v)
 
   unfoldable pub wildcard_step : Phrase
   wildcard_step = made (λ left v. step_made (at left) None v) wildcard

@@ -11,12 +11,14 @@ use Rattle.gx_ast.specs.declared.sequence_type.SequenceType.{SequenceType}
 use Rattle.gx_ast.specs.declared.sequence_type.SingleType.{SingleType}
 use Rattle.gx_ast.specs.declared.sequence_type.KeyOrder.{KeyOrder}
 use Rattle.gx_ast.specs.declared.sequence_type.BoundVariable.{BoundVariable}
+use Rattle.gx_ast.specs.declared.sequence_type.CaseHead.{CaseHead}
+use Rattle.gx_ast.specs.declared.sequence_type.DefaultHead.{DefaultHead}
 use Rattle.gx_ast.specs.declared.expression.BinaryOperator.{BinaryOperator}
 use Rattle.gx_ast.specs.declared.expression.BinaryOperator.TheVariants as binary_operator
 use Rattle.gx_ast.specs.SyntaxTree.{SyntaxTree, SyntaxForm, SyntaxTrees, Bindings, at, number, variable, parenthesised, empty_sequence, context_item, call, comma, conditional, binary, signed, path, axis_step, parent_step, filtered, no_tree, a_tree}
 use Rattle.gx_grammar.specs.Value.{Value, nothing, characters, node, pair, no_item, an_item}
 use Rattle.gx_parse.specs.declared.word.Word.{Word}
-use Rattle.gx_parse.specs.declared.word.Binder.{Binder}
+use Rattle.gx_parse.specs.declared.word.ClauseWord.{ClauseWord}
 use Rattle.gx_parse.specs.declared.kind_words.TestContent.{TestContent}
 use Rattle.gx_parse.specs.declared.kind_words.TypeTail.{TypeTail}
 use Rattle.gx_parse.specs.declared.word.Word.TheVariants as word
@@ -45,8 +47,11 @@ pub data Node : Type 0 where
   Test : NodeTest → Node
   -- of FLWOR expressions: what a variable is bound by, a clause of `for` or `let`, and one of `where`
   Binds : BoundVariable → Node
-  BindingClause : Binder → Place → Bindings → Node
+  BindingClause : ClauseWord → Place → Bindings → Node
   WhereClause : Place → SyntaxTree → Node
+  -- of typeswitches: what stands in front of the expression of a case, and of the default
+  HeadOfCase : CaseHead → Node
+  HeadOfDefault : DefaultHead → Node
 
 abbrev pub Made : Type 0
 Made = Value Node
@@ -156,6 +161,11 @@ abbrev pub name_length : Made → ℕ
 name_length (pair (characters prefix) (characters local)) = length prefix + (1 + length local)
 name_length (pair (characters local) _) = length local
 name_length _ = 0
+
+-- the name has a prefix
+abbrev pub has_prefix : Made → Bool
+has_prefix (pair (characters prefix) (characters local)) = true
+has_prefix _ = false
 
 abbrev pub name_value : Place → Made → Made
 name_value place v = node (Name (name_at place v))

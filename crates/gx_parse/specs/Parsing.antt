@@ -65,9 +65,9 @@ read_chain text n m count t s =
     go_on (read_in text n (more (place_in text) (set_of m) (member_of (place_in text) n m) (last_of (place_in text) m) count) s) (λ w u. Ok (joined_to (join_of m) t w, u))
 
 -- a tree was kept, or memory did not suffice for it
-abbrev pub Keeps : {E : Type 0} → SyntaxTree → Result SyntaxTree E → Standing → Standing → Type 0
-Keeps t (Ok made) before after = (t ≡ made) × (after ≡ before)
-Keeps t (Err e) before after = Loses before after
+abbrev pub KeepsTree : {E : Type 0} → SyntaxTree → Result SyntaxTree E → Standing → Standing → Type 0
+KeepsTree t (Ok made) before after = (t ≡ made) × (after ≡ before)
+KeepsTree t (Err e) before after = Loses before after
 
 -- trees in front of others
 abbrev pub trees_before : List SyntaxTree → SyntaxTrees → SyntaxTrees

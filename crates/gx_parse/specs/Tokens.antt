@@ -59,6 +59,8 @@ pub data Token : Type 0 where
   cdata_text : Token
   -- an NCName
   ncname : Token
+  -- `:*`, or no characters where it does not stand; behind a prefix and a colon no characters alone
+  local_wildcard : Bool → Token
   -- white space and comments with a `$` behind them, or with neither `$` nor `(`
   gap_then_dollar : Token
   gap_then_neither : Token
@@ -116,6 +118,21 @@ HasLocalPart = IsOptional IsLocalPart starts_local_part nothing
 
 abbrev pub scan_has_local_part : List ℕ → Option (Made × List ℕ)
 scan_has_local_part x = scan_optional scan_local_part starts_local_part nothing x
+
+-- `:*`
+abbrev pub wildcard_letters : List ℕ
+wildcard_letters = 58 ∷ 42 ∷ []
+
+abbrev pub IsLocalWildcard : Made → List ℕ → List ℕ → Type 0
+IsLocalWildcard = IsWord (characters wildcard_letters) wildcard_letters no_character
+
+abbrev pub scan_local_wildcard : List ℕ → Option (Made × List ℕ)
+scan_local_wildcard x = scan_word (characters wildcard_letters) wildcard_letters no_character x
+
+abbrev pub starts_local_wildcard : List ℕ → Bool
+starts_local_wildcard [] = false
+starts_local_wildcard (c ∷ []) = false
+starts_local_wildcard (c ∷ d ∷ x) = (58 == c) && (42 == d)
 
 abbrev pub IsQName : Made → List ℕ → List ℕ → Type 0
 IsQName = AreJoined IsNCName HasLocalPart pair
@@ -335,6 +352,8 @@ derives no_attribute = IsWord nothing [] begins_attribute
 derives (tag_name cs) = IsWord nothing cs is_name_character
 derives cdata_text = IsWalk cdata_value cdata_walk 0
 derives ncname = IsNCName
+derives (local_wildcard true) = IsWord nothing [] no_character
+derives (local_wildcard false) = IsOptional IsLocalWildcard starts_local_wildcard nothing
 derives gap_then_dollar = AreJoined IsGapHere IsDollar no_value
 derives gap_then_neither = AreJoined IsGapHere IsNeither no_value
 derives (barred_words ws) = Never
@@ -357,6 +376,8 @@ opens no_attribute = OpensNothing
 opens (tag_name cs) = λ x. IsFrontOf x cs
 opens cdata_text = opens_walk cdata_walk 0
 opens ncname = opens_name is_name_start is_name_character
+opens (local_wildcard true) = OpensNothing
+opens (local_wildcard false) = λ x. IsFrontOf x wildcard_letters
 opens gap_then_dollar = OpensJoined IsGapHere (OpensGap is_char 0) OpensDollar
 opens gap_then_neither = OpensJoined IsGapHere (OpensGap is_char 0) OpensNothing
 opens (barred_words ws) = OpensOneOf (entries (words_of ws))
@@ -379,6 +400,8 @@ scan no_attribute = scan_word nothing [] begins_attribute
 scan (tag_name cs) = scan_word nothing cs is_name_character
 scan cdata_text = scan_walk cdata_value cdata_walk 0
 scan ncname = scan_ncname
+scan (local_wildcard true) = scan_word nothing [] no_character
+scan (local_wildcard false) = scan_optional scan_local_wildcard starts_local_wildcard nothing
 scan gap_then_dollar = scan_joined scan_gap_here scan_dollar no_value
 scan gap_then_neither = scan_joined scan_gap_here scan_neither no_value
 scan (barred_words ws) = scan_never
@@ -401,6 +424,8 @@ seen no_attribute = seen_word []
 seen (tag_name cs) = seen_word cs
 seen cdata_text = seen_walk cdata_walk 0
 seen ncname = seen_name is_name_start is_name_character
+seen (local_wildcard true) = seen_word []
+seen (local_wildcard false) = seen_word wildcard_letters
 seen gap_then_dollar = seen_joined scan_gap_here (seen_gap is_char 0) (seen_word (36 ∷ []))
 seen gap_then_neither = seen_joined scan_gap_here (seen_gap is_char 0) (seen_word [])
 seen (barred_words ws) = seen_one_of (entries (words_of ws))
@@ -423,6 +448,7 @@ takes no_attribute = false
 takes (tag_name cs) = false
 takes cdata_text = false
 takes gap_then_neither = false
+takes (local_wildcard b) = false
 takes _ = true
 
 -- the characters that begin a gap with a `(` behind it
@@ -455,6 +481,7 @@ shape_of no_attribute = shapeless
 shape_of (tag_name cs) = shapeless
 shape_of cdata_text = shapeless
 shape_of ncname = headed is_name_start
+shape_of (local_wildcard b) = shapeless
 shape_of gap_then_dollar = headed begins_dollar
 shape_of gap_then_neither = shapeless
 shape_of (barred_words ws) = spelled (spellings (entries (words_of ws)))

@@ -7,6 +7,8 @@ use Rattle.gx_parse.specs.declared.word.Level.{Level}
 use Rattle.gx_parse.specs.declared.word.Level.TheVariants as level
 use Rattle.gx_parse.specs.declared.word.WordSet.{WordSet}
 use Rattle.gx_parse.specs.declared.word.WordSet.TheVariants as set
+use Rattle.gx_parse.specs.declared.word.ClauseWord.{ClauseWord}
+use Rattle.gx_parse.specs.declared.word.ClauseWord.TheVariants as clause_word
 use Rattle.gx_parse.specs.declared.word.Binder.{Binder}
 use Rattle.gx_parse.specs.declared.word.Binder.TheVariants as binder
 use Rattle.gx_parse.specs.declared.word.Ending.{Ending}
@@ -200,12 +202,18 @@ words_of set.Directions = Ascending ∷ Descending ∷ []
 words_of set.Extremes = Greatest ∷ Least ∷ []
 words_of set.Binders = For ∷ Let ∷ []
 
--- the clause that a word begins
-abbrev pub binder_of : Word → Binder
-binder_of For = binder.For
-binder_of _ = binder.Let
+-- the word of a clause, as it was found
+abbrev pub clause_word_of : Word → ClauseWord
+clause_word_of For = clause_word.For
+clause_word_of _ = clause_word.Let
+
+-- what binds the variables of a clause
+abbrev pub binder_in : ClauseWord → Binder
+binder_in clause_word.For = binder.For
+binder_in clause_word.Let = binder.Let
 
 -- the word in front of what a variable is bound to
 abbrev pub binding_word : Binder → Word
 binding_word binder.For = In
 binding_word binder.Let = Assign
+binding_word binder.Quantifier = In

@@ -1,4 +1,4 @@
-// The reader of the parts of FLWOR expressions that hold no expressions.
+// The reader of the parts of FLWOR expressions and quantified ones that hold no expressions.
 
 ghost use Rattle.std.specs.Prelude.{◌≡◌, ℕ, List, zero};
 ghost use Rattle.gx_ast.specs.SyntaxView.{bindings_of};
@@ -18,7 +18,7 @@ use crate::parts::lexeme;
 use crate::reader::Reader;
 use crate::source::Source;
 use crate::types::written_name;
-use crate::word::{Binder, Word, WordSet};
+use crate::word::{Binder, ClauseWord, Word, WordSet};
 use gx_ast::expression::{Binding, Clause};
 use gx_ast::name::Variable;
 use gx_ast::sequence_type::{BoundVariable, SequenceType};
@@ -63,6 +63,7 @@ fn position_of(reader: &mut Reader<'_>, source: &Source<'_>, binder: Binder) -> 
     match binder {
         Binder::For => for_position(reader, source),
         Binder::Let => None,
+        Binder::Quantifier => None,
     }
 }
 
@@ -88,7 +89,7 @@ fn head_behind(
     })
 }
 
-/// Reads what stands in front of what the first variable of a FLWOR is bound to, behind its `$` (XQuery 1.0, section 3.8.1).
+/// Reads what stands in front of what the first variable is bound to, behind its `$` (XQuery 1.0, sections 3.8.1 and 3.9).
 pub fn first_head(
     reader: &mut Reader<'_>,
     source: &Source<'_>,
@@ -100,7 +101,7 @@ pub fn first_head(
     head_behind(reader, source, binder, variable)
 }
 
-/// Reads what stands in front of what a variable is bound to (XQuery 1.0, section 3.8.1).
+/// Reads what stands in front of what a variable is bound to (XQuery 1.0, sections 3.8.1 and 3.9).
 pub fn next_head(
     reader: &mut Reader<'_>,
     source: &Source<'_>,
@@ -123,12 +124,12 @@ pub fn last_binding(reader: &mut Reader<'_>)
 }
 
 /// A clause that binds variables, at its word.
-pub fn clause_of(binder: Binder, place: Place, bindings: Vec<Binding>) -> Clause
-    ensures { clause_made result ≡ node (BindingClause binder place (bindings_of bindings.items)) }
+pub fn clause_of(word: ClauseWord, place: Place, bindings: Vec<Binding>) -> Clause
+    ensures { clause_made result ≡ node (BindingClause word place (bindings_of bindings.items)) }
 {
-    match binder {
-        Binder::For => Clause::For(place, bindings),
-        Binder::Let => Clause::Let(place, bindings),
+    match word {
+        ClauseWord::For => Clause::For(place, bindings),
+        ClauseWord::Let => Clause::Let(place, bindings),
     }
 }
 

@@ -24,4 +24,5 @@ mod source;
 pub mod strings;
 mod trees;
 pub mod types;
+pub mod typeswitch;
 pub mod word;

@@ -2,18 +2,19 @@
 
 ghost use Rattle.std.specs.Prelude.{◌≡◌, ◌≤◌, ◌+◌, [], ◌∷◌, length, IfOk, IfSome, IsNone, MatchOption, Some, None, true, false};
 ghost use Rattle.gx_grammar.specs.First.{head_passes};
-ghost use Rattle.gx_grammar.specs.Tokens.{behind_run, run_of, seen_name};
+ghost use Rattle.gx_grammar.specs.Tokens.{behind_run, run_of, seen_name, seen_word};
 ghost use Rattle.gx_grammar.specs.Value.{characters};
-ghost use Rattle.gx_parse.specs.Binding.{binder_named};
+ghost use Rattle.gx_parse.specs.Binding.{opening_named};
 ghost use Rattle.gx_parse.specs.Characters.{is_name_character, is_name_start};
 ghost use Rattle.gx_parse.specs.Grammar.{is_element_test, is_kind_test, is_name, is_reserved};
 ghost use Rattle.gx_parse.specs.Names.{colon_seen, name_made, named_in};
-ghost use Rattle.gx_parse.specs.Nodes.{name_at, name_length};
+ghost use Rattle.gx_parse.specs.Nodes.{has_prefix, name_at, name_length};
+ghost use Rattle.gx_parse.specs.Typeswitch.{branching_named};
 ghost use Rattle.std.specs.Str.{chars};
-ghost use Rattle.gx_parse.specs.Tokens.{scan_ncname, scan_qname, seen_qname, starts_local_part};
+ghost use Rattle.gx_parse.specs.Tokens.{scan_ncname, scan_qname, seen_qname, starts_local_part, starts_local_wildcard, wildcard_letters};
 
 use crate::characters::{is_name_character, is_name_start};
-use crate::word::Binder;
+use crate::word::{Branching, ClauseWord, Opening};
 use gx_ast::name::QName;
 use gx_base::place::Place;
 use gx_base::text::Text;
@@ -113,6 +114,37 @@ pub fn find_ncname(alloc: Global, text: &[char]) -> Result<PartFound<'_>, AllocE
     })
 }
 
+/// What is behind `:*`, if it stands at the front of a text.
+#[derive(Drop)]
+pub struct WildcardFound<'a> {
+    pub behind: Option<&'a [char]>,
+    /// What is left behind the longest front that opens it.
+    pub seen: usize,
+}
+
+/// The `:*` at the front (XQuery 1.0, section 3.2.1.2).
+pub fn find_local_wildcard(text: &[char]) -> WildcardFound<'_>
+    ensures behind { MatchOption result.behind (starts_local_wildcard text.now ≡ false) (λ r. text.now ≡ 58 ∷ 42 ∷ r.now) }
+    ensures seen { result.seen ≡ seen_word wildcard_letters text.now }
+{
+    let [':', tail @ ..] = text else {
+        return WildcardFound {
+            behind: None,
+            seen: text.len(),
+        };
+    };
+    let ['*', rest @ ..] = tail else {
+        return WildcardFound {
+            behind: None,
+            seen: tail.len(),
+        };
+    };
+    WildcardFound {
+        behind: Some(rest),
+        seen: rest.len(),
+    }
+}
+
 /// The QName at the front (Namespaces in XML 1.0, section 4).
 pub fn find_name(alloc: Global, text: &[char]) -> Result<NameFound<'_>, AllocError>
     ensures name { IfOk result (λ f. MatchOption f.name (scan_qname text.now ≡ None) (λ r. scan_qname text.now ≡ Some (name_made r.0, r.1.now))) }
@@ -191,6 +223,13 @@ impl ReadName {
             | self.is("text")
     }
 
+    /// Whether the name has a prefix.
+    pub fn has_prefix(&self) -> bool
+        ensures { result ≡ has_prefix (name_made self.now) }
+    {
+        self.second.is_some()
+    }
+
     /// Whether no function has the name (XQuery 1.0, appendix A.3).
     pub fn is_reserved(&self) -> bool
         ensures { result ≡ is_reserved (name_made self.now) }
@@ -203,15 +242,34 @@ impl ReadName {
             | self.is("typeswitch")
     }
 
-    /// The clause that the name begins (XQuery 1.0, section 3.8.1).
-    pub fn binder(&self) -> Option<Binder>
-        ensures { result ≡ binder_named (name_made self.now) }
+    /// What the name begins where a `$` stands behind it (XQuery 1.0, sections 3.8 and 3.9).
+    pub fn opening(&self) -> Option<Opening>
+        ensures { result ≡ opening_named (name_made self.now) }
     {
         if self.is("for") {
-            return Some(Binder::For);
+            return Some(Opening::Flwor(ClauseWord::For));
         }
         if self.is("let") {
-            return Some(Binder::Let);
+            return Some(Opening::Flwor(ClauseWord::Let));
+        }
+        if self.is("some") {
+            return Some(Opening::Quantified(false));
+        }
+        if self.is("every") {
+            return Some(Opening::Quantified(true));
+        }
+        None
+    }
+
+    /// What the name begins where a `(` stands behind it (XQuery 1.0, sections 3.10 and 3.12.2).
+    pub fn branching(&self) -> Option<Branching>
+        ensures { result ≡ branching_named (name_made self.now) }
+    {
+        if self.is("if") {
+            return Some(Branching::If);
+        }
+        if self.is("typeswitch") {
+            return Some(Branching::Typeswitch);
         }
         None
     }

@@ -4,7 +4,7 @@ ghost use Rattle.std.specs.Prelude.{◌≡◌, ◌+◌, ℕ};
 ghost use Rattle.gx_grammar.specs.Ran.{Ran, left_of};
 ghost use Rattle.gx_parse.specs.Grammar.{place_in, test_or_literal};
 ghost use Rattle.gx_parse.specs.Names.{name_made};
-ghost use Rattle.gx_parse.specs.NodeTests.{attribute_step, axis_test, axis_word, behind_test, kind_content, maybe_content, node_test, test_made, test_of, wildcard, wildcard_step};
+ghost use Rattle.gx_parse.specs.NodeTests.{any_step, any_test, attribute_step, axis_test, axis_word, behind_test, in_namespace, kind_content, maybe_content, node_test, test_made, test_of, wildcard, wildcard_step};
 ghost use Rattle.gx_parse.specs.Nodes.{name_length, tree};
 ghost use Rattle.gx_parse.specs.Reading.{read_in};
 ghost use Rattle.gx_parse.specs.Types.{Gave};
@@ -105,6 +105,44 @@ fn behind_test(
     }
 }
 
+// The test that any name in the namespace of a prefix passes, which was read as a name.
+fn in_namespace(prefix: QName) -> NodeTest
+    ensures { result ≡ in_namespace prefix }
+{
+    NodeTest::Name(NameTest::AnyInNamespace(prefix.place, prefix.local))
+}
+
+// Reads the gap behind a name and `:*`, as a test. The name stood at the place.
+fn any_test(
+    reader: &mut Reader<'_>,
+    source: &Source<'_>,
+    place: Place,
+    name: ReadName,
+) -> Option<NodeTest>
+    requires { place ≡ place_in source.now ((left_of reader.now + 2) + name_length (name_made name)) }
+    ensures { (n : ℕ) → Gave test_made result reader.old reader.new (read_in source.now n (any_test (place_in source.now) (name_made name))) }
+{
+    reader.gap();
+    match name.at(source.alloc(), place) {
+        Ok(written) => Some(in_namespace(written)),
+        Err(_) => {
+            reader.lose();
+            None
+        }
+    }
+}
+
+/// Reads the gap behind a name and `:*`, as a step. The name stood at the place.
+pub fn any_step(reader: &mut Reader<'_>, source: &Source<'_>, place: Place, name: ReadName) -> Expr
+    requires { place ≡ place_in source.now ((left_of reader.now + 2) + name_length (name_made name)) }
+    ensures { (n : ℕ) → Ran (tree result) reader.old reader.new (read_in source.now n (any_step (place_in source.now) (name_made name))) }
+{
+    let Some(test) = any_test(reader, source, place, name) else {
+        return trees::missing();
+    };
+    trees::step(place, None, test)
+}
+
 // Reads a node test (XQuery 1.0, section 3.2.1.2).
 fn node_test(reader: &mut Reader<'_>, source: &Source<'_>) -> Option<NodeTest>
     ensures { (n : ℕ) → Gave test_made result reader.old reader.new (read_in source.now n (node_test (place_in source.now))) }
@@ -116,6 +154,9 @@ fn node_test(reader: &mut Reader<'_>, source: &Source<'_>) -> Option<NodeTest>
     let Some(name) = reader.name(source.alloc()) else {
         return None;
     };
+    if reader.local_wildcard(name.has_prefix()) {
+        return any_test(reader, source, place, name);
+    }
     behind_test(reader, source, place, name)
 }
 

@@ -5,8 +5,8 @@ ghost use Rattle.gx_ast.specs.SyntaxView.{trees_of};
 ghost use Rattle.gx_grammar.specs.Value.{node, nothing};
 ghost use Rattle.gx_grammar.specs.Grammar.{◌&◌, rule};
 ghost use Rattle.gx_grammar.specs.Ran.{Looked, Ran, Standing, left_of};
-ghost use Rattle.gx_parse.specs.Binding.{clause, flwor, last_clause, more_bindings, more_clauses};
-ghost use Rattle.gx_parse.specs.Grammar.{Phrase, after_name, arguments, arguments_in, at_tokens, begun, behind_any_name, behind_keyword, condition, expression, filtered_step, ladder, more_arguments, more_predicates, named_single, other_operand, other_step, parenthesised_step, path_from, place_in, predicate, query, signed_path, single, step, step_of, word_of};
+ghost use Rattle.gx_parse.specs.Binding.{clause, flwor, last_clause, more_bindings, more_clauses, opened, quantified};
+ghost use Rattle.gx_parse.specs.Grammar.{Phrase, after_name, arguments, arguments_in, at_tokens, begun, behind_any_name, behind_keyword, branched, condition, expression, filtered_step, ladder, more_arguments, more_predicates, named_single, other_operand, other_step, parenthesised_step, path_from, place_in, predicate, query, signed_path, single, step, step_of, typeswitch, word_of};
 ghost use Rattle.gx_parse.specs.Keys.{key, key_made, more_keys, order_clause, order_clause_made, ordered};
 ghost use Rattle.gx_parse.specs.Lists.{OneMore, binding_made, clause_made, head_made, items_before};
 ghost use Rattle.gx_parse.specs.Names.{name_made};
@@ -15,6 +15,7 @@ ghost use Rattle.gx_parse.specs.Parsing.{Added, Listed, Passes, chain_of, member
 ghost use Rattle.gx_parse.specs.Query.{IsQuery, Parses, RefusesBytes, RefusesText, left_at, parsed, refusal_at, rule_of};
 ghost use Rattle.gx_parse.specs.Reading.{call, read_in};
 ghost use Rattle.gx_parse.specs.Types.{Gave};
+ghost use Rattle.gx_parse.specs.Typeswitch.{case, case_made, cases, more_cases};
 ghost use Rattle.gx_parse.specs.declared.word.Word.TheVariants as word;
 
 use crate::binding::{clause_of, first_head, last_binding, next_head, with_binding, with_clause};
@@ -24,13 +25,14 @@ use crate::keys::{last_key, with_key};
 use crate::kind_words::kind_word;
 use crate::members::Members;
 use crate::names::ReadName;
-use crate::node_tests::{axis_test, axis_word, kind_content, test_or_literal};
+use crate::node_tests::{any_step, axis_test, axis_word, kind_content, test_or_literal};
 use crate::parts::{dots, joined, keep, last, lexeme, more_signs, operator, variable, with_signs};
 use crate::reader::{End, Reader, Refused};
 use crate::source::Source;
 use crate::trees;
-use crate::word::{Barrier, Binder, Word, WordSet};
-use gx_ast::expression::{Binding, Clause, Expr, ExprNode, Key};
+use crate::typeswitch::{case_head, default_head, last_case, with_case};
+use crate::word::{Barrier, Binder, Branching, ClauseWord, Opening, Word, WordSet};
+use gx_ast::expression::{Binding, Case, Clause, Expr, ExprNode, Key};
 use gx_ast::sequence_type::BoundVariable;
 use gx_base::limits::{CHAIN_MEMBERS, FILE_BYTES};
 use gx_base::place::Place;
@@ -334,6 +336,9 @@ fn step(reader: &mut Reader<'_>, source: &Source<'_>, levels: u8) -> Expr
     let Some(name) = reader.name(source.alloc()) else {
         return trees::missing();
     };
+    if reader.local_wildcard(name.has_prefix()) {
+        return any_step(reader, source, place, name);
+    }
     named_step(reader, source, levels, place, name)
 }
 
@@ -500,10 +505,15 @@ fn single(reader: &mut Reader<'_>, source: &Source<'_>, levels: u8) -> Expr
     let Some(name) = reader.name(source.alloc()) else {
         return trees::missing();
     };
+    if reader.local_wildcard(name.has_prefix()) {
+        let first = any_step(reader, source, place, name);
+        let path = path(reader, source, levels, first);
+        return ladder(reader, source, levels, 8, path);
+    }
     named_single(reader, source, levels, place, name)
 }
 
-// Reads what stands behind the name at the front of a single, which may be that of a clause.
+// Reads what stands behind the name at the front of a single, which may be that of a clause or a quantifier.
 #[cycle(parsing)]
 fn named_single(
     reader: &mut Reader<'_>,
@@ -515,18 +525,18 @@ fn named_single(
     requires { place ≡ place_in source.now (left_of reader.now + name_length (name_made name)) }
     ensures { Ran (tree result) reader.old reader.new (read_in source.now levels (named_single (place_in source.now) levels (name_made name))) }
 {
-    let Some(binder) = name.binder() else {
+    let Some(opening) = name.opening() else {
         return begun(reader, source, levels, place, name);
     };
     if reader.looks_at_dollar() {
-        return flwor(reader, source, levels, place, binder);
+        return opened(reader, source, levels, place, opening);
     }
     let first = keyword_step(reader, source, levels, place, name);
     let path = path(reader, source, levels, first);
     ladder(reader, source, levels, 8, path)
 }
 
-// Reads what stands behind the name of a clause where no clause begins.
+// Reads what stands behind the name of a clause or a quantifier where none begins.
 #[cycle(parsing)]
 fn keyword_step(
     reader: &mut Reader<'_>,
@@ -550,6 +560,43 @@ fn keyword_step(
     keep(reader, made)
 }
 
+// Reads what a name begins, which stood at the place.
+#[cycle(parsing)]
+fn opened(
+    reader: &mut Reader<'_>,
+    source: &Source<'_>,
+    levels: u8,
+    place: Place,
+    opening: Opening,
+) -> Expr
+    ensures { (v : Made) → place ≡ place_in source.now (left_of reader.old + name_length v) → Ran (tree result) reader.old reader.new (read_in source.now levels (opened (place_in source.now) levels opening v)) }
+{
+    match opening {
+        Opening::Flwor(word) => flwor(reader, source, levels, place, word),
+        Opening::Quantified(every) => quantified(reader, source, levels, place, every),
+    }
+}
+
+// Reads a quantified expression behind its first word, which stood at the place.
+#[cycle(parsing)]
+fn quantified(
+    reader: &mut Reader<'_>,
+    source: &Source<'_>,
+    levels: u8,
+    place: Place,
+    every: bool,
+) -> Expr
+    ensures { (v : Made) → place ≡ place_in source.now (left_of reader.old + name_length v) → Ran (tree result) reader.old reader.new (read_in source.now levels (quantified (place_in source.now) levels every v)) }
+{
+    reader.dollar();
+    let head = first_head(reader, source, Binder::Quantifier);
+    let list = bindings(reader, source, levels, Binder::Quantifier, head);
+    lexeme(reader, WordSet::Only(Word::Satisfies));
+    let condition = single(reader, source, levels);
+    let made = trees::quantified(source.alloc(), place, every, list, condition);
+    keep(reader, made)
+}
+
 // Reads a FLWOR behind its first word, which stood at the place.
 #[cycle(parsing)]
 fn flwor(
@@ -557,14 +604,15 @@ fn flwor(
     source: &Source<'_>,
     levels: u8,
     place: Place,
-    binder: Binder,
+    word: ClauseWord,
 ) -> Expr
-    ensures { (v : Made) → place ≡ place_in source.now (left_of reader.old + name_length v) → Ran (tree result) reader.old reader.new (read_in source.now levels (flwor (place_in source.now) levels binder v)) }
+    ensures { (v : Made) → place ≡ place_in source.now (left_of reader.old + name_length v) → Ran (tree result) reader.old reader.new (read_in source.now levels (flwor (place_in source.now) levels word v)) }
 {
     reader.dollar();
+    let binder = word.binder();
     let head = first_head(reader, source, binder);
     let list = bindings(reader, source, levels, binder, head);
-    let first = clause_of(binder, place, list);
+    let first = clause_of(word, place, list);
     let begun = with_clause(reader, Vec::new(source.alloc()), first);
     let clauses = more_clauses(reader, source, levels, begun);
     let stable = reader.looks_at(WordSet::Only(Word::Stable));
@@ -661,11 +709,12 @@ fn clause(reader: &mut Reader<'_>, source: &Source<'_>, levels: u8) -> Clause
     ensures { Ran (clause_made result) reader.old reader.new (read_in source.now levels (clause (place_in source.now) levels)) }
 {
     let place = source.place(reader.left());
-    let binder = Binder::of(reader.word(WordSet::Binders));
+    let word = ClauseWord::of(reader.word(WordSet::Binders));
+    let binder = word.binder();
     reader.gap();
     let head = next_head(reader, source, binder);
     let list = bindings(reader, source, levels, binder, head);
-    clause_of(binder, place, list)
+    clause_of(word, place, list)
 }
 
 // Reads a clause of `where`, if it stands there.
@@ -756,19 +805,94 @@ fn begun(
     requires { place ≡ place_in source.now (left_of reader.now + name_length (name_made name)) }
     ensures { Ran (tree result) reader.old reader.new (read_in source.now levels (begun (place_in source.now) levels (name_made name))) }
 {
-    if !name.is("if") {
+    let Some(branching) = name.branching() else {
         let first = named_step(reader, source, levels, place, name);
         let path = path(reader, source, levels, first);
         return ladder(reader, source, levels, 8, path);
-    }
+    };
     if reader.looks_at_parenthesis() {
-        return condition(reader, source, levels, place);
+        return branched(reader, source, levels, place, branching);
     }
     reader.no_parenthesis();
     let made = trees::named(source.alloc(), place, name);
     let first = keep(reader, made);
     let path = path(reader, source, levels, first);
     ladder(reader, source, levels, 8, path)
+}
+
+// Reads what a name begins, which stood at the place.
+#[cycle(parsing)]
+fn branched(
+    reader: &mut Reader<'_>,
+    source: &Source<'_>,
+    levels: u8,
+    place: Place,
+    branching: Branching,
+) -> Expr
+    ensures { (v : Made) → place ≡ place_in source.now (left_of reader.old + name_length v) → Ran (tree result) reader.old reader.new (read_in source.now levels (branched (place_in source.now) levels branching v)) }
+{
+    match branching {
+        Branching::If => condition(reader, source, levels, place),
+        Branching::Typeswitch => typeswitch(reader, source, levels, place),
+    }
+}
+
+// Reads a typeswitch behind its word, which stood at the place.
+#[cycle(parsing)]
+fn typeswitch(reader: &mut Reader<'_>, source: &Source<'_>, levels: u8, place: Place) -> Expr
+    ensures { (v : Made) → place ≡ place_in source.now (left_of reader.old + name_length v) → Ran (tree result) reader.old reader.new (read_in source.now levels (typeswitch (place_in source.now) levels v)) }
+{
+    reader.parenthesis();
+    reader.gap();
+    let operand = expression(reader, source, levels);
+    lexeme(reader, WordSet::Only(Word::Close));
+    let list = cases(reader, source, levels);
+    let default = default_head(reader, source);
+    let otherwise = single(reader, source, levels);
+    let made = trees::typeswitch(source.alloc(), place, operand, list, default, otherwise);
+    keep(reader, made)
+}
+
+// Reads the cases of a typeswitch.
+#[cycle(parsing)]
+fn cases(reader: &mut Reader<'_>, source: &Source<'_>, levels: u8) -> Vec<Case>
+    ensures { Ran (items_before case_made result.items nothing) reader.old reader.new (read_in source.now levels (cases (place_in source.now) levels)) }
+{
+    let first = case(reader, source, levels);
+    let begun = with_case(reader, Vec::new(source.alloc()), first);
+    more_cases(reader, source, levels, begun)
+}
+
+// Reads further cases.
+#[cycle(parsing)]
+fn more_cases(
+    reader: &mut Reader<'_>,
+    source: &Source<'_>,
+    levels: u8,
+    cases: Vec<Case>,
+) -> Vec<Case>
+    ensures { Added cases.items result.items (λ others. Ran (items_before case_made others nothing) reader.old reader.new (read_in source.now levels (more_cases (place_in source.now) levels 63))) }
+{
+    let mut list = cases;
+    for _ in 0..CHAIN_MEMBERS - 1 {
+        if !reader.looks_at(WordSet::Only(Word::Case)) {
+            return list;
+        }
+        let next = case(reader, source, levels);
+        list = with_case(reader, list, next);
+    }
+    last_case(reader);
+    list
+}
+
+// Reads a case.
+#[cycle(parsing)]
+fn case(reader: &mut Reader<'_>, source: &Source<'_>, levels: u8) -> Case
+    ensures { Ran (case_made result) reader.old reader.new (read_in source.now levels (case (place_in source.now) levels)) }
+{
+    let head = case_head(reader, source);
+    let body = single(reader, source, levels);
+    Case { head, body }
 }
 
 // Reads a conditional behind its `if`, which stood at the place.

@@ -5,7 +5,7 @@ ghost use Rattle.gx_grammar.specs.Value.{node, nothing, pair};
 ghost use Rattle.gx_grammar.specs.Ran.{Makes, Ran};
 ghost use Rattle.gx_parse.specs.Grammar.{dots, lexeme, more_signs, numeral, operator, place_in, variable_step};
 ghost use Rattle.gx_parse.specs.Nodes.{Found, Operator, tree};
-ghost use Rattle.gx_parse.specs.Parsing.{Added, Keeps, join_of, last_of, signs_made, wrapped};
+ghost use Rattle.gx_parse.specs.Parsing.{Added, KeepsTree, join_of, last_of, signs_made, wrapped};
 ghost use Rattle.gx_parse.specs.Reading.{read_in};
 ghost use Rattle.gx_parse.specs.Tokens.{one_of};
 
@@ -27,7 +27,7 @@ pub struct Sign {
 
 /// The tree that was made; none where memory did not suffice.
 pub fn keep(reader: &mut Reader<'_>, made: Result<Expr, AllocError>) -> Expr
-    ensures { Keeps result made reader.old reader.new }
+    ensures { KeepsTree result made reader.old reader.new }
 {
     match made {
         Ok(tree) => tree,

@@ -12,15 +12,16 @@ ghost use Rattle.gx_parse.specs.Nodes.{Found, name_length};
 ghost use Rattle.gx_parse.specs.Indications.{found_made};
 ghost use Rattle.gx_parse.specs.Names.{name_made};
 ghost use Rattle.gx_parse.specs.Reading.{Ended, NameRead, read_number, read_one};
-ghost use Rattle.gx_parse.specs.Tokens.{barred, barred_words, gap, gap_not_open, gap_then_dollar, gap_then_neither, gap_then_open, indication, ncname, number_end, one_of, reference, text_run};
+ghost use Rattle.gx_parse.specs.Tokens.{barred, barred_words, gap, gap_not_open, gap_then_dollar, gap_then_neither, gap_then_open, indication, local_wildcard, ncname, number_end, one_of, reference, text_run};
 ghost use Rattle.gx_parse.specs.Parsing.{Added};
 ghost use Rattle.gx_parse.specs.Strings.{parts_of};
+ghost use Rattle.gx_parse.specs.NodeTests.{wildcard_made};
 ghost use Rattle.gx_parse.specs.Types.{Gave};
 
 use crate::characters::{begins_at, is_name_start};
 use crate::gap;
 use crate::indication::find_indication;
-use crate::names::{ReadName, find_name, find_ncname};
+use crate::names::{ReadName, find_local_wildcard, find_name, find_ncname};
 use crate::numbers::{LiteralFound, find_number};
 use crate::references::{find_part, find_reference};
 use crate::runs::{Quote, Run, find_text, push_text};
@@ -318,6 +319,31 @@ impl Reader<'_> {
                 self.end = Some(End::GaveUp(Refused::Unfit(self.far)));
                 None
             }
+        }
+    }
+
+    /// Reads `:*`, if it stands there, and nothing behind a name with a prefix.
+    #[tactic(auto, unfolding(crate::specs::Reading::read_one))]
+    pub fn local_wildcard(&mut self, prefixed: bool) -> bool
+        ensures read { Ran (wildcard_made result) self.old self.new (read_one (local_wildcard prefixed)) }
+        ensures any { result ≡ true → left_of self.new + 2 ≡ left_of self.old }
+        ensures none { result ≡ false → left_of self.new ≡ left_of self.old }
+    {
+        if self.end.is_some() {
+            return false;
+        }
+        if prefixed {
+            self.far = self.far.min(self.rest.len());
+            return false;
+        }
+        let found = find_local_wildcard(self.rest);
+        self.far = self.far.min(found.seen);
+        match found.behind {
+            Some(behind) => {
+                self.rest = behind;
+                true
+            }
+            None => false,
         }
     }
 

@@ -1,21 +1,21 @@
 // Trees of their parts.
 
 ghost use Rattle.std.specs.Prelude.{◌≡◌, IfOk, None, false};
-ghost use Rattle.gx_ast.specs.SyntaxTree.{at, binary as binary_form, comma, conditional, flwor as flwor_form, parenthesised as parenthesised_form, path as path_form, signed as signed_form, string as string_form, variable};
+ghost use Rattle.gx_ast.specs.SyntaxTree.{at, binary as binary_form, comma, conditional, flwor as flwor_form, parenthesised as parenthesised_form, path as path_form, quantified as quantified_form, signed as signed_form, string as string_form, typeswitch as typeswitch_form, variable};
 ghost use Rattle.gx_parse.specs.Nodes.{Found, binary_of, dots_value, is_minus, is_slashes, join_binary, join_comma, join_path, name_at, tree};
 ghost use Rattle.gx_parse.specs.NodeTests.{step_tree, test_of};
 ghost use Rattle.gx_parse.specs.Parsing.{called_tree, filtered_tree, named_tree};
 ghost use Rattle.gx_parse.specs.Names.{name_made};
 ghost use Rattle.gx_grammar.specs.Value.{node, nothing, pair};
-ghost use Rattle.gx_ast.specs.SyntaxView.{clauses_of, keys_of, trees_of};
+ghost use Rattle.gx_ast.specs.SyntaxView.{bindings_of, cases_of, clauses_of, keys_of, trees_of};
 
 use crate::kind_words::{KindWord, TestContent};
 use crate::names::ReadName;
 use crate::node_tests::test_of;
 use crate::word::Word;
-use gx_ast::expression::{BinaryOperator, Clause, Expr, ExprNode, Key};
+use gx_ast::expression::{BinaryOperator, Binding, Case, Clause, Expr, ExprNode, Key};
 use gx_ast::name::{Axis, NameTest};
-use gx_ast::sequence_type::{AxisStep, NodeTest};
+use gx_ast::sequence_type::{AxisStep, DefaultHead, NodeTest};
 use gx_base::place::Place;
 use gx_base::text_builder::TextBuilder;
 use std::alloc::{AllocError, Global};
@@ -162,6 +162,37 @@ pub fn flwor(
 {
     let returned = Box::new(alloc, returned)?;
     let node = ExprNode::Flwor(clauses, stable, keys, returned);
+    Ok(Expr { place, node })
+}
+
+/// A typeswitch.
+pub fn typeswitch(
+    alloc: Global,
+    place: Place,
+    operand: Expr,
+    cases: Vec<Case>,
+    default: DefaultHead,
+    otherwise: Expr,
+) -> Result<Expr, AllocError>
+    ensures { IfOk result (λ e. e ≡ at place (typeswitch_form operand (cases_of cases.items) default otherwise)) }
+{
+    let (operand, otherwise) = boxes(alloc, operand, otherwise)?;
+    let node = ExprNode::Typeswitch(operand, cases, default, otherwise);
+    Ok(Expr { place, node })
+}
+
+/// A quantified expression.
+pub fn quantified(
+    alloc: Global,
+    place: Place,
+    every: bool,
+    bindings: Vec<Binding>,
+    condition: Expr,
+) -> Result<Expr, AllocError>
+    ensures { IfOk result (λ e. e ≡ at place (quantified_form every (bindings_of bindings.items) condition)) }
+{
+    let condition = Box::new(alloc, condition)?;
+    let node = ExprNode::Quantified(every, bindings, condition);
     Ok(Expr { place, node })
 }
 

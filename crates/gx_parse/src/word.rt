@@ -1,7 +1,7 @@
 // The words and symbols of the query language.
 
 ghost use Rattle.std.specs.Prelude.{◌≡◌};
-ghost use Rattle.gx_parse.specs.Words.{binder_of, binding_word, ending_of, letters_of, operators_of, words_of};
+ghost use Rattle.gx_parse.specs.Words.{binder_in, binding_word, clause_word_of, ending_of, letters_of, operators_of, words_of};
 
 use std::slice;
 
@@ -343,32 +343,73 @@ pub enum WordSet {
     Binders,
 }
 
-/// A clause that binds variables (XQuery 1.0, section 3.8.1).
+/// The word of a clause that binds variables (XQuery 1.0, section 3.8.1).
 #[derive(Clone, Copy, Debug, PartialEq, Eq)]
-pub enum Binder {
+pub enum ClauseWord {
     /// `for`.
     For,
     /// `let`.
     Let,
 }
 
-impl Binder {
-    /// The clause that a word begins.
-    pub fn of(word: Word) -> Binder
-        ensures { result ≡ binder_of word }
+impl ClauseWord {
+    /// The word of a clause, as it was found.
+    pub fn of(word: Word) -> ClauseWord
+        ensures { result ≡ clause_word_of word }
     {
         match word {
-            Word::For => Binder::For,
-            _ => Binder::Let,
+            Word::For => ClauseWord::For,
+            _ => ClauseWord::Let,
         }
     }
 
+    /// What binds the variables of the clause.
+    pub fn binder(self) -> Binder
+        ensures { result ≡ binder_in self }
+    {
+        match self {
+            ClauseWord::For => Binder::For,
+            ClauseWord::Let => Binder::Let,
+        }
+    }
+}
+
+/// What a name begins where a `$` stands behind it.
+#[derive(Clone, Copy, Debug, PartialEq, Eq)]
+pub enum Opening {
+    /// A FLWOR (XQuery 1.0, section 3.8).
+    Flwor(ClauseWord),
+    /// `some`, or `every` where that is true (XQuery 1.0, section 3.9).
+    Quantified(bool),
+}
+
+/// What a name begins where a `(` stands behind it.
+#[derive(Clone, Copy, Debug, PartialEq, Eq)]
+pub enum Branching {
+    /// `if` (XQuery 1.0, section 3.10).
+    If,
+    /// `typeswitch` (XQuery 1.0, section 3.12.2).
+    Typeswitch,
+}
+
+/// What binds a variable.
+#[derive(Clone, Copy, Debug, PartialEq, Eq)]
+pub enum Binder {
+    /// `for`.
+    For,
+    /// `let`.
+    Let,
+    /// `some` or `every`.
+    Quantifier,
+}
+
+impl Binder {
     /// The word in front of what a variable is bound to.
     pub fn word(self) -> Word
         ensures { result ≡ binding_word self }
     {
         match self {
-            Binder::For => Word::In,
+            Binder::For | Binder::Quantifier => Word::In,
             Binder::Let => Word::Assign,
         }
     }

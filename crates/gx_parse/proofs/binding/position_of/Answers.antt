@@ -1,5 +1,5 @@
 use Rattle.gx_parse.specs.Bound.{position_made}
-use Rattle.gx_parse.proofs.BindingPhrases.{for_position, let_position}
+use Rattle.gx_parse.proofs.BindingPhrases.{for_position, let_position, quantifier_position}
 use Rattle.gx_parse.proofs.binding.position_of.Goals as goal
 
 pub returns-in-For : goal.returns-in-For
@@ -7,3 +7,6 @@ returns-in-For c = λ n. for_position c.args.source.now n c.args.binder (positio
 
 pub returns-in-Let : goal.returns-in-Let
 returns-in-Let c = λ n. let_position c.args.source.now n c.args.binder c.args.reader.now c.in-Let.is
+
+pub returns-in-Quantifier : goal.returns-in-Quantifier
+returns-in-Quantifier c = λ n. quantifier_position c.args.source.now n c.args.binder c.args.reader.now c.in-Quantifier.is

@@ -1,5 +1,4 @@
-use Rattle.std.specs.Str.{chars}
-use Rattle.gx_ast.specs.SyntaxView.{clauses_of, keys_of, trees_of}
+use Rattle.gx_ast.specs.SyntaxView.{bindings_of, cases_of, clauses_of, keys_of, trees_of}
 use Rattle.std.proofs.Common.{Bool, codes, if◌then◌else◌, ◌≡◌, ◌+◌, ◌-◌, ℕ, suc, zero, refl, sym, ap, subst, ◌∙◌, arith, [], ◌∷◌, ◌++◌, Option, Some, None, inl, inr, false, append-nil}
 use Rattle.gx_ast.specs.declared.expression.Clause.TheVariants.{Where}
 use Rattle.gx_grammar.specs.Value.{node, nothing, pair}
@@ -7,29 +6,32 @@ use Rattle.gx_grammar.specs.Grammar.{rule, token, ◌&◌}
 use Rattle.gx_grammar.specs.Ran.{Ran, Makes}
 use Rattle.gx_parse.specs.Nodes.{Arguments, Made, name_at, name_length, tree}
 use Rattle.gx_parse.specs.Bound.{bound}
-use Rattle.gx_parse.specs.Binding.{clause, first_bound, flwor, head, last_clause, more_bindings, more_clauses}
+use Rattle.gx_parse.specs.Binding.{clause, first_bound, flwor, head, last_clause, more_bindings, more_clauses, quantified}
+use Rattle.gx_parse.specs.declared.word.Binder.TheVariants as binder
 use Rattle.gx_parse.specs.Keys.{key, key_made, more_keys}
+use Rattle.gx_parse.specs.Typeswitch.{case, case_made, more_cases}
+use Rattle.gx_parse.proofs.TypeswitchPhrases.{case_read, cases_none, cases_more, cases_read, typeswitch_read, branched_condition, branched_typeswitch}
 use Rattle.gx_parse.specs.Lists.{Grown, binding_made, clause_made, head_made, items_before}
 use Rattle.gx_parse.specs.Names.{name_made}
-use Rattle.gx_parse.specs.Grammar.{after_axis, filtered_step, more_predicates, path_from, step_of, step_value, is_name, behind_keyword, named_single, more_arguments, other_step, at_tokens, begun, behind_any_name, behind_plain_name, condition, ladder, other_operand, parenthesised_step, place_in, single, step}
+use Rattle.gx_parse.specs.Grammar.{after_axis, filtered_step, more_predicates, path_from, step_of, step_value, is_name, behind_keyword, named_single, more_arguments, other_step, at_tokens, begun, behind_any_name, behind_plain_name, condition, ladder, other_operand, parenthesised_step, place_in, single, step, typeswitch}
 use Rattle.gx_parse.specs.Tokens.{gap, gap_then_open, gap_not_open, gap_then_dollar}
 use Rattle.gx_parse.specs.declared.members.Members.TheVariants.{Steps}
-use Rattle.gx_ast.specs.SyntaxTree.{at, conditional, flwor as flwor_form, parenthesised}
+use Rattle.gx_ast.specs.SyntaxTree.{at, conditional, flwor as flwor_form, parenthesised, quantified as quantified_form, typeswitch as typeswitch_form}
 use Rattle.gx_grammar.proofs.PublicLaws.{ran_idle}
 use Rattle.gx_parse.specs.Reading.{call, read_in}
 use Rattle.gx_parse.specs.Parsing.{Added, Listed, filtered_tree, named_tree, called_tree, most_of, read_chain, chain_of, member_of, wrapped}
 use Rattle.gx_parse.proofs.Chains.{ran_any, ran_keeps, chain_full}
 use Rattle.gx_parse.proofs.Phrases.{in_rule}
-use Rattle.gx_parse.proofs.NameScans.{literal_name}
-use Rattle.gx_parse.specs.NodeTests.{axis_word, maybe_content, step_tree, test_made, test_of}
+use Rattle.gx_parse.specs.NodeTests.{any_step, axis_word, maybe_content, step_tree, test_made, test_of}
 use Rattle.gx_parse.proofs.Phrases.{loses_done, loses_ran}
 use Rattle.std.proofs.lemmas.List.{append_assoc}
+use Rattle.gx_parse.proofs.NodeTestsPhrases.{wildcard_stands, no_wildcard}
 use Rattle.gx_parse.proofs.Steps.{any_name_is, axis_step_read, call_after, filtered_read, kept_value, name_after, name_placed, no_axis, no_colons, one_before, predicate_read, predicates_end, predicates_full, predicates_more, predicates_none, reserved_after, step_read}
 use Rattle.gx_parse.proofs.Calls.{arguments_read, arguments_none, arguments_some, arguments_lost, items_begin, items_end, items_more, items_full, items_lost}
-use Rattle.gx_parse.proofs.Expressions.{named_other, named_flwor, named_keyword, keyword_plain, keyword_called, operand_signed, operand_other, ladder_next, ladder_none, looked_left, begun_other, begun_condition, begun_plain, plain_read, condition_read, nothing_inside, inner_read, signed_read, expression_read, no_single, single_other, single_named, step_other, step_named, path_read, chain_read, no_more, one_more, step_variable, step_parenthesised, step_dots, step_literal}
+use Rattle.gx_parse.proofs.Expressions.{named_other, named_opened, named_keyword, keyword_plain, keyword_called, operand_signed, operand_other, ladder_next, ladder_none, looked_left, begun_other, begun_branched, begun_plain, plain_read, condition_read, nothing_inside, inner_read, signed_read, expression_read, no_single, single_other, single_named, step_other, step_named, path_read, chain_read, no_more, one_more, step_variable, step_parenthesised, step_dots, step_literal}
 use Rattle.gx_parse.proofs.Lists.{one_grown, gone_start, gone_step, gone_end, gone_last, one_added}
 use Rattle.gx_parse.proofs.KeysPhrases.{key_read, keys_none, keys_more, ordered_read, stable_read, unstable_read, unordered_read}
-use Rattle.gx_parse.proofs.BindingPhrases.{binding_read, binding_stops, bindings_read, bindings_none, bindings_more, clause_read, where_part, where_read, no_where, a_where, clauses_none, clauses_more, clauses_full, clauses_end, flwor_read}
+use Rattle.gx_parse.proofs.BindingPhrases.{binding_read, binding_stops, bindings_read, bindings_none, bindings_more, clause_read, where_part, where_read, no_where, a_where, clauses_none, clauses_more, clauses_full, clauses_end, flwor_read, quantified_read, opened_flwor, opened_quantified}
 use Rattle.gx_parse.proofs.parser.+parsing.Goals as goal
 
 pub expression-returns : goal.expression-returns
@@ -74,11 +76,21 @@ pub step-returns-in_default : goal.step-returns-in_default
 step-returns-in_default t c =
     let done = rw c.in_default.is at c.name.ensures.read in
     step_named c.args.source.now c.args.levels c.missing.result nothing c.starts_name.result c.args.reader.now c.starts_name.new.self c.name.new.self c.name.new.self c.if-not-starts_name.false c.starts_name.ensures (done.1 nothing)
-    (ran_idle (tree c.missing.result) c.name.new.self (read_in c.args.source.now c.args.levels (behind_any_name (place_in c.args.source.now) c.args.levels nothing)) done.0)
+    (ran_idle (tree c.missing.result) c.name.new.self _ done.0)
+
+pub step-returns-then-local_wildcard : goal.step-returns-then-local_wildcard
+step-returns-then-local_wildcard t c =
+    let v = name_made c.in-Some.name in
+    step_named c.args.source.now c.args.levels c.any_step.result v c.starts_name.result c.args.reader.now c.starts_name.new.self c.name.new.self c.any_step.new.reader c.if-not-starts_name.false c.starts_name.ensures c.in-Some.ensures.read
+    (wildcard_stands c.args.source.now c.args.levels c.local_wildcard.result c.has_prefix.result v (tree c.any_step.result) (any_step (place_in c.args.source.now) v) (behind_any_name (place_in c.args.source.now) c.args.levels v) c.name.new.self c.local_wildcard.new.self c.any_step.new.reader
+    c.if-local_wildcard.true c.has_prefix.ensures c.local_wildcard.ensures.read (c.any_step.ensures c.args.levels))
 
 pub step-returns : goal.step-returns
 step-returns t c =
-    step_named c.args.source.now c.args.levels c.named_step.result (name_made c.in-Some.name) c.starts_name.result c.args.reader.now c.starts_name.new.self c.name.new.self c.named_step.new.reader c.if-not-starts_name.false c.starts_name.ensures c.in-Some.ensures.read c.named_step.ensures
+    let v = name_made c.in-Some.name in
+    step_named c.args.source.now c.args.levels c.named_step.result v c.starts_name.result c.args.reader.now c.starts_name.new.self c.name.new.self c.named_step.new.reader c.if-not-starts_name.false c.starts_name.ensures c.in-Some.ensures.read
+    (no_wildcard c.args.source.now c.args.levels c.local_wildcard.result c.has_prefix.result v (tree c.named_step.result) (any_step (place_in c.args.source.now) v) (behind_any_name (place_in c.args.source.now) c.args.levels v) c.name.new.self c.local_wildcard.new.self c.named_step.new.reader
+    c.if-local_wildcard.false c.has_prefix.ensures c.local_wildcard.ensures.read c.named_step.ensures)
 
 pub other_step-returns-then-starts_with : goal.other_step-returns-then-starts_with
 other_step-returns-then-starts_with t c = step_variable c.args.source.now c.args.levels (tree c.variable.result) c.starts_with.result c.args.reader.now c.starts_with.new.self c.variable.new.reader c.if-starts_with.true c.starts_with.ensures (c.variable.ensures c.args.levels)
@@ -111,27 +123,44 @@ pub single-returns-in_default : goal.single-returns-in_default
 single-returns-in_default t c =
     let done = rw c.in_default.is at c.name.ensures.read in
     subst (λ l. Ran (tree c.missing-in_default.result) c.args.reader.now c.name.new.self (call c.args.source.now (suc l) (single l))) (omega (arith, c.if-levels-eq0.false))
-    (single_named c.args.source.now (c.args.levels - 1) c.missing-in_default.result nothing c.starts_name.result c.args.reader.now c.starts_name.new.self c.name.new.self c.name.new.self c.if-not-starts_name.false c.starts_name.ensures (done.1 nothing) (ran_idle (tree c.missing-in_default.result) c.name.new.self (read_in c.args.source.now (c.args.levels - 1) (named_single (place_in c.args.source.now) (c.args.levels - 1) nothing)) done.0))
+    (single_named c.args.source.now (c.args.levels - 1) c.missing-in_default.result nothing c.starts_name.result c.args.reader.now c.starts_name.new.self c.name.new.self c.name.new.self c.if-not-starts_name.false c.starts_name.ensures (done.1 nothing) (ran_idle (tree c.missing-in_default.result) c.name.new.self _ done.0))
+
+pub single-returns-then-local_wildcard : goal.single-returns-then-local_wildcard
+single-returns-then-local_wildcard t c =
+    let text = c.args.source.now in
+    let n = c.args.levels - 1 in
+    let v = name_made c.in-Some.name in
+    let first = any_step (place_in text) v in
+    subst (λ l. Ran (tree c.ladder-then-local_wildcard.result) c.args.reader.now c.ladder-then-local_wildcard.new.reader (call text (suc l) (single l))) (omega (arith, c.if-levels-eq0.false))
+    (single_named text n c.ladder-then-local_wildcard.result v c.starts_name.result c.args.reader.now c.starts_name.new.self c.name.new.self c.ladder-then-local_wildcard.new.reader c.if-not-starts_name.false c.starts_name.ensures c.in-Some.ensures.read
+    (wildcard_stands text n c.local_wildcard.result c.has_prefix.result v (tree c.ladder-then-local_wildcard.result) (ladder (place_in text) 8 n (path_from (place_in text) n first)) (named_single (place_in text) n v) c.name.new.self c.local_wildcard.new.self c.ladder-then-local_wildcard.new.reader
+    c.if-local_wildcard.true c.has_prefix.ensures c.local_wildcard.ensures.read
+    (c.ladder-then-local_wildcard.ensures (path_from (place_in text) n first) c.local_wildcard.new.self (c.path-path.ensures first c.local_wildcard.new.self (c.any_step-first.ensures n)))))
 
 pub single-returns : goal.single-returns
 single-returns t c =
-    subst (λ l. Ran (tree c.named_single.result) c.args.reader.now c.named_single.new.reader (call c.args.source.now (suc l) (single l))) (omega (arith, c.if-levels-eq0.false))
-    (single_named c.args.source.now (c.args.levels - 1) c.named_single.result (name_made c.in-Some.name) c.starts_name.result c.args.reader.now c.starts_name.new.self c.name.new.self c.named_single.new.reader c.if-not-starts_name.false c.starts_name.ensures c.in-Some.ensures.read c.named_single.ensures)
+    let text = c.args.source.now in
+    let n = c.args.levels - 1 in
+    let v = name_made c.in-Some.name in
+    subst (λ l. Ran (tree c.named_single.result) c.args.reader.now c.named_single.new.reader (call text (suc l) (single l))) (omega (arith, c.if-levels-eq0.false))
+    (single_named text n c.named_single.result v c.starts_name.result c.args.reader.now c.starts_name.new.self c.name.new.self c.named_single.new.reader c.if-not-starts_name.false c.starts_name.ensures c.in-Some.ensures.read
+    (no_wildcard text n c.local_wildcard.result c.has_prefix.result v (tree c.named_single.result) (ladder (place_in text) 8 n (path_from (place_in text) n (any_step (place_in text) v))) (named_single (place_in text) n v) c.name.new.self c.local_wildcard.new.self c.named_single.new.reader
+    c.if-local_wildcard.false c.has_prefix.ensures c.local_wildcard.ensures.read c.named_single.ensures))
 
 pub named_single-returns-in_default : goal.named_single-returns-in_default
 named_single-returns-in_default t c =
-    named_other c.args.source.now c.args.levels (name_made c.args.name) (tree c.begun.result) c.args.reader.now c.begun.new.reader (sym c.binder.ensures ∙ c.in_default.is) c.begun.ensures
+    named_other c.args.source.now c.args.levels (name_made c.args.name) (tree c.begun.result) c.args.reader.now c.begun.new.reader (sym c.opening.ensures ∙ c.in_default.is) c.begun.ensures
 
 pub named_single-returns-then-looks_at_dollar : goal.named_single-returns-then-looks_at_dollar
 named_single-returns-then-looks_at_dollar t c =
     let same = looked_left c.args.source.now c.args.levels c.looks_at_dollar.result c.args.reader.now c.looks_at_dollar.new.self (at_tokens (gap_then_dollar ∷ [])) c.looks_at_dollar.ensures in
-    named_flwor c.args.source.now c.args.levels c.in-Some.binder (name_made c.args.name) (tree c.flwor.result) c.looks_at_dollar.result c.args.reader.now c.looks_at_dollar.new.self c.flwor.new.reader (sym c.binder.ensures ∙ c.in-Some.is) c.if-looks_at_dollar.true c.looks_at_dollar.ensures
-    (c.flwor.ensures (name_made c.args.name) (c.requires ∙ ap (λ left. place_in c.args.source.now (left + name_length (name_made c.args.name))) (sym same)))
+    named_opened c.args.source.now c.args.levels c.in-Some.opening (name_made c.args.name) (tree c.opened.result) c.looks_at_dollar.result c.args.reader.now c.looks_at_dollar.new.self c.opened.new.reader (sym c.opening.ensures ∙ c.in-Some.is) c.if-looks_at_dollar.true c.looks_at_dollar.ensures
+    (c.opened.ensures (name_made c.args.name) (c.requires ∙ ap (λ left. place_in c.args.source.now (left + name_length (name_made c.args.name))) (sym same)))
 
 pub named_single-returns : goal.named_single-returns
 named_single-returns t c =
     let first = behind_keyword (place_in c.args.source.now) c.args.levels (name_made c.args.name) in
-    named_keyword c.args.source.now c.args.levels c.in-Some.binder (name_made c.args.name) (tree c.ladder.result) c.looks_at_dollar.result c.args.reader.now c.looks_at_dollar.new.self c.ladder.new.reader (sym c.binder.ensures ∙ c.in-Some.is) c.if-looks_at_dollar.false c.looks_at_dollar.ensures
+    named_keyword c.args.source.now c.args.levels c.in-Some.opening (name_made c.args.name) (tree c.ladder.result) c.looks_at_dollar.result c.args.reader.now c.looks_at_dollar.new.self c.ladder.new.reader (sym c.opening.ensures ∙ c.in-Some.is) c.if-looks_at_dollar.false c.looks_at_dollar.ensures
     (c.ladder.ensures (path_from (place_in c.args.source.now) c.args.levels first) c.looks_at_dollar.new.self (c.path-path.ensures first c.looks_at_dollar.new.self c.keyword_step-first.ensures))
 
 pub keyword_step-returns-then-not-looks_at_parenthesis : goal.keyword_step-returns-then-not-looks_at_parenthesis
@@ -149,13 +178,29 @@ keyword_step-returns t c =
     (c.requires ∙ ap (λ left. place_in c.args.source.now (left + name_length (name_made c.args.name))) (sym same)) c.if-not-looks_at_parenthesis.false c.looks_at_parenthesis.ensures c.parenthesis.ensures c.gap.ensures c.arguments_in-arguments.ensures)
     c.called-made.ensures c.keep-2.ensures
 
+pub opened-returns-in-Flwor : goal.opened-returns-in-Flwor
+opened-returns-in-Flwor t c = λ v e.
+    opened_flwor c.args.source.now c.args.levels c.args.opening c.in-Flwor.word v (tree c.flwor.result) c.args.reader.now c.flwor.new.reader c.in-Flwor.is (c.flwor.ensures v e)
+
+pub opened-returns-in-Quantified : goal.opened-returns-in-Quantified
+opened-returns-in-Quantified t c = λ v e.
+    opened_quantified c.args.source.now c.args.levels c.args.opening c.in-Quantified.every v (tree c.quantified.result) c.args.reader.now c.quantified.new.reader c.in-Quantified.is (c.quantified.ensures v e)
+
+pub quantified-returns : goal.quantified-returns
+quantified-returns t c = λ v e.
+    ran_keeps c.keep.result (at c.args.place (quantified_form c.args.every (bindings_of c.bindings-list.result.items) c.single-condition.result)) c.quantified-made.result c.args.reader.now c.single-condition.new.reader c.keep.new.reader
+    (read_in c.args.source.now c.args.levels (quantified (place_in c.args.source.now) c.args.levels c.args.every v))
+    (quantified_read c.args.source.now c.args.levels c.args.every v _ c.args.place c.bindings-list.result.items c.single-condition.result c.args.reader.now c.dollar.new.self c.bindings-list.new.reader c.lexeme.new.reader c.single-condition.new.reader e c.dollar.ensures
+    (c.bindings-list.ensures (head (place_in c.args.source.now) binder.Quantifier (first_bound (place_in c.args.source.now))) c.dollar.new.self (c.first_head-head.ensures c.args.levels)) (c.lexeme.ensures c.args.source.now c.args.levels) c.single-condition.ensures)
+    c.quantified-made.ensures c.keep.ensures
+
 pub flwor-returns : goal.flwor-returns
 flwor-returns t c = λ v e.
     ran_keeps c.keep.result (at c.args.place (flwor_form (clauses_of c.more_clauses-clauses.result.items) c.looks_at-stable.result (keys_of c.order_clause-keys.result.items) c.single-returned.result)) c.flwor-made.result c.args.reader.now c.single-returned.new.reader c.keep.new.reader
-    (read_in c.args.source.now c.args.levels (flwor (place_in c.args.source.now) c.args.levels c.args.binder v))
-    (flwor_read c.args.source.now c.args.levels c.args.binder v _ c.args.place c.bindings-list.result.items c.clause_of-first.result c.with_clause-begun.result.items c.more_clauses-clauses.result.items c.looks_at-stable.result c.order_clause-keys.result.items c.single-returned.result
-    c.args.reader.now c.dollar.new.self c.bindings-list.new.reader c.with_clause-begun.new.reader c.more_clauses-clauses.new.reader c.order_clause-keys.new.reader c.lexeme.new.reader c.single-returned.new.reader e c.dollar.ensures
-    (c.bindings-list.ensures (head (place_in c.args.source.now) c.args.binder (first_bound (place_in c.args.source.now))) c.dollar.new.self (c.first_head-head.ensures c.args.levels)) c.clause_of-first.ensures
+    (read_in c.args.source.now c.args.levels (flwor (place_in c.args.source.now) c.args.levels c.args.word v))
+    (flwor_read c.args.source.now c.args.levels c.args.word c.binder-binder.result v _ c.args.place c.bindings-list.result.items c.clause_of-first.result c.with_clause-begun.result.items c.more_clauses-clauses.result.items c.looks_at-stable.result c.order_clause-keys.result.items c.single-returned.result
+    c.args.reader.now c.dollar.new.self c.bindings-list.new.reader c.with_clause-begun.new.reader c.more_clauses-clauses.new.reader c.order_clause-keys.new.reader c.lexeme.new.reader c.single-returned.new.reader c.binder-binder.ensures e c.dollar.ensures
+    (c.bindings-list.ensures (head (place_in c.args.source.now) c.binder-binder.result (first_bound (place_in c.args.source.now))) c.dollar.new.self (c.first_head-head.ensures c.args.levels)) c.clause_of-first.ensures
     (subst (λ us. Grown us c.clause_of-first.result c.with_clause-begun.result.items c.bindings-list.new.reader c.with_clause-begun.new.reader) c.new.ensures.items c.with_clause-begun.ensures)
     c.more_clauses-clauses.ensures (c.order_clause-keys.ensures c.more_clauses-clauses.new.reader c.looks_at-stable.ensures) (c.lexeme.ensures c.args.source.now c.args.levels) c.single-returned.ensures)
     c.flwor-made.ensures c.keep.ensures
@@ -258,8 +303,8 @@ more_clauses-returns t c =
 
 pub clause-returns : goal.clause-returns
 clause-returns t c =
-    clause_read c.args.source.now c.args.levels c.place-place.result c.word.result c.of-binder.result c.bindings-list.result.items c.clause_of.result c.args.reader.now c.word.new.self c.gap.new.self c.next_head-head.new.reader c.bindings-list.new.reader (c.place-place.ensures ∙ ap (place_in c.args.source.now) c.left.ensures) c.of-binder.ensures
-    c.word.ensures c.gap.ensures (c.bindings-list.ensures (head (place_in c.args.source.now) c.of-binder.result (bound (place_in c.args.source.now))) c.gap.new.self (c.next_head-head.ensures c.args.levels)) c.clause_of.ensures
+    clause_read c.args.source.now c.args.levels c.place-place.result c.word.result c.of-word.result c.binder-binder.result c.bindings-list.result.items c.clause_of.result c.args.reader.now c.word.new.self c.gap.new.self c.next_head-head.new.reader c.bindings-list.new.reader (c.place-place.ensures ∙ ap (place_in c.args.source.now) c.left.ensures)
+    c.of-word.ensures c.binder-binder.ensures c.word.ensures c.gap.ensures (c.bindings-list.ensures (head (place_in c.args.source.now) c.binder-binder.result (bound (place_in c.args.source.now))) c.gap.new.self (c.next_head-head.ensures c.args.levels)) c.clause_of.ensures
 
 pub last_clause-returns-then-not-looks_at : goal.last_clause-returns-then-not-looks_at
 last_clause-returns-then-not-looks_at t c = record { others = []; is = sym (append-nil c.args.clauses.items); holds = no_where c.args.source.now c.args.levels c.looks_at.result c.args.reader.now c.looks_at.new.self c.if-not-looks_at.true c.looks_at.ensures }
@@ -317,31 +362,82 @@ binding-returns t c = λ before a h.
     one_grown binding_made c.args.bindings.items c.with_binding.result.items (record { bound = c.in-Some.bound; value = c.single-value.result }) a c.single-value.new.reader c.with_binding.new.reader (read_in c.args.source.now c.args.levels (before & rule (single c.args.levels)))
     (binding_read c.args.source.now c.args.levels before (head_made c.in-Some.bound) c.single-value.result a c.args.reader.now c.single-value.new.reader got c.single-value.ensures) c.with_binding.ensures
 
-is_if : (b : Bool) (v : Made) → b ≡ is_name (chars (codes "if")) v → is_name (codes "if") v ≡ b
-is_if b v e = sym (literal_name b (codes "if") v refl e)
-
-pub begun-returns-then-not-is : goal.begun-returns-then-not-is
-begun-returns-then-not-is t c =
-    begun_other c.args.source.now c.args.levels (name_made c.args.name) (tree c.ladder.result) c.args.reader.now c.ladder.new.reader (is_if c.is.result (name_made c.args.name) c.is.ensures ∙ c.if-not-is.true)
+pub begun-returns-in_default : goal.begun-returns-in_default
+begun-returns-in_default t c =
+    begun_other c.args.source.now c.args.levels (name_made c.args.name) (tree c.ladder.result) c.args.reader.now c.ladder.new.reader (sym c.branching.ensures ∙ c.in_default.is)
     (c.ladder.ensures (path_from (place_in c.args.source.now) c.args.levels (behind_any_name (place_in c.args.source.now) c.args.levels (name_made c.args.name))) c.args.reader.now
     (c.path-path.ensures (behind_any_name (place_in c.args.source.now) c.args.levels (name_made c.args.name)) c.args.reader.now c.named_step-first.ensures))
 
 pub begun-returns-then-looks_at_parenthesis : goal.begun-returns-then-looks_at_parenthesis
 begun-returns-then-looks_at_parenthesis t c =
     let same = looked_left c.args.source.now c.args.levels c.looks_at_parenthesis.result c.args.reader.now c.looks_at_parenthesis.new.self (at_tokens (gap_then_open ∷ [])) c.looks_at_parenthesis.ensures in
-    begun_condition c.args.source.now c.args.levels (name_made c.args.name) (tree c.condition.result) c.looks_at_parenthesis.result c.args.reader.now c.looks_at_parenthesis.new.self c.condition.new.reader (is_if c.is.result (name_made c.args.name) c.is.ensures ∙ c.if-not-is.false) c.if-looks_at_parenthesis.true c.looks_at_parenthesis.ensures
-    (c.condition.ensures (name_made c.args.name) (c.requires ∙ ap (λ left. place_in c.args.source.now (left + name_length (name_made c.args.name))) (sym same)))
+    begun_branched c.args.source.now c.args.levels c.in-Some.branching (name_made c.args.name) (tree c.branched.result) c.looks_at_parenthesis.result c.args.reader.now c.looks_at_parenthesis.new.self c.branched.new.reader (sym c.branching.ensures ∙ c.in-Some.is) c.if-looks_at_parenthesis.true c.looks_at_parenthesis.ensures
+    (c.branched.ensures (name_made c.args.name) (c.requires ∙ ap (λ left. place_in c.args.source.now (left + name_length (name_made c.args.name))) (sym same)))
 
 pub begun-returns : goal.begun-returns
 begun-returns t c =
     let same = looked_left c.args.source.now c.args.levels c.looks_at_parenthesis.result c.args.reader.now c.looks_at_parenthesis.new.self (at_tokens (gap_then_open ∷ [])) c.looks_at_parenthesis.ensures in
     let plain = behind_plain_name (place_in c.args.source.now) gap_not_open (name_made c.args.name) in
-    begun_plain c.args.source.now c.args.levels (name_made c.args.name) (tree c.ladder-2.result) c.looks_at_parenthesis.result c.args.reader.now c.looks_at_parenthesis.new.self c.ladder-2.new.reader (is_if c.is.result (name_made c.args.name) c.is.ensures ∙ c.if-not-is.false) c.if-looks_at_parenthesis.false c.looks_at_parenthesis.ensures
+    begun_plain c.args.source.now c.args.levels c.in-Some.branching (name_made c.args.name) (tree c.ladder-2.result) c.looks_at_parenthesis.result c.args.reader.now c.looks_at_parenthesis.new.self c.ladder-2.new.reader (sym c.branching.ensures ∙ c.in-Some.is) c.if-looks_at_parenthesis.false c.looks_at_parenthesis.ensures
     (c.ladder-2.ensures (path_from (place_in c.args.source.now) c.args.levels plain) c.looks_at_parenthesis.new.self
     (c.path-path-2.ensures plain c.looks_at_parenthesis.new.self
     (ran_keeps c.keep-first.result (named_tree (name_at c.args.place (name_made c.args.name))) c.named-made.result c.looks_at_parenthesis.new.self c.no_parenthesis.new.self c.keep-first.new.reader (read_in c.args.source.now c.args.levels plain)
     (plain_read c.args.source.now c.args.levels gap_not_open (name_made c.args.name) c.args.place c.looks_at_parenthesis.new.self c.no_parenthesis.new.self (c.requires ∙ ap (λ left. place_in c.args.source.now (left + name_length (name_made c.args.name))) (sym same)) c.no_parenthesis.ensures)
     c.named-made.ensures c.keep-first.ensures)))
+
+pub branched-returns-in-If : goal.branched-returns-in-If
+branched-returns-in-If t c = λ v e.
+    branched_condition c.args.source.now c.args.levels c.args.branching v (tree c.condition.result) c.args.reader.now c.condition.new.reader c.in-If.is (c.condition.ensures v e)
+
+pub branched-returns-in-Typeswitch : goal.branched-returns-in-Typeswitch
+branched-returns-in-Typeswitch t c = λ v e.
+    branched_typeswitch c.args.source.now c.args.levels c.args.branching v (tree c.typeswitch.result) c.args.reader.now c.typeswitch.new.reader c.in-Typeswitch.is (c.typeswitch.ensures v e)
+
+pub typeswitch-returns : goal.typeswitch-returns
+typeswitch-returns t c = λ v e.
+    ran_keeps c.keep.result (at c.args.place (typeswitch_form c.expression-operand.result (cases_of c.cases-list.result.items) c.default_head-default.result c.single-otherwise.result)) c.typeswitch-made.result c.args.reader.now c.single-otherwise.new.reader c.keep.new.reader
+    (read_in c.args.source.now c.args.levels (typeswitch (place_in c.args.source.now) c.args.levels v))
+    (typeswitch_read c.args.source.now c.args.levels v _ c.args.place c.expression-operand.result c.single-otherwise.result c.cases-list.result.items c.default_head-default.result c.args.reader.now c.parenthesis.new.self c.gap.new.self c.expression-operand.new.reader c.lexeme.new.reader c.cases-list.new.reader
+    c.default_head-default.new.reader c.single-otherwise.new.reader e c.parenthesis.ensures c.gap.ensures c.expression-operand.ensures (c.lexeme.ensures c.args.source.now c.args.levels) c.cases-list.ensures (c.default_head-default.ensures c.args.levels) c.single-otherwise.ensures)
+    c.typeswitch-made.ensures c.keep.ensures
+
+pub cases-returns : goal.cases-returns
+cases-returns t c =
+    let text = c.args.source.now in
+    let n = c.args.levels in
+    let item = read_in text n (case (place_in text) n) in
+    cases_read text n c.new.result.items c.with_case-begun.result.items c.more_cases.result.items c.args.reader.now c.with_case-begun.new.reader c.more_cases.new.reader c.new.ensures.items
+    (one_grown case_made c.new.result.items c.with_case-begun.result.items c.case-first.result c.args.reader.now c.case-first.new.reader c.with_case-begun.new.reader item c.case-first.ensures c.with_case-begun.ensures) c.more_cases.ensures
+
+pub more_cases-loop-init : goal.more_cases-loop-init
+more_cases-loop-init t c = gone_start case_made c.args.cases.items c.args.reader.now _ _ (λ w z h. h)
+
+pub more_cases-returns-then-not-looks_at : goal.more_cases-returns-then-not-looks_at
+more_cases-returns-then-not-looks_at t c =
+    let text = c.args.source.now in
+    let n = c.args.levels in
+    gone_end case_made c.args.cases.items c.loop.list.items c.args.reader.now c.loop.reader c.looks_at.new.self (read_in text n (more_cases (place_in text) n 63)) (read_in text n (more_cases (place_in text) n (63 - c.loop.counter))) c.loop.invariant
+    (cases_none text n (63 - c.loop.counter) (63 - (c.loop.counter + 1)) c.looks_at.result c.loop.reader c.looks_at.new.self (omega (arith, c.loop-test.true)) c.if-not-looks_at.true c.looks_at.ensures)
+
+pub more_cases-loop-preserved : goal.more_cases-loop-preserved
+more_cases-loop-preserved t c =
+    let text = c.args.source.now in
+    let n = c.args.levels in
+    let item = read_in text n (case (place_in text) n) in
+    gone_step case_made c.args.cases.items c.loop.list.items c.with_case-list.result.items c.args.reader.now c.loop.reader c.looks_at.new.self c.with_case-list.new.reader (read_in text n (more_cases (place_in text) n 63)) (read_in text n (more_cases (place_in text) n (63 - c.loop.counter))) item
+    (read_in text n (more_cases (place_in text) n (63 - (c.loop.counter + 1)))) c.loop.invariant
+    (λ v w z h k. cases_more text n (63 - c.loop.counter) (63 - (c.loop.counter + 1)) v w c.looks_at.result c.loop.reader c.looks_at.new.self c.with_case-list.new.reader z (omega (arith, c.loop-test.true)) c.if-not-looks_at.false c.looks_at.ensures h k)
+    (one_grown case_made c.loop.list.items c.with_case-list.result.items c.case-next.result c.looks_at.new.self c.case-next.new.reader c.with_case-list.new.reader item c.case-next.ensures c.with_case-list.ensures)
+
+pub more_cases-returns : goal.more_cases-returns
+more_cases-returns t c =
+    let text = c.args.source.now in
+    let n = c.args.levels in
+    gone_end case_made c.args.cases.items c.loop.list.items c.args.reader.now c.loop.reader c.last_case.new.reader (read_in text n (more_cases (place_in text) n 63)) (read_in text n (more_cases (place_in text) n (63 - c.loop.counter))) c.loop.invariant
+    (subst (λ k. Ran nothing c.loop.reader c.last_case.new.reader (read_in text n (more_cases (place_in text) n k))) (omega (arith, c.loop-test.false)) (c.last_case.ensures text n))
+
+pub case-returns : goal.case-returns
+case-returns t c = case_read c.args.source.now c.args.levels c.case_head-head.result c.single-body.result c.args.reader.now c.case_head-head.new.reader c.single-body.new.reader (c.case_head-head.ensures c.args.levels) c.single-body.ensures
 
 pub condition-returns : goal.condition-returns
 condition-returns t c = λ v e.

@@ -9,6 +9,7 @@ use Rattle.gx_parse.specs.Reading.{read_in}
 use Rattle.gx_parse.specs.Parsing.{Added, Passed, predicates_before, most_of, read_chain, read_items}
 use Rattle.gx_parse.specs.Binding.{more_bindings, more_clauses}
 use Rattle.gx_parse.specs.Keys.{key_made, more_keys}
+use Rattle.gx_parse.specs.Typeswitch.{case_made, more_cases}
 use Rattle.gx_parse.specs.Lists.{Gone, binding_made, clause_made}
 use Rattle.gx_parse.proofs.parser.+parsing.Given as goal
 
@@ -147,3 +148,28 @@ decreases-key l = 1024 * l.levels + 1
 abbrev pub invariant-more_keys-loop : goal.invariant-more_keys-loop
 invariant-more_keys-loop l =
     Gone key_made l.fn.keys.items l.list.items l.fn.reader l.reader (read_in l.source l.levels (more_keys (place_in l.source) l.levels 63)) (read_in l.source l.levels (more_keys (place_in l.source) l.levels (63 - l.counter)))
+
+abbrev pub decreases-opened : goal.decreases-opened
+decreases-opened l = 1024 * l.levels + 8
+
+abbrev pub decreases-quantified : goal.decreases-quantified
+decreases-quantified l = 1024 * l.levels + 7
+
+abbrev pub decreases-branched : goal.decreases-branched
+decreases-branched l = 1024 * l.levels + 8
+
+abbrev pub decreases-typeswitch : goal.decreases-typeswitch
+decreases-typeswitch l = 1024 * l.levels + 7
+
+abbrev pub decreases-cases : goal.decreases-cases
+decreases-cases l = 1024 * l.levels + 3
+
+abbrev pub decreases-more_cases : goal.decreases-more_cases
+decreases-more_cases l = 1024 * l.levels + 2
+
+abbrev pub decreases-case : goal.decreases-case
+decreases-case l = 1024 * l.levels + 1
+
+abbrev pub invariant-more_cases-loop : goal.invariant-more_cases-loop
+invariant-more_cases-loop l =
+    Gone case_made l.fn.cases.items l.list.items l.fn.reader l.reader (read_in l.source l.levels (more_cases (place_in l.source) l.levels 63)) (read_in l.source l.levels (more_cases (place_in l.source) l.levels (63 - l.counter)))
