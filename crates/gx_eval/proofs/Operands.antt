@@ -95,7 +95,7 @@ no_cast FOCA0006 expected code e h = sym (ap is_ok h)
 no_cast Memory expected code e h = absurd (cc)
 
 -- a list of one value
-pub the_single : (xs : List Atomic) (x : Atomic) → length xs ≡ 1 → x ≡ get_or xs 0 x → xs ≡ x ∷ []
+pub the_single : {A : Type 0} (xs : List A) (x : A) → length xs ≡ 1 → x ≡ get_or xs 0 x → xs ≡ x ∷ []
 the_single [] x l e = absurd (omega (arith, l))
-the_single (y ∷ []) x l e = ap (λ (z : Atomic). z ∷ []) (sym e)
+the_single {A = A} (y ∷ []) x l e = ap (λ (z : A). z ∷ []) (sym e)
 the_single (y ∷ z ∷ xs) x l e = absurd (omega (arith, l))

@@ -1,3 +1,4 @@
 pub mod Failing
 pub mod Answering
+pub mod Operators
 pub mod Resume

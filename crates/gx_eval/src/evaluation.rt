@@ -1,23 +1,23 @@
 // An evaluation in its midst: the work that is left, and the values that are there.
 
-ghost use Rattle.std.specs.Prelude.{◌≡◌, ◌++◌, ◌∷◌, [], length, map, IfOk, OnOk, IfErr, take, drop};
+ghost use Rattle.std.specs.Prelude.{◌≡◌, ◌++◌, ◌+◌, ◌≤◌, ◌∷◌, [], length, map, IfOk, OnOk, IfErr, IfSome, take, drop};
 ghost use Rattle.gx_facets.specs.declared.Atomic.{Atomic};
 ghost use Rattle.gx_model.specs.Forest.{Forest};
 ghost use Rattle.gx_model.specs.Item.{atoms};
+ghost use Rattle.gx_core.specs.declared.operator.Operator.TheVariants as operators;
 ghost use Rattle.gx_core.specs.Bindings.{look_up};
 ghost use Rattle.gx_core.specs.Comparing.{condition_of};
 ghost use Rattle.gx_core.specs.Outcome.{gives, after, given};
-ghost use Rattle.gx_core.specs.Meaning.{Context, meaning};
+ghost use Rattle.gx_core.specs.Meaning.{Context, denoted, meaning};
 ghost use Rattle.gx_eval.specs.Failing.{FailsSo};
-ghost use Rattle.gx_eval.specs.Resume.{resume, in_order, outcome_of, outcome_with, items_of};
+ghost use Rattle.gx_eval.specs.Operators.{single_operator};
+ghost use Rattle.gx_eval.specs.Resume.{resume, in_order, outcome_of, outcome_with, outcome_behind, items_of};
 ghost use Rattle.gx_eval.specs.declared.evaluation.Pending.TheVariants as work;
-ghost use Rattle.gx_eval.specs.declared.evaluation.Strict.TheVariants as strict;
 
 use crate::answer::{of_two, put};
-use crate::calling::{called_with_none, called_with_one};
+use crate::calling::called_with_none;
 use crate::failure::Failure;
-use crate::single::{cast, castable, negation};
-use gx_base::type_name::TypeName;
+use crate::single::{Single, of_one};
 use gx_core::expression::BinaryOp;
 use gx_core::scope::Scope;
 use gx_core::stack::Stack;
@@ -25,30 +25,24 @@ use gx_core::typed::{TypedExpr, TypedForm};
 use gx_facets::{AtomValue, Atomic};
 use gx_funcs::function::Function;
 use std::alloc::{AllocError, Global};
-use std::mem;
+use std::slice;
 
-// A strict operator whose operands are marked; a call has so many.
-#[derive(Drop)]
-pub(crate) enum Strict {
-    Data,
-    Neg,
-    Cast(TypeName, bool),
-    Castable(TypeName, bool),
-    Call(Function, usize),
-    Binary(BinaryOp),
-}
-
-// A piece of work: to evaluate an expression, behind the values that are there; to mark where an operand begins; to apply
-// an operator to the operands behind the last marks; to choose the first of two branches where the values behind the last mark
-// are true, and else the second; to bind a variable to all values in the body of a `let`, whose own value
-// goes behind those that were there before; or to take the innermost binding away.
+// A piece of work. A number is that of the values before an operand: to evaluate an expression, behind the values that are
+// there; to atomize an operand; to apply an operator of one operand; to evaluate the right operand of an operator, whose left one is
+// there; to apply an operator of two operands; to choose the first of two branches where the operand is true, and else the
+// second; to mark where an argument begins; to call a function of two arguments and so many more, behind the last marks; to bind a
+// variable to an operand in the body of a `let`; or to take the innermost binding away.
 #[derive(Drop)]
 pub(crate) enum Pending<'a> {
     Evaluate(&'a TypedExpr),
+    Data(usize),
+    Single(Single<'a>, usize),
+    Right(BinaryOp, usize, &'a TypedExpr),
+    Binary(BinaryOp, usize, usize),
+    Choose(usize, &'a TypedExpr, &'a TypedExpr),
     Mark,
-    Apply(Strict),
-    Choose(&'a TypedExpr, &'a TypedExpr),
-    Bind(u32, &'a TypedExpr, Vec<Atomic>),
+    Call(Function, usize),
+    Bind(u32, usize, &'a TypedExpr),
     Unbind,
 }
 
@@ -79,16 +73,21 @@ impl<'a> Evaluation<'a> {
     }
 
     // Does a piece of work.
+    #[tactic(auto, using(crate::proofs::Resuming::data_applies))]
     pub(crate) fn step(&mut self, alloc: Global, pending: Pending<'a>) -> Result<(), Failure>
         ensures value { (k : Context) (forest : Forest) → OnOk result (outcome_of k forest self.new ≡ outcome_with k forest pending.entry self.old) }
         ensures failed { (k : Context) (forest : Forest) → IfErr result (λ e. FailsSo e (outcome_with k forest pending.entry self.old)) }
     {
         match pending {
             Pending::Evaluate(expression) => self.open(alloc, expression),
+            Pending::Data(_) => Ok(()),
+            Pending::Single(operator, first) => self.apply_single(alloc, operator, first),
+            Pending::Right(operator, first, right) => self.open_right(operator, first, right),
+            Pending::Binary(operator, first, second) => self.apply_binary(operator, first, second),
+            Pending::Choose(first, chosen, otherwise) => self.choose(first, chosen, otherwise),
             Pending::Mark => Ok(self.marks.push(self.values.len())?),
-            Pending::Apply(operator) => self.apply(alloc, operator),
-            Pending::Choose(chosen, otherwise) => self.choose(chosen, otherwise),
-            Pending::Bind(variable, body, outer) => Ok(self.bind(variable, body, outer)?),
+            Pending::Call(function, more) => self.apply_call(function, more),
+            Pending::Bind(variable, first, body) => Ok(self.bind(alloc, variable, first, body)?),
             Pending::Unbind => {
                 self.scope.unbind();
                 Ok(())
@@ -110,83 +109,115 @@ impl<'a> Evaluation<'a> {
                 Ok(self.work.push(Pending::Evaluate(first))?)
             }
             TypedForm::Let(binder, value, body) => {
-                Ok(self.open_let(alloc, binder.variable, value, body)?)
+                let first = self.values.len();
+                self.work.push(Pending::Bind(binder.variable, first, body))?;
+                Ok(self.work.push(Pending::Evaluate(value))?)
             }
             TypedForm::If(condition, chosen, otherwise) => {
-                self.work.push(Pending::Choose(chosen, otherwise))?;
-                self.work.push(Pending::Evaluate(condition))?;
-                Ok(self.work.push(Pending::Mark)?)
+                let first = self.values.len();
+                self.work.push(Pending::Choose(first, chosen, otherwise))?;
+                Ok(self.work.push(Pending::Evaluate(condition))?)
             }
             TypedForm::Cast(operand, kind, allows_empty) => {
-                Ok(self.open_cast(kind, *allows_empty, operand)?)
+                self.open_single(alloc, Single::Cast(kind, *allows_empty), operand)
             }
             TypedForm::Castable(operand, kind, allows_empty) => {
-                Ok(self.open_castable(kind, *allows_empty, operand)?)
+                self.open_single(alloc, Single::Castable(kind, *allows_empty), operand)
             }
-            TypedForm::DataOf(operand) => Ok(self.open_single(Strict::Data, operand)?),
+            TypedForm::DataOf(operand) => {
+                self.work.push(Pending::Data(self.values.len()))?;
+                Ok(self.work.push(Pending::Evaluate(operand))?)
+            }
             TypedForm::Call(function, arguments) => {
-                Ok(self.open_call(*function, arguments.as_slice())?)
+                self.open_call(alloc, *function, arguments.as_slice())
             }
-            TypedForm::Neg(operand) => Ok(self.open_single(Strict::Neg, operand)?),
+            TypedForm::Neg(operand) => self.open_single(alloc, Single::Neg, operand),
             TypedForm::Binary(operator, left, right) => {
-                self.work.push(Pending::Apply(Strict::Binary(*operator)))?;
-                self.work.push(Pending::Evaluate(right))?;
-                self.work.push(Pending::Mark)?;
-                self.work.push(Pending::Evaluate(left))?;
-                Ok(self.work.push(Pending::Mark)?)
+                let first = self.values.len();
+                self.work.push(Pending::Right(*operator, first, right))?;
+                Ok(self.work.push(Pending::Evaluate(left))?)
             }
         }
     }
 
-    // The one operand of a strict operator is marked.
-    fn open_single(&mut self, operator: Strict, operand: &'a TypedExpr) -> Result<(), AllocError>
-        ensures { (k : Context) (forest : Forest) → OnOk result (outcome_of k forest self.new
-            ≡ in_order (meaning k operand.now ∷ []) (resume k (work.Apply operator ∷ self.old.work)) (atoms self.old.values.items) self.old.marks (items_of self.old.scope) forest) }
-    {
-        self.work.push(Pending::Apply(operator))?;
-        self.work.push(Pending::Evaluate(operand))?;
-        self.work.push(Pending::Mark)
-    }
-
-    fn open_cast(
+    // An operator of one operand is applied at once where the operand is at hand.
+    #[tactic(auto, using(crate::proofs::Resuming::single_opens))]
+    fn open_single(
         &mut self,
-        kind: &TypeName,
-        allows_empty: bool,
+        alloc: Global,
+        operator: Single<'a>,
         operand: &'a TypedExpr,
-    ) -> Result<(), AllocError>
-        ensures { (k : Context) (forest : Forest) → OnOk result (outcome_of k forest self.new
-            ≡ in_order (meaning k operand.now ∷ []) (resume k (work.Apply (strict.Cast kind.now allows_empty) ∷ self.old.work)) (atoms self.old.values.items) self.old.marks (items_of self.old.scope) forest) }
+    ) -> Result<(), Failure>
+        ensures value { (k : Context) (forest : Forest) → OnOk result (outcome_of k forest self.new
+            ≡ outcome_behind k forest (denoted k (single_operator operator.entry) (meaning k operand.now ∷ []) (items_of self.old.scope) forest) self.old) }
+        ensures failed { (k : Context) (forest : Forest) → IfErr result (λ e. FailsSo e
+            (outcome_behind k forest (denoted k (single_operator operator.entry) (meaning k operand.now ∷ []) (items_of self.old.scope) forest) self.old)) }
     {
-        let operator = Strict::Cast(kind.clone()?, allows_empty);
-        self.open_single(operator, operand)
+        if let Some(items) = at_hand(&self.scope, operand) {
+            let answer = of_one(alloc, operator, items)?;
+            return Ok(put(answer, &mut self.values)?);
+        }
+        let first = self.values.len();
+        self.work.push(Pending::Single(operator, first))?;
+        Ok(self.work.push(Pending::Evaluate(operand))?)
     }
 
-    fn open_castable(
+    // The operator of a left operand that is there is applied at once where the right one is at hand.
+    #[tactic(auto, using(crate::proofs::Resuming::right_opens))]
+    fn open_right(
         &mut self,
-        kind: &TypeName,
-        allows_empty: bool,
-        operand: &'a TypedExpr,
-    ) -> Result<(), AllocError>
-        ensures { (k : Context) (forest : Forest) → OnOk result (outcome_of k forest self.new
-            ≡ in_order (meaning k operand.now ∷ []) (resume k (work.Apply (strict.Castable kind.now allows_empty) ∷ self.old.work)) (atoms self.old.values.items) self.old.marks (items_of self.old.scope) forest) }
+        operator: BinaryOp,
+        first: usize,
+        right: &'a TypedExpr,
+    ) -> Result<(), Failure>
+        ensures value { (k : Context) (forest : Forest) → OnOk result (outcome_of k forest self.new ≡ outcome_with k forest (work.Right operator first right.entry) self.old) }
+        ensures failed { (k : Context) (forest : Forest) → IfErr result (λ e. FailsSo e (outcome_with k forest (work.Right operator first right.entry) self.old)) }
     {
-        let operator = Strict::Castable(kind.clone()?, allows_empty);
-        self.open_single(operator, operand)
+        if let Some(items) = at_hand(&self.scope, right) {
+            let (_, left) = cut_at(self.values.as_slice(), first);
+            let answer = of_two(operator.class(), left, items)?;
+            self.values.truncate(first);
+            return Ok(put(answer, &mut self.values)?);
+        }
+        let second = self.values.len();
+        self.work.push(Pending::Binary(operator, first, second))?;
+        Ok(self.work.push(Pending::Evaluate(right))?)
     }
 
-    // Each argument of a call is marked.
-    #[tactic(auto, using(crate::proofs::Resuming::last_in_order))]
+    // A call of no argument or of one is applied at once; each of several arguments is marked.
+    #[tactic(auto, using(crate::proofs::Resuming::none_applies))]
     fn open_call(
+        &mut self,
+        alloc: Global,
+        function: Function,
+        arguments: &'a [TypedExpr],
+    ) -> Result<(), Failure>
+        ensures value { (k : Context) (forest : Forest) → OnOk result (outcome_of k forest self.new
+            ≡ outcome_behind k forest (denoted k (operators.Call function) (map (meaning k) arguments.now) (items_of self.old.scope) forest) self.old) }
+        ensures failed { (k : Context) (forest : Forest) → IfErr result (λ e. FailsSo e
+            (outcome_behind k forest (denoted k (operators.Call function) (map (meaning k) arguments.now) (items_of self.old.scope) forest) self.old)) }
+    {
+        match arguments {
+            [] => {
+                let answer = called_with_none(function)?;
+                Ok(put(answer, &mut self.values)?)
+            }
+            [argument] => self.open_single(alloc, Single::Call(function), argument),
+            _ => Ok(self.open_arguments(function, arguments)?),
+        }
+    }
+
+    fn open_arguments(
         &mut self,
         function: Function,
         arguments: &'a [TypedExpr],
     ) -> Result<(), AllocError>
+        requires { 2 ≤ length arguments.now }
         ensures { (k : Context) (forest : Forest) → OnOk result (outcome_of k forest self.new
-            ≡ in_order (map (meaning k) arguments.now) (resume k (work.Apply (strict.Call function (length arguments.now)) ∷ self.old.work))
-            (atoms self.old.values.items) self.old.marks (items_of self.old.scope) forest) }
+            ≡ outcome_behind k forest (denoted k (operators.Call function) (map (meaning k) arguments.now) (items_of self.old.scope) forest) self.old) }
     {
         self.work
-            .push(Pending::Apply(Strict::Call(function, arguments.len())))?;
+            .push(Pending::Call(function, arguments.len() - 2))?;
         let mut rest = arguments;
         while let Some((argument, front)) = rest.split_last() {
             self.work.push(Pending::Evaluate(argument))?;
@@ -196,31 +227,13 @@ impl<'a> Evaluation<'a> {
         Ok(())
     }
 
-    // The value of the variable is put together by itself.
-    #[tactic(auto, using(crate::proofs::Resuming::let_opens))]
-    fn open_let(
-        &mut self,
-        alloc: Global,
-        variable: u32,
-        value: &'a TypedExpr,
-        body: &'a TypedExpr,
-    ) -> Result<(), AllocError>
-        ensures { (k : Context) (forest : Forest) → OnOk result (outcome_of k forest self.new
-            ≡ after (after (meaning k value.now (items_of self.old.scope) forest) (λ xs f. meaning k body.now ((variable, xs) ∷ items_of self.old.scope) f))
-            (λ more left. resume k self.old.work (atoms self.old.values.items ++ more) self.old.marks (items_of self.old.scope) left)) }
-    {
-        let outer = mem::replace(&mut self.values, Vec::new(alloc));
-        self.work.push(Pending::Bind(variable, body, outer))?;
-        self.work.push(Pending::Evaluate(value))
-    }
-
     // Adds the value of a variable behind those that are there.
     #[tactic(auto, using(crate::proofs::Resuming::look_up_items))]
     fn append_variable(&mut self, number: u32) -> Result<(), Failure>
         ensures value { (k : Context) (forest : Forest) → OnOk result (outcome_of k forest self.new
-            ≡ after (given (look_up (items_of self.old.scope) number) (λ xs. gives xs forest))
-            (λ more left. resume k self.old.work (atoms self.old.values.items ++ more) self.old.marks (items_of self.old.scope) left)) }
-        ensures failed { (forest : Forest) → IfErr result (λ e. FailsSo e (given (look_up (items_of self.old.scope) number) (λ xs. gives xs forest))) }
+            ≡ outcome_behind k forest (given (look_up (items_of self.old.scope) number) (λ xs. gives xs forest)) self.old) }
+        ensures failed { (k : Context) (forest : Forest) → IfErr result (λ e. FailsSo e
+            (outcome_behind k forest (given (look_up (items_of self.old.scope) number) (λ xs. gives xs forest)) self.old)) }
     {
         match self.scope.find(number) {
             Some(bound) => Ok(append_all(bound.as_slice(), &mut self.values)?),
@@ -228,35 +241,39 @@ impl<'a> Evaluation<'a> {
         }
     }
 
-    // Binds a variable to all values in the body of a `let`.
+    // Binds a variable to the values from the number on, in the body of a `let`.
     fn bind(
         &mut self,
+        alloc: Global,
         variable: u32,
+        first: usize,
         body: &'a TypedExpr,
-        outer: Vec<Atomic>,
     ) -> Result<(), AllocError>
-        ensures { (k : Context) (forest : Forest) → OnOk result (outcome_of k forest self.new ≡ outcome_with k forest (work.Bind variable body.entry outer) self.old) }
+        ensures { (k : Context) (forest : Forest) → OnOk result (outcome_of k forest self.new ≡ outcome_with k forest (work.Bind variable first body.entry) self.old) }
     {
-        let value = mem::replace(&mut self.values, outer);
+        let value = split_at(alloc, &mut self.values, first)?;
         self.scope.bind(variable, value)?;
         self.work.push(Pending::Unbind)?;
-        self.work.push(Pending::Evaluate(body))
+        self.work.push(Pending::Evaluate(body))?;
+        Ok(())
     }
 
-    // Puts the branch to the work that the values behind the last mark choose.
-    #[tactic(auto, using(crate::proofs::Resuming::chosen_is, crate::proofs::Resuming::none_is_chosen))]
-    fn choose(&mut self, chosen: &'a TypedExpr, otherwise: &'a TypedExpr) -> Result<(), Failure>
-        ensures value { (k : Context) (forest : Forest) → OnOk result (outcome_of k forest self.new ≡ outcome_with k forest (work.Choose chosen.entry otherwise.entry) self.old) }
-        ensures failed { (k : Context) (forest : Forest) → IfErr result (λ e. FailsSo e (outcome_with k forest (work.Choose chosen.entry otherwise.entry) self.old)) }
+    // Puts the branch to the work that the values from the number on choose.
+    #[tactic(auto, using(crate::proofs::Resuming::none_is_chosen))]
+    fn choose(
+        &mut self,
+        first: usize,
+        chosen: &'a TypedExpr,
+        otherwise: &'a TypedExpr,
+    ) -> Result<(), Failure>
+        ensures value { (k : Context) (forest : Forest) → OnOk result (outcome_of k forest self.new ≡ outcome_with k forest (work.Choose first chosen.entry otherwise.entry) self.old) }
+        ensures failed { (k : Context) (forest : Forest) → IfErr result (λ e. FailsSo e (outcome_with k forest (work.Choose first chosen.entry otherwise.entry) self.old)) }
     {
-        let Some(mark) = self.marks.pop() else {
-            return Err(Failure::Wrong);
-        };
-        let (_, condition) = cut_at(self.values.as_slice(), mark);
+        let (_, condition) = cut_at(self.values.as_slice(), first);
         let Some(truth) = condition_of(condition) else {
             return Err(Failure::Wrong);
         };
-        self.values.truncate(mark);
+        self.values.truncate(first);
         if truth {
             Ok(self.work.push(Pending::Evaluate(chosen))?)
         } else {
@@ -264,126 +281,81 @@ impl<'a> Evaluation<'a> {
         }
     }
 
-    // Applies an operator to the operands behind the last marks.
-    fn apply(&mut self, alloc: Global, operator: Strict) -> Result<(), Failure>
-        ensures value { (k : Context) (forest : Forest) → OnOk result (outcome_of k forest self.new ≡ outcome_with k forest (work.Apply operator) self.old) }
-        ensures failed { (k : Context) (forest : Forest) → IfErr result (λ e. FailsSo e (outcome_with k forest (work.Apply operator) self.old)) }
-    {
-        match operator {
-            Strict::Data => self.apply_data(),
-            Strict::Neg => self.apply_negation(),
-            Strict::Cast(kind, allows_empty) => self.apply_cast(alloc, &kind, allows_empty),
-            Strict::Castable(kind, allows_empty) => self.apply_castable(alloc, &kind, allows_empty),
-            Strict::Call(function, count) => self.apply_call(alloc, function, count),
-            Strict::Binary(operator) => self.apply_binary(operator),
-        }
-    }
-
-    // Atomic values are their own typed values.
-    #[tactic(auto, using(crate::proofs::Resuming::data_applies))]
-    fn apply_data(&mut self) -> Result<(), Failure>
-        ensures value { (k : Context) (forest : Forest) → OnOk result (outcome_of k forest self.new ≡ outcome_with k forest (work.Apply strict.Data) self.old) }
-        ensures failed { (k : Context) (forest : Forest) → IfErr result (λ e. FailsSo e (outcome_with k forest (work.Apply strict.Data) self.old)) }
-    {
-        match self.marks.pop() {
-            Some(_) => Ok(()),
-            None => Err(Failure::Wrong),
-        }
-    }
-
-    #[tactic(auto, using(crate::proofs::Resuming::negation_applies, crate::proofs::Resuming::negation_fails))]
-    fn apply_negation(&mut self) -> Result<(), Failure>
-        ensures value { (k : Context) (forest : Forest) → OnOk result (outcome_of k forest self.new ≡ outcome_with k forest (work.Apply strict.Neg) self.old) }
-        ensures failed { (k : Context) (forest : Forest) → IfErr result (λ e. FailsSo e (outcome_with k forest (work.Apply strict.Neg) self.old)) }
-    {
-        let Some(mark) = self.marks.pop() else {
-            return Err(Failure::Wrong);
-        };
-        let (_, operand) = cut_at(self.values.as_slice(), mark);
-        let answer = negation(operand)?;
-        self.values.truncate(mark);
-        Ok(put(answer, &mut self.values)?)
-    }
-
-    #[tactic(auto, using(crate::proofs::Resuming::cast_applies, crate::proofs::Resuming::cast_fails))]
-    fn apply_cast(
+    // Applies an operator to the values from the number on.
+    #[tactic(auto, using(crate::proofs::Resuming::single_applies, crate::proofs::Resuming::single_fails))]
+    fn apply_single(
         &mut self,
         alloc: Global,
-        kind: &TypeName,
-        allows_empty: bool,
+        operator: Single<'a>,
+        first: usize,
     ) -> Result<(), Failure>
-        ensures value { (k : Context) (forest : Forest) → OnOk result (outcome_of k forest self.new ≡ outcome_with k forest (work.Apply (strict.Cast kind.now allows_empty)) self.old) }
-        ensures failed { (k : Context) (forest : Forest) → IfErr result (λ e. FailsSo e (outcome_with k forest (work.Apply (strict.Cast kind.now allows_empty)) self.old)) }
+        ensures value { (k : Context) (forest : Forest) → OnOk result (outcome_of k forest self.new ≡ outcome_with k forest (work.Single operator.entry first) self.old) }
+        ensures failed { (k : Context) (forest : Forest) → IfErr result (λ e. FailsSo e (outcome_with k forest (work.Single operator.entry first) self.old)) }
     {
-        let Some(mark) = self.marks.pop() else {
-            return Err(Failure::Wrong);
-        };
-        let (_, operand) = cut_at(self.values.as_slice(), mark);
-        let answer = cast(alloc, kind, allows_empty, operand)?;
-        self.values.truncate(mark);
+        let (_, operand) = cut_at(self.values.as_slice(), first);
+        let answer = of_one(alloc, operator, operand)?;
+        self.values.truncate(first);
         Ok(put(answer, &mut self.values)?)
     }
 
-    #[tactic(auto, using(crate::proofs::Resuming::castable_applies, crate::proofs::Resuming::castable_fails))]
-    fn apply_castable(
-        &mut self,
-        alloc: Global,
-        kind: &TypeName,
-        allows_empty: bool,
-    ) -> Result<(), Failure>
-        ensures value { (k : Context) (forest : Forest) → OnOk result (outcome_of k forest self.new ≡ outcome_with k forest (work.Apply (strict.Castable kind.now allows_empty)) self.old) }
-        ensures failed { (k : Context) (forest : Forest) → IfErr result (λ e. FailsSo e (outcome_with k forest (work.Apply (strict.Castable kind.now allows_empty)) self.old)) }
-    {
-        let Some(mark) = self.marks.pop() else {
-            return Err(Failure::Wrong);
-        };
-        let (_, operand) = cut_at(self.values.as_slice(), mark);
-        let answer = castable(alloc, kind, allows_empty, operand)?;
-        self.values.truncate(mark);
-        Ok(put(answer, &mut self.values)?)
-    }
-
-    // No function has more than one argument as yet.
-    #[tactic(auto, using(crate::proofs::Resuming::none_applies, crate::proofs::Resuming::none_fails, crate::proofs::Resuming::call_applies, crate::proofs::Resuming::call_fails, crate::proofs::Resuming::more_are_wrong))]
-    fn apply_call(&mut self, alloc: Global, function: Function, count: usize) -> Result<(), Failure>
-        ensures value { (k : Context) (forest : Forest) → OnOk result (outcome_of k forest self.new ≡ outcome_with k forest (work.Apply (strict.Call function count)) self.old) }
-        ensures failed { (k : Context) (forest : Forest) → IfErr result (λ e. FailsSo e (outcome_with k forest (work.Apply (strict.Call function count)) self.old)) }
-    {
-        match count {
-            0 => {
-                let answer = called_with_none(function)?;
-                Ok(put(answer, &mut self.values)?)
-            }
-            1 => {
-                let Some(mark) = self.marks.pop() else {
-                    return Err(Failure::Wrong);
-                };
-                let (_, argument) = cut_at(self.values.as_slice(), mark);
-                let answer = called_with_one(alloc, function, argument)?;
-                self.values.truncate(mark);
-                Ok(put(answer, &mut self.values)?)
-            }
-            _ => Err(Failure::Wrong),
-        }
-    }
-
+    // Applies an operator to two operands, the left one from the first number on, and the right one from the second.
     #[tactic(auto, using(crate::proofs::Resuming::binary_applies, crate::proofs::Resuming::binary_fails))]
-    fn apply_binary(&mut self, operator: BinaryOp) -> Result<(), Failure>
-        ensures value { (k : Context) (forest : Forest) → OnOk result (outcome_of k forest self.new ≡ outcome_with k forest (work.Apply (strict.Binary operator)) self.old) }
-        ensures failed { (k : Context) (forest : Forest) → IfErr result (λ e. FailsSo e (outcome_with k forest (work.Apply (strict.Binary operator)) self.old)) }
+    fn apply_binary(
+        &mut self,
+        operator: BinaryOp,
+        first: usize,
+        second: usize,
+    ) -> Result<(), Failure>
+        ensures value { (k : Context) (forest : Forest) → OnOk result (outcome_of k forest self.new ≡ outcome_with k forest (work.Binary operator first second) self.old) }
+        ensures failed { (k : Context) (forest : Forest) → IfErr result (λ e. FailsSo e (outcome_with k forest (work.Binary operator first second) self.old)) }
     {
-        let Some(second) = self.marks.pop() else {
-            return Err(Failure::Wrong);
-        };
-        let Some(first) = self.marks.pop() else {
-            return Err(Failure::Wrong);
-        };
         let (left, right) = cut_at(self.values.as_slice(), second);
         let (_, left) = cut_at(left, first);
         let answer = of_two(operator.class(), left, right)?;
         self.values.truncate(second);
         self.values.truncate(first);
         Ok(put(answer, &mut self.values)?)
+    }
+
+    // No function has more than one argument as yet.
+    #[tactic(auto, using(crate::proofs::Resuming::more_are_wrong))]
+    fn apply_call(&mut self, _function: Function, _more: usize) -> Result<(), Failure>
+        ensures value { (k : Context) (forest : Forest) → OnOk result (outcome_of k forest self.new ≡ outcome_with k forest (work.Call _function _more) self.old) }
+        ensures failed { (k : Context) (forest : Forest) → IfErr result (λ e. FailsSo e (outcome_with k forest (work.Call _function _more) self.old)) }
+    {
+        Err(Failure::Wrong)
+    }
+}
+
+// The value of an expression that is at hand, with or without atomization: of a literal, a variable, or the empty sequence.
+#[tactic(auto, using(crate::proofs::Resuming::data_at_hand))]
+fn at_hand<'s>(scope: &'s Scope<Vec<Atomic>>, expression: &'s TypedExpr) -> Option<&'s [Atomic]>
+    ensures { (k : Context) (forest : Forest) → IfSome result (λ items. meaning k expression.now (items_of scope.now) forest ≡ gives (atoms items.now) forest) }
+{
+    match &expression.form {
+        TypedForm::DataOf(operand) => match value_at_hand(scope, operand) {
+            Some(items) => Some(items),
+            None => None,
+        },
+        _ => value_at_hand(scope, expression),
+    }
+}
+
+#[tactic(auto, using(crate::proofs::Resuming::look_up_items))]
+fn value_at_hand<'s>(
+    scope: &'s Scope<Vec<Atomic>>,
+    expression: &'s TypedExpr,
+) -> Option<&'s [Atomic]>
+    ensures { (k : Context) (forest : Forest) → IfSome result (λ items. meaning k expression.now (items_of scope.now) forest ≡ gives (atoms items.now) forest) }
+{
+    match &expression.form {
+        TypedForm::Lit(value) => Some(slice::from_ref(value)),
+        TypedForm::Var(number) => match scope.find(*number) {
+            Some(bound) => Some(bound.as_slice()),
+            None => None,
+        },
+        TypedForm::Empty => Some(&[]),
+        _ => None,
     }
 }
 
@@ -401,15 +373,31 @@ fn condition_of(values: &[Atomic]) -> Option<bool>
     }
 }
 
-// The items before a mark, and those from it on.
-fn cut_at(items: &[Atomic], mark: usize) -> (&[Atomic], &[Atomic])
-    ensures front { result.0.now ≡ take mark items.now }
-    ensures rest { result.1.now ≡ drop mark items.now }
+// The items before a number of them, and those from it on.
+fn cut_at(items: &[Atomic], number: usize) -> (&[Atomic], &[Atomic])
+    ensures front { result.0.now ≡ take number items.now }
+    ensures rest { result.1.now ≡ drop number items.now }
 {
-    if mark <= items.len() {
-        items.split_at(mark)
+    if number <= items.len() {
+        items.split_at(number)
     } else {
         (items, &[])
+    }
+}
+
+// Takes the values from a number of them on.
+fn split_at(
+    alloc: Global,
+    values: &mut Vec<Atomic>,
+    number: usize,
+) -> Result<Vec<Atomic>, AllocError>
+    ensures front { OnOk result (values.new.items ≡ take number values.old.items) }
+    ensures rest { IfOk result (λ taken. taken.items ≡ drop number values.old.items) }
+{
+    if number <= values.len() {
+        values.split_off(number)
+    } else {
+        Ok(Vec::new(alloc))
     }
 }
 

@@ -48,6 +48,7 @@ pub(crate) fn put_integers(
     requires { IntegersFit first count }
     ensures { OnOk result (values.new.items ≡ values.old.items ++ integers_from first count) }
 {
+    values.reserve(count as usize)?;
     for offset in 0..count {
         let integer = first + i128::from(offset);
         values.push(number_atom(Number::Int(integer)))?;

@@ -10,24 +10,54 @@ ghost use Rattle.gx_model.specs.Forest.{Forest};
 ghost use Rattle.gx_model.specs.Item.{atom, atoms};
 ghost use Rattle.gx_core.specs.Outcome.{gives};
 ghost use Rattle.gx_core.specs.Arithmetic.{negation};
+ghost use Rattle.gx_core.specs.Meaning.{Context, acts};
 ghost use Rattle.gx_core.specs.Casting.{cast_outcome, cast_items, castable_items};
 ghost use Rattle.gx_eval.specs.Answering.{answer_items, AnswerFits};
 ghost use Rattle.gx_eval.specs.Failing.{FailsSo};
+ghost use Rattle.gx_eval.specs.Operators.{single_operator};
 ghost use Rattle.gx_eval.specs.declared.failure.Failure.TheVariants.{Memory};
 
 use crate::answer::Answer;
 use crate::arithmetic::negated;
+use crate::calling::called_with_one;
 use crate::comparison::cast_failure;
 use crate::failure::Failure;
 use gx_atomic::{CastError, cast_in_any_schemas};
 use gx_base::type_name::TypeName;
 use gx_facets::Atomic;
-use gx_funcs::function::truth_atom;
+use gx_funcs::function::{Function, truth_atom};
 use std::alloc::Global;
+
+// A strict operator of one operand, but for atomization.
+#[derive(Clone, Copy)]
+pub(crate) enum Single<'a> {
+    Neg,
+    Cast(&'a TypeName, bool),
+    Castable(&'a TypeName, bool),
+    Call(Function),
+}
+
+// What an operator of one operand makes of it.
+pub(crate) fn of_one(
+    alloc: Global,
+    operator: Single<'_>,
+    operand: &[Atomic],
+) -> Result<Answer, Failure>
+    ensures value { (k : Context) (forest : Forest) → IfOk result (λ r. acts k (single_operator operator.entry) (atoms operand.now ∷ []) forest ≡ gives (atoms (answer_items r)) forest) }
+    ensures fits { IfOk result (λ r. AnswerFits r) }
+    ensures failed { (k : Context) (forest : Forest) → IfErr result (λ e. FailsSo e (acts k (single_operator operator.entry) (atoms operand.now ∷ []) forest)) }
+{
+    match operator {
+        Single::Neg => negation(operand),
+        Single::Cast(kind, allows_empty) => cast(alloc, kind, allows_empty, operand),
+        Single::Castable(kind, allows_empty) => castable(alloc, kind, allows_empty, operand),
+        Single::Call(function) => called_with_one(alloc, function, operand),
+    }
+}
 
 // The negation of a number.
 #[tactic(auto, using(crate::proofs::Operands::many))]
-pub(crate) fn negation(operand: &[Atomic]) -> Result<Answer, Failure>
+fn negation(operand: &[Atomic]) -> Result<Answer, Failure>
     ensures value { (forest : Forest) → IfOk result (λ r. negation (atoms operand.now) forest ≡ gives (atoms (answer_items r)) forest) }
     ensures fits { IfOk result (λ r. AnswerFits r) }
     ensures failed { (forest : Forest) → IfErr result (λ e. FailsSo e (negation (atoms operand.now) forest)) }
@@ -41,7 +71,7 @@ pub(crate) fn negation(operand: &[Atomic]) -> Result<Answer, Failure>
 
 // The cast of an operand, which stays empty where that is allowed.
 #[tactic(auto, using(crate::proofs::Operands::many_are_not_cast))]
-pub(crate) fn cast(
+fn cast(
     alloc: Global,
     kind: &TypeName,
     allows_empty: bool,
@@ -63,7 +93,7 @@ pub(crate) fn cast(
 
 // Whether an operand has a cast.
 #[tactic(auto, using(crate::proofs::Operands::many_are_not_castable))]
-pub(crate) fn castable(
+fn castable(
     alloc: Global,
     kind: &TypeName,
     allows_empty: bool,

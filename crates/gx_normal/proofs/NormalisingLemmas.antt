@@ -13,7 +13,7 @@ use Rattle.gx_ast.specs.declared.sequence_type.SingleType.{SingleType}
 use Rattle.gx_normal.specs.declared.normalising.Normalising.{Normalising}
 use Rattle.gx_normal.specs.Names.{Names, is_known_prefix, Target, target, no_target, target_of}
 use Rattle.gx_normal.specs.Normalisation.{Normalised, made, unknown, then_made, where_target, core_of, core_of_form, call_core}
-use Rattle.gx_normal.specs.Normalising.{then_core, one_made, cast_construct, cast_form, with_target, construct_count, constructed, core_continued, core_then, rest_core}
+use Rattle.gx_normal.specs.Normalising.{then_core, one_made, cast_construct, casting_form, with_target, construct_count, constructed, core_continued, core_then, rest_core}
 
 pub one_follows : (n : Normalised) (join : CoreExpression → CoreExpression) (next : CoreExpression → ℕ → Option Normalised)
     → then_core n (λ b free. next (join b) free) ≡ then_core (then_made n (λ b. made (join b))) next
@@ -69,7 +69,7 @@ cast_of_operand tested place kind n (unknown there code) = refl
 
 pub cast_follows : (tested : Bool) (place : Place) (operand : SyntaxTree) (kind : SingleType) (n : Normalising)
     → then_core (core_of operand n.names n.free) (λ e free. with_target (target_of kind.name) kind.name.place (λ builtin. constructed (One (cast_construct tested place builtin kind.optional)) (e ∷ n.parts) (λ whole below. core_continued n.tasks (whole ∷ below) n.names free)))
-    ≡ core_then (core_of_form place (cast_form tested operand kind) n.names n.free) n
+    ≡ core_then (core_of_form place (casting_form tested operand kind) n.names n.free) n
 cast_follows true place operand kind n = cast_of_operand true place kind n (core_of operand n.names n.free)
 cast_follows false place operand kind n = cast_of_operand false place kind n (core_of operand n.names n.free)
 

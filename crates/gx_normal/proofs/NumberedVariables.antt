@@ -14,8 +14,8 @@ use Rattle.gx_core.specs.declared.expression.BinaryOp.{BinaryOp}
 use Rattle.gx_core.specs.declared.operator.Operator.TheVariants as operators
 use Rattle.gx_core.specs.Expression.{CoreExpression, At, no_parts, core_at}
 use Rattle.gx_core.specs.Invariant.{is_among, IsScoped, numbers_bound, AreDistinct, HasVariablesInOrder}
-use Rattle.gx_normal.specs.Names.{Names, number_of, same_qname, is_known_prefix, function_of, Target, target, no_target, target_of}
-use Rattle.gx_normal.specs.Constructs.{within, data_around, boolean_around, sequence_of, operator_at, call_at, call_of_one, conditional_at, and_at, or_at, signed_at, cast_at, castable_at, let_at, core_operator, joined_by, joining}
+use Rattle.gx_normal.specs.Names.{Names, number_in_scope, same_qname, is_known_prefix, function_of, Target, target, no_target, target_of}
+use Rattle.gx_normal.specs.Constructs.{within, data_around, boolean_around, core_sequence, operator_at, call_at, call_of_one, conditional_at, and_at, or_at, signed_at, cast_at, castable_at, let_at, operator_in_core, joined_by, joining}
 use Rattle.gx_normal.specs.Normalisation.{Normalised, made, unknown, then_made, or_refused, where_target, Continuation, core_of, core_of_form, call_core, bindings_core, clauses_core, normalised}
 
 -- numbers that rise from one on, below another
@@ -82,10 +82,10 @@ or_true : (a b : Bool) → b ≡ true → (a || b) ≡ true
 or_true true b h = refl
 or_true false b h = h
 
-found_among : (names : Names) (name : QName) (k : ℕ) → number_of names name ≡ Some k → is_among (numbers_of names) k ≡ true
+found_among : (names : Names) (name : QName) (k : ℕ) → number_in_scope names name ≡ Some k → is_among (numbers_of names) k ≡ true
 found_among [] name k e = absurd (cc)
 found_among (bound ∷ names) name k e =
-    elim (same_qname bound.0 name) as (λ (same : Bool). (if same then Some bound.1 else number_of names name) ≡ Some k → (nat_eq bound.1 k || is_among (numbers_of names) k) ≡ true) [
+    elim (same_qname bound.0 name) as (λ (same : Bool). (if same then Some bound.1 else number_in_scope names name) ≡ Some k → (nat_eq bound.1 k || is_among (numbers_of names) k) ≡ true) [
       | true ↦ λ g. let same : bound.1 ≡ k = cc in ap (λ (b : Bool). b || is_among (numbers_of names) k) (eq-eqb bound.1 k same)
       | false ↦ λ g. or_true (nat_eq bound.1 k) (is_among (numbers_of names) k) (found_among names name k g)
     ] e
@@ -130,7 +130,7 @@ signed_numbered place false scope free next e h =
     let d = data_numbered scope free next e h in
     record { scoped = (tt, (d.scoped, ((tt, tt), tt))); rising = rise_alone free next (numbers_bound (data_around e)) d.rising }
 
-sequence_numbered : JoinsTwo sequence_of
+sequence_numbered : JoinsTwo core_sequence
 sequence_numbered scope free middle next a b h k =
     record { scoped = (tt, (h.scoped, (k.scoped, tt))); rising = rise_joined free middle next (numbers_bound a) (numbers_bound b ++ []) h.rising (rise_alone middle next (numbers_bound b) k.rising) }
 
@@ -177,7 +177,7 @@ or_join place join e = let same : or_at place ≡ join = cc in subst JoinsTwo sa
 joining_numbered : (place : Place) (operator : BinaryOperator) (join : CoreExpression → CoreExpression → CoreExpression) → joining place operator ≡ Some join → JoinsTwo join
 joining_numbered place written.And join e = and_join place join e
 joining_numbered place written.Or join e = or_join place join e
-joining_numbered place operator join e = same_join place (core_operator operator) join e
+joining_numbered place operator join e = same_join place (operator_in_core operator) join e
 
 -- constructs over parts that are normalised one behind another
 
@@ -210,7 +210,7 @@ let_numbered names name free place dollar n body h k =
       rising = rise_joined free m next (numbers_bound a) (m ∷ (numbers_bound b ++ [])) p.rising (omega arith, rise_alone (m + 1) next (numbers_bound b) q.rising);
     }))
 
-variable_numbered : (names : Names) (name : QName) (place : Place) (free k : ℕ) → number_of names name ≡ Some k → IsNumbered (numbers_of names) free free (core_at place place (operators.Var k) no_parts)
+variable_numbered : (names : Names) (name : QName) (place : Place) (free k : ℕ) → number_in_scope names name ≡ Some k → IsNumbered (numbers_of names) free free (core_at place place (operators.Var k) no_parts)
 variable_numbered names name place free k e = record { scoped = (found_among names name k e, tt); rising = omega arith }
 
 abbrev IsNumberedSoFar : ℕ → Names → CoreExpression → ℕ → Type 0
@@ -225,12 +225,12 @@ mutual
   form_numbered place (string characters) names free = record { scoped = (tt, tt); rising = omega arith }
   form_numbered place (variable name) names free =
       known_holds (is_known_prefix name.prefix) place _ _ (IsNumberedSoFar free names)
-      (refused_holds (number_of names name) place _ _ (IsNumberedSoFar free names) (λ k e. variable_numbered names name place free k e))
+      (refused_holds (number_in_scope names name) place _ _ (IsNumberedSoFar free names) (λ k e. variable_numbered names name place free k e))
   form_numbered place (parenthesised inner) names free = one_numbered names free (core_of inner names free) (within place) (within_numbered place) (core_numbered inner names free)
   form_numbered place empty_sequence names free = record { scoped = (tt, tt); rising = omega arith }
   form_numbered place (call name arguments) names free = known_holds (is_known_prefix name.prefix) place _ _ (IsNumberedSoFar free names) (call_is_numbered place name arguments names free)
   form_numbered place (comma first second) names free =
-      two_numbered names free (core_of first names free) (λ m. core_of second names m) sequence_of sequence_numbered (core_numbered first names free) (λ m. core_numbered second names m)
+      two_numbered names free (core_of first names free) (λ m. core_of second names m) core_sequence sequence_numbered (core_numbered first names free) (λ m. core_numbered second names m)
   form_numbered place (flwor clauses stable no_key returned) names free = clauses_numbered place clauses (core_of returned) (λ ns m. core_numbered returned ns m) names free
   form_numbered place (flwor clauses stable (a_key value order others) returned) names free = tt
   form_numbered place (conditional test chosen otherwise) names free =

@@ -36,8 +36,8 @@ boolean_around e = around e (operators.Call functions.Boolean) (one_part e)
 abbrev pub literal_at : Place → Atomic → CoreExpression
 literal_at place value = core_at place place (operators.Lit value) no_parts
 
-abbrev pub sequence_of : CoreExpression → CoreExpression → CoreExpression
-sequence_of a b = around a operators.Seq (two_parts a b)
+abbrev pub core_sequence : CoreExpression → CoreExpression → CoreExpression
+core_sequence a b = around a operators.Seq (two_parts a b)
 
 -- an operator over the atomized operands
 abbrev pub operator_at : Place → BinaryOp → CoreExpression → CoreExpression → CoreExpression
@@ -76,27 +76,27 @@ abbrev pub let_at : Place → Binder → CoreExpression → CoreExpression → C
 let_at place binder value body = core_at place place (operators.Let binder) (two_parts value body)
 
 -- the operator of Core for one that is written, if it is one
-abbrev pub core_operator : BinaryOperator → Option BinaryOp
-core_operator written.Add = Some core.Add
-core_operator written.Subtract = Some core.Sub
-core_operator written.Multiply = Some core.Mul
-core_operator written.Divide = Some core.Div
-core_operator written.DivideInteger = Some core.IDiv
-core_operator written.Modulo = Some core.Mod
-core_operator written.ValueEqual = Some core.Eq
-core_operator written.ValueNotEqual = Some core.Ne
-core_operator written.ValueLess = Some core.Lt
-core_operator written.ValueLessOrEqual = Some core.Le
-core_operator written.ValueGreater = Some core.Gt
-core_operator written.ValueGreaterOrEqual = Some core.Ge
-core_operator written.Equal = Some core.AnyEq
-core_operator written.NotEqual = Some core.AnyNe
-core_operator written.Less = Some core.AnyLt
-core_operator written.LessOrEqual = Some core.AnyLe
-core_operator written.Greater = Some core.AnyGt
-core_operator written.GreaterOrEqual = Some core.AnyGe
-core_operator written.To = Some core.To
-core_operator _ = None
+abbrev pub operator_in_core : BinaryOperator → Option BinaryOp
+operator_in_core written.Add = Some core.Add
+operator_in_core written.Subtract = Some core.Sub
+operator_in_core written.Multiply = Some core.Mul
+operator_in_core written.Divide = Some core.Div
+operator_in_core written.DivideInteger = Some core.IDiv
+operator_in_core written.Modulo = Some core.Mod
+operator_in_core written.ValueEqual = Some core.Eq
+operator_in_core written.ValueNotEqual = Some core.Ne
+operator_in_core written.ValueLess = Some core.Lt
+operator_in_core written.ValueLessOrEqual = Some core.Le
+operator_in_core written.ValueGreater = Some core.Gt
+operator_in_core written.ValueGreaterOrEqual = Some core.Ge
+operator_in_core written.Equal = Some core.AnyEq
+operator_in_core written.NotEqual = Some core.AnyNe
+operator_in_core written.Less = Some core.AnyLt
+operator_in_core written.LessOrEqual = Some core.AnyLe
+operator_in_core written.Greater = Some core.AnyGt
+operator_in_core written.GreaterOrEqual = Some core.AnyGe
+operator_in_core written.To = Some core.To
+operator_in_core _ = None
 
 abbrev pub joined_by : Place → Option BinaryOp → Option (CoreExpression → CoreExpression → CoreExpression)
 joined_by place None = None
@@ -106,4 +106,4 @@ joined_by place (Some op) = Some (operator_at place op)
 abbrev pub joining : Place → BinaryOperator → Option (CoreExpression → CoreExpression → CoreExpression)
 joining place written.And = Some (and_at place)
 joining place written.Or = Some (or_at place)
-joining place operator = joined_by place (core_operator operator)
+joining place operator = joined_by place (operator_in_core operator)

@@ -26,9 +26,9 @@ same_qname a b = same_text a.prefix b.prefix && same_text a.local b.local
 abbrev pub Names : Type 0
 Names = List (QName × ℕ)
 
-abbrev pub number_of : Names → QName → Option ℕ
-number_of [] name = None
-number_of (bound ∷ names) name = if same_qname bound.0 name then Some bound.1 else number_of names name
+abbrev pub number_in_scope : Names → QName → Option ℕ
+number_in_scope [] name = None
+number_in_scope (bound ∷ names) name = if same_qname bound.0 name then Some bound.1 else number_in_scope names name
 
 -- functions without a prefix are those of `fn`
 abbrev pub is_function_prefix : List ℕ → Bool

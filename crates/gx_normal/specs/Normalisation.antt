@@ -11,8 +11,8 @@ use Rattle.gx_core.specs.declared.expression.Core.{Core}
 use Rattle.gx_core.specs.declared.operator.Operator.TheVariants as operators
 use Rattle.gx_core.specs.Arithmetic.{number_atom}
 use Rattle.gx_core.specs.Expression.{CoreExpression, no_parts, core_at}
-use Rattle.gx_normal.specs.Names.{Names, is_known_prefix, number_of, function_of, Target, target, no_target, target_of}
-use Rattle.gx_normal.specs.Constructs.{within, literal_at, sequence_of, call_at, call_of_one, conditional_at, signed_at, cast_at, castable_at, let_at, joining}
+use Rattle.gx_normal.specs.Names.{Names, is_known_prefix, number_in_scope, function_of, Target, target, no_target, target_of}
+use Rattle.gx_normal.specs.Constructs.{within, literal_at, core_sequence, call_at, call_of_one, conditional_at, signed_at, cast_at, castable_at, let_at, joining}
 
 -- an expression, with the number that is free after it, or the first refused name
 pub data Normalised : Type 0 where
@@ -51,12 +51,12 @@ abbrev mutual
   pub core_of_form : Place → SyntaxForm → Names → ℕ → Normalised
   core_of_form place (number value) names free = made (literal_at place (number_atom value)) free
   core_of_form place (string characters) names free = made (literal_at place (string_atom characters)) free
-  core_of_form place (variable name) names free = where_known name place (variable_at place (number_of names name) free)
+  core_of_form place (variable name) names free = where_known name place (variable_at place (number_in_scope names name) free)
   core_of_form place (parenthesised inner) names free = then_made (core_of inner names free) (λ e. made (within place e))
   core_of_form place empty_sequence names free = made (core_at place place operators.Empty no_parts) free
   core_of_form place (call name arguments) names free = where_known name place (call_core place name arguments names free)
   core_of_form place (comma first second) names free =
-      then_made (core_of first names free) (λ a middle. then_made (core_of second names middle) (λ b. made (sequence_of a b)))
+      then_made (core_of first names free) (λ a middle. then_made (core_of second names middle) (λ b. made (core_sequence a b)))
   core_of_form place (flwor clauses stable no_key returned) names free = clauses_core place clauses (core_of returned) names free
   core_of_form place (conditional test chosen otherwise) names free =
       then_made (core_of test names free)

@@ -20,7 +20,7 @@ use Rattle.gx_normal.specs.declared.normalising.Task.{Task}
 use Rattle.gx_normal.specs.declared.normalising.Task.TheVariants.{Normalise, Clauses, Bind, Unbind, Target, Finish}
 use Rattle.gx_normal.specs.declared.normalising.Normalising.{Normalising}
 use Rattle.gx_normal.specs.Names.{Names, Target as CastTarget, target, no_target, target_of}
-use Rattle.gx_normal.specs.Constructs.{within, sequence_of, operator_at, call_of_one, conditional_at, and_at, or_at, signed_at, cast_at, castable_at, let_at}
+use Rattle.gx_normal.specs.Constructs.{within, core_sequence, operator_at, call_of_one, conditional_at, and_at, or_at, signed_at, cast_at, castable_at, let_at}
 use Rattle.gx_normal.specs.Normalisation.{Normalised, made, unknown, core_of, bindings_core, clauses_core}
 
 -- the rest of a normalisation, from the first expression on; the first refused name ends it
@@ -36,7 +36,7 @@ one_made (Castable place kind optional) e = castable_at place kind optional e
 one_made (Call place function) e = call_of_one place function e
 
 abbrev pub two_made : TwoConstruct → CoreExpression → CoreExpression → CoreExpression
-two_made Sequence a b = sequence_of a b
+two_made Sequence a b = core_sequence a b
 two_made (And place) a b = and_at place a b
 two_made (Or place) a b = or_at place a b
 two_made (Operator place op) a b = operator_at place op a b
@@ -60,9 +60,9 @@ abbrev pub cast_construct : (tested : Bool) → Place → Builtin → (optional 
 cast_construct false place kind optional = Cast place kind optional
 cast_construct true place kind optional = Castable place kind optional
 
-abbrev pub cast_form : (tested : Bool) → SyntaxTree → SingleType → SyntaxForm
-cast_form false operand kind = cast_as operand kind
-cast_form true operand kind = castable_as operand kind
+abbrev pub casting_form : (tested : Bool) → SyntaxTree → SingleType → SyntaxForm
+casting_form false operand kind = cast_as operand kind
+casting_form true operand kind = castable_as operand kind
 
 abbrev pub with_target : CastTarget → Place → (Builtin → Option Normalised) → Option Normalised
 with_target (target kind) place next = next kind

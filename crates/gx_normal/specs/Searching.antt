@@ -4,7 +4,7 @@ use Rattle.gx_base.specs.declared.place.Place.{Place}
 use Rattle.gx_ast.specs.SyntaxView.{trees_of, bindings_of, clauses_of}
 use Rattle.gx_normal.specs.declared.unbuilt.Pending.{Pending}
 use Rattle.gx_normal.specs.declared.unbuilt.Pending.TheVariants.{Tree, Trees, Bindings, Clauses, Found}
-use Rattle.gx_normal.specs.Unbuilt.{or_else, first_unbuilt, unbuilt_trees, unbuilt_bindings, unbuilt_clauses}
+use Rattle.gx_normal.specs.Unbuilt.{earlier_place, first_unbuilt, unbuilt_trees, unbuilt_bindings, unbuilt_clauses}
 
 -- the first in a part that is left
 abbrev pub first_in : Pending → Option Place
@@ -17,4 +17,4 @@ first_in (Found place) = place
 -- the first in the parts that are left
 abbrev pub first_of_all : List Pending → Option Place
 first_of_all [] = None
-first_of_all (pending ∷ others) = or_else (first_in pending) (first_of_all others)
+first_of_all (pending ∷ others) = earlier_place (first_in pending) (first_of_all others)

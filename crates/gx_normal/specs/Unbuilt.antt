@@ -7,12 +7,12 @@ use Rattle.gx_ast.specs.declared.sequence_type.SequenceType.{SequenceType}
 use Rattle.gx_ast.specs.SyntaxTree.{SyntaxTree, SyntaxForm, SyntaxTrees, Bindings, Clauses, Keys, at, number, string, variable, parenthesised, empty_sequence, call, comma, flwor, conditional, binary, instance_of, treat_as, castable_as, cast_as, signed, path, filtered, no_tree, a_tree, no_binding, a_binding, no_clause, for_clause, let_clause, where_clause, no_key, a_key}
 
 -- the first of two places in the order of the text, where there is one
-abbrev pub or_else : Option Place → Option Place → Option Place
-or_else None later = later
-or_else (Some place) later = Some place
+abbrev pub earlier_place : Option Place → Option Place → Option Place
+earlier_place None later = later
+earlier_place (Some place) later = Some place
 
-abbrev pub place_of : SyntaxTree → Place
-place_of (at place form) = place
+abbrev pub place_of_tree : SyntaxTree → Place
+place_of_tree (at place form) = place
 
 -- an operator, at its place
 abbrev pub unbuilt_operator : BinaryOperator → Place → Option Place
@@ -32,12 +32,12 @@ unbuilt_kind (Some kind) place = Some place
 -- predicates, at the first of them
 abbrev pub unbuilt_predicates : SyntaxTrees → Place → Place
 unbuilt_predicates no_tree place = place
-unbuilt_predicates (a_tree first others) place = place_of first
+unbuilt_predicates (a_tree first others) place = place_of_tree first
 
 -- sort keys, at the first of them
 abbrev pub unbuilt_keys : Keys → Option Place
 unbuilt_keys no_key = None
-unbuilt_keys (a_key value order others) = Some (place_of value)
+unbuilt_keys (a_key value order others) = Some (place_of_tree value)
 
 abbrev mutual
   pub first_unbuilt : SyntaxTree → Option Place
@@ -50,29 +50,29 @@ abbrev mutual
   unbuilt_form place empty_sequence = None
   unbuilt_form place (parenthesised inner) = first_unbuilt inner
   unbuilt_form place (call name arguments) = unbuilt_trees arguments
-  unbuilt_form place (comma first second) = or_else (first_unbuilt first) (first_unbuilt second)
-  unbuilt_form place (flwor clauses stable keys returned) = or_else (unbuilt_clauses clauses) (or_else (unbuilt_keys keys) (first_unbuilt returned))
-  unbuilt_form place (conditional test chosen otherwise) = or_else (first_unbuilt test) (or_else (first_unbuilt chosen) (first_unbuilt otherwise))
-  unbuilt_form place (binary operator left right) = or_else (first_unbuilt left) (or_else (unbuilt_operator operator place) (first_unbuilt right))
+  unbuilt_form place (comma first second) = earlier_place (first_unbuilt first) (first_unbuilt second)
+  unbuilt_form place (flwor clauses stable keys returned) = earlier_place (unbuilt_clauses clauses) (earlier_place (unbuilt_keys keys) (first_unbuilt returned))
+  unbuilt_form place (conditional test chosen otherwise) = earlier_place (first_unbuilt test) (earlier_place (first_unbuilt chosen) (first_unbuilt otherwise))
+  unbuilt_form place (binary operator left right) = earlier_place (first_unbuilt left) (earlier_place (unbuilt_operator operator place) (first_unbuilt right))
   unbuilt_form place (castable_as operand kind) = first_unbuilt operand
   unbuilt_form place (cast_as operand kind) = first_unbuilt operand
   unbuilt_form place (signed minus operand) = first_unbuilt operand
-  unbuilt_form place (instance_of operand kind) = or_else (first_unbuilt operand) (Some place)
-  unbuilt_form place (treat_as operand kind) = or_else (first_unbuilt operand) (Some place)
-  unbuilt_form place (path descendants left right) = or_else (first_unbuilt left) (Some place)
-  unbuilt_form place (filtered operand predicates) = or_else (first_unbuilt operand) (Some (unbuilt_predicates predicates place))
+  unbuilt_form place (instance_of operand kind) = earlier_place (first_unbuilt operand) (Some place)
+  unbuilt_form place (treat_as operand kind) = earlier_place (first_unbuilt operand) (Some place)
+  unbuilt_form place (path descendants left right) = earlier_place (first_unbuilt left) (Some place)
+  unbuilt_form place (filtered operand predicates) = earlier_place (first_unbuilt operand) (Some (unbuilt_predicates predicates place))
   unbuilt_form place _ = Some place
 
   pub unbuilt_trees : SyntaxTrees → Option Place
   unbuilt_trees no_tree = None
-  unbuilt_trees (a_tree first others) = or_else (first_unbuilt first) (unbuilt_trees others)
+  unbuilt_trees (a_tree first others) = earlier_place (first_unbuilt first) (unbuilt_trees others)
 
   pub unbuilt_bindings : Bindings → Option Place
   unbuilt_bindings no_binding = None
-  unbuilt_bindings (a_binding bound value others) = or_else (unbuilt_kind bound.kind bound.variable.place) (or_else (first_unbuilt value) (unbuilt_bindings others))
+  unbuilt_bindings (a_binding bound value others) = earlier_place (unbuilt_kind bound.kind bound.variable.place) (earlier_place (first_unbuilt value) (unbuilt_bindings others))
 
   pub unbuilt_clauses : Clauses → Option Place
   unbuilt_clauses no_clause = None
   unbuilt_clauses (for_clause place bindings others) = Some place
-  unbuilt_clauses (let_clause place bindings others) = or_else (unbuilt_bindings bindings) (unbuilt_clauses others)
+  unbuilt_clauses (let_clause place bindings others) = earlier_place (unbuilt_bindings bindings) (unbuilt_clauses others)
   unbuilt_clauses (where_clause place condition others) = Some place

@@ -6,7 +6,7 @@ ghost use Rattle.gx_funcs.specs.Function.{string_atom};
 ghost use Rattle.gx_core.specs.Expression.{core_at, no_parts, one_part, two_parts};
 ghost use Rattle.gx_core.specs.ExpressionView.{operator_of, parts_of};
 ghost use Rattle.gx_num.specs.declared.Number.TheVariants as numbers;
-ghost use Rattle.gx_normal.specs.Constructs.{boolean_around, call_at, call_of_one, conditional_at, core_operator, data_around, literal_at, operator_at, sequence_of, signed_at, within};
+ghost use Rattle.gx_normal.specs.Constructs.{boolean_around, call_at, call_of_one, conditional_at, operator_in_core, data_around, literal_at, operator_at, core_sequence, signed_at, within};
 ghost use Rattle.gx_normal.specs.Normalising.{one_made, two_made};
 
 use gx_ast::expression::BinaryOperator;
@@ -159,8 +159,8 @@ pub(crate) fn call_of_none(alloc: Global, place: Place, function: Function) -> C
 }
 
 /// The operator of Core for one that is written, if it is one.
-pub(crate) fn core_operator(operator: BinaryOperator) -> Option<BinaryOp>
-    ensures { result ≡ core_operator operator }
+pub(crate) fn operator_in_core(operator: BinaryOperator) -> Option<BinaryOp>
+    ensures { result ≡ operator_in_core operator }
 {
     match operator {
         BinaryOperator::Add => Some(BinaryOp::Add),

@@ -1,7 +1,7 @@
 // The names of a query without a prolog.
 
 ghost use Rattle.std.specs.Prelude.{◌≡◌, [], ◌∷◌, OnOk, drop};
-ghost use Rattle.gx_normal.specs.Names.{Target as CastTarget, builtin_of, builtin_target, function_of, is_function_prefix, is_known_prefix, number_of, same_qname, target_of};
+ghost use Rattle.gx_normal.specs.Names.{Target as CastTarget, builtin_of, builtin_target, function_of, is_function_prefix, is_known_prefix, number_in_scope, same_qname, target_of};
 ghost use Rattle.gx_normal.specs.NameRefusal.{IsTarget};
 
 use gx_ast::name::QName;
@@ -54,7 +54,7 @@ impl<'a> Names<'a> {
 
     /// The number of the variable of that name, innermost first.
     pub fn number(&self, name: &QName) -> Option<u32>
-        ensures { result ≡ number_of self.now name.now }
+        ensures { result ≡ number_in_scope self.now name.now }
     {
         let mut outer = self.bound.len();
         while outer > 0 {

@@ -7,12 +7,12 @@ ghost use Rattle.gx_ast.specs.SyntaxTree.{a_tree, binary, call, conditional, flw
 ghost use Rattle.gx_ast.specs.SyntaxView.{clauses_of, keys_of, trees_of};
 ghost use Rattle.gx_normal.specs.declared.normalise.NameRefusal.TheVariants as refusals;
 ghost use Rattle.gx_normal.specs.Normalisation.{Normalised, call_core, core_of, core_of_form, made, then_made};
-ghost use Rattle.gx_normal.specs.Normalising.{cast_construct, cast_form, constructed, construct_count, core_continued, core_left, core_then, core_with, one_made, two_made, EndsRefused};
+ghost use Rattle.gx_normal.specs.Normalising.{cast_construct, casting_form, constructed, construct_count, core_continued, core_left, core_then, core_with, one_made, two_made, EndsRefused};
 ghost use Rattle.gx_normal.specs.declared.normalising.Task.TheVariants as tasks;
 
 use crate::construct::{
     Construct, OneConstruct, TwoConstruct, at, call_of_none, conditional, construct_one,
-    construct_two, core_operator, number, string,
+    construct_two, number, operator_in_core, string,
 };
 use crate::names::{Names, function_of, is_known_prefix, target_of};
 use crate::normalise::NameRefusal;
@@ -215,7 +215,7 @@ impl<'a> Normalising<'a> {
         operand: &'a Expr,
         kind: &'a SingleType,
     ) -> Result<(), AllocError>
-        ensures { OnOk result (core_left self.new ≡ core_then (core_of_form place (cast_form tested operand.now kind.now) self.old.names self.old.free) self.old) }
+        ensures { OnOk result (core_left self.new ≡ core_then (core_of_form place (casting_form tested operand.now kind.now) self.old.names self.old.free) self.old) }
     {
         self.tasks.push(Task::Target(tested, place, kind))?;
         self.tasks.push(Task::Normalise(operand))
@@ -446,7 +446,7 @@ fn two_operands(place: Place, operator: BinaryOperator) -> Option<TwoConstruct>
     match operator {
         BinaryOperator::And => Some(TwoConstruct::And(place)),
         BinaryOperator::Or => Some(TwoConstruct::Or(place)),
-        _ => match core_operator(operator) {
+        _ => match operator_in_core(operator) {
             Some(op) => Some(TwoConstruct::Operator(place, op)),
             None => None,
         },

@@ -4,7 +4,7 @@ ghost use Rattle.std.specs.Prelude.{◌≡◌, ◌∷◌, IfOk, OnOk};
 ghost use Rattle.gx_ast.specs.SyntaxView.{bindings_of, keys_of, trees_of};
 ghost use Rattle.gx_normal.specs.declared.unbuilt.Pending.TheVariants as pendings;
 ghost use Rattle.gx_normal.specs.Searching.{first_in, first_of_all};
-ghost use Rattle.gx_normal.specs.Unbuilt.{first_unbuilt, or_else, unbuilt_bindings, unbuilt_keys, unbuilt_operator, unbuilt_predicates};
+ghost use Rattle.gx_normal.specs.Unbuilt.{first_unbuilt, earlier_place, unbuilt_bindings, unbuilt_keys, unbuilt_operator, unbuilt_predicates};
 
 use gx_ast::expression::{BinaryOperator, Binding, Clause, Expr, ExprNode, Key};
 use gx_base::place::Place;
@@ -154,7 +154,7 @@ fn open_three<'a>(
     right: &'a Expr,
     pending: &mut Stack<Pending<'a>>,
 ) -> Result<(), AllocError>
-    ensures { OnOk result (first_of_all pending.new ≡ or_else (or_else (first_unbuilt left.now) (or_else operator (first_unbuilt right.now))) (first_of_all pending.old)) }
+    ensures { OnOk result (first_of_all pending.new ≡ earlier_place (earlier_place (first_unbuilt left.now) (earlier_place operator (first_unbuilt right.now))) (first_of_all pending.old)) }
 {
     pending.push(Pending::Tree(right))?;
     pending.push(Pending::Found(operator))?;
@@ -168,7 +168,7 @@ fn open_front<'a>(
     behind: Place,
     pending: &mut Stack<Pending<'a>>,
 ) -> Result<(), AllocError>
-    ensures { OnOk result (first_of_all pending.new ≡ or_else (or_else (first_unbuilt operand.now) (Some behind)) (first_of_all pending.old)) }
+    ensures { OnOk result (first_of_all pending.new ≡ earlier_place (earlier_place (first_unbuilt operand.now) (Some behind)) (first_of_all pending.old)) }
 {
     pending.push(Pending::Found(Some(behind)))?;
     pending.push(Pending::Tree(operand))

@@ -1,38 +1,21 @@
-use Rattle.std.proofs.Common.{◌∷◌, [], ℕ, List, length, map, ap, sym, ◌∙◌}
-use Rattle.std.proofs.lemmas.List.{map-append, nil_from_length}
-use Rattle.gx_facets.specs.declared.Atomic.{Atomic}
-use Rattle.gx_model.specs.Item.{atoms}
-use Rattle.gx_core.specs.Meaning.{Bindings, Denotation, meaning}
+use Rattle.std.proofs.Common.{◌≡◌, List, length, map, arith, sym, subst}
+use Rattle.std.specs.Prelude.{OnOk, IfErr}
+use Rattle.gx_core.specs.declared.operator.Operator.TheVariants as operators
+use Rattle.gx_core.specs.Meaning.{denoted, meaning}
 use Rattle.gx_core.specs.Soundness.{TypedExpression}
-use Rattle.gx_eval.specs.declared.evaluation.Pending.{Pending}
-use Rattle.gx_eval.specs.declared.evaluation.Pending.TheVariants.{Apply, Mark}
-use Rattle.gx_eval.specs.declared.evaluation.Strict.TheVariants.{Call}
-use Rattle.gx_eval.specs.Resume.{items_of, resume, in_order}
-use Rattle.gx_eval.proofs.Resuming.{last_in_order}
+use Rattle.gx_eval.specs.Failing.{FailsSo}
+use Rattle.gx_eval.specs.Resume.{outcome_of, outcome_behind, items_of}
+use Rattle.gx_eval.proofs.Operands.{the_single}
 use Rattle.gx_eval.proofs.evaluation.Evaluation.open_call.Goals as goal
 
-pub loop-argument-preserved : goal.loop-argument-preserved
-loop-argument-preserved c = record {
-  same = λ k values marks bindings forest.
-      ap (λ (work : List Pending). in_order (map (meaning k) c.in-Some.front.now) (resume k work) values marks bindings forest) (c.in_ok-push-3.ensures ∙ ap (λ (work : List Pending). Mark ∷ work) c.in_ok-push-2.ensures)
-      ∙ sym (last_in_order (map (meaning k) c.in-Some.front.now) (meaning k c.in-Some.argument.now) (resume k c.loop-argument.self.work) values marks bindings forest)
-      ∙ ap (λ (parts : List Denotation). in_order parts (resume k c.loop-argument.self.work) values marks bindings forest)
-      (sym (map-append (meaning k) c.in-Some.front.now (c.in-Some.argument.now ∷ [])) ∙ ap (map (meaning k)) (sym c.in-Some.ensures.cases.0))
-      ∙ c.loop-argument.invariant.same k values marks bindings forest;
-  same_values = c.loop-argument.invariant.same_values;
-  same_marks = c.loop-argument.invariant.same_marks;
-  same_scope = c.loop-argument.invariant.same_scope;
-}
+pub returns-in-len1-clause-value : goal.returns-in-len1-clause-value
+returns-in-len1-clause-value c = λ k forest.
+    let l : length c.args.arguments.now ≡ 1 = omega arith in
+    subst (λ (es : List TypedExpression). OnOk c.open_single.result (outcome_of k forest c.open_single.new.self ≡ outcome_behind k forest (denoted k (operators.Call c.args.function) (map (meaning k) es) (items_of c.args.self.now.scope) forest) c.args.self.now))
+    (sym (the_single c.args.arguments.now c.argument-item.result l c.argument-item.is)) (c.open_single.ensures.value k forest)
 
-pub returns : goal.returns
-returns c = λ k forest.
-    let work : List Pending = c.loop-argument.self.work in
-    let values : List Atomic = c.loop-argument.self.values.items in
-    let marks : List ℕ = c.loop-argument.self.marks in
-    let bindings : Bindings = items_of c.loop-argument.self.scope in
-    let then' = resume k (Apply (Call c.args.function (length c.args.arguments.now)) ∷ c.args.self.now.work) in
-    ap (λ (es : List TypedExpression). in_order (map (meaning k) es) (resume k work) (atoms values) marks bindings forest) (sym (nil_from_length c.loop-argument.rest.now c.in_default.ensures.cases))
-    ∙ c.loop-argument.invariant.same k (atoms values) marks bindings forest
-    ∙ ap (λ v. in_order (map (meaning k) c.args.arguments.now) then' (atoms v.items) marks bindings forest) c.loop-argument.invariant.same_values
-    ∙ ap (λ (ms : List ℕ). in_order (map (meaning k) c.args.arguments.now) then' (atoms c.args.self.now.values.items) ms bindings forest) c.loop-argument.invariant.same_marks
-    ∙ ap (λ s. in_order (map (meaning k) c.args.arguments.now) then' (atoms c.args.self.now.values.items) c.args.self.now.marks (items_of s) forest) c.loop-argument.invariant.same_scope
+pub returns-in-len1-clause-failed : goal.returns-in-len1-clause-failed
+returns-in-len1-clause-failed c = λ k forest.
+    let l : length c.args.arguments.now ≡ 1 = omega arith in
+    subst (λ (es : List TypedExpression). IfErr c.open_single.result (λ e. FailsSo e (outcome_behind k forest (denoted k (operators.Call c.args.function) (map (meaning k) es) (items_of c.args.self.now.scope) forest) c.args.self.now)))
+    (sym (the_single c.args.arguments.now c.argument-item.result l c.argument-item.is)) (c.open_single.ensures.failed k forest)
