@@ -14,4 +14,4 @@ pub mod Alphabets
 pub mod Counts
 pub mod Bound
 pub mod WellFormed
-mod OneAnswer
+pub mod OneAnswer

@@ -1,5 +1,5 @@
 -- The words and the files have an answer.
-use Rattle.std.proofs.Common.{◌≡◌, ℕ, Bool, true, false, List, [], length, Option, Some, None, refl, subst, nat_le, ◌⊎◌, inl, inr}
+use Rattle.std.proofs.Common.{◌≡◌, ℕ, Bool, true, false, List, [], length, Option, Some, None, refl, sym, subst, nat_le, ◌⊎◌, inl, inr}
 use Rattle.std.specs.Bool.{MatchBool}
 use Rattle.gx_base.specs.declared.code.Code.TheVariants.{XPST0003, GLXS0001}
 use Rattle.gx_base.specs.declared.limits.TheConstants.{FILE_BYTES}
@@ -27,7 +27,7 @@ use Rattle.gx_processor.specs.Command.{Command, run_file, check_file, query_file
 use Rattle.gx_processor.specs.FaultLines.{usage_line, read_fault_line, code_line, placed_line}
 use Rattle.gx_processor.specs.Serialisation.{serialised}
 use Rattle.gx_processor.specs.TypeBytes.{type_bytes}
-use Rattle.gx_processor.specs.Answer.{Answer, writes, refuses, AnswersOutcome, AnswersTyped, AnswersJudged, AnswersNamed, AnswersBuilt, AnswersParsed, AnswersBytes, AnswersFile, AnswersCommand, AnAnswerExists}
+use Rattle.gx_processor.specs.Answer.{Answer, writes, refuses, AnswersOutcome, AnswersTyped, AnswersJudged, AnswersNamed, AnswersBuilt, AnswersParsed, AnswersBytes, AnswersFile, AnswersCommand, AnswersWords, AnAnswerExists}
 
 outcome_answers : (t : SequenceType) (o : Outcome Items) → Keeps (typed_setting no_declarations) [] t o → (a : Answer) × AnswersOutcome o a
 outcome_answers t (gives items forest) h = (writes (serialised forest items), refl)
@@ -74,4 +74,6 @@ command_answers files None = (refuses status.Usage usage_line, refl)
 command_answers files (Some command) = loaded_answers command (file_of files (query_file command))
 
 pub an_answer_exists : AnAnswerExists
-an_answer_exists words files = command_answers files (command_of words)
+an_answer_exists words files none =
+    let answer = command_answers files (command_of words) in
+    (answer.0, subst (λ (o : Option (List ℕ × List ℕ)). AnswersWords files o (command_of words) answer.0) (sym none) answer.1)

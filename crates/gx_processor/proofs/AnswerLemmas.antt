@@ -1,7 +1,9 @@
 -- The words and the files have one answer.
-use Rattle.std.proofs.Common.{◌≡◌, ℕ, arith, Bool, true, false, List, [], length, Option, Some, None, refl, sym, ◌∙◌, ap, subst, nat_le}
-use Rattle.std.specs.Prelude.{All}
+use Rattle.std.proofs.Common.{◌≡◌, ℕ, arith, Bool, true, false, List, [], ◌∷◌, ◌⊎◌, inl, inr, length, Option, Some, None, refl, sym, ◌∙◌, ap, subst, nat_le}
+use Rattle.std.specs.Prelude.{All, unwrap_or}
 use Rattle.std.specs.Bool.{MatchBool}
+use Rattle.std.specs.Str.{chars}
+use Rattle.gx_subtype.proofs.OneText.{one_text}
 use Rattle.gx_base.specs.declared.code.Code.TheVariants.{GLXS0001}
 use Rattle.gx_types.specs.SchemaSet.{no_declarations}
 use Rattle.gx_core.specs.declared.expression.Core.{Core}
@@ -19,9 +21,9 @@ use Rattle.gx_parse.specs.Query.{Parsing, parsed, refused, Parses}
 use Rattle.gx_parse.proofs.OneParsing.{one_parsing}
 use Rattle.gx_normal.specs.Unbuilt.{first_unbuilt}
 use Rattle.gx_normal.specs.Normalisation.{NamedQuery, named_query, unknown_name, query_named}
-use Rattle.gx_processor.specs.Command.{Command, run_file, check_file, query_file, command_of}
-use Rattle.gx_processor.specs.FaultLines.{code_line}
-use Rattle.gx_processor.specs.Answer.{Answer, refuses, AnswersOutcome, AnswersTyped, AnswersJudged, AnswersNamed, AnswersBuilt, AnswersParsed, AnswersBytes, AnswersFile, AnswersCommand, Answers, loads_asked, AnswersLookAtTheirLoads, ChecksRefuseForRuns}
+use Rattle.gx_processor.specs.Command.{Command, run_file, check_file, query_file, command_of, texts_to_compare}
+use Rattle.gx_processor.specs.FaultLines.{line, code_line}
+use Rattle.gx_processor.specs.Answer.{Answer, writes, refuses, AnswersOutcome, AnswersTyped, AnswersJudged, AnswersNamed, AnswersBuilt, AnswersParsed, AnswersBytes, AnswersFile, AnswersCommand, AnswersTexts, AnswersWords, Answers, loads_asked, AnswersLookAtTheirLoads, ChecksRefuseForRuns}
 
 outcome_unique : (o : Outcome Items) (a b : Answer) → AnswersOutcome o a → AnswersOutcome o b → a ≡ b
 outcome_unique (gives items forest) a b h k = h ∙ sym k
@@ -64,13 +66,48 @@ command_unique : (files : List (List ℕ × List ℕ)) (asked : Option Command) 
 command_unique files None a b h k = h ∙ sym k
 command_unique files (Some command) a b h k = file_unique command (file_of files (query_file command)) a b h k
 
+texts_unique : (left right : List ℕ) (a b : Answer) → AnswersTexts left right a → AnswersTexts left right b → a ≡ b
+texts_unique left right a b (inl h) (inl k) = h.1 ∙ sym k.1
+texts_unique left right a b (inl h) (inr (inl k)) = absurd (h.0 k.0 k.1)
+texts_unique left right a b (inl h) (inr (inr k)) = absurd (h.0 k.1.1.lower k.1.1.left_is)
+texts_unique left right a b (inr (inl h)) (inl k) = absurd (k.0 h.0 h.1)
+texts_unique left right a b (inr (inl h)) (inr (inl k)) = h.3 ∙ sym k.3
+texts_unique left right a b (inr (inl h)) (inr (inr k)) = absurd (h.2 k.1.1.upper k.1.1.right_is)
+texts_unique left right a b (inr (inr h)) (inl k) = absurd (k.0 h.1.1.lower h.1.1.left_is)
+texts_unique left right a b (inr (inr h)) (inr (inl k)) = absurd (k.2 h.1.1.upper h.1.1.right_is)
+texts_unique left right a b (inr (inr h)) (inr (inr k)) = h.2 ∙ ap (λ (bytes : List ℕ). writes (line bytes)) (one_text left right h.0 k.0 h.1 k.1) ∙ sym k.2
+
+words_unique : (files : List (List ℕ × List ℕ)) (texts : Option (List ℕ × List ℕ)) (asked : Option Command) (a b : Answer) → AnswersWords files texts asked a → AnswersWords files texts asked b → a ≡ b
+words_unique files (Some texts) asked a b h k = texts_unique (chars texts.0) (chars texts.1) a b h k
+words_unique files None asked a b h k = command_unique files asked a b h k
+
 pub answer_unique : (words : List (List ℕ)) (files : List (List ℕ × List ℕ)) (a b : Answer) → Answers words files a → Answers words files b → a ≡ b
-answer_unique words files a b h k = command_unique files (command_of words) a b h k
+answer_unique words files a b h k = words_unique files (texts_to_compare words) (command_of words) a b h k
+
+-- the parts of two pairs that are equal
+pub same_parts : (p q : List ℕ × List ℕ) → Some p ≡ Some q → (p.0 ≡ q.0) × (p.1 ≡ q.1)
+same_parts p q e = (ap (λ (o : Option (List ℕ × List ℕ)). (unwrap_or o p).0) e, ap (λ (o : Option (List ℕ × List ℕ)). (unwrap_or o p).1) e)
+
+-- words over a query compare no texts
+pub no_texts : (words : List (List ℕ)) (command : Command) → command_of words ≡ Some command → texts_to_compare words ≡ None
+no_texts [] command e = refl
+no_texts (a ∷ []) command e = refl
+no_texts (a ∷ b ∷ []) command e = refl
+no_texts (a ∷ b ∷ c ∷ words) command e = cc
+
+-- the answer to words over a query
+pub answer_asked : (words : List (List ℕ)) (files : List (List ℕ × List ℕ)) (command : Command) (a : Answer) → command_of words ≡ Some command → Answers words files a → AnswersCommand files (Some command) a
+answer_asked words files command a e h =
+    subst (λ (o : Option Command). AnswersCommand files o a) e (subst (λ (o : Option (List ℕ × List ℕ)). AnswersWords files o (command_of words) a) (no_texts words command e) h)
+
+pub asked_answer : (words : List (List ℕ)) (files : List (List ℕ × List ℕ)) (command : Command) (a : Answer) → command_of words ≡ Some command → AnswersCommand files (Some command) a → Answers words files a
+asked_answer words files command a e h =
+    subst (λ (o : Option (List ℕ × List ℕ)). AnswersWords files o (command_of words) a) (sym (no_texts words command e)) (subst (λ (o : Option Command). AnswersCommand files o a) (sym e) h)
 
 -- the answer where the words name a file that is held
 pub answer_at : (words : List (List ℕ)) (files : List (List ℕ × List ℕ)) (command : Command) (bytes : List ℕ) (a : Answer) → command_of words ≡ Some command → file_of files (query_file command) ≡ Some bytes → Answers words files a → AnswersFile command (Some bytes) a
 answer_at words files command bytes a e f h =
-    subst (λ (o : Option (List ℕ)). AnswersFile command o a) f (subst (λ (o : Option Command). AnswersCommand files o a) e h)
+    subst (λ (o : Option (List ℕ)). AnswersFile command o a) f (answer_asked words files command a e h)
 
 -- what a check refuses, a run refuses
 judged_refused : (name : List ℕ) (core : Core) (j : QueryJudgement) (status : Status) (line : List ℕ) → AnswersJudged (check_file name) core j (refuses status line) → AnswersJudged (run_file name) core j (refuses status line)
@@ -105,5 +142,9 @@ command_elsewhere : (files others : List (List ℕ × List ℕ)) (asked : Option
 command_elsewhere files others None a same h = h
 command_elsewhere files others (Some command) a same h = subst (λ (o : Option (List ℕ)). AnswersFile command o a) (same 0 (query_file command) (omega arith)) h
 
+words_elsewhere : (files others : List (List ℕ × List ℕ)) (texts : Option (List ℕ × List ℕ)) (asked : Option Command) (a : Answer) → All (λ name. file_of files name ≡ file_of others name) (loads_asked asked) → AnswersWords files texts asked a → AnswersWords others texts asked a
+words_elsewhere files others (Some texts) asked a same h = h
+words_elsewhere files others None asked a same h = command_elsewhere files others asked a same h
+
 pub answer_elsewhere : AnswersLookAtTheirLoads
-answer_elsewhere words files others a same h = command_elsewhere files others (command_of words) a same h
+answer_elsewhere words files others a same h = words_elsewhere files others (texts_to_compare words) (command_of words) a same h

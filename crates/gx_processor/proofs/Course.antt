@@ -10,20 +10,20 @@ use Rattle.gx_processor.specs.Answer.{writes, refuses, Answers, loads_asked, loa
 use Rattle.gx_processor.specs.Command.{Command, query_file, command_of}
 use Rattle.gx_processor.specs.Ending.{Put, PutOutput, Ends}
 use Rattle.gx_processor.specs.FaultLines.{read_fault_line}
-use Rattle.gx_processor.specs.Replies.{RepliesSo, HasForm, IsWellFormed, IsUsageOrStarved}
+use Rattle.gx_processor.specs.Replies.{RepliesSo, HasForm, IsMisuse, IsAsked, IsWellFormed, IsUsageOrStarved}
 use Rattle.gx_processor.specs.Run.{Run, WhereTold, FailsToLoad}
 
 -- what the parts of the public call show of a run and of its reply
 pub record Shows (run : Run) (reply : Reply) : Type 0 where
   pub formed : IsWellFormed run.words (LibraryFailed run.library) reply
-  pub usage : command_of run.words ≡ None → IsUsageOrStarved reply
+  pub usage : (line : List ℕ) → IsMisuse run.words line → IsUsageOrStarved reply
   pub ends : Ends reply run.status run.out run.err
   pub answers : WhereTold run (λ files. RepliesSo reply (Answers run.words files))
   pub loads : LoadsOnly run.library (loads_of run.words)
 
 -- the output was put; or the line of a load that failed; or that of the answer; or no memory was found before
 pub data Course (run : Run) : Type 0 where
-  to_output : (bytes : List ℕ) → WhereTold run (λ files. Answers run.words files (writes bytes)) → PutOutput bytes run.status run.out run.err → Course run
+  to_output : (bytes : List ℕ) → IsAsked run.words bytes → WhereTold run (λ files. Answers run.words files (writes bytes)) → PutOutput bytes run.status run.out run.err → Course run
   to_read_fault : (file : List ℕ) → FailsToLoad run file → LibraryFailed run.library → IsUntouched run.out → Put status.ReadFault (read_fault_line file) run.status run.err → Course run
   to_refusal : (told : Status) (line : List ℕ) → HasForm run.words told line → WhereTold run (λ files. Answers run.words files (refuses told line)) → IsUntouched run.out → Put told line run.status run.err → Course run
   to_no_memory : run.status ≡ status.Memory → IsUntouched run.out → IsUntouched run.err → Course run
@@ -45,7 +45,7 @@ query_fails_to_load run command asked loads rose =
     }
 
 pub course_of : (run : Run) (reply : Reply) → Shows run reply → Course run
-course_of run (Output text) v = to_output (string_bytes text) v.answers v.ends
+course_of run (Output text) v = to_output (string_bytes text) v.formed v.answers v.ends
 course_of run (Fault status.ReadFault line) v =
     to_read_fault (query_file v.formed.0) (query_fails_to_load run v.formed.0 v.formed.1 v.loads v.formed.3) v.formed.3 v.ends.0
     (subst (λ (told : List ℕ). Put status.ReadFault told run.status run.err) v.formed.2 v.ends.1)

@@ -27,7 +27,7 @@ use Rattle.gx_processor.specs.Answer.{Answer, writes, refuses, status_of, output
 use Rattle.gx_processor.specs.Run.{Run}
 use Rattle.gx_processor.specs.Promises.{LeavesAnswer}
 use Rattle.gx_processor.specs.Headline.{RunEnds, RunsTyped, ChecksTyped, HoldsTyped, RunsAsChecked, RejectsUntyped}
-use Rattle.gx_processor.proofs.AnswerLemmas.{answer_at}
+use Rattle.gx_processor.proofs.AnswerLemmas.{answer_at, answer_asked}
 use Rattle.gx_processor.proofs.PromiseLemmas.{AnsweredOrStarved}
 
 -- what an answer at a file that is held comes to
@@ -114,7 +114,7 @@ file_printed files name (Some bytes) printed held h = short_printed files name b
 
 pub run_as_checked : (run : Run) (files : List (List ℕ × List ℕ)) → RunsTyped run files → RunsAsChecked run files
 run_as_checked run files runs checking name printed e k h =
-    let q = file_printed files name (file_of files name) printed refl (subst (λ (o : Option Command). AnswersCommand files o (writes printed)) k h) in
+    let q = file_printed files name (file_of files name) printed refl (answer_asked checking files (check_file name) (writes printed) k h) in
     (q, runs name q.core q.typing e q.query q.judgement)
 
 pub rejected_query : (run : Run) (files : List (List ℕ × List ℕ)) → QueryRejectionNamesFailure → AnsweredOrStarved run files → RejectsUntyped run files

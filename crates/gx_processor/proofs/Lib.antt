@@ -6,3 +6,4 @@ pub mod PromiseLemmas
 pub mod HeadlineLemmas
 pub mod Promised
 pub mod AnswerExists
+pub mod Replying

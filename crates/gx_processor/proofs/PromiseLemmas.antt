@@ -1,6 +1,8 @@
 -- The promises of the program, from the course that a run takes.
 use Rattle.std.proofs.Common.{◌≡◌, ℕ, Bool, true, false, List, [], ◌⊎◌, inl, inr, length, Option, Some, None, IfSome, refl, sym, ◌∙◌, ap, subst, arith, nat_le}
 use Rattle.std.specs.Bool.{MatchBool}
+use Rattle.std.specs.Str.{chars}
+use Rattle.gx_subtype.specs.Comparison.{IsAnswerText}
 use Rattle.std.proofs.lemmas.List.{append-nil, take_all}
 use Rattle.std.proofs.lemmas.Bool.{leb-true}
 use Rattle.gx_base.specs.declared.code.Code.TheVariants.{GLXS0001}
@@ -10,14 +12,14 @@ use Rattle.gx_processor.specs.declared.status.Status.{Status}
 use Rattle.gx_processor.specs.declared.status.Status.TheVariants.{Done, Usage, Query, Schema, Document, Dynamic, ReadFault, WriteFault, Memory}
 use Rattle.gx_processor.specs.declared.reply.Reply.{Reply}
 use Rattle.gx_processor.specs.declared.reply.Reply.TheVariants.{Output, Fault, Starved}
-use Rattle.gx_processor.specs.Command.{Command, command_of, AskToRun}
-use Rattle.gx_processor.specs.FaultLines.{read_fault_line, write_fault_line, code_line}
+use Rattle.gx_processor.specs.Command.{Command, command_of, texts_to_compare, AskToRun}
+use Rattle.gx_processor.specs.FaultLines.{line, read_fault_line, write_fault_line, code_line}
 use Rattle.gx_processor.specs.Answer.{Answer, writes, refuses, status_of, output_of, AnswersBytes, Answers}
 use Rattle.gx_processor.specs.Ending.{Put, PutOutput, Ends}
-use Rattle.gx_processor.specs.Replies.{HasForm, IsUsageOrStarved}
+use Rattle.gx_processor.specs.Replies.{HasForm, IsMisuse, IsAsked, IsUsageOrStarved}
 use Rattle.gx_processor.specs.Run.{Run, WhereTold, IsFaultless}
-use Rattle.gx_processor.specs.Promises.{IsCertain, IsCutShort, LeavesAnswer, IsAnswered, MayFollowOutput, PutsOutput, IsLineOf, of_write_fault, of_read_fault, of_refusal, PutsLine, OutputAfter, LineAfter, FailsToWrite, FailsToRead, IsTooLong}
-use Rattle.gx_processor.proofs.AnswerLemmas.{answer_unique, answer_at}
+use Rattle.gx_processor.specs.Promises.{IsCertain, IsCutShort, LeavesAnswer, IsAnswered, MayFollowOutput, PutsOutput, IsLineOf, of_write_fault, of_read_fault, of_refusal, PutsLine, OutputAfter, LineAfter, FailsToWrite, FailsToRead, IsTooLong, ComparesTexts}
+use Rattle.gx_processor.proofs.AnswerLemmas.{answer_unique, answer_at, no_texts, same_parts}
 use Rattle.gx_processor.proofs.Course.{Course, to_output, to_read_fault, to_refusal, to_no_memory}
 
 -- facts about the files that are told
@@ -75,7 +77,7 @@ refusal_answered run files status line h u p c =
     let q = put_is_of_it status line run.status run.err c p in record { answer = refuses status line; answers = h; status = q.0; sinks = (u, q.1) }
 
 pub answer_promised : (run : Run) → Course run → WhereTold run (λ files. IsCertain run.status → IsAnswered run files)
-answer_promised run (to_output bytes a p) =
+answer_promised run (to_output bytes asked a p) =
     told_so (run.library.files run.library.before) (λ files. Answers run.words files (writes bytes)) (λ files. IsCertain run.status → IsAnswered run files)
     (λ files h c. output_answered run files bytes h p c) a
 answer_promised run (to_read_fault file f rose u p) =
@@ -100,15 +102,15 @@ puts_line : (run : Run) (status : Status) (line : List ℕ) → IsLineOf run lin
 puts_line run status line cause p = record { line = line; cause = cause; put = put_part status line run.status run.err p }
 
 pub output_put_promised : (run : Run) → Course run → IsUntouched run.out ⊎ PutsOutput run
-output_put_promised run (to_output bytes a p) = inr (puts_output run bytes a p)
+output_put_promised run (to_output bytes asked a p) = inr (puts_output run bytes a p)
 output_put_promised run (to_read_fault file f rose u p) = inl u
 output_put_promised run (to_refusal status line form a u p) = inl u
 output_put_promised run (to_no_memory m u v) = inl u
 
 pub line_put_promised : (run : Run) → Course run → IsUntouched run.err ⊎ PutsLine run
-line_put_promised run (to_output bytes a (inl p)) = inl p.2
-line_put_promised run (to_output bytes a (inr (inl p))) = inl p.2
-line_put_promised run (to_output bytes a (inr (inr (part, failed, p)))) = inr (puts_line run WriteFault write_fault_line (of_write_fault failed refl) p)
+line_put_promised run (to_output bytes asked a (inl p)) = inl p.2
+line_put_promised run (to_output bytes asked a (inr (inl p))) = inl p.2
+line_put_promised run (to_output bytes asked a (inr (inr (part, failed, p)))) = inr (puts_line run WriteFault write_fault_line (of_write_fault failed refl) p)
 line_put_promised run (to_read_fault file f rose u p) = inr (puts_line run ReadFault (read_fault_line file) (of_read_fault file f refl) p)
 line_put_promised run (to_refusal status line form a u p) = inr (puts_line run status line (of_refusal status form a) p)
 line_put_promised run (to_no_memory m u v) = inl v
@@ -132,9 +134,9 @@ form_output run WriteFault line form u = absurd form
 form_output run Memory line form u = absurd form
 
 pub output_promised : (run : Run) → Course run → OutputAfter run.status run
-output_promised run (to_output bytes a (inl p)) = subst (λ (s : Status). OutputAfter s run) (sym p.0) (bytes, p.1)
-output_promised run (to_output bytes a (inr (inl p))) = subst (λ (s : Status). OutputAfter s run) (sym p.0) tt
-output_promised run (to_output bytes a (inr (inr (part, failed, p)))) =
+output_promised run (to_output bytes asked a (inl p)) = subst (λ (s : Status). OutputAfter s run) (sym p.0) (bytes, p.1)
+output_promised run (to_output bytes asked a (inr (inl p))) = subst (λ (s : Status). OutputAfter s run) (sym p.0) tt
+output_promised run (to_output bytes asked a (inr (inr (part, failed, p)))) =
     put_ends (λ (s : Status). OutputAfter s run) WriteFault write_fault_line run.status run.err (λ _. inr failed) (λ _. inr failed) tt p
 output_promised run (to_read_fault file f rose u p) =
     put_ends (λ (s : Status). OutputAfter s run) ReadFault (read_fault_line file) run.status run.err (λ _. u) (λ _. inl u) tt p
@@ -144,7 +146,7 @@ output_promised run (to_no_memory m u v) = subst (λ (s : Status). OutputAfter s
 
 -- the line after each status
 form_line : (run : Run) (status : Status) (line : List ℕ) → HasForm run.words status line → Took run.err line → LineAfter status run
-form_line run Usage line form t = subst (λ (xs : List ℕ). Took run.err xs) form.1 t
+form_line run Usage line form t = (line, form, t)
 form_line run Query line form t = (line, form, t)
 form_line run Dynamic line form t = (form.1.0, subst (λ (xs : List ℕ). Took run.err xs) form.1.1 t)
 form_line run Done line form t = absurd form
@@ -155,9 +157,9 @@ form_line run WriteFault line form t = absurd form
 form_line run Memory line form t = absurd form
 
 pub line_promised : (run : Run) → Course run → LineAfter run.status run
-line_promised run (to_output bytes a (inl p)) = subst (λ (s : Status). LineAfter s run) (sym p.0) p.2
-line_promised run (to_output bytes a (inr (inl p))) = subst (λ (s : Status). LineAfter s run) (sym p.0) tt
-line_promised run (to_output bytes a (inr (inr (part, failed, p)))) =
+line_promised run (to_output bytes asked a (inl p)) = subst (λ (s : Status). LineAfter s run) (sym p.0) p.2
+line_promised run (to_output bytes asked a (inr (inl p))) = subst (λ (s : Status). LineAfter s run) (sym p.0) tt
+line_promised run (to_output bytes asked a (inr (inr (part, failed, p)))) =
     put_ends (λ (s : Status). LineAfter s run) WriteFault write_fault_line run.status run.err (λ t. inl t) (λ lost. inr lost) tt p
 line_promised run (to_read_fault file f rose u p) =
     put_ends (λ (s : Status). LineAfter s run) ReadFault (read_fault_line file) run.status run.err (λ t. (file, t)) (λ lost. inr lost) tt p
@@ -173,7 +175,7 @@ untouched_is_part : (run : Run) → IsUntouched run.out → WhereTold run (PartO
 untouched_is_part run u = told_always (run.library.files run.library.before) (PartOfOutput run) (λ files answer h cut. untouched_grows run.out (output_of answer) u)
 
 pub part_promised : (run : Run) → Course run → WhereTold run (PartOfOutput run)
-part_promised run (to_output bytes a p) =
+part_promised run (to_output bytes asked a p) =
     told_so (run.library.files run.library.before) (λ files. Answers run.words files (writes bytes)) (PartOfOutput run)
     (λ files h answer k cut. subst (λ (b : Answer). GrewByPrefix run.out (output_of b)) (answer_unique run.words files (writes bytes) answer h k) (output_part bytes run.status run.out run.err p).1) a
 part_promised run (to_read_fault file f rose u p) = untouched_is_part run u
@@ -182,14 +184,14 @@ part_promised run (to_no_memory m u v) = untouched_is_part run u
 
 -- the cause of each status
 abbrev pub CauseOf : Run → Status → Type 0
-CauseOf run Usage = command_of run.words ≡ None
+CauseOf run Usage = (line : List ℕ) × IsMisuse run.words line
 CauseOf run Dynamic = AskToRun run.words
 CauseOf run ReadFault = FailsToRead run
 CauseOf run WriteFault = FailsToWrite run
 CauseOf run _ = Unit {0}
 
 form_cause : (run : Run) (status : Status) (line : List ℕ) → HasForm run.words status line → CauseOf run status
-form_cause run Usage line form = form.0
+form_cause run Usage line form = (line, form)
 form_cause run Query line form = tt
 form_cause run Dynamic line form = form.0
 form_cause run Done line form = absurd form
@@ -200,9 +202,9 @@ form_cause run WriteFault line form = absurd form
 form_cause run Memory line form = absurd form
 
 pub cause_promised : (run : Run) → Course run → CauseOf run run.status
-cause_promised run (to_output bytes a (inl p)) = subst (CauseOf run) (sym p.0) tt
-cause_promised run (to_output bytes a (inr (inl p))) = subst (CauseOf run) (sym p.0) tt
-cause_promised run (to_output bytes a (inr (inr (part, failed, p)))) =
+cause_promised run (to_output bytes asked a (inl p)) = subst (CauseOf run) (sym p.0) tt
+cause_promised run (to_output bytes asked a (inr (inl p))) = subst (CauseOf run) (sym p.0) tt
+cause_promised run (to_output bytes asked a (inr (inr (part, failed, p)))) =
     let fails : FailsToWrite run = inl (puts_output run bytes a (inr (inr (part, failed, p))), failed) in
     put_ends (CauseOf run) WriteFault write_fault_line run.status run.err (λ _. fails) (λ _. fails) tt p
 cause_promised run (to_read_fault file f rose u p) =
@@ -252,9 +254,9 @@ form_certain words WriteFault line form = absurd form
 form_certain words Memory line form = absurd form
 
 faultless_is_certain : (run : Run) → Course run → IsFaultless run → CertainOrStarved run.status
-faultless_is_certain run (to_output bytes a (inl p)) f = inl (subst IsCertain (sym p.0) tt)
-faultless_is_certain run (to_output bytes a (inr (inl p))) f = inr p.0
-faultless_is_certain run (to_output bytes a (inr (inr p))) f = absurd (f.out p.1)
+faultless_is_certain run (to_output bytes asked a (inl p)) f = inl (subst IsCertain (sym p.0) tt)
+faultless_is_certain run (to_output bytes asked a (inr (inl p))) f = inr p.0
+faultless_is_certain run (to_output bytes asked a (inr (inr p))) f = absurd (f.out p.1)
 faultless_is_certain run (to_read_fault file g rose u p) f = absurd (f.library rose)
 faultless_is_certain run (to_refusal status line form a u (inl p)) f = inl (subst IsCertain (sym p.0) (form_certain run.words status line form))
 faultless_is_certain run (to_refusal status line form a u (inr (inl p))) f = absurd (f.err p.2)
@@ -272,3 +274,37 @@ complete_at run files bytes h (inr m) = inr m
 complete_at run files bytes h (inl answered) =
     let is = answer_unique run.words files answered.answer (writes bytes) answered.answers h in
     inl (answered.status ∙ ap status_of is, (subst (λ (b : Answer). LeavesAnswer b run) is answered.sinks).0)
+
+-- a status other than Done
+abbrev NotDone : Status → Type 0
+NotDone status = status ≡ Done → ⊥
+
+form_not_done : (words : List (List ℕ)) (status : Status) (line : List ℕ) → HasForm words status line → NotDone status
+form_not_done words Usage line form e = cc
+form_not_done words Query line form e = cc
+form_not_done words Dynamic line form e = cc
+form_not_done words Done line form e = form
+form_not_done words Schema line form e = cc
+form_not_done words Document line form e = cc
+form_not_done words ReadFault line form e = cc
+form_not_done words WriteFault line form e = cc
+form_not_done words Memory line form e = cc
+
+-- what a comparison writes
+texts_written : (words : List (List ℕ)) (left right bytes : List ℕ) → texts_to_compare words ≡ Some (left, right) → IsAsked words bytes → (answer : List ℕ) × IsAnswerText (chars left) (chars right) answer × (bytes ≡ line answer)
+texts_written words left right bytes e (inl q) = let none = no_texts words q.0 q.1 in cc
+texts_written words left right bytes e (inr (one, two, f, inl h)) = cc h.1
+texts_written words left right bytes e (inr (one, two, f, inr (inl h))) = cc h.3
+texts_written words left right bytes e (inr (one, two, f, inr (inr h))) =
+    let same = same_parts (one, two) (left, right) (sym f ∙ e) in
+    (h.0, subst (λ (x : List ℕ). IsAnswerText (chars x) (chars right) h.0) same.0 (subst (λ (x : List ℕ). IsAnswerText (chars one) (chars x) h.0) same.1 h.1), ap output_of h.2)
+
+pub compared_promised : (run : Run) → Course run → ComparesTexts run
+compared_promised run (to_output bytes asked a (inl p)) left right e done =
+    let w = texts_written run.words left right bytes e asked in
+    (w.0, w.1, subst (λ (xs : List ℕ). Took run.out xs) w.2 p.1)
+compared_promised run (to_output bytes asked a (inr (inl p))) left right e done = cc p.0
+compared_promised run (to_output bytes asked a (inr (inr (part, failed, p)))) left right e done = absurd (put_ends NotDone WriteFault write_fault_line run.status run.err (λ _ e. cc) (λ _ e. cc) (λ e. cc) p done)
+compared_promised run (to_read_fault file f rose u p) left right e done = absurd (put_ends NotDone ReadFault (read_fault_line file) run.status run.err (λ _ e. cc) (λ _ e. cc) (λ e. cc) p done)
+compared_promised run (to_refusal status line form a u p) left right e done = absurd (put_ends NotDone status line run.status run.err (λ _. form_not_done run.words status line form) (λ _ e. cc) (λ e. cc) p done)
+compared_promised run (to_no_memory m u v) left right e done = cc

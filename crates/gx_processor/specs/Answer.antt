@@ -1,8 +1,12 @@
 -- What the program answers to its words, over the files that its library holds.
-use Rattle.std.specs.Prelude.{◌≡◌, ℕ, nat_le, List, [], ◌∷◌, All, length, Option, None, Some, MatchBool}
+use Rattle.std.specs.Prelude.{◌≡◌, ℕ, nat_le, List, [], ◌∷◌, All, length, Option, None, Some, MatchBool, ◌⊎◌}
+use Rattle.std.specs.Str.{chars}
 use Rattle.gx_base.specs.declared.place.Place.{Place}
 use Rattle.gx_base.specs.declared.code.Code.TheVariants.{GLXS0001, XPST0003}
 use Rattle.gx_types.specs.SchemaSet.{no_declarations}
+use Rattle.gx_types.specs.SequenceType.{SequenceType}
+use Rattle.gx_typetext.specs.TypeReading.{IsTypeText}
+use Rattle.gx_subtype.specs.Comparison.{IsNoType, IsAnswerText}
 use Rattle.gx_core.specs.declared.expression.Core.{Core}
 use Rattle.gx_core.specs.declared.typed.TypedCore.{TypedCore}
 use Rattle.gx_model.specs.Item.{Items}
@@ -19,8 +23,8 @@ use Rattle.gx_normal.specs.Unbuilt.{first_unbuilt}
 use Rattle.gx_normal.specs.Normalisation.{NamedQuery, named_query, unknown_name, query_named}
 use Rattle.gx_processor.specs.Serialisation.{serialised}
 use Rattle.gx_processor.specs.TypeBytes.{type_bytes}
-use Rattle.gx_processor.specs.Command.{Command, run_file, check_file, query_file, command_of}
-use Rattle.gx_processor.specs.FaultLines.{usage_line, read_fault_line, code_line, placed_line}
+use Rattle.gx_processor.specs.Command.{Command, run_file, check_file, query_file, command_of, texts_to_compare}
+use Rattle.gx_processor.specs.FaultLines.{line, usage_line, left_type_line, right_type_line, read_fault_line, code_line, placed_line}
 use Rattle.gx_base.specs.declared.limits.TheConstants.{FILE_BYTES}
 
 -- bytes for standard output, or a refusal with its fault line
@@ -85,13 +89,25 @@ abbrev pub AnswersCommand : List (List ℕ × List ℕ) → Option Command → A
 AnswersCommand files None answer = answer ≡ refuses status.Usage usage_line
 AnswersCommand files (Some command) answer = AnswersFile command (file_of files (query_file command)) answer
 
+-- two texts that are compared: one of them stands for no type, the left one judged first; or the answer on them is written
+abbrev pub AnswersTexts : (left right : List ℕ) → Answer → Type 0
+AnswersTexts left right answer =
+    (IsNoType left × (answer ≡ refuses status.Usage left_type_line))
+    ⊎ (((t : SequenceType) × IsTypeText no_declarations left t × IsNoType right × (answer ≡ refuses status.Usage right_type_line))
+    ⊎ ((bytes : List ℕ) × IsAnswerText left right bytes × (answer ≡ writes (line bytes))))
+
+-- the words `subtype`, and else those of a query
+abbrev pub AnswersWords : List (List ℕ × List ℕ) → Option (List ℕ × List ℕ) → Option Command → Answer → Type 0
+AnswersWords files (Some texts) asked answer = AnswersTexts (chars texts.0) (chars texts.1) answer
+AnswersWords files None asked answer = AnswersCommand files asked answer
+
 -- each step of the work is done only where no step before it refuses
 abbrev pub Answers : List (List ℕ) → List (List ℕ × List ℕ) → Answer → Type 0
-Answers words files answer = AnswersCommand files (command_of words) answer
+Answers words files answer = AnswersWords files (texts_to_compare words) (command_of words) answer
 
--- there is an answer
+-- there is an answer to words over a query, and to words that name no command
 abbrev pub AnAnswerExists : Type 0
-AnAnswerExists = (words : List (List ℕ)) (files : List (List ℕ × List ℕ)) → (answer : Answer) × Answers words files answer
+AnAnswerExists = (words : List (List ℕ)) (files : List (List ℕ × List ℕ)) → texts_to_compare words ≡ None → (answer : Answer) × Answers words files answer
 
 -- what a check of a file refuses, a run of it refuses with the same line
 abbrev pub ChecksRefuseForRuns : Type 0

@@ -2,7 +2,7 @@
 use Rattle.std.specs.Prelude.{◌≡◌, String, string_bytes, map, ℕ, ◌==◌, nat_le, not, Bool, false, ◌&&◌, List, [], ◌∷◌, length, Option, None, Some, codes, bytes_eq, if◌then◌else◌}
 use Rattle.gx_base.specs.declared.limits.TheConstants.{WORD_BYTES}
 
--- what the program is asked to do: to run the query in a file, or to check it
+-- what the program is asked to do with the query in a file: to run it, or to check it
 pub data Command : Type 0 where
   run_file : (name : List ℕ) → Command
   check_file : (name : List ℕ) → Command
@@ -26,7 +26,7 @@ abbrev pub command_named : List ℕ → List ℕ → Option Command
 command_named name file =
     if bytes_eq name (codes "run") then Some (run_file file) else (if bytes_eq name (codes "check") then Some (check_file file) else None)
 
--- the commands are `run FILE` and `check FILE`
+-- the commands over a query are `run FILE` and `check FILE`
 abbrev pub command_of : List (List ℕ) → Option Command
 command_of (name ∷ file ∷ []) = if is_operand file then command_named name file else None
 command_of _ = None
@@ -34,3 +34,12 @@ command_of _ = None
 -- the words are `run FILE`
 abbrev pub AskToRun : List (List ℕ) → Type 0
 AskToRun words = (name : List ℕ) × (command_of words ≡ Some (run_file name))
+
+-- the two texts of `subtype TEXT TEXT`
+abbrev pub texts_to_compare : List (List ℕ) → Option (List ℕ × List ℕ)
+texts_to_compare (name ∷ left ∷ right ∷ []) = if bytes_eq name (codes "subtype") && (is_operand left && is_operand right) then Some (left, right) else None
+texts_to_compare _ = None
+
+-- the words name no command
+abbrev pub NameNoCommand : List (List ℕ) → Type 0
+NameNoCommand words = (command_of words ≡ None) × (texts_to_compare words ≡ None)

@@ -12,6 +12,13 @@ line text = text ++ 10 ∷ []
 abbrev pub usage_line : List ℕ
 usage_line = line (codes "Usage: words")
 
+-- the left or the right text of `subtype` stands for no type
+abbrev pub left_type_line : List ℕ
+left_type_line = line (codes "Usage: type 1")
+
+abbrev pub right_type_line : List ℕ
+right_type_line = line (codes "Usage: type 2")
+
 abbrev pub read_fault_line : List ℕ → List ℕ
 read_fault_line file = line (codes "ReadFault " ++ file)
 

@@ -8,10 +8,12 @@ use Rattle.gx_io.specs.SinkUse.{IsUntouched, GrewByPrefix, Took, TookPart, SinkF
 use Rattle.gx_processor.specs.declared.status.Status.{Status}
 use Rattle.gx_processor.specs.declared.status.Status.TheVariants.{Done, Usage, Query, Schema, Document, Dynamic, ReadFault, WriteFault, Memory}
 use Rattle.gx_processor.specs.Answer.{Answer, writes, refuses, Answers, status_of, output_of, loads_of}
-use Rattle.gx_processor.specs.Command.{Command, query_file, command_of, AskToRun}
-use Rattle.gx_processor.specs.FaultLines.{usage_line, read_fault_line, code_line, IsQueryLine, write_fault_line}
+use Rattle.gx_processor.specs.Command.{Command, query_file, command_of, texts_to_compare, AskToRun}
+use Rattle.gx_processor.specs.FaultLines.{line, read_fault_line, code_line, IsQueryLine, write_fault_line}
 use Rattle.gx_processor.specs.Headline.{RunsTyped, ChecksTyped, RunsAsChecked, RejectsUntyped}
-use Rattle.gx_processor.specs.Replies.{HasForm}
+use Rattle.std.specs.Str.{chars}
+use Rattle.gx_subtype.specs.Comparison.{IsAnswerText}
+use Rattle.gx_processor.specs.Replies.{HasForm, IsMisuse}
 use Rattle.gx_processor.specs.Run.{Run, WhereTold, IsFaultless, FailsToLoad}
 use Rattle.gx_base.specs.declared.limits.TheConstants.{FILE_BYTES}
 
@@ -81,7 +83,7 @@ OutputAfter ReadFault run = IsUntouched run.out
 -- the fault line after each status: one line, of the form that the status has
 abbrev pub LineAfter : Status → Run → Type 0
 LineAfter Done run = IsUntouched run.err
-LineAfter Usage run = Took run.err usage_line
+LineAfter Usage run = (line : List ℕ) × IsMisuse run.words line × Took run.err line
 LineAfter Query run = (line : List ℕ) × IsQueryLine line × Took run.err line
 LineAfter Dynamic run = (code : Code) × Took run.err (code_line code)
 LineAfter ReadFault run = (file : List ℕ) × Took run.err (read_fault_line file)
@@ -106,6 +108,14 @@ pub record IsTooLong (words : List (List ℕ)) (files : List (List ℕ × List �
   pub held : file_of files (query_file command) ≡ Some bytes
   pub long : FILE_BYTES < length bytes
 
+-- A comparison that is done has written the answer on the types of the texts, and nothing else: yes, where the left type is included
+-- in the right one; no, with the first list of shapes that the left type takes and the right one does not; or unknown, exactly where
+-- more pairs are reached than the limit.
+abbrev pub ComparesTexts : Run → Type 0
+ComparesTexts run =
+    (left right : List ℕ) → texts_to_compare run.words ≡ Some (left, right) → run.status ≡ Done
+    → (bytes : List ℕ) × IsAnswerText (chars left) (chars right) bytes × Took run.out (line bytes)
+
 pub record Promises (run : Run) : Type 0 where
   -- Unless a fault outside or want of memory ends the run, it ends with the answer.
   pub answer : WhereTold run (λ files. IsCertain run.status → IsAnswered run files)
@@ -118,13 +128,15 @@ pub record Promises (run : Run) : Type 0 where
   pub line : LineAfter run.status run
   pub part : WhereTold run (λ files. (answer : Answer) → Answers run.words files answer → IsCutShort run.status → GrewByPrefix run.out (output_of answer))
   -- When each status comes.
-  pub usage : run.status ≡ Usage → command_of run.words ≡ None
-  pub usage_always : command_of run.words ≡ None → (run.status ≡ Usage) ⊎ IsCutShort run.status
+  pub usage : run.status ≡ Usage → (line : List ℕ) × IsMisuse run.words line
+  pub usage_always : (line : List ℕ) → IsMisuse run.words line → (run.status ≡ Usage) ⊎ IsCutShort run.status
   pub dynamic : run.status ≡ Dynamic → AskToRun run.words
   pub read_fault : run.status ≡ ReadFault → FailsToRead run
   pub write_fault : run.status ≡ WriteFault → FailsToWrite run
   pub too_long : WhereTold run (λ files. IsTooLong run.words files → IsCertain run.status → (run.status ≡ Query) × Took run.err (code_line GLXS0001))
   pub complete : WhereTold run (λ files. (bytes : List ℕ) → Answers run.words files (writes bytes) → IsFaultless run → ((run.status ≡ Done) × Took run.out bytes) ⊎ (run.status ≡ Memory))
+  -- What a comparison of two type texts writes, whatever files there are.
+  pub compared : ComparesTexts run
   -- The headline: a query that has a type, run and checked, and one that typing rejects.
   pub headline : WhereTold run (λ files. IsFaultless run → RunsTyped run files)
   pub checked : WhereTold run (λ files. IsFaultless run → ChecksTyped run files)

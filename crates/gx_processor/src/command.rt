@@ -1,8 +1,8 @@
 // The words of the command line.
 
-ghost use Rattle.std.specs.Prelude.{◌≡◌, option_map};
-ghost use Rattle.gx_processor.specs.Command.{bytes_of, is_operand, command_named, command_of};
-ghost use Rattle.gx_processor.specs.CommandView.{plain_command};
+ghost use Rattle.std.specs.Prelude.{◌≡◌, ◌≤◌, length, option_map, IfSome, IsTrue};
+ghost use Rattle.gx_processor.specs.Command.{bytes_of, is_operand, command_named, command_of, texts_to_compare};
+ghost use Rattle.gx_processor.specs.CommandView.{plain_command, plain_texts};
 
 use gx_base::limits::WORD_BYTES;
 
@@ -40,6 +40,21 @@ pub fn command_of_words(words: &[String]) -> Option<Command<'_>>
     }
 }
 
+/// The two type texts that the words compare, if they are `subtype` and two texts.
+pub fn texts_to_compare(words: &[String]) -> Option<(&str, &str)>
+    ensures texts { option_map plain_texts result ≡ texts_to_compare (bytes_of words.now) }
+    ensures left { IfSome result (λ texts. length texts.0.now ≤ WORD_BYTES) }
+    ensures right { IfSome result (λ texts. length texts.1.now ≤ WORD_BYTES) }
+{
+    match words {
+        [name, left, right]
+            if name.as_str() == "subtype"
+                && is_operand(left.as_str())
+                && is_operand(right.as_str()) => { Some((left.as_str(), right.as_str())) }
+        _ => None,
+    }
+}
+
 fn command_named<'a>(name: &str, file: &'a str) -> Option<Command<'a>>
     ensures { option_map plain_command result ≡ command_named name.now file.now }
 {
@@ -51,7 +66,8 @@ fn command_named<'a>(name: &str, file: &'a str) -> Option<Command<'a>>
 }
 
 fn is_operand(word: &str) -> bool
-    ensures { result ≡ is_operand word.now }
+    ensures operand { result ≡ is_operand word.now }
+    ensures within { IsTrue result → length word.now ≤ WORD_BYTES }
 {
     match word.as_bytes() {
         [] => false,

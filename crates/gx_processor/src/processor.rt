@@ -1,27 +1,31 @@
 // The call that answers the words of the command line.
 
-ghost use Rattle.std.specs.Prelude.{◌≡◌, ◌≤◌, ◌++◌, string_bytes, IfOk, IfSome, None};
+ghost use Rattle.std.specs.Prelude.{◌≡◌, ℕ, List, [], ◌∷◌, ◌≤◌, ◌++◌, length, string_bytes, IfOk, IfSome, Some};
+ghost use Rattle.std.specs.Str.{chars};
 ghost use Rattle.gx_io.specs.Calls.{Loads};
 ghost use Rattle.gx_io.specs.Faults.{Rose};
 ghost use Rattle.gx_io.specs.LibraryUse.{library_use};
 ghost use Rattle.gx_io.specs.SinkUse.{sink_use};
-ghost use Rattle.gx_processor.specs.Answer.{Answers, loads_of};
-ghost use Rattle.gx_processor.specs.Command.{bytes_of, command_of};
+ghost use Rattle.gx_processor.specs.Answer.{Answers, AnswersCommand, loads_of};
+ghost use Rattle.gx_processor.specs.Command.{bytes_of, query_file};
+ghost use Rattle.gx_processor.specs.CommandView.{plain_command};
 ghost use Rattle.gx_processor.specs.Ending.{Ends, Put, PutOutput};
 ghost use Rattle.gx_processor.specs.FaultLines.{line, placed_line};
 ghost use Rattle.gx_processor.specs.Promises.{Promises};
-ghost use Rattle.gx_processor.specs.Replies.{RepliesSo, IsWellFormed, IsUsageOrStarved, IsFaultOrStarved};
+ghost use Rattle.gx_processor.specs.Replies.{IsQueryReply, RepliesSo, IsWellFormed, IsMisuse, IsUsageOrStarved, IsFaultOrStarved, IsOutputOrStarved, IsComparison};
 
-use crate::command::command_of_words;
+use crate::command::{Command, command_of_words, texts_to_compare};
 use crate::output::output;
 use crate::refusal::Refusal;
 use crate::reply::Reply;
 use crate::status::Status;
 use gx_base::code::Code;
+use gx_base::limits::FILE_BYTES;
 use gx_base::place::Place;
 use gx_core::laws::sound_queries_keep_their_types;
 use gx_io::{Library, PutError, Sink};
 use gx_static::laws::{query_rejection_names_a_failure, query_typing_is_sound};
+use gx_subtype::subtype::{Side, SubtypeError, subtype};
 use std::alloc::{AllocError, Global};
 
 /// Answers the words of the command line over the files of a library: puts the output to `out`, or a fault line to
@@ -29,6 +33,8 @@ use std::alloc::{AllocError, Global};
 ///
 /// `run FILE` writes the value of the query in the file (XQuery 1.0, section 2.2; Serialization, section 2), and
 /// `check FILE` writes the text of the type that the static rules give the query (XQuery 1.0, section 2.2.3.1).
+/// `subtype TEXT TEXT` writes whether the type of the left text is included in that of the right one (XQuery 1.0 and XPath
+/// 2.0 Formal Semantics, section 8.3): `yes`, `no: ` with the first list of shapes that is not, or `unknown`.
 pub fn galax<L: Library, O: Sink, E: Sink>(
     alloc: Global,
     words: &[String],
@@ -57,11 +63,24 @@ fn reply_to<L: Library>(alloc: Global, words: &[String], library: &mut L) -> Rep
     ensures counted { L.faults library.old ≤ L.faults library.new }
     ensures answer { IfSome (L.files library.old) (λ files. RepliesSo result (Answers (bytes_of words.now) files)) }
     ensures cause { IsWellFormed (bytes_of words.now) (Rose (L.faults library.old) (L.faults library.new)) result }
-    ensures usage { command_of (bytes_of words.now) ≡ None → IsUsageOrStarved result }
+    ensures usage { (line : List ℕ) → IsMisuse (bytes_of words.now) line → IsUsageOrStarved result }
 {
-    let Some(command) = command_of_words(words) else {
-        return fault(alloc, Status::Usage, "Usage: words", "");
-    };
+    if let Some((left, right)) = texts_to_compare(words) {
+        return comparison(alloc, left, right);
+    }
+    match command_of_words(words) {
+        Some(command) => query_reply(alloc, command, library),
+        None => fault(alloc, Status::Usage, "Usage: words", ""),
+    }
+}
+
+// What the program replies to a command over a query.
+fn query_reply<L: Library>(alloc: Global, command: Command<'_>, library: &mut L) -> Reply
+    ensures loads { Loads L.was_loaded (query_file (plain_command command.entry) ∷ []) library.old library.new }
+    ensures counted { L.faults library.old ≤ L.faults library.new }
+    ensures answer { IfSome (L.files library.old) (λ files. RepliesSo result (AnswersCommand files (Some (plain_command command.entry)))) }
+    ensures cause { IsQueryReply (plain_command command.entry) (Rose (L.faults library.old) (L.faults library.new)) result }
+{
     match output(alloc, command, library) {
         Ok(text) => Reply::Output(text),
         Err(Refusal::ReadFault) => fault(alloc, Status::ReadFault, "ReadFault ", command.file()),
@@ -69,6 +88,31 @@ fn reply_to<L: Library>(alloc: Global, words: &[String], library: &mut L) -> Rep
         Err(Refusal::Query { code, place }) => placed_fault(alloc, code, place),
         Err(Refusal::Dynamic(code)) => fault(alloc, Status::Dynamic, code.text(), ""),
         Err(Refusal::Memory) => Reply::Starved,
+    }
+}
+
+// What the program replies where two type texts are compared.
+fn comparison(alloc: Global, left: &str, right: &str) -> Reply
+    requires left { length left.now ≤ FILE_BYTES }
+    requires right { length right.now ≤ FILE_BYTES }
+    ensures { IsComparison (chars left.now) (chars right.now) result }
+{
+    match subtype(alloc, left, right) {
+        Ok(answer) => output_line(answer),
+        Err(SubtypeError::NoType(Side::Left)) => fault(alloc, Status::Usage, "Usage: type 1", ""),
+        Err(SubtypeError::NoType(Side::Right)) => fault(alloc, Status::Usage, "Usage: type 2", ""),
+        Err(SubtypeError::Memory) => Reply::Starved,
+    }
+}
+
+// An output that is one line.
+fn output_line(text: String) -> Reply
+    ensures { IsOutputOrStarved (line (string_bytes text)) result }
+{
+    let mut line = text;
+    match line.push('\n') {
+        Ok(()) => Reply::Output(line),
+        Err(_) => Reply::Starved,
     }
 }
 

@@ -11,4 +11,4 @@ mod Examples
 mod Builds
 mod Holding
 mod Trees
-mod TypesRead
+pub mod TypesRead

@@ -4,7 +4,7 @@ ghost use Rattle.std.specs.Prelude.{List, ℕ};
 ghost use Rattle.gx_grammar.specs.Text.{IsReadable, IsVerdict};
 ghost use Rattle.gx_typetext.specs.Examples.{Examples};
 ghost use Rattle.gx_typetext.specs.Grammar.{type_phrase, type_texts};
-ghost use Rattle.gx_typetext.specs.TreeLaws.{PiecesHaveOneType, TypeTextsAreTrees};
+ghost use Rattle.gx_typetext.specs.TreeLaws.{PiecesHaveOneType, RefusedTextsHaveNoType, TypeTextsAreTrees, TypeTextsHaveOneType};
 ghost use Rattle.gx_typetext.specs.Verdicts.{read_pieces};
 
 /// The tokens of type texts keep the laws of tokens, and the guards of their grammar decide.
@@ -31,4 +31,14 @@ pub fn type_texts_are_trees()
 /// Trees of the same pieces stand for the same type, so that a type text stands for one type.
 pub fn pieces_have_one_type()
     ensures { PiecesHaveOneType }
+{}
+
+/// A type text stands for one type.
+pub fn type_texts_have_one_type()
+    ensures { TypeTextsHaveOneType }
+{}
+
+/// A text that is refused, but for want of memory, stands for no type.
+pub fn refused_texts_have_no_type()
+    ensures { RefusedTextsHaveNoType }
 {}
