@@ -3,6 +3,7 @@
 
 pub mod dismantle;
 pub mod expression;
+pub mod items;
 pub mod name;
 pub mod query;
 pub mod sequence_type;

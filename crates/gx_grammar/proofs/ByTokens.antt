@@ -1,15 +1,17 @@
-use Rattle.std.proofs.Common.{◌≡◌, ℕ, ◌≤◌, Bool, true, false, ◌||◌, List, [], ◌∷◌, ◌++◌, inl, inr, length, refl, sym, ap, subst, ◌∙◌, Option, Some, None, is_some, arith}
+use Rattle.std.proofs.Common.{◌≡◌, ℕ, ◌≤◌, Bool, true, false, ◌||◌, List, [], ◌∷◌, ◌++◌, ◌⊎◌, inl, inr, length, refl, sym, ap, subst, ◌∙◌, Option, Some, None, is_some, arith}
 use Rattle.gx_grammar.specs.Grammar.{token, empty}
 use Rattle.gx_grammar.specs.Language.{Language, Part, Made}
 use Rattle.gx_grammar.specs.Derivation.{Derives}
 use Rattle.gx_grammar.specs.Opening.{Opens, open_end, open_left, open_token, OpensUpTo}
 use Rattle.gx_grammar.specs.Halting.{Halts}
-use Rattle.gx_grammar.specs.Decision.{Chooses, Repeats}
+use Rattle.gx_grammar.specs.Decision.{Texts, Until, BeforeCut, Chooses, Repeats}
+use Rattle.gx_grammar.specs.Levels.{takes_some}
+use Rattle.gx_grammar.specs.Avoiding.{Avoids}
 use Rattle.gx_grammar.specs.Laws.{LawfulTokens}
 use Rattle.gx_grammar.specs.First.{IsIn, AllOf, Stands, StandsFirst, StartsWith, EndsOrStarts, BeginsWith, begins_empty, begins_opening, begins_token, Fronts, first_of, first_behind, scans_any, seen_any, by_tokens, AreApart, AreFronts, TokensChoose}
 use Rattle.gx_grammar.proofs.Readings.{min_is}
 use Rattle.gx_grammar.proofs.Exact.{opens_as}
-use Rattle.gx_grammar.proofs.First.{all_in, in_left, first_in, begins_in, starts, halting, begins, before_starts, before_begins}
+use Rattle.gx_grammar.proofs.First.{all_in, starts, halting, begins, until_starts, before_begins}
 
 module _ (L : Language) (lawful : LawfulTokens L) where
   abbrev First : List L.Token → List ℕ → Type 0
@@ -70,18 +72,15 @@ module _ (L : Language) (lawful : LawfulTokens L) where
       of_token_opens w open_end = open_end
       of_token_opens w (open_token o) = a.0 w o
 
-  module _ (f : Fronts L) (right : AreFronts L f) (ts : List L.Token) (A B : Part L) (us : List L.Token) (given : TokensChoose L f ts A B us) where
-    abbrev Begun : List L.Token → List ℕ → Type 0
-    Begun vs x = BeginsWith L.derives L.opens vs x
-
+  module _ (f : Fronts L) (right : AreFronts L f) (ts : List L.Token) (A : Part L) (takes : takes_some L f.takings A ≡ true) (begins_so : AllOf (IsIn ts) (first_of L f A)) (opening : AllOf (λ t. (x : List ℕ) → L.opens t x → Opens L A x) ts) where
     starts_first : {v : Made L} {x y : List ℕ} → Derives L A v x y → StartsWith L.derives (first_of L f A) x
-    starts_first d = elim (starts L f right d) [ inl s ↦ s | inr p ↦ (let e = given.takes in let g = p.1 in absurd (cc (e, g))) ]
+    starts_first d = elim (starts L f right d) [ inl s ↦ s | inr p ↦ (let e = takes in let g = p.1 in absurd (cc (e, g))) ]
 
     starts_scanned : {v : Made L} {x y : List ℕ} → Derives L A v x y → scans_one ts x ≡ true
-    starts_scanned {x = x} d = let s = starts_first d in scans ts s.token x (all_in (IsIn ts) (first_of L f A) given.first s.token s.among) (inl (s.value, s.rest, s.derived))
+    starts_scanned {x = x} d = let s = starts_first d in scans ts s.token x (all_in (IsIn ts) (first_of L f A) begins_so s.token s.among) (inl (s.value, s.rest, s.derived))
 
     halts_scanned : {x z : List ℕ} {code : ℕ} → Halts L A x code z → scans_one ts x ≡ true
-    halts_scanned {x = x} h = let s = halting L f right h in scans ts s.token x (all_in (IsIn ts) (first_of L f A) given.first s.token s.among) s.stands
+    halts_scanned {x = x} h = let s = halting L f right h in scans ts s.token x (all_in (IsIn ts) (first_of L f A) begins_so s.token s.among) s.stands
 
     -- where no token was scanned, A is opened no further than was seen
     passed_token : (u : L.Token) (x z : List ℕ) → IsIn ts u → L.opens u x → seen_any L.seen ts (x ++ z) ≤ length z
@@ -89,71 +88,89 @@ module _ (L : Language) (lawful : LawfulTokens L) where
 
     passed_start : (x z : List ℕ) → scans_one ts (x ++ z) ≡ false → StartsWith L.derives (first_of L f A) x → seen_any L.seen ts (x ++ z) ≤ length z
     passed_start x z e s =
-        let i = all_in (IsIn ts) (first_of L f A) given.first s.token s.among in
+        let i = all_in (IsIn ts) (first_of L f A) begins_so s.token s.among in
         elim (lawful.goes_on s.token s.value x s.rest z s.derived) [
           | inl d ↦ (let t = scans ts s.token (x ++ z) i (inl (s.value, s.rest ++ z, d)) in absurd (cc (e, t)))
           | inr o ↦ passed_token s.token x z i o
         ]
 
-    passed : (x z : List ℕ) → scans_one ts (x ++ z) ≡ false → Begun (first_of L f A) x → seen_any L.seen ts (x ++ z) ≤ length z
+    passed : (x z : List ℕ) → scans_one ts (x ++ z) ≡ false → BeginsWith L.derives L.opens (first_of L f A) x → seen_any L.seen ts (x ++ z) ≤ length z
     passed x z e begins_empty = seen_within ts z
-    passed x z e (begins_opening u i o) = passed_token u x z (all_in (IsIn ts) (first_of L f A) given.first u i) o
+    passed x z e (begins_opening u i o) = passed_token u x z (all_in (IsIn ts) (first_of L f A) begins_so u i) o
     passed x z e (begins_token s) = passed_start x z e s
 
     -- where a token was scanned, what began otherwise opens A
-    against_token : (u : L.Token) (x z : List ℕ) → scans_one ts (x ++ z) ≡ true → IsIn (first_behind L f B us) u → L.opens u x → Opens L A x
-    against_token u x z e i o =
-        let s = scanned ts (x ++ z) e in
-        let apart = all_in (λ t. AreApart L t u) ts (all_in (λ u. AllOf (λ t. AreApart L t u) ts) (first_behind L f B us) given.apart u i) s.token s.among in
-        elim (apart.opening x z o s.stands) [
-          | inl n ↦ subst (λ w. Opens L A w) (sym n) open_end
-          | inr q ↦ all_in (λ t. (x : List ℕ) → L.opens t x → Opens L A x) ts given.opening s.token s.among x q
-        ]
-
-    against : (x z : List ℕ) → scans_one ts (x ++ z) ≡ true → Begun (first_behind L f B us) x → Opens L A x
-    against x z e begins_empty = open_end
-    against x z e (begins_opening u i o) = against_token u x z e i o
-    against x z e (begins_token b) = elim (lawful.goes_on b.token b.value x b.rest z b.derived) [
-      | inl d ↦ (let s = scanned ts (x ++ z) e in
-          let apart = all_in (λ t. AreApart L t b.token) ts (all_in (λ u. AllOf (λ t. AreApart L t u) ts) (first_behind L f B us) given.apart b.token b.among) s.token s.among in
-          absurd (apart.never (x ++ z) s.stands (inl (b.value, b.rest ++ z, d))))
-      | inr o ↦ against_token b.token x z e b.among o
+    against : (K C : Texts) → Avoids L ts K C → (x z : List ℕ) → scans_one ts (x ++ z) ≡ true → C x → Opens L A x
+    against K C avoids x z e c = elim (avoids.opening x z c (scanned ts (x ++ z) e)) [
+      | inl n ↦ subst (λ w. Opens L A w) (sym n) open_end
+      | inr o ↦ all_in (λ t. (x : List ℕ) → L.opens t x → Opens L A x) ts opening o.0 o.1 x o.2
     ]
 
-    not_at_end : (t : L.Token) (x : List ℕ) → f.takings.token_takes t ≡ true → x ≡ [] → Stands L.derives L.faults t x → ⊥
-    not_at_end t x full e (inl d) = let h = right.taken.tokens t d.0 x d.1 full d.2 in let k : length x ≡ 0 = ap length e in absurd (omega (arith, h, k))
-    not_at_end t x full e (inr h) = let k : L.faults t x ≡ None = ap (L.faults t) e ∙ lawful.faultless t in let g = h.1 in absurd (cc (k, g))
+    not_scanned : (K C : Texts) → Avoids L ts K C → (x : List ℕ) → K x → scans_one ts x ≡ false
+    not_scanned K C avoids x k = scans_none ts x (λ s. avoids.never x k s)
 
-    not_scanned : (x : List ℕ) → EndsOrStarts L.derives L.faults (first_behind L f B us) x → scans_one ts x ≡ false
-    not_scanned x (inl e) = scans_none ts x (λ s. not_at_end s.token x (all_in (λ t. f.takings.token_takes t ≡ true) ts given.full s.token s.among) e s.stands)
-    not_scanned x (inr b) = scans_none ts x (λ s. (
-        let apart = all_in (λ t. AreApart L t b.token) ts (all_in (λ u. AllOf (λ t. AreApart L t u) ts) (first_behind L f B us) given.apart b.token b.among) s.token s.among in
-        apart.never x s.stands b.stands))
-
-    behind_begun : (x : List ℕ) → Begun (first_of L f B) x → Begun (first_behind L f B us) x
-    behind_begun x b = begins_in L.derives L.opens (first_of L f B) (first_behind L f B us) x (λ u i. in_left (first_of L f B) _ u i) b
-
-    pub tokens_choose : Chooses L (by_tokens L.scan L.faults L.seen ts) A B (EndsOrStarts L.derives L.faults us) (BeginsWith L.derives L.opens us)
-    tokens_choose = record {
-      sees = λ x. opens_as (λ w o. open_left o) (seen_opens A ts x given.opening);
+    -- A guard by tokens decides before what avoids them.
+    pub avoided_choose : (B : Part L) (K C : Texts) → Avoids L ts (Until L B K) (BeforeCut L B C) → Chooses L (by_tokens L.scan L.faults L.seen ts) A B K C
+    avoided_choose B K C avoids = record {
+      sees = λ x. opens_as (λ w o. open_left o) (seen_opens A ts x opening);
       left = λ v x y d k. starts_scanned d;
-      right = λ v x y d k. not_scanned x (before_starts L f right B us x (record { value = v; rest = y; derived = d; behind = k }));
+      right = λ v x y d k. not_scanned (Until L B K) (BeforeCut L B C) avoids x (inl (record { value = v; rest = y; derived = d; behind = k }));
       left_halts = λ x z code h. halts_scanned h;
-      right_halts = λ x z code h. not_scanned x (inr (first_in L.derives L.faults (first_of L f B) (first_behind L f B us) x (λ u i. in_left (first_of L f B) _ u i) (halting L f right h)));
+      right_halts = λ x z code h. not_scanned (Until L B K) (BeforeCut L B C) avoids x (inr (code, z, h));
       left_cut = λ x z e o. inr (passed x z e (begins L f right o));
-      right_cut = λ x z e o. inl (against x z e (behind_begun x (begins L f right o)));
+      right_cut = λ x z e o. inl (against (Until L B K) (BeforeCut L B C) avoids x z e (inl o));
       left_before = λ v x y z e d n c. inr (passed_start x z e (starts_first d));
-      right_before = λ v x y z e d n c. inl (against x z e (before_begins L f right B us x (inr (record { value = v; rest = y; derived = d; behind = c }))));
+      right_before = λ v x y z e d n c. inl (against (Until L B K) (BeforeCut L B C) avoids x z e (inr (record { value = v; rest = y; derived = d; behind = c })));
     }
+
+    pub avoided_repeat : (K C : Texts) → Avoids L ts K C → Repeats L (by_tokens L.scan L.faults L.seen ts) A K C
+    avoided_repeat K C avoids = record {
+      sees = λ x. seen_opens A ts x opening;
+      item = λ v x y d k. starts_scanned d;
+      item_halts = λ x z code h. halts_scanned h;
+      stop = λ x k. not_scanned K C avoids x k;
+      item_cut = λ x z e o. inr (passed x z e (begins L f right o));
+      item_before = λ v x y z e d n c. inr (passed_start x z e (starts_first d));
+      stop_before = λ x z e n c. inl (against K C avoids x z e c);
+    }
+
+  module _ (f : Fronts L) (right : AreFronts L f) (ts us : List L.Token) (full : AllOf (λ t. f.takings.token_takes t ≡ true) ts) (apart : AllOf (λ u. AllOf (λ t. AreApart L t u) ts) us) where
+    not_at_end : (t : L.Token) (x : List ℕ) → f.takings.token_takes t ≡ true → x ≡ [] → Stands L.derives L.faults t x → ⊥
+    not_at_end t x takes e (inl d) = let h = right.taken.tokens t d.0 x d.1 takes d.2 in let k : length x ≡ 0 = ap length e in absurd (omega (arith, h, k))
+    not_at_end t x takes e (inr h) = let k : L.faults t x ≡ None = ap (L.faults t) e ∙ lawful.faultless t in let g = h.1 in absurd (cc (k, g))
+
+    pair_apart : (t u : L.Token) → IsIn ts t → IsIn us u → AreApart L t u
+    pair_apart t u i j = all_in (λ t. AreApart L t u) ts (all_in (λ u. AllOf (λ t. AreApart L t u) ts) us apart u j) t i
+
+    not_first : (x : List ℕ) → EndsOrStarts L.derives L.faults us x → First ts x → ⊥
+    not_first x (inl e) s = not_at_end s.token x (all_in (λ t. f.takings.token_takes t ≡ true) ts full s.token s.among) e s.stands
+    not_first x (inr b) s = (pair_apart s.token b.token s.among b.among).never x s.stands b.stands
+
+    opens_one : (u : L.Token) (x z : List ℕ) → IsIn us u → L.opens u x → First ts (x ++ z) → (x ≡ []) ⊎ ((t : L.Token) × IsIn ts t × L.opens t x)
+    opens_one u x z i o s = elim ((pair_apart s.token u s.among i).opening x z o s.stands) [ inl n ↦ inl n | inr q ↦ inr (s.token, s.among, q) ]
+
+    first_opens : (x z : List ℕ) → BeginsWith L.derives L.opens us x → First ts (x ++ z) → (x ≡ []) ⊎ ((t : L.Token) × IsIn ts t × L.opens t x)
+    first_opens x z begins_empty s = inl refl
+    first_opens x z (begins_opening u i o) s = opens_one u x z i o s
+    first_opens x z (begins_token b) s = elim (lawful.goes_on b.token b.value x b.rest z b.derived) [
+      | inl d ↦ absurd ((pair_apart s.token b.token s.among b.among).never (x ++ z) s.stands (inl (b.value, b.rest ++ z, d)))
+      | inr o ↦ opens_one b.token x z b.among o s
+    ]
+
+    -- Tokens are avoided where others stand that are apart from them.
+    pub apart_avoids : Avoids L ts (EndsOrStarts L.derives L.faults us) (BeginsWith L.derives L.opens us)
+    apart_avoids = record { never = not_first; opening = first_opens }
+
+  -- what avoids tokens does so where less may follow
+  pub avoids_less : (ts : List L.Token) (K C M D : Texts) → ((y : List ℕ) → M y → K y) → ((y : List ℕ) → D y → C y) → Avoids L ts K C → Avoids L ts M D
+  avoids_less ts K C M D k c a = record { never = λ x m s. a.never x (k x m) s; opening = λ x z d s. a.opening x z (c x d) s }
+
+  module _ (f : Fronts L) (right : AreFronts L f) (ts : List L.Token) (A B : Part L) (us : List L.Token) (given : TokensChoose L f ts A B us) where
+    pub tokens_choose : Chooses L (by_tokens L.scan L.faults L.seen ts) A B (EndsOrStarts L.derives L.faults us) (BeginsWith L.derives L.opens us)
+    tokens_choose =
+        avoided_choose f right ts A given.takes given.first given.opening B (EndsOrStarts L.derives L.faults us) (BeginsWith L.derives L.opens us)
+        (avoids_less ts _ _ _ _ (until_starts L f right B us) (before_begins L f right B us) (apart_avoids f right ts (first_behind L f B us) given.full given.apart))
 
   module _ (f : Fronts L) (right : AreFronts L f) (ts : List L.Token) (A : Part L) (us : List L.Token) (given : TokensChoose L f ts A empty us) where
     pub tokens_repeat : Repeats L (by_tokens L.scan L.faults L.seen ts) A (EndsOrStarts L.derives L.faults us) (BeginsWith L.derives L.opens us)
-    tokens_repeat = record {
-      sees = λ x. seen_opens A ts x given.opening;
-      item = λ v x y d k. starts_scanned f right ts A empty us given d;
-      item_halts = λ x z code h. halts_scanned f right ts A empty us given h;
-      stop = λ x k. not_scanned f right ts A empty us given x k;
-      item_cut = λ x z e o. inr (passed f right ts A empty us given x z e (begins L f right o));
-      item_before = λ v x y z e d n c. inr (passed_start f right ts A empty us given x z e (starts_first f right ts A empty us given d));
-      stop_before = λ x z e n c. inl (against f right ts A empty us given x z e c);
-    }
+    tokens_repeat = avoided_repeat f right ts A given.takes given.first given.opening (EndsOrStarts L.derives L.faults us) (BeginsWith L.derives L.opens us) (apart_avoids f right ts us given.full given.apart)

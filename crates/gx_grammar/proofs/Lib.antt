@@ -11,6 +11,7 @@ pub mod Unique
 pub mod Levels
 pub mod First
 pub mod ByTokens
+pub mod Avoiding
 pub mod ByCharacter
 pub mod Sorted
 pub mod Tokens

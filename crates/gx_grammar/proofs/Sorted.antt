@@ -13,11 +13,11 @@ module _ (L : Language) where
   before_less : (A : Part L) (K M : Texts) → ((y : List ℕ) → M y → K y) → (y : List ℕ) → Before L A M y → Before L A K y
   before_less A K M k y b = record { value = b.value; rest = b.rest; derived = b.derived; behind = k b.rest b.behind }
 
-  until_less : (A : Part L) (K M : Texts) → ((y : List ℕ) → M y → K y) → (y : List ℕ) → Until L A M y → Until L A K y
+  pub until_less : (A : Part L) (K M : Texts) → ((y : List ℕ) → M y → K y) → (y : List ℕ) → Until L A M y → Until L A K y
   until_less A K M k y (inl b) = inl (before_less A K M k y b)
   until_less A K M k y (inr h) = inr h
 
-  before_cut_less : (A : Part L) (C D : Texts) → ((y : List ℕ) → D y → C y) → (y : List ℕ) → BeforeCut L A D y → BeforeCut L A C y
+  pub before_cut_less : (A : Part L) (C D : Texts) → ((y : List ℕ) → D y → C y) → (y : List ℕ) → BeforeCut L A D y → BeforeCut L A C y
   before_cut_less A C D c y (inl o) = inl o
   before_cut_less A C D c y (inr b) = inr (before_less A C D c y b)
 
@@ -59,7 +59,7 @@ module _ (L : Language) where
   decides_less (made f A) K C M D k c d = decides_less A K C M D k c d
 
   module _ (lawful : LawfulTokens L) (f : Fronts L) (right : AreFronts L f) where
-    shortens : (A : Part L) → takes_some L f.takings A ≡ true → Shortens L A
+    pub shortens : (A : Part L) → takes_some L f.takings A ≡ true → Shortens L A
     shortens A e = λ v x y d h. (let k = takes_off L lawful f.takings right.taken d e in let q : length x ≡ length y = ap length h in absurd (omega (arith, k, q)))
 
     -- Guards that decide by the first tokens decide.

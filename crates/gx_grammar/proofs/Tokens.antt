@@ -13,7 +13,7 @@ use Rattle.gx_grammar.proofs.Unique.{same_some}
 same_number : (c d : ℕ) → (c == d) ≡ true → c ≡ d
 same_number c d e = eqb-true c d e
 
-equal_self : (c : ℕ) → (c == c) ≡ true
+pub equal_self : (c : ℕ) → (c == c) ≡ true
 equal_self c = eq-eqb c c refl
 
 pub head_cut : (test : ℕ → Bool) (y z : List ℕ) → head_passes test (y ++ z) ≡ false → head_passes test y ≡ false

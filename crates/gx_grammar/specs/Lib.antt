@@ -10,6 +10,7 @@ pub mod Laws
 pub mod Levels
 pub mod Text
 pub mod First
+pub mod Avoiding
 pub mod Tokens
 pub mod Words
 pub mod Apart

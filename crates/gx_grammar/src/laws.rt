@@ -1,10 +1,11 @@
 ghost use Rattle.gx_base.specs.declared.place.Place.{Place};
 ghost use Rattle.gx_grammar.specs.Apart.{HasShape, OpensWord, Shape, Spells, all_apart, all_words_apart, is, shape_begins, words_begin};
 ghost use Rattle.gx_grammar.specs.Decoding.{IsUnreadableAt};
-ghost use Rattle.gx_grammar.specs.Decision.{Chooses, Repeats};
+ghost use Rattle.gx_grammar.specs.Decision.{Chooses, Repeats, BeforeCut, Until};
+ghost use Rattle.gx_grammar.specs.Avoiding.{Avoids};
 ghost use Rattle.gx_grammar.specs.Derivation.{Derives};
 ghost use Rattle.gx_grammar.specs.Either.{IsEither, IsMapped, OpensEither, scan_either, scan_mapped, seen_either};
-ghost use Rattle.gx_grammar.specs.First.{AllOf, AreApart, AreFronts, BeginsWith, CharacterChooses, EndsOrStarts, Fronts, HasHead, IsSorted, TokensChoose, by_character, by_tokens, head_passes};
+ghost use Rattle.gx_grammar.specs.First.{AllOf, AreApart, AreFronts, BeginsWith, CharacterChooses, EndsOrStarts, Fronts, HasHead, IsSorted, TokensChoose, by_character, by_tokens, head_passes, IsIn, first_of};
 ghost use Rattle.gx_grammar.specs.Fitting.{IsEmpty, IsFitting, Never, fault_of, scan_fitting, scan_never};
 ghost use Rattle.gx_grammar.specs.Gaps.{IsGap, OpensGap, scan_gap, seen_gap};
 ghost use Rattle.gx_grammar.specs.Grammar.{Guard, ◌&◌, choose, empty, keyed, made};
@@ -12,7 +13,7 @@ ghost use Rattle.gx_grammar.specs.Halting.{Halts};
 ghost use Rattle.gx_grammar.specs.Joined.{AreJoined, IsOptional, OpensJoined, Tells, scan_joined, scan_optional, seen_joined};
 ghost use Rattle.gx_grammar.specs.Language.{Language, Made, Part};
 ghost use Rattle.gx_grammar.specs.Laws.{IsExact, LawfulTokens};
-ghost use Rattle.gx_grammar.specs.Levels.{HasRanksBelow, IsLevelled, IsNotTooDeep, IsShielded, Takings};
+ghost use Rattle.gx_grammar.specs.Levels.{HasRanksBelow, IsLevelled, IsNotTooDeep, IsShielded, Takings, takes_some};
 ghost use Rattle.gx_grammar.specs.Opening.{Opens, OpensUpTo};
 ghost use Rattle.gx_grammar.specs.Ran.{IsDone, Looked, Makes, Ran, Standing, left_of};
 ghost use Rattle.gx_grammar.specs.Reading.{Reading, Refusal, State, go_on, notes, read_token, read_with, reads, repeat, start};
@@ -90,6 +91,21 @@ pub fn sorted_is_readable<G: HasLanguage>()
     ensures { (f : Fronts G.language) → LawfulTokens G.language → AreFronts G.language f → (A : Part G.language)
         → ((p : G.language.Production) → IsSorted G.language f (G.language.rules p) (f.next p))
         → IsSorted G.language f A [] → IsReadable G.language A }
+{}
+
+/// A guard by tokens decides where what stands otherwise avoids them, as does what begins with tokens that are apart from them,
+/// or is empty in front of what avoids them.
+pub fn avoided_tokens_decide<G: HasLanguage>()
+    ensures choice { (f : Fronts G.language) → LawfulTokens G.language → AreFronts G.language f
+        → (ts : List G.language.Token) (A B : Part G.language) (us : List G.language.Token)
+        → takes_some G.language f.takings A ≡ true → AllOf (IsIn ts) (first_of G.language f A) → AllOf (λ t. (x : List ℕ) → G.language.opens t x → Opens G.language A x) ts
+        → Avoids G.language ts (Until G.language B (EndsOrStarts G.language.derives G.language.faults us)) (BeforeCut G.language B (BeginsWith G.language.derives G.language.opens us))
+        → Chooses G.language (by_tokens G.language.scan G.language.faults G.language.seen ts) A B (EndsOrStarts G.language.derives G.language.faults us) (BeginsWith G.language.derives G.language.opens us) }
+    ensures behind { (f : Fronts G.language) → LawfulTokens G.language → AreFronts G.language f
+        → (ts : List G.language.Token) (A B : Part G.language) (us : List G.language.Token)
+        → AllOf (λ t. f.takings.token_takes t ≡ true) ts → AllOf (λ u. AllOf (λ t. AreApart G.language t u) ts) (first_of G.language f A)
+        → Avoids G.language ts (Until G.language B (EndsOrStarts G.language.derives G.language.faults us)) (BeforeCut G.language B (BeginsWith G.language.derives G.language.opens us))
+        → Avoids G.language ts (Until G.language (A & B) (EndsOrStarts G.language.derives G.language.faults us)) (BeforeCut G.language (A & B) (BeginsWith G.language.derives G.language.opens us)) }
 {}
 
 /// A guard by tokens decides where what stands otherwise is apart from them.

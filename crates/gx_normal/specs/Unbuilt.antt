@@ -1,9 +1,12 @@
 -- The productions of the grammar that the program does not evaluate yet. The first of them in the text is where a query is refused.
-use Rattle.std.specs.Prelude.{Option, None, Some}
+use Rattle.std.specs.Prelude.{List, [], ◌∷◌, Option, None, Some}
 use Rattle.gx_base.specs.declared.place.Place.{Place}
 use Rattle.gx_ast.specs.declared.expression.BinaryOperator.{BinaryOperator}
 use Rattle.gx_ast.specs.declared.expression.BinaryOperator.TheVariants.{Is, Before, After, Union, Intersect, Except}
 use Rattle.gx_ast.specs.declared.sequence_type.SequenceType.{SequenceType}
+use Rattle.gx_ast.specs.declared.query.Setting.{Setting}
+use Rattle.gx_ast.specs.declared.query.Definition.{Definition}
+use Rattle.gx_ast.specs.declared.query.Query.{Query}
 use Rattle.gx_ast.specs.SyntaxTree.{SyntaxTree, SyntaxForm, SyntaxTrees, Bindings, Clauses, Keys, at, number, string, variable, parenthesised, empty_sequence, call, comma, flwor, conditional, binary, instance_of, treat_as, castable_as, cast_as, signed, path, filtered, no_tree, a_tree, no_binding, a_binding, no_clause, for_clause, let_clause, where_clause, no_key, a_key}
 
 -- the first of two places in the order of the text, where there is one
@@ -76,3 +79,12 @@ abbrev mutual
   unbuilt_clauses (for_clause place bindings others) = Some place
   unbuilt_clauses (let_clause place bindings others) = earlier_place (unbuilt_bindings bindings) (unbuilt_clauses others)
   unbuilt_clauses (where_clause place condition others) = Some place
+
+-- a declaration, at the first of them; then the body
+abbrev pub unbuilt_in : List Setting → List Definition → SyntaxTree → Option Place
+unbuilt_in (s ∷ ss) ds body = Some s.place
+unbuilt_in [] (d ∷ ds) body = Some d.place
+unbuilt_in [] [] body = first_unbuilt body
+
+abbrev pub unbuilt_query : Query → Option Place
+unbuilt_query query = unbuilt_in query.settings query.definitions query.body

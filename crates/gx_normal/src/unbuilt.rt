@@ -4,9 +4,10 @@ ghost use Rattle.std.specs.Prelude.{◌≡◌, ◌∷◌, IfOk, OnOk};
 ghost use Rattle.gx_ast.specs.SyntaxView.{bindings_of, keys_of, trees_of};
 ghost use Rattle.gx_normal.specs.declared.unbuilt.Pending.TheVariants as pendings;
 ghost use Rattle.gx_normal.specs.Searching.{first_in, first_of_all};
-ghost use Rattle.gx_normal.specs.Unbuilt.{first_unbuilt, earlier_place, unbuilt_bindings, unbuilt_keys, unbuilt_operator, unbuilt_predicates};
+ghost use Rattle.gx_normal.specs.Unbuilt.{first_unbuilt, earlier_place, unbuilt_bindings, unbuilt_keys, unbuilt_operator, unbuilt_predicates, unbuilt_query};
 
 use gx_ast::expression::{BinaryOperator, Binding, Clause, Expr, ExprNode, Key};
+use gx_ast::query::Query;
 use gx_base::place::Place;
 use gx_core::stack::Stack;
 use std::alloc::{AllocError, Global};
@@ -21,13 +22,26 @@ pub(crate) enum Pending<'a> {
     Found(Option<Place>),
 }
 
-/// The place of the first production in a query that is not built, if there is one. The search ends long before its loop
-/// does.
-pub fn first_unbuilt(alloc: Global, query: &Expr) -> Result<Option<Place>, AllocError>
-    ensures { IfOk result (λ place. place ≡ first_unbuilt query.now) }
+/// The place of the first production in a query that is not built, if there is one. Declarations are not.
+pub fn unbuilt_query(alloc: Global, query: &Query) -> Result<Option<Place>, AllocError>
+    ensures { IfOk result (λ place. place ≡ unbuilt_query query.now) }
+{
+    if let Some(setting) = query.settings.as_slice().first() {
+        return Ok(Some(setting.place));
+    }
+    if let Some(definition) = query.definitions.as_slice().first() {
+        return Ok(Some(definition.place));
+    }
+    first_unbuilt(alloc, &query.body)
+}
+
+/// The place of the first production in an expression that is not built, if there is one. The search ends long before its
+/// loop does.
+pub fn first_unbuilt(alloc: Global, tree: &Expr) -> Result<Option<Place>, AllocError>
+    ensures { IfOk result (λ place. place ≡ first_unbuilt tree.now) }
 {
     let mut pending = Stack::new(alloc);
-    pending.push(Pending::Tree(query))?;
+    pending.push(Pending::Tree(tree))?;
     for _ in 0..u64::MAX {
         match pending.pop() {
             None => return Ok(None),

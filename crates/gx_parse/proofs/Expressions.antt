@@ -21,9 +21,9 @@ use Rattle.gx_parse.specs.declared.members.Members.{Members}
 use Rattle.gx_parse.specs.declared.members.Members.TheVariants.{Singles, Operands, Steps}
 use Rattle.gx_parse.specs.Characters.{is_name_start}
 use Rattle.gx_parse.specs.Names.{name_made}
-use Rattle.gx_parse.specs.Nodes.{Node, Made, Arguments, Found, Operator, Tree, name_at, name_length, named_value, second_value, signed_value, condition_value, parenthesised_value, arguments_value, trees_in, is_minus, tree, chain_value, joined_to, whole_tree}
+use Rattle.gx_parse.specs.Nodes.{Node, Made, Arguments, Found, Operator, Tree, name_at, name_length, named_value, second_value, signed_value, condition_value, parenthesised_value, arguments_value, trees_in, is_minus, tree, chain_value, joined_to}
 use Rattle.gx_parse.specs.Tokens.{Token, one_of, gap, gap_then_open, gap_not_open, gap_then_dollar, gap_then_neither, barred, qname}
-use Rattle.gx_parse.specs.Grammar.{Phrase, word_of, lexeme, at_tokens, operator, more, more_signs, single, rules, expression, ladder, other_operand, other_step, step, dots, literal, variable_step, parenthesised_step, more_arguments, arguments_in, arguments, behind_plain_name, behind_any_name, filtered_step, test_or_literal, path_from, signed_path, condition, branched, branched_or_name, begun, behind_keyword, opened_or_name, named_single, is_name, is_reserved, is_single, level_at, two, chain, query_language, query, place_in}
+use Rattle.gx_parse.specs.Grammar.{Phrase, word_of, lexeme, at_tokens, operator, more, more_signs, single, rules, expression, ladder, other_operand, other_step, step, dots, literal, variable_step, parenthesised_step, more_arguments, arguments_in, arguments, behind_plain_name, behind_any_name, filtered_step, test_or_literal, path_from, signed_path, condition, branched, branched_or_name, begun, behind_keyword, opened_or_name, named_single, is_name, is_reserved, is_single, level_at, two, chain, query_language, place_in}
 use Rattle.gx_parse.specs.Casts.{casts}
 use Rattle.gx_parse.specs.declared.word.Opening.{Opening}
 use Rattle.gx_parse.specs.Binding.{opening_named, opened}
@@ -314,10 +314,3 @@ module _ (text : List ℕ) (n : ℕ) where
   unfolding other_operand
   operand_other t taken a b c e h k =
       in_right text n (at_tokens (one_of set.Signs ∷ [])) with_all_signs other_path (tree t) taken a b c e h k
-
--- a whole query
-pub query_read : (text : List ℕ) (t : SyntaxTree) (a b c : Standing) → Ran nothing a b (read_one gap) → Ran (tree t) b c (read_in text 40 (expression (place_in text) 40)) → Ran (tree t) a c (read_in text 40 (query (place_in text)))
-unfolding query
-query_read text t a b c h k =
-    in_made text 40 (λ left v. tree (whole_tree (place_in text left) v)) (token gap & expression (place_in text) 40) (pair nothing (tree t)) a c
-    (in_both text 40 (token gap) (expression (place_in text) 40) nothing (tree t) a b c (in_token text 40 gap nothing a b h) k)

@@ -40,3 +40,8 @@ pub mod BindingPhrases
 pub mod TypeswitchSorted
 pub mod TypeswitchRanks
 pub mod TypeswitchPhrases
+pub mod Ahead
+pub mod PrologSorted
+pub mod PrologRanks
+pub mod Repeated
+pub mod PrologPhrases

@@ -4,7 +4,7 @@ use Rattle.std.specs.Str.{all_scalars, chars, IsUtf8, IsValidUpTo}
 use Rattle.std.proofs.lemmas.Str.{chars-encodes, utf8_valid_len-IsValidUpTo}
 use Rattle.std.proofs.Math.Seq.{take-append_seam}
 use Rattle.gx_base.specs.declared.place.Place.{Place}
-use Rattle.gx_ast.specs.SyntaxTree.{SyntaxTree}
+use Rattle.gx_ast.specs.declared.query.Query.{Query}
 use Rattle.gx_grammar.specs.Value.{node}
 use Rattle.gx_grammar.specs.Derivation.{Derives}
 use Rattle.gx_grammar.specs.Decoding.{IsUnreadableAt}
@@ -14,9 +14,10 @@ use Rattle.gx_grammar.specs.Reading.{Refusal, Unfit, Faulty, TooDeep}
 use Rattle.gx_grammar.proofs.PublicLaws.{same_verdict}
 use Rattle.gx_parse.specs.declared.parser.SyntaxRule.{SyntaxRule}
 use Rattle.gx_parse.specs.declared.parser.SyntaxRule.TheVariants.{NotUtf8, Syntax, TooNested, LiteralTooLarge, BadReference}
-use Rattle.gx_parse.specs.Nodes.{Made, Tree}
+use Rattle.gx_parse.specs.Nodes.{Made, Whole}
 use Rattle.gx_parse.specs.Tokens.{limit_code, number_code, reference_code}
-use Rattle.gx_parse.specs.Grammar.{query_language, query, place_in}
+use Rattle.gx_parse.specs.Grammar.{query_language, place_in}
+use Rattle.gx_parse.specs.Prolog.{query}
 use Rattle.gx_parse.specs.Query.{IsQuery, IsText, Parsing, parsed, refused, Parses}
 use Rattle.gx_parse.proofs.Verdict.{one_tree, one_text, unreadable_is_not_utf8}
 
@@ -54,7 +55,7 @@ record Refusing (bytes : List ℕ) (rule : SyntaxRule) (place : Place) : Type 0 
   decoded : IsText bytes text
   left : ℕ
   verdict : IsVerdict (query_language (place_in text)) (query (place_in text)) text (answer_of rule left)
-  none : (t : SyntaxTree) → IsQuery text t → ⊥
+  none : (t : Query) → IsQuery text t → ⊥
   there : place ≡ place_in text left
 
 abbrev Unread : List ℕ → SyntaxRule → Place → Type 0
@@ -62,10 +63,10 @@ Unread bytes rule place = (rule ≡ NotUtf8) × IsUnreadableAt bytes place
 
 refusing : (bytes : List ℕ) (rule : SyntaxRule) (place : Place) → Parses bytes (refused rule place) → Unread bytes rule place ⊎ Refusing bytes rule place
 refusing bytes NotUtf8 place p = inl (refl, p)
-refusing bytes Syntax place p = inr (record { text = p.0; decoded = p.1; left = p.2.left; verdict = p.2.unfit; none = λ t d. p.2.unfit.none (node (Tree t)) d; there = p.2.there })
-refusing bytes TooNested place p = inr (record { text = p.0; decoded = p.1; left = p.2.left; verdict = p.2.faulty; none = λ t d. p.2.faulty.none (node (Tree t)) d; there = p.2.there })
-refusing bytes LiteralTooLarge place p = inr (record { text = p.0; decoded = p.1; left = p.2.left; verdict = p.2.faulty; none = λ t d. p.2.faulty.none (node (Tree t)) d; there = p.2.there })
-refusing bytes BadReference place p = inr (record { text = p.0; decoded = p.1; left = p.2.left; verdict = p.2.faulty; none = λ t d. p.2.faulty.none (node (Tree t)) d; there = p.2.there })
+refusing bytes Syntax place p = inr (record { text = p.0; decoded = p.1; left = p.2.left; verdict = p.2.unfit; none = λ t d. p.2.unfit.none (node (Whole t)) d; there = p.2.there })
+refusing bytes TooNested place p = inr (record { text = p.0; decoded = p.1; left = p.2.left; verdict = p.2.faulty; none = λ t d. p.2.faulty.none (node (Whole t)) d; there = p.2.there })
+refusing bytes LiteralTooLarge place p = inr (record { text = p.0; decoded = p.1; left = p.2.left; verdict = p.2.faulty; none = λ t d. p.2.faulty.none (node (Whole t)) d; there = p.2.there })
+refusing bytes BadReference place p = inr (record { text = p.0; decoded = p.1; left = p.2.left; verdict = p.2.faulty; none = λ t d. p.2.faulty.none (node (Whole t)) d; there = p.2.there })
 
 -- a text and an unreadable place exclude each other
 not_both : (bytes text : List ℕ) (place : Place) → IsText bytes text → IsUnreadableAt bytes place → ⊥

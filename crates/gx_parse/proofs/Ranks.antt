@@ -11,15 +11,15 @@ use Rattle.gx_parse.specs.declared.word.WordSet.{WordSet}
 use Rattle.gx_parse.specs.declared.word.WordSet.TheVariants as set
 use Rattle.gx_parse.specs.Nodes.{Made, Join, join_binary, join_path, join_comma}
 use Rattle.gx_parse.specs.Tokens.{Token, gap, gap_then_open, gap_not_open, gap_then_neither}
-use Rattle.gx_parse.specs.Grammar.{Production, single, Phrase, at_tokens, is_single, level_at, is_name, is_reserved, operator, more, stop, chain, two, expression, numeral, literal, name, variable_step, dots, parenthesised_step, more_arguments, arguments_in, arguments, after_name, after_axis, step_of, behind_plain_name, behind_any_name, test_or_literal, other_step, step, predicate, more_predicates, filtered_step, path_from, more_signs, signed_path, other_operand, ladder, condition, typeswitch, branched, branched_or_name, begun, behind_keyword, opened_or_name, named_single, rules, query, query_language}
+use Rattle.gx_parse.specs.Grammar.{Production, single, Phrase, at_tokens, is_single, level_at, is_name, is_reserved, operator, more, stop, chain, two, expression, numeral, literal, name, variable_step, dots, parenthesised_step, more_arguments, arguments_in, arguments, after_name, after_axis, step_of, behind_plain_name, behind_any_name, test_or_literal, other_step, step, predicate, more_predicates, filtered_step, path_from, more_signs, signed_path, other_operand, ladder, condition, typeswitch, branched, branched_or_name, begun, behind_keyword, opened_or_name, named_single, rules, query_language}
 use Rattle.gx_parse.specs.declared.word.Opening.{Opening}
-use Rattle.gx_parse.specs.declared.word.Opening.TheVariants as opening_is
 use Rattle.gx_parse.specs.Binding.{opening_named, opened}
 use Rattle.gx_parse.proofs.BindingRanks.{flwor_low, quantified_low}
 use Rattle.gx_parse.specs.declared.word.Branching.{Branching}
-use Rattle.gx_parse.specs.declared.word.Branching.TheVariants as branching_is
 use Rattle.gx_parse.specs.Typeswitch.{branching_named}
 use Rattle.gx_parse.proofs.TypeswitchRanks.{cases_low, default_head_low}
+use Rattle.gx_parse.specs.declared.word.Opening.TheVariants as opening_is
+use Rattle.gx_parse.specs.declared.word.Branching.TheVariants as branching_is
 use Rattle.gx_parse.specs.Strings.{string_part, string_parts, quoted, string_of}
 use Rattle.gx_grammar.specs.Grammar.{empty}
 use Rattle.gx_grammar.specs.Value.{nothing, characters, node, pair, no_item, an_item}
@@ -61,7 +61,7 @@ module _ (at : ℕ → Place) where
   below : (n : ℕ) → n < suc n
   below n = omega arith
 
-  expression_low : (n : ℕ) → Low (suc n) (expression at n)
+  pub expression_low : (n : ℕ) → Low (suc n) (expression at n)
   unfolding expression
   expression_low n = chain_low (suc n) join_comma (set.Only word.Comma) (rule (single n)) (rule (single n)) barrier.Single (below n) (below n)
 
@@ -252,13 +252,9 @@ module _ (at : ℕ → Place) where
   any_single_low : (n : ℕ) (v : Made) → Low (suc n) (ladder at 8 n (path_from at n (any_step at v)))
   any_single_low n v = ladder_low 8 n (path_from at n (any_step at v)) (path_low n (any_step at v) (any_step_low (suc n) v))
 
-  production_shielded : (p : Production) → IsShielded (query_language at) (fronts at).takings rank (rank p) (rules at p)
+  pub production_shielded : (p : Production) → IsShielded (query_language at) (fronts at).takings rank (rank p) (rules at p)
   production_shielded (single zero) = tt
   production_shielded (single (suc n)) = below_shields (query_language at) (fronts at).takings rank (suc n) (rules at (single (suc n))) ((λ v. wildcard_or_low (suc n) v (ladder at 8 n (path_from at n (any_step at v))) (named_single at n v) (any_single_low n v) (named_low n v)), ladder_low 8 n (other_operand at n) (other_operand_low n))
 
-  pub levelled : IsLevelled (query_language at) (fronts at).takings
+  unfoldable pub levelled : IsLevelled (query_language at) (fronts at).takings
   levelled = record { takings = taken at; rank = rank; shielded = production_shielded }
-
-  pub query_ranks : HasRanksBelow (query_language at) levelled.rank 41 (query at)
-  unfolding levelled query
-  query_ranks = (tt, expression_low 40)

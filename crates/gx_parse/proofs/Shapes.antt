@@ -10,21 +10,23 @@ use Rattle.gx_grammar.specs.Words.{spellings, scan_one_of}
 use Rattle.gx_grammar.specs.Fitting.{fault_of, fault_where}
 use Rattle.gx_grammar.specs.Laws.{LawfulTokens}
 use Rattle.gx_grammar.specs.Levels.{AreTakings}
-use Rattle.gx_grammar.specs.Apart.{Spells, HasShape, is}
+use Rattle.gx_grammar.specs.Apart.{Spells, HasShape, is, word_begins}
 use Rattle.std.proofs.lemmas.Bool.{and_parts}
 use Rattle.gx_grammar.proofs.PublicLaws.{lawful_tokens, one_of_opened, one_of_opening, one_of_spells}
+use Rattle.gx_grammar.proofs.Tokens.{equal_self}
 use Rattle.gx_parse.specs.declared.word.WordSet.{WordSet}
 use Rattle.gx_parse.specs.Characters.{is_digit, is_name_start, is_name_character, is_char, no_character}
-use Rattle.gx_parse.specs.Words.{words_of}
+use Rattle.gx_parse.specs.Words.{letters_of, words_of}
+use Rattle.gx_parse.specs.declared.word.Word.{Word}
 use Rattle.gx_parse.specs.Nodes.{Node, Made}
 use Rattle.gx_parse.specs.Numeral.{IsDigits, OpensNumeral, is_small, scan_literal}
 use Rattle.gx_parse.specs.declared.word.Barrier.{Barrier}
-use Rattle.gx_parse.specs.Tokens.{Token, one_of, qname, number, number_end, gap, gap_then_open, gap_not_open, barred, indication, entries, IsNCName, IsGapHere, begins_at, barrier_fault, limit_code, number_code, derives, opens, faults, begins_gap, begins_number, shape_of, text_run, reference, white, blank, no_attribute, tag_name, cdata_text, ncname, local_wildcard, gap_then_dollar, gap_then_neither, barred_words, begins_dollar}
+use Rattle.gx_parse.specs.Tokens.{Token, one_of, qname, number, number_end, gap, gap_then_open, gap_not_open, barred, indication, entries, IsNCName, IsGapHere, begins_at, barrier_fault, limit_code, number_code, derives, opens, faults, begins_gap, begins_number, shape_of, text_run, reference, white, blank, no_attribute, tag_name, cdata_text, ncname, local_wildcard, gap_then_dollar, gap_then_neither, barred_words, begins_dollar, leading, begins_word}
 use Rattle.gx_parse.specs.declared.runs.Run.{Run}
 use Rattle.gx_parse.specs.References.{is_text}
 use Rattle.gx_parse.proofs.ReferenceTokens.{reference_begins, fault_begins, reference_opened}
 use Rattle.gx_parse.specs.Grammar.{query_language}
-use Rattle.gx_parse.proofs.Tokens.{token_lawful, literal_lawful, pointed_begins, Begins, or_left, or_right}
+use Rattle.gx_parse.proofs.Tokens.{token_lawful, literal_lawful, pointed_begins, Begins, or_left, or_right, is_full, word_full}
 
 abbrev Stood : Token → List ℕ → Type 0
 Stood t x = Stands {Node = Node} derives faults t x
@@ -161,6 +163,24 @@ barred_stand ws x (inr f) = go (scan_one_of (entries (words_of ws)) x) refl f.1
     go None e g = absurd (cc g)
     go (Some r) e g = one_of_spells (entries (words_of ws)) r.0 x r.1 ((token_lawful (one_of ws)).sound r.0 x r.1 e)
 
+-- two words
+
+letters_begin : (cs x y : List ℕ) → is_full cs ≡ true → x ≡ cs ++ y → (x ≢ []) × (head_passes (λ c. word_begins (is c) true cs) x ≡ true)
+letters_begin [] x y e f = absurd (cc)
+letters_begin (d ∷ cs) x y e f = full_head (λ c. word_begins (is c) true (d ∷ cs)) d (cs ++ y) f (equal_self d)
+
+front_begins : (cs x : List ℕ) → IsFrontOf x cs → x ≢ [] → head_passes (λ c. word_begins (is c) true cs) x ≡ true
+front_begins cs [] o n = absurd (n refl)
+front_begins cs (c ∷ x) o n = ap (word_begins (is c) true) o.1 ∙ equal_self c
+
+leading_stand : (w : Word) (ws : WordSet) (x : List ℕ) → Stood (leading w ws) x → (x ≢ []) × (head_passes (begins_word w) x ≡ true)
+leading_stand w ws x (inl d) = let j = d.2 in letters_begin (letters_of w) x j.between (word_full w) j.begins.spelled
+leading_stand w ws x (inr f) = absurd (let e = f.1 in cc e)
+
+leading_open : (w : Word) (ws : WordSet) (x : List ℕ) → opens (leading w ws) x → x ≢ [] → head_passes (begins_word w) x ≡ true
+leading_open w ws x (inl o) n = front_begins (letters_of w) x o n
+leading_open w ws x (inr o) n = let d = o.2 in (letters_begin (letters_of w) x o.1 (word_full w) d.spelled).1
+
 -- literal text and references
 
 texts_stand : (r : Run) (x : List ℕ) → Stood (text_run r) x → (x ≢ []) × (head_passes (is_text r) x ≡ true)
@@ -209,3 +229,4 @@ module _ (at : ℕ → Place) where
   shaped gap_then_dollar = (dollars_stand, dollars_open)
   shaped gap_then_neither = tt
   shaped (barred_words ws) = (barred_stand ws, (λ x o. one_of_opened (entries (words_of ws)) x o), (λ x o. one_of_opening (entries (words_of ws)) x o))
+  shaped (leading w ws) = (leading_stand w ws, leading_open w ws)

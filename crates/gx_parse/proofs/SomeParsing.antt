@@ -5,8 +5,8 @@ use Rattle.std.proofs.lemmas.Str.{IsUtf8-from_is_utf8, is_utf8-from_IsUtf8}
 use Rattle.std.proofs.lemmas.List.{take_all}
 use Rattle.std.proofs.Math.Nat.{eq-or-lt_of_le, lt_of_not-le}
 use Rattle.gx_base.specs.declared.place.Place.{Place}
-use Rattle.gx_ast.specs.SyntaxTree.{SyntaxTree}
-use Rattle.gx_grammar.specs.Value.{Value}
+use Rattle.gx_ast.specs.declared.query.Query.{Query}
+use Rattle.gx_grammar.specs.Value.{Value, node}
 use Rattle.gx_grammar.specs.Grammar.{Grammar, made}
 use Rattle.gx_grammar.specs.Derivation.{Derives, of_made}
 use Rattle.gx_grammar.specs.Halting.{Halts, halt_token, halt_first, halt_second, halt_key, halt_behind, halt_left, halt_right, halt_item, halt_later, halt_rule, halt_made}
@@ -22,9 +22,10 @@ use Rattle.gx_parse.specs.declared.runs.Radix.TheVariants as radix
 use Rattle.gx_parse.specs.Numeral.{is_small, scan_literal}
 use Rattle.gx_parse.specs.References.{closes}
 use Rattle.gx_parse.specs.Words.{words_of}
-use Rattle.gx_parse.specs.Nodes.{Node, Made, Tree, tree, whole_tree}
-use Rattle.gx_parse.specs.Tokens.{Token, one_of, qname, number, number_end, gap, gap_then_open, gap_not_open, barred, indication, text_run, reference, white, blank, no_attribute, tag_name, cdata_text, ncname, local_wildcard, gap_then_dollar, gap_then_neither, barred_words, entries, faults, begins_at, scan_reference, limit_code, number_code, reference_code}
-use Rattle.gx_parse.specs.Grammar.{Phrase, query_language, query, place_in}
+use Rattle.gx_parse.specs.Nodes.{Node, Made, Whole}
+use Rattle.gx_parse.specs.Tokens.{Token, one_of, qname, number, number_end, gap, gap_then_open, gap_not_open, barred, indication, text_run, reference, white, blank, no_attribute, tag_name, cdata_text, ncname, local_wildcard, gap_then_dollar, gap_then_neither, barred_words, entries, faults, begins_at, scan_reference, limit_code, number_code, reference_code, leading}
+use Rattle.gx_parse.specs.Grammar.{Phrase, query_language, place_in}
+use Rattle.gx_parse.specs.Prolog.{query, query_in}
 use Rattle.gx_parse.specs.Reading.{more_than}
 use Rattle.gx_parse.specs.Query.{IsQuery, IsText, Parsing, parsed, refused, Parses}
 use Rattle.gx_parse.proofs.Verdict.{verdict}
@@ -83,6 +84,7 @@ token_codes (local_wildcard b) x code e = absurd (not_none code e)
 token_codes gap_then_dollar x code e = absurd (not_none code e)
 token_codes gap_then_neither x code e = absurd (not_none code e)
 token_codes (barred_words ws) x code e = inl (word_codes (scan_one_of (entries (words_of ws)) x) code e)
+token_codes (leading w ws) x code e = absurd (not_none code e)
 
 module _ (at : ℕ → Place) where
   codes_of : {A : Phrase} {x z : List ℕ} {code : ℕ} → Halts (query_language at) A x code z → IsCode code
@@ -101,10 +103,10 @@ module _ (at : ℕ → Place) where
   made_value : {f : ℕ → Made → Made} {A : Phrase} {v : Made} {x y : List ℕ} → Derives (query_language at) (made f A) v x y → (w : Made) × (v ≡ f (length x) w)
   made_value (of_made {v = w} d) = (w, refl)
 
--- every value of a query is a tree
-query_value : (text : List ℕ) (v : Made) → Derives (query_language (place_in text)) (query (place_in text)) v text [] → (t : SyntaxTree) × (v ≡ tree t)
+-- every value of a text is a query
+query_value : (text : List ℕ) (v : Made) → Derives (query_language (place_in text)) (query (place_in text)) v text [] → (t : Query) × (v ≡ node (Whole t))
 unfolding query
-query_value text v d = let r = made_value (place_in text) d in (whole_tree (place_in text (length text)) r.0, r.1)
+query_value text v d = let r = made_value (place_in text) d in (query_in (place_in text (length text)) r.0, r.1)
 
 -- texts
 

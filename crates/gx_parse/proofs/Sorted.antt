@@ -6,7 +6,6 @@ use Rattle.gx_grammar.specs.Grammar.{token, empty, ◌&◌, keyed, choose, many,
 use Rattle.gx_grammar.specs.Opening.{open_token, open_first, open_second, open_made}
 use Rattle.gx_grammar.specs.Laws.{LawfulTokens}
 use Rattle.gx_grammar.specs.Levels.{takes_some, AreTakings}
-use Rattle.gx_grammar.specs.Text.{IsReadable}
 use Rattle.gx_grammar.specs.First.{by_character, IsIn, AllOf, first_of, first_behind, head_passes, HasHead, AreApart, Stands, AreFronts, IsSorted, CharacterChooses, TokensChoose}
 use Rattle.gx_grammar.specs.Apart.{Shape, HasShape, all_apart, is, shape_begins, words_begin}
 use Rattle.std.proofs.lemmas.Bool.{and_parts}
@@ -23,7 +22,7 @@ use Rattle.gx_grammar.specs.Value.{nothing}
 use Rattle.gx_parse.specs.Nodes.{Node, Made, Join, join_binary, join_path, join_comma}
 use Rattle.gx_parse.specs.declared.word.Barrier.{Barrier}
 use Rattle.gx_parse.specs.Tokens.{Token, one_of, qname, number, number_end, gap, gap_then_open, gap_not_open, gap_then_dollar, barred, begins_sign, shape_of, takes, derives, faults}
-use Rattle.gx_parse.specs.Grammar.{Production, single, Phrase, lexeme, word_of, at_tokens, is_single, level_at, is_name, is_reserved, operator, more, stop, chain, two, expression, numeral, literal, name, variable_step, dots, parenthesised_step, more_arguments, arguments_in, arguments, after_name, after_axis, step_of, behind_plain_name, behind_any_name, test_or_literal, other_step, step, predicate, more_predicates, filtered_step, path_from, more_signs, signed_path, other_operand, ladder, condition, typeswitch, branched, branched_or_name, begun, behind_keyword, opened_or_name, named_single, rules, query, behind_single, query_language}
+use Rattle.gx_parse.specs.Grammar.{Production, single, Phrase, lexeme, word_of, at_tokens, is_single, level_at, is_name, is_reserved, operator, more, stop, chain, two, expression, numeral, literal, name, variable_step, dots, parenthesised_step, more_arguments, arguments_in, arguments, after_name, after_axis, step_of, behind_plain_name, behind_any_name, test_or_literal, other_step, step, predicate, more_predicates, filtered_step, path_from, more_signs, signed_path, other_operand, ladder, condition, typeswitch, branched, branched_or_name, begun, behind_keyword, opened_or_name, named_single, rules, behind_single, query_language}
 use Rattle.gx_parse.specs.Casts.{casts, type_test, cast_test, casts_fit, behind_cast}
 use Rattle.gx_parse.specs.Fronts.{fronts}
 use Rattle.gx_parse.specs.declared.word.Opening.{Opening}
@@ -122,7 +121,7 @@ module _ (at : ℕ → Place) where
     ),
   )
 
-  expression_sorted : (n : ℕ) (us : List Token) → all_apart shape_of (word_of word.Comma ∷ []) us ≡ true → AllOf (IsIn (behind_single at)) us → Sorts (expression at n) us
+  pub expression_sorted : (n : ℕ) (us : List Token) → all_apart shape_of (word_of word.Comma ∷ []) us ≡ true → AllOf (IsIn (behind_single at)) us → Sorts (expression at n) us
   unfolding expression
   expression_sorted n us e f = chain_sorted join_comma (set.Only word.Comma) (rule (single n)) (rule (single n)) barrier.Single us e (inl refl, f) (inl refl, f)
 
@@ -445,7 +444,7 @@ module _ (at : ℕ → Place) where
 
   -- the levels of operators, before these tokens
 
-  abbrev operators : Level → Token
+  abbrev pub operators : Level → Token
   operators l = one_of (set.Operators l)
 
   abbrev operands_fit : ℕ → List Token → Bool
@@ -454,7 +453,7 @@ module _ (at : ℕ → Place) where
       all_apart shape_of (operators (level_at k) ∷ []) us && (operands_fit k (operators (level_at k) ∷ us) && (if is_single (level_at k) then (operands_fit k us) else true))
 
   -- what follows the first operand
-  abbrev innermost : ℕ → List Token → List Token
+  abbrev pub innermost : ℕ → List Token → List Token
   innermost zero us = behind_cast us
   innermost (suc k) us = innermost k (operators (level_at k) ∷ us)
 
@@ -588,22 +587,14 @@ module _ (at : ℕ → Place) where
   unfolding named_single
   named_sorted n v = opened_or_name_sorted n v (opening_named v)
 
-  single_fails : (n : ℕ) → AllOf (HasHead (query_language at) is_name_start false) (first_behind (query_language at) (fronts at) (ladder at 8 n (other_operand at n)) (behind_single at))
+  pub single_fails : (n : ℕ) → AllOf (HasHead (query_language at) is_name_start false) (first_behind (query_language at) (fronts at) (ladder at 8 n (other_operand at n)) (behind_single at))
   unfolding ladder casts type_test cast_test two chain other_operand operator path_from filtered_step other_step variable_step parenthesised_step dots test_or_literal attribute_step wildcard_step wildcard literal string_of quoted numeral is_name_start
   single_fails n = let w = words_no_name (one_of set.Signs ∷ []) refl in (w.0, step_fails)
 
-  production_sorted : (p : Production) → Sorts (rules at p) (behind_single at)
+  pub production_sorted : (p : Production) → Sorts (rules at p) (behind_single at)
   production_sorted (single zero) = tt
   production_sorted (single (suc n)) = (
     character_chooses (query_language at) is_name_start (fronts at) right _ (ladder at 8 n (other_operand at n)) (behind_single at) (record { takes = refl; passes = (name_passes, tt); fails = single_fails n }),
     (λ v. wildcard_or_sorted at right v (ladder at 8 n (path_from at n (any_step at v))) (named_single at n v) (behind_single at) (begun_path_sorted n (any_step at v) (any_step_sorted v _)) (named_sorted n v)),
     ladder_sorted 8 n (other_operand at n) (behind_single at) levels_fit (other_operand_sorted n (innermost 8 (behind_single at)) inside_fits),
   )
-
-  query_sorted : Sorts (query at) []
-  unfolding query
-  query_sorted = (tt, expression_sorted 40 [] refl tt)
-
-  -- What the language owes is met.
-  pub readable : IsReadable (query_language at) (query at)
-  readable = sorted_readable (query_language at) (lawful at) (fronts at) right (query at) production_sorted query_sorted

@@ -84,7 +84,7 @@ taken_value (Some r) n v t e = (r.1, ap (λ o. Some ((ok_value (v, t) o).0, r.1)
 only_taken : (k : Word) (v : Made) (x : List ℕ) (n : ℕ) (t : State) → taken (scan (word_of k) x) n ≡ Ok (v, t) → v ≡ node (Found k)
 only_taken k v x n t e = let r = taken_value (scan (word_of k) x) n v t e in only_value k v x r.0 r.1
 
-only_word : (k w : Word) (a b : Standing) → Ran (node (Found w)) a b (read_one (word_of k)) → Ran (node (Found k)) a b (read_one (word_of k))
+pub only_word : (k w : Word) (a b : Standing) → Ran (node (Found w)) a b (read_one (word_of k)) → Ran (node (Found k)) a b (read_one (word_of k))
 unfolding read_one
 only_word k w (Going s) (Going t) h = let e = only_taken k (node (Found w)) s.rest (min s.far (seen (word_of k) s.rest)) t h in h ∙ ap (λ v. Ok (v, t)) e
 only_word k w (Going s) (GaveUp r) h = h

@@ -18,11 +18,11 @@ use Rattle.gx_parse.specs.declared.word.Level.TheVariants as level
 use Rattle.gx_parse.specs.declared.word.WordSet.{WordSet}
 use Rattle.gx_parse.specs.declared.word.WordSet.TheVariants as set
 use Rattle.gx_parse.specs.Characters.{is_digit, is_name_start, is_name_character, is_char, no_character}
-use Rattle.gx_parse.specs.Words.{letters_of, spelling_of, words_of}
-use Rattle.gx_parse.specs.Nodes.{Node, Made}
+use Rattle.gx_parse.specs.Words.{letters_of, ends_at, ending_of, spelling_of, words_of}
+use Rattle.gx_parse.specs.Nodes.{Node, Made, Found}
 use Rattle.gx_parse.specs.Numeral.{together, IsDigits, scan_digits, IsFraction, scan_fraction, starts_point, HasFraction, scan_with_fraction, IsPointed, OpensNumeral, scan_pointed, seen_numeral, has_digit, is_small, IsLiteral, scan_literal, IsNumeral, scan_numeral}
 use Rattle.gx_parse.specs.declared.word.Barrier.{Barrier}
-use Rattle.gx_parse.specs.Tokens.{Token, one_of, qname, number, number_end, gap, gap_then_open, gap_not_open, barred, indication, entry_of, entries, IsNCName, scan_ncname, behind_colon, IsColon, scan_colon, OpensColon, IsLocalPart, OpensLocalPart, scan_local_part, seen_local_part, starts_local_part, HasLocalPart, scan_has_local_part, IsQName, OpensQName, no_value, IsGapHere, scan_gap_here, IsParenthesis, scan_parenthesis, OpensParenthesis, scan_no_parenthesis, OpensNothing, indicators, first_of_two, IsIndicator, OpensIndicator, scan_indicator, seen_indicator, stops_type, IsNoIndicator, scan_no_indicator, begins_at, barrier_fault, limit_code, number_code, derives, opens, scan, seen, faults, takes, begins_gap, begins_number, text_run, reference, white, blank, no_attribute, tag_name, cdata_text, ncname, local_wildcard, wildcard_letters, IsLocalWildcard, scan_local_wildcard, starts_local_wildcard, no_characters, begins_attribute, cdata_value, cdata_walk, entity_words, gap_then_dollar, gap_then_neither, barred_words, IsDollar, scan_dollar, OpensDollar, stops_name, IsNeither, scan_neither, word_fault}
+use Rattle.gx_parse.specs.Tokens.{Token, one_of, qname, number, number_end, gap, gap_then_open, gap_not_open, barred, indication, entry_of, entries, IsNCName, scan_ncname, behind_colon, IsColon, scan_colon, OpensColon, IsLocalPart, OpensLocalPart, scan_local_part, seen_local_part, starts_local_part, HasLocalPart, scan_has_local_part, IsQName, OpensQName, no_value, IsGapHere, scan_gap_here, IsParenthesis, scan_parenthesis, OpensParenthesis, scan_no_parenthesis, OpensNothing, indicators, first_of_two, IsIndicator, OpensIndicator, scan_indicator, seen_indicator, stops_type, IsNoIndicator, scan_no_indicator, begins_at, barrier_fault, limit_code, number_code, derives, opens, scan, seen, faults, takes, begins_gap, begins_number, text_run, reference, white, blank, no_attribute, tag_name, cdata_text, ncname, local_wildcard, wildcard_letters, IsLocalWildcard, scan_local_wildcard, starts_local_wildcard, no_characters, begins_attribute, cdata_value, cdata_walk, entity_words, gap_then_dollar, gap_then_neither, barred_words, IsDollar, scan_dollar, OpensDollar, stops_name, IsNeither, scan_neither, word_fault, leading, second_of_two, IsGapWith, OpensGapWith, scan_gap_with, seen_gap_with, IsTheWord, OpensTheWord, scan_the_word}
 use Rattle.gx_parse.specs.References.{is_text, text_value}
 use Rattle.gx_parse.proofs.ReferenceTokens.{reference_lawful, number_shorter}
 
@@ -43,6 +43,10 @@ set_apart set.Indicators = refl
 set_apart set.Directions = refl
 set_apart set.Extremes = refl
 set_apart set.Binders = refl
+set_apart set.Versions = refl
+set_apart set.Setters = refl
+set_apart set.SpaceModes = refl
+set_apart set.Definers = refl
 
 -- names
 
@@ -168,6 +172,20 @@ then_neither_lawful =
     lawful_joined IsGapHere (OpensGap is_char 0) scan_gap_here (seen_gap is_char 0) gap_lawful IsNeither OpensNothing scan_neither (seen_word [])
     (lawful_word nothing [] stops_name) no_value
 
+-- two words
+
+pub the_word_lawful : (w : Word) → LawfulToken (IsTheWord w) (OpensTheWord w) (scan_the_word w) (seen_word (letters_of w)) no_fault
+the_word_lawful w = lawful_word (node (Found w)) (letters_of w) (ends_at (ending_of w))
+
+gap_with_lawful : (ws : WordSet) → LawfulToken (IsGapWith ws) (OpensGapWith ws) (scan_gap_with ws) (seen_gap_with ws) no_fault
+gap_with_lawful ws =
+    lawful_joined IsGapHere (OpensGap is_char 0) scan_gap_here (seen_gap is_char 0) gap_lawful (IsOneOf (entries (words_of ws))) (OpensOneOf (entries (words_of ws))) (scan_one_of (entries (words_of ws))) (seen_one_of (entries (words_of ws)))
+    (lawful_one_of (entries (words_of ws)) (set_apart ws)) second_of_two
+
+leading_lawful : (w : Word) (ws : WordSet) → LawfulToken (derives (leading w ws)) (opens (leading w ws)) (scan (leading w ws)) (seen (leading w ws)) no_fault
+leading_lawful w ws =
+    lawful_joined (IsTheWord w) (OpensTheWord w) (scan_the_word w) (seen_word (letters_of w)) (the_word_lawful w) (IsGapWith ws) (OpensGapWith ws) (scan_gap_with ws) (seen_gap_with ws) (gap_with_lawful ws) second_of_two
+
 -- indicators
 
 indicator_lawful : LawfulToken IsIndicator OpensIndicator scan_indicator seen_indicator no_fault
@@ -195,11 +213,11 @@ indication_lawful =
 
 -- what takes characters
 
-abbrev is_full : List ℕ → Bool
+abbrev pub is_full : List ℕ → Bool
 is_full [] = false
 is_full (c ∷ cs) = true
 
-word_full : (w : Word) → is_full (letters_of w) ≡ true
+pub word_full : (w : Word) → is_full (letters_of w) ≡ true
 word_full word.Comma = refl
 word_full word.Open = refl
 word_full word.Close = refl
@@ -293,6 +311,27 @@ word_full word.AnyName = refl
 word_full word.In = refl
 word_full word.Assign = refl
 word_full word.By = refl
+word_full word.XQuery = refl
+word_full word.Version = refl
+word_full word.DoubleVersion = refl
+word_full word.SingleVersion = refl
+word_full word.Encoding = refl
+word_full word.Declare = refl
+word_full word.Namespace = refl
+word_full word.BoundarySpace = refl
+word_full word.Preserve = refl
+word_full word.Strip = refl
+word_full word.Construction = refl
+word_full word.Ordering = refl
+word_full word.Ordered = refl
+word_full word.CopyNamespaces = refl
+word_full word.NoPreserve = refl
+word_full word.NoInherit = refl
+word_full word.Import = refl
+word_full word.Schema = refl
+word_full word.Variable = refl
+word_full word.External = refl
+word_full word.Function = refl
 
 word_shorter : (ws : List Word) (v : Made) (x y : List ℕ) → IsOneOf (entries ws) v x y → length y < length x
 word_shorter [] v x y d = absurd d
@@ -336,6 +375,7 @@ token_lawful gap_then_neither = then_neither_lawful
 token_lawful (barred_words ws) =
     lawful_stop (IsOneOf (entries (words_of ws))) (OpensOneOf (entries (words_of ws))) (scan_one_of (entries (words_of ws))) (seen_one_of (entries (words_of ws))) no_fault (lawful_one_of (entries (words_of ws)) (set_apart ws)) (word_fault ws)
     (no_word_fault ws)
+token_lawful (leading w ws) = leading_lawful w ws
 
 named_shorter : {value : List ℕ → Made} (first test stop : ℕ → Bool) (v : Made) (x y : List ℕ) → IsNamed value first test stop v x y → length y < length x
 named_shorter first test stop v x y d = omega (arith, ap length d.whole, ap length d.others.spelled, length-append d.others.run y)
@@ -403,3 +443,6 @@ tokens_taken (local_wildcard b) v x y e d = absurd (cc)
 tokens_taken gap_then_dollar v x y e d = let g = gap_behind d.front x d.between d.begins in omega (arith, g, ap length d.ends.spelled)
 tokens_taken gap_then_neither v x y e d = absurd (cc)
 tokens_taken (barred_words ws) v x y e d = absurd d
+tokens_taken (leading w ws) v x y e d =
+    let j = d.ends in
+    omega (arith, word_shorter (w ∷ []) d.front x d.between (inl d.begins), gap_behind j.front d.between j.between j.begins, word_shorter (words_of ws) j.back j.between y j.ends)

@@ -4,7 +4,7 @@ use Rattle.std.specs.Str.{all_scalars, chars, IsUtf8, IsValidUpTo}
 use Rattle.std.proofs.lemmas.Str.{chars-encodes, length-le-encodes}
 use Rattle.std.proofs.lemmas.List.{take_all}
 use Rattle.gx_base.specs.declared.place.Place.{Place}
-use Rattle.gx_ast.specs.SyntaxTree.{SyntaxTree}
+use Rattle.gx_ast.specs.declared.query.Query.{Query}
 use Rattle.gx_grammar.specs.Value.{node}
 use Rattle.gx_grammar.specs.Text.{AtEnd, Nowhere, IsVerdict, read_text, whole_only, with_rest}
 use Rattle.gx_grammar.specs.Ran.{Standing, Going, GaveUp, Lost, Ran}
@@ -19,16 +19,18 @@ use Rattle.gx_parse.specs.declared.reader.Refused.{Refused}
 use Rattle.gx_parse.specs.declared.reader.Refused.TheVariants as refused_by
 use Rattle.gx_parse.specs.declared.reader.End.{End}
 use Rattle.gx_parse.specs.declared.reader.End.TheVariants as ended
-use Rattle.gx_parse.specs.Nodes.{Made, Tree, tree}
-use Rattle.gx_parse.specs.Grammar.{query_language, query, place_in}
+use Rattle.gx_parse.specs.Nodes.{Made, Whole}
+use Rattle.gx_parse.specs.Grammar.{query_language, place_in}
+use Rattle.gx_parse.specs.Prolog.{query}
 use Rattle.gx_parse.specs.Query.{IsQuery, IsText, Parses, parsed, RefusesText, RefusesBytes, refusal_at}
-use Rattle.gx_parse.proofs.Sorted.{readable}
-use Rattle.gx_parse.proofs.Ranks.{levelled, query_ranks}
+use Rattle.gx_parse.proofs.PrologSorted.{readable}
+use Rattle.gx_parse.proofs.Ranks.{levelled}
+use Rattle.gx_parse.proofs.PrologRanks.{query_ranks}
 
-pub one_tree : (text : List ℕ) (s t : SyntaxTree) → IsQuery text s → IsQuery text t → s ≡ t
+pub one_tree : (text : List ℕ) (s t : Query) → IsQuery text s → IsQuery text t → s ≡ t
 one_tree text s t d e =
     let r = readable (place_in text) in
-    let same : node (Tree s) ≡ node (Tree t) = (unique (query_language (place_in text)) r.tokens r.productions d e AtEnd Nowhere r.top refl refl).0 in
+    let same : node (Whole s) ≡ node (Whole t) = (unique (query_language (place_in text)) r.tokens r.productions d e AtEnd Nowhere r.top refl refl).0 in
     cc
 
 enough : (n k : ℕ) → n + k ≤ more_than n k
@@ -43,7 +45,7 @@ verdict text =
     (never_too_deep (query_language (place_in text)) (query (place_in text)) r (fronts (place_in text)).takings (levelled (place_in text)) 41 (query_ranks (place_in text)) (more_than (length text) 41) text (omega (arith, h)))
 
 -- what the reading of a whole text says, where it ended so
-abbrev pub Says : List ℕ → SyntaxTree → Option End → Type 0
+abbrev pub Says : List ℕ → Query → Option End → Type 0
 Says text t None = IsQuery text t
 Says text t (Some end) = RefusesText (refusal_at text end) text
 
@@ -75,9 +77,9 @@ module _ (text : List ℕ) where
   goes_on v far (c ∷ rest) n = refl
 
   -- What is read of a whole text is its tree or its refusal.
-  pub text_read : (t : SyntaxTree) (b : Standing) (o : Option End) → Ran (tree t) (Going (start text)) b (read_in text 40 (query (place_in text))) → Ended o b → Says text t o
-  text_read t (Going s) None h e = (said (Ok (tree t)) (read_so (Ok (tree t, s)) h ∙ ended_there (tree t) s.far s.rest e)).derived
-  text_read t (Going s) (Some (ended.GaveUp r)) h e = by_refusal text r (said (Err (refusal_of r)) (read_so (Ok (tree t, s)) h ∙ goes_on (tree t) s.far s.rest e.0 ∙ ap (λ x. Err x) (sym e.1)))
+  pub text_read : (t : Query) (b : Standing) (o : Option End) → Ran (node (Whole t)) (Going (start text)) b (read_in text 40 (query (place_in text))) → Ended o b → Says text t o
+  text_read t (Going s) None h e = (said (Ok (node (Whole t))) (read_so (Ok (node (Whole t), s)) h ∙ ended_there (node (Whole t)) s.far s.rest e)).derived
+  text_read t (Going s) (Some (ended.GaveUp r)) h e = by_refusal text r (said (Err (refusal_of r)) (read_so (Ok (node (Whole t), s)) h ∙ goes_on (node (Whole t)) s.far s.rest e.0 ∙ ap (λ x. Err x) (sym e.1)))
   text_read t (Going s) (Some ended.Lost) h e = tt
   text_read t (GaveUp x) None h e = absurd e
   text_read t (GaveUp x) (Some (ended.GaveUp r)) h e = by_refusal text r (said (Err (refusal_of r)) (read_so (Err x) h ∙ ap (λ y. Err y) e))
@@ -112,10 +114,10 @@ bytes_refused bytes text (RefusedBy LiteralTooLarge place) t r = (text, t, r)
 bytes_refused bytes text (RefusedBy BadReference place) t r = (text, t, r)
 bytes_refused bytes text Memory t r = tt
 
-pub results_parsed : (bytes text : List ℕ) (r : Result SyntaxTree SyntaxRefusal) → IsText bytes text → IfOk r (λ t. IsQuery text t) → IfOk r (λ t. Parses bytes (parsed t))
+pub results_parsed : (bytes text : List ℕ) (r : Result Query SyntaxRefusal) → IsText bytes text → IfOk r (λ t. IsQuery text t) → IfOk r (λ t. Parses bytes (parsed t))
 results_parsed bytes text (Ok t) d h = (text, d, h)
 results_parsed bytes text (Err e) d h = tt
 
-pub results_refused : (bytes text : List ℕ) (r : Result SyntaxTree SyntaxRefusal) → IsText bytes text → IfErr r (λ e. RefusesText e text) → IfErr r (λ e. RefusesBytes e bytes)
+pub results_refused : (bytes text : List ℕ) (r : Result Query SyntaxRefusal) → IsText bytes text → IfErr r (λ e. RefusesText e text) → IfErr r (λ e. RefusesBytes e bytes)
 results_refused bytes text (Ok t) d h = tt
 results_refused bytes text (Err e) d h = bytes_refused bytes text e d h

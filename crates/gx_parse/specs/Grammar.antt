@@ -45,7 +45,7 @@ use Rattle.gx_parse.specs.declared.runs.Quote.TheVariants as quote
 use Rattle.gx_parse.specs.Strings.{string_of}
 use Rattle.gx_parse.specs.Types.{kind_word}
 use Rattle.gx_parse.specs.NodeTests.{axis_word, test_of, step_tree, wildcard_or, any_step, axis_test, attribute_step, wildcard_step, kind_content}
-use Rattle.gx_parse.specs.Nodes.{Node, Made, Arguments, Content, Test, predicate_value, filtered_value, Join, join_binary, join_path, join_comma, first_value, second_value, operator_value, chain_value, signed_value, number_value, name_at, name_length, name_value, variable_value, arguments_value, named_value, dots_value, parenthesised_value, condition_value, tree, whole_tree}
+use Rattle.gx_parse.specs.Nodes.{Node, Made, Arguments, Content, Test, predicate_value, filtered_value, Join, join_binary, join_path, join_comma, first_value, second_value, operator_value, chain_value, signed_value, number_value, name_at, name_length, name_value, variable_value, arguments_value, named_value, dots_value, parenthesised_value, condition_value, tree}
 
 -- an operand stands beside at most one other
 abbrev pub is_single : Level → Bool
@@ -240,10 +240,6 @@ module _ (at : ℕ → Place) where
   abbrev pub rules : Production → Phrase
   rules (single zero) = token (barred barrier.Single)
   rules (single (suc n)) = choose (by_character is_name_start) (made (λ left v. second_value v) (keyed qname (λ v. wildcard_or v (ladder 8 n (path_from n (any_step at v))) (named_single n v)))) (ladder 8 n (other_operand n))
-
-  -- 40 Singles may stand one inside another
-  unfoldable pub query : Phrase
-  query = made (λ left v. tree (whole_tree (at left) v)) (token gap & expression 40)
 
   -- what may stand behind a Single
   abbrev pub behind_single : List Token

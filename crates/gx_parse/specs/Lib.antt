@@ -25,3 +25,6 @@ pub mod Direct
 pub mod Binding
 pub mod Typeswitch
 pub mod Lists
+pub mod Prolog
+pub mod Repeated
+pub mod PrologParts

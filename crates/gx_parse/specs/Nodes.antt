@@ -13,6 +13,16 @@ use Rattle.gx_ast.specs.declared.sequence_type.KeyOrder.{KeyOrder}
 use Rattle.gx_ast.specs.declared.sequence_type.BoundVariable.{BoundVariable}
 use Rattle.gx_ast.specs.declared.sequence_type.CaseHead.{CaseHead}
 use Rattle.gx_ast.specs.declared.sequence_type.DefaultHead.{DefaultHead}
+use Rattle.gx_ast.specs.declared.query.Version.{Version}
+use Rattle.gx_ast.specs.declared.query.Prefix.{Prefix}
+use Rattle.gx_ast.specs.declared.query.SchemaPrefix.{SchemaPrefix}
+use Rattle.gx_ast.specs.declared.query.SettingNode.{SettingNode}
+use Rattle.gx_ast.specs.declared.query.Setting.{Setting}
+use Rattle.gx_ast.specs.declared.query.Initialiser.{Initialiser}
+use Rattle.gx_ast.specs.declared.query.Parameter.{Parameter}
+use Rattle.gx_ast.specs.declared.query.DefinitionNode.{DefinitionNode}
+use Rattle.gx_ast.specs.declared.query.Definition.{Definition}
+use Rattle.gx_ast.specs.declared.query.Query.{Query}
 use Rattle.gx_ast.specs.declared.expression.BinaryOperator.{BinaryOperator}
 use Rattle.gx_ast.specs.declared.expression.BinaryOperator.TheVariants as binary_operator
 use Rattle.gx_ast.specs.SyntaxTree.{SyntaxTree, SyntaxForm, SyntaxTrees, Bindings, at, number, variable, parenthesised, empty_sequence, context_item, call, comma, conditional, binary, signed, path, axis_step, parent_step, filtered, no_tree, a_tree}
@@ -52,6 +62,19 @@ pub data Node : Type 0 where
   -- of typeswitches: what stands in front of the expression of a case, and of the default
   HeadOfCase : CaseHead → Node
   HeadOfDefault : DefaultHead → Node
+  -- of prologs: the encoding or none, the version or none, a prefix, what a schema's namespace is bound to, what a setting
+  -- says, a setting, the value of a variable, a parameter, what a definition says, a definition, and a whole query
+  Encoding : Option (List ℕ) → Node
+  MaybeVersion : Option Version → Node
+  Prefixes : Prefix → Node
+  Imports : SchemaPrefix → Node
+  Says : SettingNode → Node
+  Sets : Setting → Node
+  Starts : Initialiser → Node
+  Takes : Parameter → Node
+  Gives : DefinitionNode → Node
+  Defines : Definition → Node
+  Whole : Query → Node
 
 abbrev pub Made : Type 0
 Made = Value Node
@@ -221,8 +244,3 @@ abbrev pub condition_value : Place → Made → Made
 condition_value place (pair opening (pair gap (pair (node (Tree test)) (pair close (pair then_word (pair (node (Tree chosen)) (pair else_word (node (Tree otherwise))))))))) =
     tree (at place (conditional test chosen otherwise))
 condition_value place _ = nothing
-
--- the tree of a whole query, behind the gap in front
-abbrev pub whole_tree : Place → Made → SyntaxTree
-whole_tree place (pair gap (node (Tree t))) = t
-whole_tree place _ = at place empty_sequence

@@ -2,7 +2,7 @@
 use Rattle.std.specs.Prelude.{ℕ, List, [], ◌≡◌, true}
 use Rattle.std.specs.Str.{encode_utf8_all, all_scalars}
 use Rattle.gx_base.specs.declared.place.Place.{Place}
-use Rattle.gx_ast.specs.SyntaxTree.{SyntaxTree}
+use Rattle.gx_ast.specs.declared.query.Query.{Query}
 use Rattle.gx_grammar.specs.Value.{node}
 use Rattle.gx_grammar.specs.Derivation.{Derives}
 use Rattle.gx_grammar.specs.Decoding.{IsUnreadableAt}
@@ -15,13 +15,14 @@ use Rattle.gx_parse.specs.declared.reader.Refused.{Refused as RefusedBy}
 use Rattle.gx_parse.specs.declared.reader.Refused.TheVariants as refused_by
 use Rattle.gx_parse.specs.declared.reader.End.{End}
 use Rattle.gx_parse.specs.declared.reader.End.TheVariants as ended
-use Rattle.gx_parse.specs.Nodes.{Tree}
+use Rattle.gx_parse.specs.Nodes.{Whole}
 use Rattle.gx_parse.specs.Tokens.{limit_code, number_code, reference_code}
-use Rattle.gx_parse.specs.Grammar.{query_language, query, place_in}
+use Rattle.gx_parse.specs.Grammar.{query_language, place_in}
+use Rattle.gx_parse.specs.Prolog.{query}
 
 -- the text has this tree
-abbrev pub IsQuery : List ℕ → SyntaxTree → Type 0
-IsQuery text t = Derives (query_language (place_in text)) (query (place_in text)) (node (Tree t)) text []
+abbrev pub IsQuery : List ℕ → Query → Type 0
+IsQuery text q = Derives (query_language (place_in text)) (query (place_in text)) (node (Whole q)) text []
 
 -- The text has no tree and no fault, and its longest front that opens the grammar ends at the place.
 pub record IsUnfitAt (text : List ℕ) (place : Place) : Type 0 where
@@ -50,7 +51,7 @@ pub record IsText (bytes text : List ℕ) : Type 0 where
 
 -- what parsing comes to: a tree, or a refusal by a rule at a place
 pub data Parsing : Type 0 where
-  parsed : (tree : SyntaxTree) → Parsing
+  parsed : (tree : Query) → Parsing
   refused : (rule : SyntaxRule) → (place : Place) → Parsing
 
 -- The bytes are not UTF-8, and the place is that of the first character that cannot be read; or they are the UTF-8 of a

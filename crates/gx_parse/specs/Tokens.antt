@@ -10,7 +10,7 @@ use Rattle.gx_grammar.specs.Words.{Entry, IsOneOf, OpensOneOf, scan_one_of, seen
 use Rattle.gx_grammar.specs.Joined.{AreJoined, OpensJoined, scan_joined, seen_joined, IsOptional, scan_optional}
 use Rattle.gx_grammar.specs.Either.{IsEither, OpensEither, scan_either, seen_either, IsMapped, scan_mapped}
 use Rattle.gx_grammar.specs.Fitting.{Never, scan_never, IsEmpty, fault_of, fault_where}
-use Rattle.gx_grammar.specs.Apart.{Shape, spelled, headed, shapeless, is}
+use Rattle.gx_grammar.specs.Apart.{Shape, spelled, headed, shapeless, is, word_begins}
 use Rattle.gx_parse.specs.declared.word.Barrier.TheVariants as barrier
 use Rattle.gx_parse.specs.declared.word.Word.{Word}
 use Rattle.gx_parse.specs.declared.word.Word.TheVariants as word
@@ -21,7 +21,7 @@ use Rattle.gx_parse.specs.declared.word.Barrier.{Barrier}
 use Rattle.gx_parse.specs.declared.word.WordSet.{WordSet}
 use Rattle.gx_parse.specs.declared.word.WordSet.TheVariants as set
 use Rattle.gx_parse.specs.Characters.{is_digit, is_name_start, is_name_character, is_char, no_character}
-use Rattle.gx_parse.specs.Words.{spelling_of, words_of}
+use Rattle.gx_parse.specs.Words.{letters_of, ends_at, ending_of, spelling_of, words_of}
 use Rattle.gx_parse.specs.Nodes.{Node, Found, Made}
 use Rattle.gx_parse.specs.References.{is_text, text_value, IsNumeric, OpensNumeric, scan_numeric, seen_numeric, closes}
 use Rattle.gx_parse.specs.Numeral.{IsNumeral, OpensNumeral, scan_literal, scan_numeral, seen_numeral, is_small}
@@ -66,6 +66,8 @@ pub data Token : Type 0 where
   gap_then_neither : Token
   -- one of the words, which may not stand
   barred_words : WordSet → Token
+  -- a word, white space and comments, and one of the words
+  leading : Word → WordSet → Token
 
 abbrev pub entry_of : Word → Entry Made
 entry_of w = record { spelling = spelling_of w; value = node (Found w) }
@@ -194,6 +196,36 @@ IsNeither = IsWord nothing [] stops_name
 
 abbrev pub scan_neither : List ℕ → Option (Made × List ℕ)
 scan_neither x = scan_word nothing [] stops_name x
+
+-- two words
+
+abbrev pub second_of_two : Made → Made → Made
+second_of_two a b = b
+
+abbrev pub IsGapWith : WordSet → Made → List ℕ → List ℕ → Type 0
+IsGapWith ws = AreJoined IsGapHere (IsOneOf (entries (words_of ws))) second_of_two
+
+abbrev pub OpensGapWith : WordSet → List ℕ → Type 0
+OpensGapWith ws = OpensJoined IsGapHere (OpensGap is_char 0) (OpensOneOf (entries (words_of ws)))
+
+abbrev pub scan_gap_with : WordSet → List ℕ → Option (Made × List ℕ)
+scan_gap_with ws x = scan_joined scan_gap_here (scan_one_of (entries (words_of ws))) second_of_two x
+
+abbrev pub seen_gap_with : WordSet → List ℕ → ℕ
+seen_gap_with ws x = seen_joined scan_gap_here (seen_gap is_char 0) (seen_one_of (entries (words_of ws))) x
+
+abbrev pub IsTheWord : Word → Made → List ℕ → List ℕ → Type 0
+IsTheWord w = IsWord (node (Found w)) (letters_of w) (ends_at (ending_of w))
+
+abbrev pub OpensTheWord : Word → List ℕ → Type 0
+OpensTheWord w x = IsFrontOf x (letters_of w)
+
+abbrev pub scan_the_word : Word → List ℕ → Option (Made × List ℕ)
+scan_the_word w x = scan_word (node (Found w)) (letters_of w) (ends_at (ending_of w)) x
+
+-- the first character is that of the word
+abbrev pub begins_word : Word → ℕ → Bool
+begins_word w c = word_begins (is c) true (letters_of w)
 
 -- indicators
 
@@ -357,6 +389,7 @@ derives (local_wildcard false) = IsOptional IsLocalWildcard starts_local_wildcar
 derives gap_then_dollar = AreJoined IsGapHere IsDollar no_value
 derives gap_then_neither = AreJoined IsGapHere IsNeither no_value
 derives (barred_words ws) = Never
+derives (leading w ws) = AreJoined (IsTheWord w) (IsGapWith ws) second_of_two
 
 abbrev pub opens : Token → List ℕ → Type 0
 opens (one_of ws) = OpensOneOf (entries (words_of ws))
@@ -381,6 +414,7 @@ opens (local_wildcard false) = λ x. IsFrontOf x wildcard_letters
 opens gap_then_dollar = OpensJoined IsGapHere (OpensGap is_char 0) OpensDollar
 opens gap_then_neither = OpensJoined IsGapHere (OpensGap is_char 0) OpensNothing
 opens (barred_words ws) = OpensOneOf (entries (words_of ws))
+opens (leading w ws) = OpensJoined (IsTheWord w) (OpensTheWord w) (OpensGapWith ws)
 
 abbrev pub scan : Token → List ℕ → Option (Made × List ℕ)
 scan (one_of ws) = scan_one_of (entries (words_of ws))
@@ -405,6 +439,7 @@ scan (local_wildcard false) = scan_optional scan_local_wildcard starts_local_wil
 scan gap_then_dollar = scan_joined scan_gap_here scan_dollar no_value
 scan gap_then_neither = scan_joined scan_gap_here scan_neither no_value
 scan (barred_words ws) = scan_never
+scan (leading w ws) = scan_joined (scan_the_word w) (scan_gap_with ws) second_of_two
 
 abbrev pub seen : Token → List ℕ → ℕ
 seen (one_of ws) = seen_one_of (entries (words_of ws))
@@ -429,6 +464,7 @@ seen (local_wildcard false) = seen_word wildcard_letters
 seen gap_then_dollar = seen_joined scan_gap_here (seen_gap is_char 0) (seen_word (36 ∷ []))
 seen gap_then_neither = seen_joined scan_gap_here (seen_gap is_char 0) (seen_word [])
 seen (barred_words ws) = seen_one_of (entries (words_of ws))
+seen (leading w ws) = seen_joined (scan_the_word w) (seen_word (letters_of w)) (seen_gap_with ws)
 
 abbrev pub faults : Token → List ℕ → Option ℕ
 faults number = λ x. fault_of {V = Made} number_code is_small (scan_literal x)
@@ -485,3 +521,20 @@ shape_of (local_wildcard b) = shapeless
 shape_of gap_then_dollar = headed begins_dollar
 shape_of gap_then_neither = shapeless
 shape_of (barred_words ws) = spelled (spellings (entries (words_of ws)))
+shape_of (leading w ws) = headed (begins_word w)
+
+-- the words that begin a declaration
+abbrev pub version_words : Token
+version_words = leading word.XQuery (set.Only word.Version)
+
+abbrev pub setter_words : Token
+setter_words = leading word.Declare set.Setters
+
+abbrev pub import_words : Token
+import_words = leading word.Import (set.Only word.Schema)
+
+abbrev pub definer_words : Token
+definer_words = leading word.Declare set.Definers
+
+abbrev pub declaration_words : List Token
+declaration_words = version_words ∷ setter_words ∷ import_words ∷ definer_words ∷ []

@@ -2,7 +2,7 @@
 use Rattle.std.specs.Prelude.{ℕ, List, [], ◌∷◌, codes, Bool, ◌==◌, ◌||◌}
 use Rattle.gx_grammar.specs.Words.{Spelling}
 use Rattle.gx_parse.specs.declared.word.Word.{Word}
-use Rattle.gx_parse.specs.declared.word.Word.TheVariants.{Comma, Open, Close, Dollar, Or, And, Equal, NotEqual, Less, LessOrEqual, Greater, GreaterOrEqual, Precedes, Follows, ValueEqual, ValueNotEqual, ValueLess, ValueLessOrEqual, ValueGreater, ValueGreaterOrEqual, Is, To, Plus, Minus, Times, Divide, DivideInteger, Modulo, Union, Bar, Intersect, Except, Slash, Slashes, Dot, Dots, Then, Else, CloseBracket, CloseBrace, Semicolon, Return, Satisfies, Case, Default, Order, Stable, For, Let, Where, Ascending, Descending, Empty, Question, Element, SchemaElement, Instance, Of, Treat, Castable, Cast, As, At, Greatest, Least, Quote, Apostrophe, QuoteEnd, ApostropheEnd, TwoQuotes, TwoApostrophes, LessEntity, GreaterEntity, AmpersandEntity, QuoteEntity, ApostropheEntity, TagOpen, TagEnd, EmptyTagEnd, EndTagOpen, CdataOpen, BraceOpen, TwoOpenBraces, TwoCloseBraces, Equals, OpenBracket, AtSign, Colons, AnyPrefix, AnyName, In, Assign, By}
+use Rattle.gx_parse.specs.declared.word.Word.TheVariants.{Comma, Open, Close, Dollar, Or, And, Equal, NotEqual, Less, LessOrEqual, Greater, GreaterOrEqual, Precedes, Follows, ValueEqual, ValueNotEqual, ValueLess, ValueLessOrEqual, ValueGreater, ValueGreaterOrEqual, Is, To, Plus, Minus, Times, Divide, DivideInteger, Modulo, Union, Bar, Intersect, Except, Slash, Slashes, Dot, Dots, Then, Else, CloseBracket, CloseBrace, Semicolon, Return, Satisfies, Case, Default, Order, Stable, For, Let, Where, Ascending, Descending, Empty, Question, Element, SchemaElement, Instance, Of, Treat, Castable, Cast, As, At, Greatest, Least, Quote, Apostrophe, QuoteEnd, ApostropheEnd, TwoQuotes, TwoApostrophes, LessEntity, GreaterEntity, AmpersandEntity, QuoteEntity, ApostropheEntity, TagOpen, TagEnd, EmptyTagEnd, EndTagOpen, CdataOpen, BraceOpen, TwoOpenBraces, TwoCloseBraces, Equals, OpenBracket, AtSign, Colons, AnyPrefix, AnyName, In, Assign, By, XQuery, Version, DoubleVersion, SingleVersion, Encoding, Declare, Namespace, BoundarySpace, Preserve, Strip, Construction, Ordering, Ordered, CopyNamespaces, NoPreserve, NoInherit, Import, Schema, Variable, External, Function}
 use Rattle.gx_parse.specs.declared.word.Level.{Level}
 use Rattle.gx_parse.specs.declared.word.Level.TheVariants as level
 use Rattle.gx_parse.specs.declared.word.WordSet.{WordSet}
@@ -11,6 +11,10 @@ use Rattle.gx_parse.specs.declared.word.ClauseWord.{ClauseWord}
 use Rattle.gx_parse.specs.declared.word.ClauseWord.TheVariants as clause_word
 use Rattle.gx_parse.specs.declared.word.Binder.{Binder}
 use Rattle.gx_parse.specs.declared.word.Binder.TheVariants as binder
+use Rattle.gx_parse.specs.declared.word.Setter.{Setter}
+use Rattle.gx_parse.specs.declared.word.Setter.TheVariants as setter_is
+use Rattle.gx_parse.specs.declared.word.Definer.{Definer}
+use Rattle.gx_parse.specs.declared.word.Definer.TheVariants as definer_is
 use Rattle.gx_parse.specs.declared.word.Ending.{Ending}
 use Rattle.gx_parse.specs.declared.word.Ending.TheVariants as end
 use Rattle.gx_parse.specs.Characters.{is_digit, is_word_character, no_character}
@@ -109,6 +113,27 @@ letters_of AnyName = codes "*"
 letters_of In = codes "in"
 letters_of Assign = codes ":="
 letters_of By = codes "by"
+letters_of XQuery = codes "xquery"
+letters_of Version = codes "version"
+letters_of DoubleVersion = 34 ∷ 49 ∷ 46 ∷ 48 ∷ 34 ∷ []
+letters_of SingleVersion = codes "'1.0'"
+letters_of Encoding = codes "encoding"
+letters_of Declare = codes "declare"
+letters_of Namespace = codes "namespace"
+letters_of BoundarySpace = codes "boundary-space"
+letters_of Preserve = codes "preserve"
+letters_of Strip = codes "strip"
+letters_of Construction = codes "construction"
+letters_of Ordering = codes "ordering"
+letters_of Ordered = codes "ordered"
+letters_of CopyNamespaces = codes "copy-namespaces"
+letters_of NoPreserve = codes "no-preserve"
+letters_of NoInherit = codes "no-inherit"
+letters_of Import = codes "import"
+letters_of Schema = codes "schema"
+letters_of Variable = codes "variable"
+letters_of External = codes "external"
+letters_of Function = codes "function"
 
 abbrev pub ending_of : Word → Ending
 ending_of Comma = end.Free
@@ -161,6 +186,8 @@ ending_of Colons = end.Free
 ending_of AnyPrefix = end.Free
 ending_of AnyName = end.Colon
 ending_of Assign = end.Free
+ending_of DoubleVersion = end.Free
+ending_of SingleVersion = end.Free
 ending_of _ = end.Name
 
 -- the character may not stand behind the word
@@ -201,6 +228,10 @@ words_of set.Indicators = Question ∷ Times ∷ Plus ∷ []
 words_of set.Directions = Ascending ∷ Descending ∷ []
 words_of set.Extremes = Greatest ∷ Least ∷ []
 words_of set.Binders = For ∷ Let ∷ []
+words_of set.Versions = DoubleVersion ∷ SingleVersion ∷ []
+words_of set.Setters = Namespace ∷ Default ∷ BoundarySpace ∷ Construction ∷ Ordering ∷ CopyNamespaces ∷ []
+words_of set.SpaceModes = Preserve ∷ Strip ∷ []
+words_of set.Definers = Variable ∷ Function ∷ []
 
 -- the word of a clause, as it was found
 abbrev pub clause_word_of : Word → ClauseWord
@@ -217,3 +248,17 @@ abbrev pub binding_word : Binder → Word
 binding_word binder.For = In
 binding_word binder.Let = Assign
 binding_word binder.Quantifier = In
+
+-- what a word behind `declare` is about, and what it defines
+
+abbrev pub setter_of : Word → Setter
+setter_of Namespace = setter_is.Namespace
+setter_of Default = setter_is.Default
+setter_of BoundarySpace = setter_is.BoundarySpace
+setter_of Construction = setter_is.Construction
+setter_of Ordering = setter_is.Ordering
+setter_of _ = setter_is.CopyNamespaces
+
+abbrev pub definer_of : Word → Definer
+definer_of Variable = definer_is.Variable
+definer_of _ = definer_is.Function

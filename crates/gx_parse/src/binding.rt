@@ -36,8 +36,8 @@ fn first_bound(reader: &mut Reader<'_>, source: &Source<'_>) -> Option<Variable>
     Some(Variable { place, name })
 }
 
-// Reads the type of a variable, if one stands there.
-fn kind_of(reader: &mut Reader<'_>, source: &Source<'_>) -> Option<SequenceType>
+/// Reads the type of a variable, if one stands there (XQuery 1.0, section 3.8.1).
+pub fn kind_of(reader: &mut Reader<'_>, source: &Source<'_>) -> Option<SequenceType>
     ensures { (n : ℕ) → Ran (kind_made result) reader.old reader.new (read_in source.now n (bound_type (place_in source.now))) }
 {
     let Some(kind) = bound_type(reader, source) else {

@@ -1,23 +1,27 @@
 //! Laws of the query grammar.
 
 ghost use Rattle.gx_base.specs.declared.place.Place.{Place};
+ghost use Rattle.gx_grammar.specs.Avoiding.{Avoids};
+ghost use Rattle.gx_grammar.specs.Decision.{BeforeCut, Until};
+ghost use Rattle.gx_grammar.specs.Text.{AtEnd, Nowhere};
 ghost use Rattle.gx_grammar.specs.First.{AllOf, IsIn, IsSorted, first_of};
 ghost use Rattle.gx_grammar.specs.Levels.{takes_some};
 ghost use Rattle.gx_grammar.specs.Opening.{Opens};
 ghost use Rattle.gx_parse.specs.Fronts.{fronts};
 ghost use Rattle.gx_parse.specs.Direct.{element_of};
-ghost use Rattle.gx_parse.specs.Grammar.{Phrase, query_language, word_of};
+ghost use Rattle.gx_parse.specs.Grammar.{Phrase, expression, query_language, word_of};
+ghost use Rattle.gx_parse.specs.Tokens.{declaration_words};
 ghost use Rattle.gx_parse.specs.declared.word.Word.TheVariants.{CloseBrace, TagOpen};
 ghost use Rattle.gx_parse.specs.Strings.{string_of};
 ghost use Rattle.gx_parse.specs.declared.runs.Quote.{Quote};
 ghost use Rattle.gx_parse.specs.Tokens.{Token, opens};
 ghost use Rattle.std.specs.Prelude.{◌≡◌, true, [], ◌∷◌, ℕ, List};
-ghost use Rattle.gx_ast.specs.SyntaxTree.{SyntaxTree};
+ghost use Rattle.gx_ast.specs.declared.query.Query.{Query};
 ghost use Rattle.gx_parse.specs.Query.{IsQuery, Parses, Parsing};
 
 /// A text has at most one syntax tree.
 pub fn one_tree()
-    ensures { (text : List ℕ) (s t : SyntaxTree) → IsQuery text s → IsQuery text t → s ≡ t }
+    ensures { (text : List ℕ) (s t : Query) → IsQuery text s → IsQuery text t → s ≡ t }
 {}
 
 /// Bytes are parsed in one way at most: to one tree, or to one refusal.
@@ -42,4 +46,9 @@ pub fn direct_elements_decide()
         → takes_some (query_language at) (fronts at).takings element ≡ true → AllOf (IsIn (word_of TagOpen ∷ [])) (first_of (query_language at) (fronts at) element)
         → ((x : List ℕ) → opens (word_of TagOpen) x → Opens (query_language at) element x) → ((us : List Token) → IsSorted (query_language at) (fronts at) element us)
         → (us : List Token) → IsSorted (query_language at) (fronts at) (element_of at expr element (word_of TagOpen)) us }
+{}
+
+/// No expression begins as a declaration of a prolog does, nor as a version declaration: the words that begin one decide.
+pub fn expressions_are_no_declarations()
+    ensures { (at : ℕ → Place) → Avoids (query_language at) declaration_words (Until (query_language at) (expression at 40) AtEnd) (BeforeCut (query_language at) (expression at 40) Nowhere) }
 {}

@@ -6,7 +6,7 @@ ghost use Rattle.gx_grammar.specs.Value.{node, nothing};
 ghost use Rattle.gx_grammar.specs.Grammar.{◌&◌, rule};
 ghost use Rattle.gx_grammar.specs.Ran.{Looked, Ran, Standing, left_of};
 ghost use Rattle.gx_parse.specs.Binding.{clause, flwor, last_clause, more_bindings, more_clauses, opened, quantified};
-ghost use Rattle.gx_parse.specs.Grammar.{Phrase, after_name, arguments, arguments_in, at_tokens, begun, behind_any_name, behind_keyword, branched, condition, expression, filtered_step, ladder, more_arguments, more_predicates, named_single, other_operand, other_step, parenthesised_step, path_from, place_in, predicate, query, signed_path, single, step, step_of, typeswitch, word_of};
+ghost use Rattle.gx_parse.specs.Grammar.{Phrase, after_name, arguments, arguments_in, at_tokens, begun, behind_any_name, behind_keyword, branched, condition, expression, filtered_step, ladder, more_arguments, more_predicates, named_single, other_operand, other_step, parenthesised_step, path_from, place_in, predicate, signed_path, single, step, step_of, typeswitch, word_of};
 ghost use Rattle.gx_parse.specs.Keys.{key, key_made, more_keys, order_clause, order_clause_made, ordered};
 ghost use Rattle.gx_parse.specs.Lists.{OneMore, binding_made, clause_made, head_made, items_before};
 ghost use Rattle.gx_parse.specs.Names.{name_made};
@@ -27,12 +27,14 @@ use crate::members::Members;
 use crate::names::ReadName;
 use crate::node_tests::{any_step, axis_test, axis_word, kind_content, test_or_literal};
 use crate::parts::{dots, joined, keep, last, lexeme, more_signs, operator, variable, with_signs};
+use crate::prolog::query;
 use crate::reader::{End, Reader, Refused};
 use crate::source::Source;
 use crate::trees;
 use crate::typeswitch::{case_head, default_head, last_case, with_case};
 use crate::word::{Barrier, Binder, Branching, ClauseWord, Opening, Word, WordSet};
 use gx_ast::expression::{Binding, Case, Clause, Expr, ExprNode, Key};
+use gx_ast::query::Query;
 use gx_ast::sequence_type::BoundVariable;
 use gx_base::limits::{CHAIN_MEMBERS, FILE_BYTES};
 use gx_base::place::Place;
@@ -79,15 +81,12 @@ impl From<AllocError> for SyntaxRefusal {
     }
 }
 
-// So many singles may stand one inside another.
-const LEVELS: u8 = 40;
-
 // So many predicates may stand behind a step.
 const PREDICATES: u8 = 64;
 
-/// The syntax tree of the bytes of a query (XQuery 1.0, section 3), where lines and columns count from 1. White space and
+/// The syntax tree of the bytes of a query (XQuery 1.0, section 4), where lines and columns count from 1. White space and
 /// nested comments may stand between tokens (XQuery 1.0, appendix A.2.4.1).
-pub fn parse(alloc: Global, bytes: &[u8]) -> Result<Expr, SyntaxRefusal>
+pub fn parse(alloc: Global, bytes: &[u8]) -> Result<Query, SyntaxRefusal>
     requires { length bytes.now ≤ FILE_BYTES }
     // The bytes are those of a query with this tree.
     ensures tree { IfOk result (λ t. Parses bytes.now (parsed t)) }
@@ -105,7 +104,7 @@ pub fn parse(alloc: Global, bytes: &[u8]) -> Result<Expr, SyntaxRefusal>
 }
 
 // The syntax tree of a text.
-fn parse_text(alloc: Global, text: &[char]) -> Result<Expr, SyntaxRefusal>
+fn parse_text(alloc: Global, text: &[char]) -> Result<Query, SyntaxRefusal>
     requires { length text.now ≤ FILE_BYTES }
     ensures tree { IfOk result (λ t. IsQuery text.now t) }
     ensures refused { IfErr result (λ e. RefusesText e text.now) }
@@ -157,17 +156,9 @@ fn left_at(refused: Refused) -> usize
     }
 }
 
-// Reads a whole query.
-fn query(reader: &mut Reader<'_>, source: &Source<'_>) -> Expr
-    ensures { Ran (tree result) reader.old reader.new (read_in source.now 40 (query (place_in source.now))) }
-{
-    reader.gap();
-    expression(reader, source, LEVELS)
-}
-
-// Reads an expression. So many singles may stand one inside another in it.
+/// Reads an expression. So many singles may stand one inside another in it.
 #[cycle(parsing)]
-fn expression(reader: &mut Reader<'_>, source: &Source<'_>, levels: u8) -> Expr
+pub fn expression(reader: &mut Reader<'_>, source: &Source<'_>, levels: u8) -> Expr
     ensures { Ran (tree result) reader.old reader.new (read_in source.now levels (expression (place_in source.now) levels)) }
 {
     let first = single(reader, source, levels);
@@ -487,9 +478,9 @@ fn parenthesised(reader: &mut Reader<'_>, source: &Source<'_>, levels: u8) -> Ex
     keep(reader, made)
 }
 
-// Reads a single, where so many may stand one inside another, itself among them.
+/// Reads a single, where so many may stand one inside another, itself among them.
 #[cycle(parsing)]
-fn single(reader: &mut Reader<'_>, source: &Source<'_>, levels: u8) -> Expr
+pub fn single(reader: &mut Reader<'_>, source: &Source<'_>, levels: u8) -> Expr
     ensures { Ran (tree result) reader.old reader.new (call source.now (suc levels) (single levels)) }
 {
     if levels == 0 {

@@ -12,8 +12,9 @@ ghost use Rattle.gx_parse.specs.Nodes.{Found, name_length};
 ghost use Rattle.gx_parse.specs.Indications.{found_made};
 ghost use Rattle.gx_parse.specs.Names.{name_made};
 ghost use Rattle.gx_parse.specs.Reading.{Ended, NameRead, read_number, read_one};
-ghost use Rattle.gx_parse.specs.Tokens.{barred, barred_words, gap, gap_not_open, gap_then_dollar, gap_then_neither, gap_then_open, indication, local_wildcard, ncname, number_end, one_of, reference, text_run};
+ghost use Rattle.gx_parse.specs.Tokens.{barred, barred_words, gap, gap_not_open, gap_then_dollar, gap_then_neither, gap_then_open, indication, local_wildcard, ncname, number_end, one_of, reference, text_run, leading};
 ghost use Rattle.gx_parse.specs.Parsing.{Added};
+ghost use Rattle.gx_parse.specs.Tokens.{import_words, setter_words};
 ghost use Rattle.gx_parse.specs.Strings.{parts_of};
 ghost use Rattle.gx_parse.specs.NodeTests.{wildcard_made};
 ghost use Rattle.gx_parse.specs.Types.{Gave};
@@ -21,6 +22,7 @@ ghost use Rattle.gx_parse.specs.Types.{Gave};
 use crate::characters::{begins_at, is_name_start};
 use crate::gap;
 use crate::indication::find_indication;
+use crate::leading::find_leading;
 use crate::names::{ReadName, find_local_wildcard, find_name, find_ncname};
 use crate::numbers::{LiteralFound, find_number};
 use crate::references::{find_part, find_reference};
@@ -463,6 +465,53 @@ impl Reader<'_> {
         };
         self.far = self.far.min(found.seen);
         self.end = Some(End::GaveUp(refused));
+    }
+
+    /// Whether the word stands first, with one of the others behind it.
+    pub fn looks_at_leading(&mut self, word: Word, set: WordSet) -> bool
+        ensures { Looked result self.old self.new (at_tokens (leading word set ∷ [])) }
+    {
+        if self.end.is_some() {
+            return false;
+        }
+        let found = find_leading(word, set, self.rest);
+        self.far = self.far.min(found.seen);
+        found.word.is_some()
+    }
+
+    /// Whether a declaration of the first part of a prolog stands first.
+    pub fn looks_at_setting(&mut self) -> bool
+        ensures { Looked result self.old self.new (at_tokens (setter_words ∷ import_words ∷ [])) }
+    {
+        if self.end.is_some() {
+            return false;
+        }
+        let declared = find_leading(Word::Declare, WordSet::Setters, self.rest);
+        let imported = find_leading(Word::Import, WordSet::Only(Word::Schema), self.rest);
+        self.far = self.far.min(declared.seen).min(imported.seen);
+        declared.word.is_some() || imported.word.is_some()
+    }
+
+    /// Reads the word with one of the others behind it, which is the result.
+    #[tactic(auto, unfolding(crate::specs::Reading::read_one))]
+    pub fn leading(&mut self, word: Word, set: WordSet) -> Word
+        ensures { Ran (node (Found result)) self.old self.new (read_one (leading word set)) }
+    {
+        if self.end.is_some() {
+            return Word::Comma;
+        }
+        let found = find_leading(word, set, self.rest);
+        self.far = self.far.min(found.seen);
+        match found.word {
+            Some((second, behind)) => {
+                self.rest = behind;
+                second
+            }
+            None => {
+                self.end = Some(End::GaveUp(Refused::Unfit(self.far)));
+                Word::Comma
+            }
+        }
     }
 
     /// Reads an indicator with its gap, or nothing where neither an indicator nor a `(` stands.

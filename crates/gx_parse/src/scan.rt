@@ -46,8 +46,8 @@ fn may_end(word: Word, rest: &[char]) -> bool
     }
 }
 
-// The word, if it stands at the front.
-fn find_word(word: Word, text: &[char]) -> Found<'_>
+/// The word, if it stands at the front.
+pub fn find_word(word: Word, text: &[char]) -> Found<'_>
     ensures word { MatchOption result.word (scan_word (node (the_word word)) (letters_of word) (ends_at (ending_of word)) text.now ≡ None) (λ r. scan_word (node (the_word word)) (letters_of word) (ends_at (ending_of word)) text.now ≡ Some (node (the_word r.0), r.1.now)) }
     ensures seen { result.seen ≡ seen_word (letters_of word) text.now }
     ensures bounded { result.seen ≤ length text.now }

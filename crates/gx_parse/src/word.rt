@@ -1,7 +1,7 @@
 // The words and symbols of the query language.
 
 ghost use Rattle.std.specs.Prelude.{◌≡◌};
-ghost use Rattle.gx_parse.specs.Words.{binder_in, binding_word, clause_word_of, ending_of, letters_of, operators_of, words_of};
+ghost use Rattle.gx_parse.specs.Words.{binder_in, binding_word, clause_word_of, ending_of, letters_of, operators_of, words_of, definer_of, setter_of};
 
 use std::slice;
 
@@ -101,6 +101,27 @@ pub enum Word {
     In,
     Assign,
     By,
+    XQuery,
+    Version,
+    DoubleVersion,
+    SingleVersion,
+    Encoding,
+    Declare,
+    Namespace,
+    BoundarySpace,
+    Preserve,
+    Strip,
+    Construction,
+    Ordering,
+    Ordered,
+    CopyNamespaces,
+    NoPreserve,
+    NoInherit,
+    Import,
+    Schema,
+    Variable,
+    External,
+    Function,
 }
 
 impl Word {
@@ -204,6 +225,31 @@ impl Word {
             Word::In => &['i', 'n'],
             Word::Assign => &[':', '='],
             Word::By => &['b', 'y'],
+            Word::XQuery => &['x', 'q', 'u', 'e', 'r', 'y'],
+            Word::Version => &['v', 'e', 'r', 's', 'i', 'o', 'n'],
+            Word::DoubleVersion => &['"', '1', '.', '0', '"'],
+            Word::SingleVersion => &['\'', '1', '.', '0', '\''],
+            Word::Encoding => &['e', 'n', 'c', 'o', 'd', 'i', 'n', 'g'],
+            Word::Declare => &['d', 'e', 'c', 'l', 'a', 'r', 'e'],
+            Word::Namespace => &['n', 'a', 'm', 'e', 's', 'p', 'a', 'c', 'e'],
+            Word::BoundarySpace => &[
+                'b', 'o', 'u', 'n', 'd', 'a', 'r', 'y', '-', 's', 'p', 'a', 'c', 'e',
+            ],
+            Word::Preserve => &['p', 'r', 'e', 's', 'e', 'r', 'v', 'e'],
+            Word::Strip => &['s', 't', 'r', 'i', 'p'],
+            Word::Construction => &['c', 'o', 'n', 's', 't', 'r', 'u', 'c', 't', 'i', 'o', 'n'],
+            Word::Ordering => &['o', 'r', 'd', 'e', 'r', 'i', 'n', 'g'],
+            Word::Ordered => &['o', 'r', 'd', 'e', 'r', 'e', 'd'],
+            Word::CopyNamespaces => &[
+                'c', 'o', 'p', 'y', '-', 'n', 'a', 'm', 'e', 's', 'p', 'a', 'c', 'e', 's',
+            ],
+            Word::NoPreserve => &['n', 'o', '-', 'p', 'r', 'e', 's', 'e', 'r', 'v', 'e'],
+            Word::NoInherit => &['n', 'o', '-', 'i', 'n', 'h', 'e', 'r', 'i', 't'],
+            Word::Import => &['i', 'm', 'p', 'o', 'r', 't'],
+            Word::Schema => &['s', 'c', 'h', 'e', 'm', 'a'],
+            Word::Variable => &['v', 'a', 'r', 'i', 'a', 'b', 'l', 'e'],
+            Word::External => &['e', 'x', 't', 'e', 'r', 'n', 'a', 'l'],
+            Word::Function => &['f', 'u', 'n', 'c', 't', 'i', 'o', 'n'],
         }
     }
 
@@ -256,7 +302,9 @@ impl Word {
             | Word::OpenBracket
             | Word::AtSign
             | Word::Colons
-            | Word::AnyPrefix => Ending::Free,
+            | Word::AnyPrefix
+            | Word::DoubleVersion
+            | Word::SingleVersion => Ending::Free,
             Word::AnyName => Ending::Colon,
             Word::TagOpen => Ending::Tag,
             Word::BraceOpen => Ending::Brace,
@@ -341,6 +389,14 @@ pub enum WordSet {
     Extremes,
     /// `for` and `let`.
     Binders,
+    /// The two spellings of a version.
+    Versions,
+    /// What may stand behind `declare` in the first part of a prolog.
+    Setters,
+    /// `preserve` and `strip`.
+    SpaceModes,
+    /// `variable` and `function`.
+    Definers,
 }
 
 /// The word of a clause that binds variables (XQuery 1.0, section 3.8.1).
@@ -415,6 +471,60 @@ impl Binder {
     }
 }
 
+/// What a declaration in the first part of a prolog is about, by the word behind `declare` (XQuery 1.0, section 4).
+#[derive(Clone, Copy, Debug, PartialEq, Eq)]
+pub enum Setter {
+    /// `namespace`.
+    Namespace,
+    /// `default`.
+    Default,
+    /// `boundary-space`.
+    BoundarySpace,
+    /// `construction`.
+    Construction,
+    /// `ordering`.
+    Ordering,
+    /// `copy-namespaces`.
+    CopyNamespaces,
+}
+
+impl Setter {
+    /// What a word behind `declare` is about.
+    pub fn of(word: Word) -> Setter
+        ensures { result ≡ setter_of word }
+    {
+        match word {
+            Word::Namespace => Setter::Namespace,
+            Word::Default => Setter::Default,
+            Word::BoundarySpace => Setter::BoundarySpace,
+            Word::Construction => Setter::Construction,
+            Word::Ordering => Setter::Ordering,
+            _ => Setter::CopyNamespaces,
+        }
+    }
+}
+
+/// What a declaration in the second part of a prolog defines (XQuery 1.0, section 4).
+#[derive(Clone, Copy, Debug, PartialEq, Eq)]
+pub enum Definer {
+    /// `variable`.
+    Variable,
+    /// `function`.
+    Function,
+}
+
+impl Definer {
+    /// What a word behind `declare` defines.
+    pub fn of(word: Word) -> Definer
+        ensures { result ≡ definer_of word }
+    {
+        match word {
+            Word::Variable => Definer::Variable,
+            _ => Definer::Function,
+        }
+    }
+}
+
 impl Level {
     /// The operators of the level.
     pub fn operators(self) -> &'static [Word]
@@ -448,6 +558,10 @@ impl WordSet {
             WordSet::Directions => &[Word::Ascending, Word::Descending],
             WordSet::Extremes => &[Word::Greatest, Word::Least],
             WordSet::Binders => &[Word::For, Word::Let],
+            WordSet::Versions => &[Word::DoubleVersion, Word::SingleVersion],
+            WordSet::Setters => &SETTERS,
+            WordSet::SpaceModes => &[Word::Preserve, Word::Strip],
+            WordSet::Definers => &[Word::Variable, Word::Function],
         }
     }
 }
@@ -469,4 +583,14 @@ const COMPARISONS: [Word; 15] = [
     Word::ValueGreater,
     Word::ValueGreaterOrEqual,
     Word::Is,
+];
+
+// The words behind `declare` in the first part of a prolog.
+const SETTERS: [Word; 6] = [
+    Word::Namespace,
+    Word::Default,
+    Word::BoundarySpace,
+    Word::Construction,
+    Word::Ordering,
+    Word::CopyNamespaces,
 ];

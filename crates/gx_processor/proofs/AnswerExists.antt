@@ -16,11 +16,11 @@ use Rattle.gx_static.proofs.QueryLaws.{query_sound}
 use Rattle.gx_types.specs.SequenceType.{SequenceType}
 use Rattle.gx_io.specs.Load.{file_of}
 use Rattle.gx_base.specs.declared.place.Place.{Place}
-use Rattle.gx_ast.specs.SyntaxTree.{SyntaxTree}
+use Rattle.gx_ast.specs.declared.query.Query.{Query as SyntaxQuery}
 use Rattle.gx_parse.specs.Query.{Parsing, parsed, refused}
 use Rattle.gx_parse.proofs.SomeParsing.{a_parsing_exists}
 use Rattle.gx_processor.specs.RuleCode.{rule_code}
-use Rattle.gx_normal.specs.Unbuilt.{first_unbuilt}
+use Rattle.gx_normal.specs.Unbuilt.{unbuilt_query}
 use Rattle.gx_processor.specs.declared.status.Status.TheVariants as status
 use Rattle.gx_normal.specs.Normalisation.{NamedQuery, named_query, unknown_name, query_named}
 use Rattle.gx_processor.specs.Command.{Command, run_file, check_file, query_file, command_of}
@@ -50,12 +50,12 @@ named_answers : (command : Command) (n : NamedQuery) → (a : Answer) × Answers
 named_answers command (named_query core) = judged_answers command core (query_judged no_declarations core) refl
 named_answers command (unknown_name place code) = (refuses status.Query (placed_line code place), refl)
 
-built_answers : (command : Command) (tree : SyntaxTree) (unbuilt : Option Place) → (a : Answer) × AnswersBuilt command tree unbuilt a
-built_answers command tree None = named_answers command (query_named tree)
+built_answers : (command : Command) (tree : SyntaxQuery) (unbuilt : Option Place) → (a : Answer) × AnswersBuilt command tree unbuilt a
+built_answers command tree None = named_answers command (query_named tree.body)
 built_answers command tree (Some place) = (refuses status.Query (placed_line XPST0003 place), refl)
 
 parsed_answers : (command : Command) (p : Parsing) → (a : Answer) × AnswersParsed command p a
-parsed_answers command (parsed tree) = built_answers command tree (first_unbuilt tree)
+parsed_answers command (parsed tree) = built_answers command tree (unbuilt_query tree)
 parsed_answers command (refused rule place) = (refuses status.Query (placed_line (rule_code rule) place), refl)
 
 file_answers : (command : Command) (bytes : List ℕ) (short : Bool) → (a : Answer) × MatchBool short (AnswersBytes command bytes a) (a ≡ refuses status.Query (code_line GLXS0001))

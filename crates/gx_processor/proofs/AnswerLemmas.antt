@@ -16,10 +16,10 @@ use Rattle.gx_io.specs.Load.{file_of}
 use Rattle.gx_processor.specs.declared.status.Status.{Status}
 use Rattle.gx_processor.specs.declared.status.Status.TheVariants.{Query}
 use Rattle.gx_base.specs.declared.place.Place.{Place}
-use Rattle.gx_ast.specs.SyntaxTree.{SyntaxTree}
+use Rattle.gx_ast.specs.declared.query.Query.{Query as SyntaxQuery}
 use Rattle.gx_parse.specs.Query.{Parsing, parsed, refused, Parses}
 use Rattle.gx_parse.proofs.OneParsing.{one_parsing}
-use Rattle.gx_normal.specs.Unbuilt.{first_unbuilt}
+use Rattle.gx_normal.specs.Unbuilt.{unbuilt_query}
 use Rattle.gx_normal.specs.Normalisation.{NamedQuery, named_query, unknown_name, query_named}
 use Rattle.gx_processor.specs.Command.{Command, run_file, check_file, query_file, command_of, texts_to_compare}
 use Rattle.gx_processor.specs.FaultLines.{line, code_line}
@@ -42,12 +42,12 @@ named_unique : (command : Command) (n : NamedQuery) (a b : Answer) → AnswersNa
 named_unique command (named_query core) a b h k = judged_unique command core (query_judged no_declarations core) a b h k
 named_unique command (unknown_name place code) a b h k = h ∙ sym k
 
-built_unique : (command : Command) (tree : SyntaxTree) (unbuilt : Option Place) (a b : Answer) → AnswersBuilt command tree unbuilt a → AnswersBuilt command tree unbuilt b → a ≡ b
-built_unique command tree None a b h k = named_unique command (query_named tree) a b h k
+built_unique : (command : Command) (tree : SyntaxQuery) (unbuilt : Option Place) (a b : Answer) → AnswersBuilt command tree unbuilt a → AnswersBuilt command tree unbuilt b → a ≡ b
+built_unique command tree None a b h k = named_unique command (query_named tree.body) a b h k
 built_unique command tree (Some place) a b h k = h ∙ sym k
 
 parsed_unique : (command : Command) (p : Parsing) (a b : Answer) → AnswersParsed command p a → AnswersParsed command p b → a ≡ b
-parsed_unique command (parsed tree) a b h k = built_unique command tree (first_unbuilt tree) a b h k
+parsed_unique command (parsed tree) a b h k = built_unique command tree (unbuilt_query tree) a b h k
 parsed_unique command (refused rule place) a b h k = h ∙ sym k
 
 bytes_unique : (command : Command) (bytes : List ℕ) (a b : Answer) → AnswersBytes command bytes a → AnswersBytes command bytes b → a ≡ b
@@ -118,12 +118,12 @@ named_refused : (name : List ℕ) (n : NamedQuery) (status : Status) (line : Lis
 named_refused name (named_query core) status line h = judged_refused name core (query_judged no_declarations core) status line h
 named_refused name (unknown_name place code) status line h = h
 
-built_refused : (name : List ℕ) (tree : SyntaxTree) (unbuilt : Option Place) (status : Status) (line : List ℕ) → AnswersBuilt (check_file name) tree unbuilt (refuses status line) → AnswersBuilt (run_file name) tree unbuilt (refuses status line)
-built_refused name tree None status line h = named_refused name (query_named tree) status line h
+built_refused : (name : List ℕ) (tree : SyntaxQuery) (unbuilt : Option Place) (status : Status) (line : List ℕ) → AnswersBuilt (check_file name) tree unbuilt (refuses status line) → AnswersBuilt (run_file name) tree unbuilt (refuses status line)
+built_refused name tree None status line h = named_refused name (query_named tree.body) status line h
 built_refused name tree (Some place) status line h = h
 
 parsed_refused : (name : List ℕ) (p : Parsing) (status : Status) (line : List ℕ) → AnswersParsed (check_file name) p (refuses status line) → AnswersParsed (run_file name) p (refuses status line)
-parsed_refused name (parsed tree) status line h = built_refused name tree (first_unbuilt tree) status line h
+parsed_refused name (parsed tree) status line h = built_refused name tree (unbuilt_query tree) status line h
 parsed_refused name (refused rule place) status line h = h
 
 short_refused : (name : List ℕ) (short : Bool) (bytes : List ℕ) (status : Status) (line : List ℕ) (a : Answer) → MatchBool short (AnswersBytes (check_file name) bytes (refuses status line)) (refuses status line ≡ a) → MatchBool short (AnswersBytes (run_file name) bytes (refuses status line)) (refuses status line ≡ a)

@@ -14,10 +14,10 @@ use Rattle.gx_static.specs.QueryJudgement.{QueryJudgement, query_typed, query_re
 use Rattle.gx_io.specs.Load.{file_of}
 use Rattle.gx_processor.specs.declared.status.Status.TheVariants.{Query}
 use Rattle.gx_base.specs.declared.place.Place.{Place}
-use Rattle.gx_ast.specs.SyntaxTree.{SyntaxTree}
+use Rattle.gx_ast.specs.declared.query.Query.{Query as SyntaxQuery}
 use Rattle.gx_parse.specs.Query.{Parsing, parsed, refused, Parses}
 use Rattle.gx_parse.proofs.OneParsing.{one_parsing}
-use Rattle.gx_normal.specs.Unbuilt.{first_unbuilt}
+use Rattle.gx_normal.specs.Unbuilt.{unbuilt_query}
 use Rattle.gx_processor.specs.Command.{Command, run_file, check_file, query_file, command_of}
 use Rattle.gx_processor.specs.Query.{HoldsQuery}
 use Rattle.gx_normal.specs.Normalisation.{NamedQuery, named_query, unknown_name, query_named}
@@ -88,10 +88,10 @@ named_printed : (name : List ℕ) (n : NamedQuery) (printed : List ℕ) → Answ
 named_printed name (named_query core) printed h = let j = judged_printed name core (query_judged no_declarations core) printed h in (core, j.0, refl, j.1, j.2)
 named_printed name (unknown_name place code) printed h = cc
 
-built_printed : (files : List (List ℕ × List ℕ)) (name bytes : List ℕ) (tree : SyntaxTree) (unbuilt : Option Place) (printed : List ℕ) → file_of files name ≡ Some bytes → length bytes ≤ 16777216 → Parses bytes (parsed tree) → first_unbuilt tree ≡ unbuilt → AnswersBuilt (check_file name) tree unbuilt (writes printed) → HoldsTyped files name printed
+built_printed : (files : List (List ℕ × List ℕ)) (name bytes : List ℕ) (tree : SyntaxQuery) (unbuilt : Option Place) (printed : List ℕ) → file_of files name ≡ Some bytes → length bytes ≤ 16777216 → Parses bytes (parsed tree) → unbuilt_query tree ≡ unbuilt → AnswersBuilt (check_file name) tree unbuilt (writes printed) → HoldsTyped files name printed
 built_printed files name bytes tree (Some place) printed held within p b h = cc
 built_printed files name bytes tree None printed held within p b h =
-    let n = named_printed name (query_named tree) printed h in
+    let n = named_printed name (query_named tree.body) printed h in
     record {
       core = n.0;
       typing = n.1;
@@ -102,7 +102,7 @@ built_printed files name bytes tree None printed held within p b h =
 
 parsed_printed : (files : List (List ℕ × List ℕ)) (name bytes : List ℕ) (p : Parsing) (printed : List ℕ) → file_of files name ≡ Some bytes → length bytes ≤ 16777216 → Parses bytes p → AnswersParsed (check_file name) p (writes printed) → HoldsTyped files name printed
 parsed_printed files name bytes (refused rule place) printed held within p h = cc
-parsed_printed files name bytes (parsed tree) printed held within p h = built_printed files name bytes tree (first_unbuilt tree) printed held within p refl h
+parsed_printed files name bytes (parsed tree) printed held within p h = built_printed files name bytes tree (unbuilt_query tree) printed held within p refl h
 
 short_printed : (files : List (List ℕ × List ℕ)) (name bytes : List ℕ) (short : Bool) (printed : List ℕ) → file_of files name ≡ Some bytes → nat_le (length bytes) 16777216 ≡ short → MatchBool short (AnswersBytes (check_file name) bytes (writes printed)) (writes printed ≡ refuses Query (code_line GLXS0001)) → HoldsTyped files name printed
 short_printed files name bytes true printed held e h = parsed_printed files name bytes h.0 printed held (leb-true (length bytes) 16777216 e) h.1 h.2

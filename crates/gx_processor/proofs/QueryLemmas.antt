@@ -9,10 +9,10 @@ use Rattle.gx_core.specs.declared.typed.TypedCore.{TypedCore}
 use Rattle.gx_core.specs.QueryMeaning.{plain_query}
 use Rattle.gx_static.specs.QueryJudgement.{QueryJudgement, query_typed, query_judged}
 use Rattle.gx_io.specs.Load.{file_of}
-use Rattle.gx_ast.specs.SyntaxTree.{SyntaxTree}
+use Rattle.gx_ast.specs.declared.query.Query.{Query as SyntaxQuery}
 use Rattle.gx_base.specs.declared.place.Place.{Place}
 use Rattle.gx_parse.specs.Query.{Parses, parsed}
-use Rattle.gx_normal.specs.Unbuilt.{first_unbuilt}
+use Rattle.gx_normal.specs.Unbuilt.{unbuilt_query}
 use Rattle.gx_processor.specs.declared.refusal.Refusal.{Refusal}
 use Rattle.gx_processor.specs.declared.refusal.Refusal.TheVariants.{ReadFault, TooLong, Query, Dynamic, Memory}
 use Rattle.gx_processor.specs.declared.status.Status.TheVariants as status
@@ -38,11 +38,11 @@ judged_answers command core t a j h = subst (λ (k : QueryJudgement). AnswersJud
 named_answers : (command : Command) (n : NamedQuery) (core : Core) (a : Answer) → n ≡ named_query core → AnswersJudged command core (query_judged no_declarations core) a → AnswersNamed command n a
 named_answers command n core a e h = subst (λ (m : NamedQuery). AnswersNamed command m a) (sym e) h
 
-built_answers : (command : Command) (tree : SyntaxTree) (unbuilt : Option Place) (a : Answer) → unbuilt ≡ None → AnswersNamed command (query_named tree) a → AnswersBuilt command tree unbuilt a
+built_answers : (command : Command) (tree : SyntaxQuery) (unbuilt : Option Place) (a : Answer) → unbuilt ≡ None → AnswersNamed command (query_named tree.body) a → AnswersBuilt command tree unbuilt a
 built_answers command tree unbuilt a e h = subst (λ (o : Option Place). AnswersBuilt command tree o a) (sym e) h
 
-tree_answers : (command : Command) (bytes : List ℕ) (tree : SyntaxTree) (a : Answer) → Parses bytes (parsed tree) → first_unbuilt tree ≡ None → AnswersNamed command (query_named tree) a → AnswersBytes command bytes a
-tree_answers command bytes tree a p b h = (parsed tree, p, built_answers command tree (first_unbuilt tree) a b h)
+tree_answers : (command : Command) (bytes : List ℕ) (tree : SyntaxQuery) (a : Answer) → Parses bytes (parsed tree) → unbuilt_query tree ≡ None → AnswersNamed command (query_named tree.body) a → AnswersBytes command bytes a
+tree_answers command bytes tree a p b h = (parsed tree, p, built_answers command tree (unbuilt_query tree) a b h)
 
 short_answers : (command : Command) (short : Bool) (bytes : List ℕ) (a b : Answer) → short ≡ true → AnswersBytes command bytes a → MatchBool short (AnswersBytes command bytes a) (a ≡ b)
 short_answers command short bytes a b e h = subst (λ (s : Bool). MatchBool s (AnswersBytes command bytes a) (a ≡ b)) (sym e) h
@@ -57,7 +57,7 @@ pub query_answers : (files : List (List ℕ × List ℕ)) (command : Command) (c
 query_answers files command core t a q j h =
     file_answers command (file_of files (query_file command)) q.bytes a q.held q.within
     (tree_answers command q.bytes q.query.tree a q.query.parses q.query.built
-    (named_answers command (query_named q.query.tree) core a q.query.named (judged_answers command core t a j h)))
+    (named_answers command (query_named q.query.tree.body) core a q.query.named (judged_answers command core t a j h)))
 
 -- the refusals of the steps
 pub file_refused : (told : Option (List (List ℕ × List ℕ))) (name bytes : List ℕ) (r : Refusal) → IfSome told (λ files. file_of files name ≡ Some bytes) → length bytes ≤ 16777216 → ((command : Command) → RefusesSo r (AnswersBytes command bytes)) → IfSome told (λ files. (command : Command) → RefusesSo r (AnswersFile command (file_of files name)))
@@ -65,23 +65,28 @@ file_refused None name bytes r held within h = tt
 file_refused (Some files) name bytes r held within h = λ command.
     refuses_through r (AnswersBytes command bytes) (AnswersFile command (file_of files name)) (λ a k. file_answers command (file_of files name) bytes a held within k) (h command)
 
-pub tree_refused : (bytes : List ℕ) (tree : SyntaxTree) (r : Refusal) → Parses bytes (parsed tree) → first_unbuilt tree ≡ None → ((command : Command) → RefusesSo r (AnswersNamed command (query_named tree))) → (command : Command) → RefusesSo r (AnswersBytes command bytes)
-tree_refused bytes tree r p b h command = refuses_through r (AnswersNamed command (query_named tree)) (AnswersBytes command bytes) (λ a k. tree_answers command bytes tree a p b k) (h command)
+pub tree_refused : (bytes : List ℕ) (tree : SyntaxQuery) (r : Refusal) → Parses bytes (parsed tree) → unbuilt_query tree ≡ None → ((command : Command) → RefusesSo r (AnswersNamed command (query_named tree.body))) → (command : Command) → RefusesSo r (AnswersBytes command bytes)
+tree_refused bytes tree r p b h command = refuses_through r (AnswersNamed command (query_named tree.body)) (AnswersBytes command bytes) (λ a k. tree_answers command bytes tree a p b k) (h command)
 
 -- a production that is not built is refused where it stands
-pub unbuilt_refused : (bytes : List ℕ) (tree : SyntaxTree) (r : Refusal) → Parses bytes (parsed tree) → ((command : Command) → RefusesSo r (AnswersBuilt command tree (first_unbuilt tree))) → (command : Command) → RefusesSo r (AnswersBytes command bytes)
-unbuilt_refused bytes tree r p h command = refuses_through r (AnswersBuilt command tree (first_unbuilt tree)) (AnswersBytes command bytes) (λ a k. (parsed tree, p, k)) (h command)
+pub unbuilt_refused : (bytes : List ℕ) (tree : SyntaxQuery) (r : Refusal) → Parses bytes (parsed tree) → ((command : Command) → RefusesSo r (AnswersBuilt command tree (unbuilt_query tree))) → (command : Command) → RefusesSo r (AnswersBytes command bytes)
+unbuilt_refused bytes tree r p h command = refuses_through r (AnswersBuilt command tree (unbuilt_query tree)) (AnswersBytes command bytes) (λ a k. (parsed tree, p, k)) (h command)
 
-pub built_refused : {V : Type 0} (bytes : List ℕ) (tree : SyntaxTree) (r : Result V Refusal) → Parses bytes (parsed tree) → IfErr r (λ e. (command : Command) → RefusesSo e (AnswersBuilt command tree (first_unbuilt tree))) → IfErr r (λ e. (command : Command) → RefusesSo e (AnswersBytes command bytes))
+pub built_refused : {V : Type 0} (bytes : List ℕ) (tree : SyntaxQuery) (r : Result V Refusal) → Parses bytes (parsed tree) → IfErr r (λ e. (command : Command) → RefusesSo e (AnswersBuilt command tree (unbuilt_query tree))) → IfErr r (λ e. (command : Command) → RefusesSo e (AnswersBytes command bytes))
 built_refused bytes tree (Ok v) p h = tt
 built_refused bytes tree (Err e) p h = unbuilt_refused bytes tree e p h
 
-pub core_refused : (tree : SyntaxTree) (core : Core) (r : Refusal) → query_named tree ≡ named_query core → ((command : Command) → RefusesSo r (AnswersJudged command core (query_judged no_declarations core))) → (command : Command) → RefusesSo r (AnswersNamed command (query_named tree))
+-- the query that is kept is the one that was parsed
+pub kept_parses : {E : Type 0} (bytes : List ℕ) (tree : SyntaxQuery) (r : Result SyntaxQuery E) → Parses bytes (parsed tree) → IfOk r (λ kept. kept ≡ tree) → IfOk r (λ kept. Parses bytes (parsed kept))
+kept_parses bytes tree (Ok kept) p e = subst (λ t. Parses bytes (parsed t)) (sym e) p
+kept_parses bytes tree (Err e) p h = tt
+
+pub core_refused : (tree : SyntaxQuery) (core : Core) (r : Refusal) → query_named tree.body ≡ named_query core → ((command : Command) → RefusesSo r (AnswersJudged command core (query_judged no_declarations core))) → (command : Command) → RefusesSo r (AnswersNamed command (query_named tree.body))
 core_refused tree core r e h command =
-    refuses_through r (AnswersJudged command core (query_judged no_declarations core)) (AnswersNamed command (query_named tree)) (λ a k. named_answers command (query_named tree) core a e k) (h command)
+    refuses_through r (AnswersJudged command core (query_judged no_declarations core)) (AnswersNamed command (query_named tree.body)) (λ a k. named_answers command (query_named tree.body) core a e k) (h command)
 
 -- the query that the steps come to
-pub held_query : (told : Option (List (List ℕ × List ℕ))) (name bytes : List ℕ) (tree : SyntaxTree) (core : Core) → IfSome told (λ files. file_of files name ≡ Some bytes) → length bytes ≤ 16777216 → Parses bytes (parsed tree) → first_unbuilt tree ≡ None → query_named tree ≡ named_query core → IfSome told (λ files. HoldsQuery files name core)
+pub held_query : (told : Option (List (List ℕ × List ℕ))) (name bytes : List ℕ) (tree : SyntaxQuery) (core : Core) → IfSome told (λ files. file_of files name ≡ Some bytes) → length bytes ≤ 16777216 → Parses bytes (parsed tree) → unbuilt_query tree ≡ None → query_named tree.body ≡ named_query core → IfSome told (λ files. HoldsQuery files name core)
 held_query None name bytes tree core held within p b e = tt
 held_query (Some files) name bytes tree core held within p b e = record {
   bytes = bytes;

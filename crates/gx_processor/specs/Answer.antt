@@ -16,10 +16,10 @@ use Rattle.gx_static.specs.QueryJudgement.{QueryJudgement, query_typed, query_re
 use Rattle.gx_io.specs.Load.{file_of}
 use Rattle.gx_processor.specs.declared.status.Status.{Status}
 use Rattle.gx_processor.specs.declared.status.Status.TheVariants as status
-use Rattle.gx_ast.specs.SyntaxTree.{SyntaxTree}
+use Rattle.gx_ast.specs.declared.query.Query.{Query}
 use Rattle.gx_parse.specs.Query.{Parsing, parsed, refused, Parses}
 use Rattle.gx_processor.specs.RuleCode.{rule_code}
-use Rattle.gx_normal.specs.Unbuilt.{first_unbuilt}
+use Rattle.gx_normal.specs.Unbuilt.{unbuilt_query}
 use Rattle.gx_normal.specs.Normalisation.{NamedQuery, named_query, unknown_name, query_named}
 use Rattle.gx_processor.specs.Serialisation.{serialised}
 use Rattle.gx_processor.specs.TypeBytes.{type_bytes}
@@ -66,14 +66,14 @@ AnswersNamed command (unknown_name place code) answer = answer ≡ refuses statu
 AnswersNamed command (named_query core) answer = AnswersJudged command core (query_judged no_declarations core) answer
 
 -- a production that is not built yet
-abbrev pub AnswersBuilt : Command → SyntaxTree → (unbuilt : Option Place) → Answer → Type 0
+abbrev pub AnswersBuilt : Command → Query → (unbuilt : Option Place) → Answer → Type 0
 AnswersBuilt command tree (Some place) answer = answer ≡ refuses status.Query (placed_line XPST0003 place)
-AnswersBuilt command tree None answer = AnswersNamed command (query_named tree) answer
+AnswersBuilt command tree None answer = AnswersNamed command (query_named tree.body) answer
 
 -- parsing
 abbrev pub AnswersParsed : Command → Parsing → Answer → Type 0
 AnswersParsed command (refused rule place) answer = answer ≡ refuses status.Query (placed_line (rule_code rule) place)
-AnswersParsed command (parsed tree) answer = AnswersBuilt command tree (first_unbuilt tree) answer
+AnswersParsed command (parsed tree) answer = AnswersBuilt command tree (unbuilt_query tree) answer
 
 abbrev pub AnswersBytes : Command → List ℕ → Answer → Type 0
 AnswersBytes command bytes answer = (parsing : Parsing) × Parses bytes parsing × AnswersParsed command parsing answer

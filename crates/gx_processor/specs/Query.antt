@@ -3,17 +3,17 @@ use Rattle.std.specs.Prelude.{◌≡◌, ℕ, ◌≤◌, List, length, None, Som
 use Rattle.gx_base.specs.declared.limits.TheConstants.{FILE_BYTES}
 use Rattle.gx_core.specs.declared.expression.Core.{Core}
 use Rattle.gx_io.specs.Load.{file_of}
-use Rattle.gx_ast.specs.SyntaxTree.{SyntaxTree}
+use Rattle.gx_ast.specs.declared.query.Query.{Query}
 use Rattle.gx_parse.specs.Query.{Parses, parsed}
-use Rattle.gx_normal.specs.Unbuilt.{first_unbuilt}
+use Rattle.gx_normal.specs.Unbuilt.{unbuilt_query}
 use Rattle.gx_normal.specs.Normalisation.{named_query, query_named}
 
 -- the bytes are those of a query with this Core, all of whose productions are built
 pub record IsQueryOf (bytes : List ℕ) (core : Core) : Type 0 where
-  pub tree : SyntaxTree
+  pub tree : Query
   pub parses : Parses bytes (parsed tree)
-  pub built : first_unbuilt tree ≡ None
-  pub named : query_named tree ≡ named_query core
+  pub built : unbuilt_query tree ≡ None
+  pub named : query_named tree.body ≡ named_query core
 
 -- the file of that name holds a query with this Core
 pub record HoldsQuery (files : List (List ℕ × List ℕ)) (name : List ℕ) (core : Core) : Type 0 where

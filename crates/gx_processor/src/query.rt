@@ -14,18 +14,18 @@ ghost use Rattle.gx_processor.specs.Query.{HoldsQuery};
 ghost use Rattle.gx_normal.specs.Normalisation.{query_named, named_query};
 ghost use Rattle.gx_processor.specs.Replies.{RefusesSo, HasCause};
 ghost use Rattle.gx_processor.specs.RuleCode.{rule_code};
-ghost use Rattle.gx_normal.specs.Unbuilt.{first_unbuilt};
+ghost use Rattle.gx_normal.specs.Unbuilt.{unbuilt_query};
 
 use crate::refusal::Refusal;
 use gx_ast::dismantle::dismantle;
-use gx_ast::expression::Expr;
+use gx_ast::query::Query;
 use gx_base::code::Code;
 use gx_base::limits::FILE_BYTES;
 use gx_core::expression::Core;
 use gx_core::typed::TypedCore;
 use gx_io::{Library, LoadError};
 use gx_normal::normalise::{NameRefusal, normalise};
-use gx_normal::unbuilt::first_unbuilt;
+use gx_normal::unbuilt::unbuilt_query;
 use gx_parse::parser::{SyntaxRefusal, SyntaxRule, parse};
 use gx_static::error::InferError;
 use gx_static::infer::infer;
@@ -71,11 +71,11 @@ fn bytes_of<L: Library>(alloc: Global, file: &str, library: &mut L) -> Result<Ve
     }
 }
 
-// The tree of the bytes, all of whose productions are built.
-fn tree_of(alloc: Global, bytes: &[u8]) -> Result<Expr, Refusal>
+// The syntax tree of the bytes, all of whose productions are built.
+fn tree_of(alloc: Global, bytes: &[u8]) -> Result<Query, Refusal>
     requires { length bytes.now ≤ FILE_BYTES }
     ensures tree { IfOk result (λ tree. Parses bytes.now (parsed tree)) }
-    ensures built { IfOk result (λ tree. first_unbuilt tree ≡ None) }
+    ensures built { IfOk result (λ tree. unbuilt_query tree ≡ None) }
     ensures refused { IfErr result (λ refusal. (command : Command) → RefusesSo refusal (AnswersBytes command bytes.now)) }
     ensures cause { IfErr result (HasCause ⊥ ⊥) }
 {
@@ -102,13 +102,13 @@ fn rule_code(rule: SyntaxRule) -> Code
 }
 
 // A tree all of whose productions are built; another one ends here.
-fn built(alloc: Global, tree: Expr) -> Result<Expr, Refusal>
+fn built(alloc: Global, tree: Query) -> Result<Query, Refusal>
     ensures same { IfOk result (λ kept. kept ≡ tree) }
-    ensures built { IfOk result (λ kept. first_unbuilt kept ≡ None) }
-    ensures refused { IfErr result (λ refusal. (command : Command) → RefusesSo refusal (AnswersBuilt command tree (first_unbuilt tree))) }
+    ensures built { IfOk result (λ kept. unbuilt_query kept ≡ None) }
+    ensures refused { IfErr result (λ refusal. (command : Command) → RefusesSo refusal (AnswersBuilt command tree (unbuilt_query tree))) }
     ensures cause { IfErr result (HasCause ⊥ ⊥) }
 {
-    let refusal = match first_unbuilt(alloc, &tree) {
+    let refusal = match unbuilt_query(alloc, &tree) {
         Ok(None) => return Ok(tree),
         Ok(Some(place)) => Refusal::Query {
             code: Code::XPST0003,
@@ -116,18 +116,29 @@ fn built(alloc: Global, tree: Expr) -> Result<Expr, Refusal>
         },
         Err(AllocError) => Refusal::Memory,
     };
-    dismantle(alloc, tree);
+    drop_query(alloc, tree);
     Err(refusal)
 }
 
+// Drops a query, its body by a loop.
+fn drop_query(alloc: Global, query: Query) {
+    let Query {
+        version: _,
+        settings: _,
+        definitions: _,
+        body,
+    } = query;
+    dismantle(alloc, body);
+}
+
 // The Core of a tree, which ends here.
-fn core_of(alloc: Global, tree: Expr) -> Result<Core, Refusal>
-    ensures core { IfOk result (λ core. query_named tree ≡ named_query core) }
-    ensures refused { IfErr result (λ refusal. (command : Command) → RefusesSo refusal (AnswersNamed command (query_named tree))) }
+fn core_of(alloc: Global, tree: Query) -> Result<Core, Refusal>
+    ensures core { IfOk result (λ core. query_named tree.body ≡ named_query core) }
+    ensures refused { IfErr result (λ refusal. (command : Command) → RefusesSo refusal (AnswersNamed command (query_named tree.body))) }
     ensures cause { IfErr result (HasCause ⊥ ⊥) }
 {
-    let core = normalise(alloc, &tree);
-    dismantle(alloc, tree);
+    let core = normalise(alloc, &tree.body);
+    drop_query(alloc, tree);
     match core {
         Ok(core) => Ok(core),
         Err(NameRefusal::Refused { code, place }) => Err(Refusal::Query { code, place }),

@@ -3,6 +3,7 @@
 //! `\1` (the character with the number 1) stand for characters.
 #![tactic(auto)]
 
+mod prolog;
 mod show;
 
 use gx_parse::parser::{SyntaxRefusal, parse};
@@ -39,7 +40,7 @@ fn answer(alloc: Global, row: &str, shown: bool) -> Result<String, AllocError> {
             write!(out, "{rule:?} {line}:{column}")?;
         }
         Err(SyntaxRefusal::Memory) => out.push_str("memory")?,
-        Ok(tree) if shown => show::show(alloc, &mut out, &tree)?,
+        Ok(query) if shown => prolog::show_query(alloc, &mut out, &query)?,
         Ok(_) => out.push_str("a query")?,
     }
     Ok(out)

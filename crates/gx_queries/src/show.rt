@@ -314,7 +314,7 @@ fn show_parts<'a>(
     }
 }
 
-fn show_named(out: &mut String, word: &str, name: &QName) -> Result<(), AllocError> {
+pub fn show_named(out: &mut String, word: &str, name: &QName) -> Result<(), AllocError> {
     let Place { line, column } = name.place;
     let prefix = name.prefix.as_str();
     let colon = if prefix.is_empty() { "" } else { ":" };
@@ -322,7 +322,7 @@ fn show_named(out: &mut String, word: &str, name: &QName) -> Result<(), AllocErr
     write!(out, "{word}{prefix}{colon}{local}@{line}:{column} ")
 }
 
-fn show_place(out: &mut String, place: &Place) -> Result<(), AllocError> {
+pub fn show_place(out: &mut String, place: &Place) -> Result<(), AllocError> {
     let Place { line, column } = *place;
     write!(out, "{line}:{column} ")
 }

@@ -5,4 +5,4 @@ use Rattle.gx_normal.proofs.unbuilt.first_unbuilt.Given as goal
 
 -- the first in what is left is the first in the query
 abbrev pub invariant-loop : goal.invariant-loop
-invariant-loop l = first_of_all l.pending ≡ first_unbuilt l.query
+invariant-loop l = first_of_all l.pending ≡ first_unbuilt l.tree

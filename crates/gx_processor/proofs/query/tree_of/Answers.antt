@@ -1,8 +1,11 @@
 use Rattle.std.proofs.Common.{refl, subst}
 use Rattle.gx_parse.specs.Query.{refused, RefusesBytes}
 use Rattle.gx_parse.specs.declared.parser.SyntaxRefusal.{SyntaxRefusal}
-use Rattle.gx_processor.proofs.QueryLemmas.{built_refused}
+use Rattle.gx_processor.proofs.QueryLemmas.{built_refused, kept_parses}
 use Rattle.gx_processor.proofs.query.tree_of.Goals as goal
+
+pub returns-in-Ok-clause-tree : goal.returns-in-Ok-clause-tree
+returns-in-Ok-clause-tree c = kept_parses c.args.bytes.now c.in-Ok.tree c.built.result c.in-Ok.ensures.tree c.built.ensures.same
 
 pub returns-in-Ok-clause-refused : goal.returns-in-Ok-clause-refused
 returns-in-Ok-clause-refused c = built_refused c.args.bytes.now c.in-Ok.tree c.built.result c.in-Ok.ensures.tree c.built.ensures.refused

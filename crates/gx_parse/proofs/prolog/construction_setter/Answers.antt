@@ -1,0 +1,17 @@
+use Rattle.std.proofs.Common.{◌≡◌, ◌∙◌, ◌-◌, ◌∷◌, ◌++◌, [], ap, sym, subst, refl, inl, inr, if◌then◌else◌, Some, None, arith, ℕ, suc}
+use Rattle.gx_grammar.specs.Value.{nothing, node, pair, characters, no_item}
+use Rattle.gx_grammar.specs.Ran.{Ran, left_of}
+use Rattle.gx_grammar.specs.Grammar.{many}
+use Rattle.gx_parse.specs.Grammar.{place_in, lexeme, word_of, at_tokens, expression}
+use Rattle.gx_parse.specs.Reading.{read_in, read_one}
+use Rattle.gx_parse.specs.Types.{Gave, named}
+use Rattle.gx_parse.specs.Nodes.{Found, Whole, tree}
+use Rattle.gx_parse.specs.Bound.{bound, bound_type, bound_made, kind_made}
+use Rattle.gx_parse.specs.declared.word.Word.TheVariants as word
+use Rattle.gx_parse.specs.declared.word.WordSet.TheVariants as set
+use Rattle.gx_parse.proofs.PrologPhrases.{construction_read}
+use Rattle.gx_parse.specs.PrologParts.{gapped}
+use Rattle.gx_parse.proofs.prolog.construction_setter.Goals as goal
+
+pub returns : goal.returns
+returns c = λ n. construction_read c.args.source.now n (gapped word.Strip) c.args.reader.now c.symbol.new.reader (c.symbol.ensures c.args.source.now n)

@@ -1,0 +1,12 @@
+use Rattle.std.proofs.Common.{ℕ, ◌∷◌, []}
+use Rattle.gx_parse.specs.Grammar.{at_tokens, place_in}
+use Rattle.gx_parse.specs.PrologParts.{closed_definition, definition_item}
+use Rattle.gx_parse.specs.Tokens.{definer_words}
+use Rattle.gx_parse.proofs.Repeated.{Begun}
+use Rattle.gx_parse.proofs.prolog.definitions.Given as goal
+
+abbrev pub invariant-loop-reader : goal.invariant-loop-reader
+invariant-loop-reader l = Begun l.source 40 (at_tokens (definer_words ∷ [])) (closed_definition (place_in l.source)) definition_item [] l.list.items l.left l.fn.reader l.reader
+
+abbrev pub decreases-loop-reader : goal.decreases-loop-reader
+decreases-loop-reader l = l.left

@@ -1,0 +1,29 @@
+use Rattle.std.proofs.Common.{◌≡◌, ◌∙◌, ◌-◌, ◌∷◌, ◌++◌, [], ap, sym, subst, refl, inl, inr, if◌then◌else◌, Some, None, arith, ℕ, suc}
+use Rattle.gx_grammar.specs.Value.{nothing, node, pair, characters, no_item}
+use Rattle.gx_grammar.specs.Ran.{Ran, left_of}
+use Rattle.gx_grammar.specs.Grammar.{many}
+use Rattle.gx_parse.specs.Grammar.{place_in, lexeme, word_of, at_tokens, expression}
+use Rattle.gx_parse.specs.Reading.{read_in, read_one}
+use Rattle.gx_parse.specs.Types.{Gave, named}
+use Rattle.gx_parse.specs.Nodes.{Found, Whole, tree}
+use Rattle.gx_parse.specs.Bound.{bound, bound_type, bound_made, kind_made}
+use Rattle.gx_parse.specs.declared.word.Word.TheVariants as word
+use Rattle.gx_parse.specs.declared.word.WordSet.TheVariants as set
+use Rattle.gx_parse.proofs.PrologPhrases.{no_encoding, encoding_read}
+use Rattle.gx_parse.specs.Prolog.{encoding}
+use Rattle.gx_parse.specs.PrologParts.{encoding_made}
+use Rattle.gx_parse.proofs.TypesPhrases.{gave_none, ran_loses}
+use Rattle.gx_parse.proofs.prolog.encoding.Goals as goal
+
+pub returns-then-not-looks_at : goal.returns-then-not-looks_at
+returns-then-not-looks_at c = λ n. no_encoding c.args.source.now n c.looks_at.result c.args.reader.now c.looks_at.new.self c.if-not-looks_at.true c.looks_at.ensures
+
+pub returns-in_default : goal.returns-in_default
+returns-in_default c = λ n.
+    let done = rw c.in_default.is at (c.text_literal.ensures n) in
+    gave_none encoding_made _ c.args.reader.now c.text_literal.new.reader (read_in c.args.source.now n encoding) done.0
+    (encoding_read c.args.source.now n nothing c.looks_at.result c.args.reader.now c.looks_at.new.self c.symbol.new.reader c.text_literal.new.reader c.if-not-looks_at.false c.looks_at.ensures (c.symbol.ensures c.args.source.now n) (done.1 nothing))
+
+pub returns : goal.returns
+returns c = λ n.
+    encoding_read c.args.source.now n (characters c.in-Some.name) c.looks_at.result c.args.reader.now c.looks_at.new.self c.symbol.new.reader c.text_literal.new.reader c.if-not-looks_at.false c.looks_at.ensures (c.symbol.ensures c.args.source.now n) (c.in-Some.ensures n)

@@ -1,0 +1,25 @@
+use Rattle.std.proofs.Common.{◌≡◌, ◌∙◌, ◌-◌, ◌∷◌, ◌++◌, [], ap, sym, subst, refl, inl, inr, if◌then◌else◌, Some, None, arith, ℕ, suc}
+use Rattle.gx_grammar.specs.Value.{nothing, node, pair, characters, no_item}
+use Rattle.gx_grammar.specs.Ran.{Ran, left_of}
+use Rattle.gx_grammar.specs.Grammar.{many}
+use Rattle.gx_parse.specs.Grammar.{place_in, lexeme, word_of, at_tokens, expression}
+use Rattle.gx_parse.specs.Reading.{read_in, read_one}
+use Rattle.gx_parse.specs.Types.{Gave, named}
+use Rattle.gx_parse.specs.Nodes.{Found, Whole, tree}
+use Rattle.gx_parse.specs.Bound.{bound, bound_type, bound_made, kind_made}
+use Rattle.gx_parse.specs.declared.word.Word.TheVariants as word
+use Rattle.gx_parse.specs.declared.word.WordSet.TheVariants as set
+use Rattle.gx_parse.proofs.PrologPhrases.{named_schema_read}
+use Rattle.gx_parse.specs.Prolog.{named_schema}
+use Rattle.gx_parse.specs.PrologParts.{prefix_made, imports_made}
+use Rattle.gx_parse.proofs.TypesPhrases.{gave_none, ran_loses}
+use Rattle.gx_parse.proofs.prolog.named_schema.Goals as goal
+
+pub returns-in_default : goal.returns-in_default
+returns-in_default c = λ n.
+    let done = rw c.in_default.is at (c.prefix.ensures n) in
+    gave_none imports_made _ c.args.reader.now c.prefix.new.reader (read_in c.args.source.now n (named_schema (place_in c.args.source.now))) done.0
+    (named_schema_read c.args.source.now n nothing c.args.reader.now c.symbol.new.reader c.prefix.new.reader (c.symbol.ensures c.args.source.now n) (done.1 nothing))
+
+pub returns : goal.returns
+returns c = λ n. named_schema_read c.args.source.now n (prefix_made c.in-Some.prefix) c.args.reader.now c.symbol.new.reader c.prefix.new.reader (c.symbol.ensures c.args.source.now n) (c.in-Some.ensures n)

@@ -1,0 +1,25 @@
+use Rattle.std.proofs.Common.{◌≡◌, ◌∙◌, ◌-◌, ◌∷◌, ◌++◌, [], ap, sym, subst, refl, inl, inr, if◌then◌else◌, Some, None, arith, ℕ, suc}
+use Rattle.gx_grammar.specs.Value.{nothing, node, pair, characters, no_item}
+use Rattle.gx_grammar.specs.Ran.{Ran, left_of}
+use Rattle.gx_grammar.specs.Grammar.{many}
+use Rattle.gx_parse.specs.Grammar.{place_in, lexeme, word_of, at_tokens, expression}
+use Rattle.gx_parse.specs.Reading.{read_in, read_one}
+use Rattle.gx_parse.specs.Types.{Gave, named}
+use Rattle.gx_parse.specs.Nodes.{Found, Whole, tree}
+use Rattle.gx_parse.specs.Bound.{bound, bound_type, bound_made, kind_made}
+use Rattle.gx_parse.specs.declared.word.Word.TheVariants as word
+use Rattle.gx_parse.specs.declared.word.WordSet.TheVariants as set
+use Rattle.gx_parse.proofs.PrologPhrases.{parameter_read, still}
+use Rattle.gx_parse.specs.Prolog.{parameter}
+use Rattle.gx_parse.specs.PrologParts.{parameter_made}
+use Rattle.gx_parse.proofs.TypesPhrases.{gave_none, ran_loses}
+use Rattle.gx_parse.proofs.prolog.parameter.Goals as goal
+
+pub returns-in_default : goal.returns-in_default
+returns-in_default c = λ n.
+    let done = rw c.in_default.is at (c.bound.ensures n) in
+    gave_none parameter_made _ c.args.reader.now c.bound.new.reader (read_in c.args.source.now n (parameter (place_in c.args.source.now))) done.0
+    (parameter_read c.args.source.now n nothing nothing c.args.reader.now c.bound.new.reader c.bound.new.reader (done.1 nothing) (still c.args.source.now n (bound_type (place_in c.args.source.now)) nothing c.bound.new.reader done.0))
+
+pub returns : goal.returns
+returns c = λ n. parameter_read c.args.source.now n (bound_made c.in-Some.variable) (kind_made c.kind_of-kind.result) c.args.reader.now c.bound.new.reader c.kind_of-kind.new.reader (c.in-Some.ensures n) (c.kind_of-kind.ensures n)

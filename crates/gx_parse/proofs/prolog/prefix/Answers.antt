@@ -1,0 +1,29 @@
+use Rattle.std.proofs.Common.{◌≡◌, ◌∙◌, ◌-◌, ◌∷◌, ◌++◌, [], ap, sym, subst, refl, inl, inr, if◌then◌else◌, Some, None, arith, ℕ, suc}
+use Rattle.gx_grammar.specs.Value.{nothing, node, pair, characters, no_item}
+use Rattle.gx_grammar.specs.Ran.{Ran, left_of}
+use Rattle.gx_grammar.specs.Grammar.{many}
+use Rattle.gx_parse.specs.Grammar.{place_in, lexeme, word_of, at_tokens, expression}
+use Rattle.gx_parse.specs.Reading.{read_in, read_one}
+use Rattle.gx_parse.specs.Types.{Gave, named}
+use Rattle.gx_parse.specs.Nodes.{Found, Whole, tree}
+use Rattle.gx_parse.specs.Bound.{bound, bound_type, bound_made, kind_made}
+use Rattle.gx_parse.specs.declared.word.Word.TheVariants as word
+use Rattle.gx_parse.specs.declared.word.WordSet.TheVariants as set
+use Rattle.gx_parse.proofs.PrologPhrases.{prefix_read, still}
+use Rattle.gx_parse.specs.Prolog.{prefix, prefix_value}
+use Rattle.gx_parse.specs.PrologParts.{gapped, prefix_made}
+use Rattle.gx_parse.proofs.TypesPhrases.{gave_none, ran_loses}
+use Rattle.gx_grammar.proofs.PublicLaws.{ran_idle}
+use Rattle.gx_parse.specs.Tokens.{gap}
+use Rattle.gx_parse.proofs.prolog.prefix.Goals as goal
+
+pub returns-in_default : goal.returns-in_default
+returns-in_default c = λ n.
+    let done = rw c.in_default.is at c.ncname.ensures in
+    gave_none prefix_made (prefix_value c.place-place.result (pair (pair nothing nothing) (gapped word.Equals))) c.args.reader.now c.ncname.new.self (read_in c.args.source.now n (prefix (place_in c.args.source.now))) done.0
+    (prefix_read c.args.source.now n c.place-place.result nothing c.args.reader.now c.ncname.new.self c.ncname.new.self c.ncname.new.self (c.place-place.ensures ∙ ap (place_in c.args.source.now) c.left.ensures) (done.1 nothing) (ran_idle nothing c.ncname.new.self (read_one gap) done.0)
+    (still c.args.source.now n (lexeme (word_of word.Equals)) (gapped word.Equals) c.ncname.new.self done.0))
+
+pub returns : goal.returns
+returns c = λ n.
+    prefix_read c.args.source.now n c.place-place.result (characters c.in-Some.name) c.args.reader.now c.ncname.new.self c.gap.new.self c.symbol.new.reader (c.place-place.ensures ∙ ap (place_in c.args.source.now) c.left.ensures) c.in-Some.ensures c.gap.ensures (c.symbol.ensures c.args.source.now n)

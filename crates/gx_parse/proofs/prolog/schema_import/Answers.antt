@@ -1,0 +1,42 @@
+use Rattle.std.proofs.Common.{◌≡◌, ◌∙◌, ◌-◌, ◌∷◌, ◌++◌, [], ap, sym, subst, refl, inl, inr, if◌then◌else◌, Some, None, arith, ℕ, suc}
+use Rattle.gx_grammar.specs.Value.{nothing, node, pair, characters, no_item}
+use Rattle.gx_grammar.specs.Ran.{Ran, left_of}
+use Rattle.gx_grammar.specs.Grammar.{many}
+use Rattle.gx_parse.specs.Grammar.{place_in, lexeme, word_of, at_tokens, expression}
+use Rattle.gx_parse.specs.Reading.{read_in, read_one}
+use Rattle.gx_parse.specs.Types.{Gave, named}
+use Rattle.gx_parse.specs.Nodes.{Found, Whole, tree}
+use Rattle.gx_parse.specs.Bound.{bound, bound_type, bound_made, kind_made}
+use Rattle.gx_parse.specs.declared.word.Word.TheVariants as word
+use Rattle.gx_parse.specs.declared.word.WordSet.TheVariants as set
+use Rattle.gx_parse.proofs.PrologPhrases.{import_is, import_read, still}
+use Rattle.gx_parse.specs.Prolog.{schema_import, text_literal}
+use Rattle.gx_parse.specs.PrologParts.{gapped, imports_made, locations, locations_made, says_made}
+use Rattle.gx_parse.proofs.TypesPhrases.{gave_none, ran_loses}
+use Rattle.gx_ast.specs.declared.query.SettingNode.TheVariants as sets
+use Rattle.gx_parse.proofs.prolog.schema_import.Goals as goal
+
+pub returns-in_default : goal.returns-in_default
+returns-in_default c = λ n.
+    let done = rw c.in_default.is at (c.schema_prefix.ensures n) in
+    gave_none says_made _ c.args.reader.now c.schema_prefix.new.reader (read_in c.args.source.now n (schema_import (place_in c.args.source.now))) done.0
+    (import_is c.args.source.now n nothing nothing nothing c.args.reader.now c.schema_prefix.new.reader c.schema_prefix.new.reader c.schema_prefix.new.reader c.schema_prefix.new.reader (done.1 nothing) (still c.args.source.now n text_literal nothing c.schema_prefix.new.reader done.0)
+    (still c.args.source.now n (lexeme (word_of word.At)) (gapped word.At) c.schema_prefix.new.reader done.0) (still c.args.source.now n locations nothing c.schema_prefix.new.reader done.0))
+
+pub returns-in_default-text_literal : goal.returns-in_default-text_literal
+returns-in_default-text_literal c = λ n.
+    let done = rw c.in_default-text_literal.is at (c.text_literal.ensures n) in
+    gave_none says_made _ c.args.reader.now c.text_literal.new.reader (read_in c.args.source.now n (schema_import (place_in c.args.source.now))) done.0
+    (import_is c.args.source.now n (imports_made c.in-Some.prefix) nothing nothing c.args.reader.now c.schema_prefix.new.reader c.text_literal.new.reader c.text_literal.new.reader c.text_literal.new.reader (c.in-Some.ensures n) (done.1 nothing)
+    (still c.args.source.now n (lexeme (word_of word.At)) (gapped word.At) c.text_literal.new.reader done.0) (still c.args.source.now n locations nothing c.text_literal.new.reader done.0))
+
+pub returns-in_default-locations : goal.returns-in_default-locations
+returns-in_default-locations c = λ n.
+    let done = rw c.in_default-locations.is at (c.locations.ensures.read n) in
+    gave_none says_made _ c.args.reader.now c.locations.new.reader (read_in c.args.source.now n (schema_import (place_in c.args.source.now))) done.0
+    (import_is c.args.source.now n (imports_made c.in-Some.prefix) (characters c.in-Some-text_literal.uri) nothing c.args.reader.now c.schema_prefix.new.reader c.text_literal.new.reader c.symbol.new.reader c.locations.new.reader (c.in-Some.ensures n) (c.in-Some-text_literal.ensures n) (c.symbol.ensures c.args.source.now n) (done.1 nothing))
+
+pub returns : goal.returns
+returns c = λ n.
+    subst (λ ls. Ran (says_made (sets.Schema c.in-Some.prefix c.in-Some-text_literal.uri ls)) c.args.reader.now c.locations.new.reader (read_in c.args.source.now n (schema_import (place_in c.args.source.now)))) (sym c.from_vec.ensures)
+    (import_read c.args.source.now n c.in-Some.prefix c.in-Some-text_literal.uri c.in-Some-locations.list.items c.args.reader.now c.schema_prefix.new.reader c.text_literal.new.reader c.symbol.new.reader c.locations.new.reader c.in-Some-locations.ensures.full (c.in-Some.ensures n) (c.in-Some-text_literal.ensures n) (c.symbol.ensures c.args.source.now n) (c.in-Some-locations.ensures.read n))
