@@ -16,7 +16,7 @@ use Rattle.gx_facets.specs.declared.Atomic.{Atomic}
 use Rattle.gx_facets.specs.Value.{lexical_form, value_of_decimal}
 use Rattle.gx_types.specs.SchemaSet.{SchemaSet}
 use Rattle.gx_types.specs.SameItemType.{same_type_name}
-use Rattle.gx_types.specs.Derivation.{Bases, base_of, Leads, LeadsTo}
+use Rattle.gx_types.specs.Derivation.{bases_of, Bases, base_of, Leads, LeadsTo}
 use Rattle.gx_atomic.specs.declared.casting.CastError.{CastError}
 use Rattle.gx_atomic.specs.declared.casting.CastError.TheVariants.{FORG0001, FOCA0001}
 use Rattle.gx_atomic.specs.Cast.{with_fault, to_boolean, to_decimal, to_integer, in_type_range, within_type, cast_value, as_type}
@@ -154,21 +154,21 @@ module _ (schemas : SchemaSet) where
   GivesKind kind (Err error) = Unit {0}
 
   boolean_kind : (cast : Result AtomValue CastError) → GivesBoolean cast → GivesKind types.Boolean cast
-  boolean_kind (Ok (Truth b)) g = itself schemas.bases types.Boolean refl
+  boolean_kind (Ok (Truth b)) g = itself (bases_of schemas) types.Boolean refl
   boolean_kind (Ok value) g = absurd g
   boolean_kind (Err error) g = tt
 
   decimal_kind : (cast : Result AtomValue CastError) → GivesDecimal cast → GivesKind types.Decimal cast
-  decimal_kind (Ok (Num (Dec u))) g = (itself schemas.bases types.Decimal refl, decimal schemas.bases)
+  decimal_kind (Ok (Num (Dec u))) g = (itself (bases_of schemas) types.Decimal refl, decimal (bases_of schemas))
   decimal_kind (Ok value) g = absurd g
   decimal_kind (Err error) g = tt
 
-  integer_kind : (kind : Builtin) (cast : Result AtomValue CastError) → IsIntegerType schemas.bases kind → GivesInteger cast → GivesKind kind cast
+  integer_kind : (kind : Builtin) (cast : Result AtomValue CastError) → IsIntegerType (bases_of schemas) kind → GivesInteger cast → GivesKind kind cast
   integer_kind kind (Ok (Num (Int i))) r g = r
   integer_kind kind (Ok value) r g = absurd g
   integer_kind kind (Err error) r g = tt
 
-  integer_cast : (kind : Builtin) (value : AtomValue) → IsIntegerType schemas.bases kind → GivesKind kind (within_type kind (to_integer value))
+  integer_cast : (kind : Builtin) (value : AtomValue) → IsIntegerType (bases_of schemas) kind → GivesKind kind (within_type kind (to_integer value))
   integer_cast kind value r = integer_kind kind (within_type kind (to_integer value)) r (gives_integer kind (to_integer value))
 
   gives_kind : (kind : Builtin) (value : AtomValue) → GivesKind kind (cast_value kind value)
@@ -177,24 +177,24 @@ module _ (schemas : SchemaSet) where
   gives_kind types.AnySimple value = tt
   gives_kind types.AnyAtomic value = tt
   gives_kind types.UntypedAtomic value = refl
-  gives_kind types.Str value = string schemas.bases
-  gives_kind types.NormalizedStr value = normalized schemas.bases
-  gives_kind types.Token value = by_base schemas.bases _ (names.Builtin types.NormalizedStr) _ refl (normalized schemas.bases)
+  gives_kind types.Str value = string (bases_of schemas)
+  gives_kind types.NormalizedStr value = normalized (bases_of schemas)
+  gives_kind types.Token value = by_base (bases_of schemas) _ (names.Builtin types.NormalizedStr) _ refl (normalized (bases_of schemas))
   gives_kind types.Boolean value = boolean_kind (to_boolean value) (gives_boolean value)
   gives_kind types.Decimal value = decimal_kind (to_decimal value) (gives_decimal value)
-  gives_kind types.Integer value = integer_cast types.Integer value (integer schemas.bases)
-  gives_kind types.NonPositive value = integer_cast types.NonPositive value (non_positive schemas.bases)
-  gives_kind types.Negative value = integer_cast types.Negative value (up schemas.bases types.Negative types.NonPositive refl (non_positive schemas.bases))
-  gives_kind types.Long value = integer_cast types.Long value (long schemas.bases)
-  gives_kind types.Int value = integer_cast types.Int value (int schemas.bases)
-  gives_kind types.Short value = integer_cast types.Short value (short schemas.bases)
-  gives_kind types.Byte value = integer_cast types.Byte value (up schemas.bases types.Byte types.Short refl (short schemas.bases))
-  gives_kind types.NonNegative value = integer_cast types.NonNegative value (non_negative schemas.bases)
-  gives_kind types.UnsignedLong value = integer_cast types.UnsignedLong value (unsigned_long schemas.bases)
-  gives_kind types.UnsignedInt value = integer_cast types.UnsignedInt value (unsigned_int schemas.bases)
-  gives_kind types.UnsignedShort value = integer_cast types.UnsignedShort value (unsigned_short schemas.bases)
-  gives_kind types.UnsignedByte value = integer_cast types.UnsignedByte value (up schemas.bases types.UnsignedByte types.UnsignedShort refl (unsigned_short schemas.bases))
-  gives_kind types.Positive value = integer_cast types.Positive value (up schemas.bases types.Positive types.NonNegative refl (non_negative schemas.bases))
+  gives_kind types.Integer value = integer_cast types.Integer value (integer (bases_of schemas))
+  gives_kind types.NonPositive value = integer_cast types.NonPositive value (non_positive (bases_of schemas))
+  gives_kind types.Negative value = integer_cast types.Negative value (up (bases_of schemas) types.Negative types.NonPositive refl (non_positive (bases_of schemas)))
+  gives_kind types.Long value = integer_cast types.Long value (long (bases_of schemas))
+  gives_kind types.Int value = integer_cast types.Int value (int (bases_of schemas))
+  gives_kind types.Short value = integer_cast types.Short value (short (bases_of schemas))
+  gives_kind types.Byte value = integer_cast types.Byte value (up (bases_of schemas) types.Byte types.Short refl (short (bases_of schemas)))
+  gives_kind types.NonNegative value = integer_cast types.NonNegative value (non_negative (bases_of schemas))
+  gives_kind types.UnsignedLong value = integer_cast types.UnsignedLong value (unsigned_long (bases_of schemas))
+  gives_kind types.UnsignedInt value = integer_cast types.UnsignedInt value (unsigned_int (bases_of schemas))
+  gives_kind types.UnsignedShort value = integer_cast types.UnsignedShort value (unsigned_short (bases_of schemas))
+  gives_kind types.UnsignedByte value = integer_cast types.UnsignedByte value (up (bases_of schemas) types.UnsignedByte types.UnsignedShort refl (unsigned_short (bases_of schemas)))
+  gives_kind types.Positive value = integer_cast types.Positive value (up (bases_of schemas) types.Positive types.NonNegative refl (non_negative (bases_of schemas)))
 
   as_type_fits : (kind : Builtin) (cast : Result AtomValue CastError) (b : Atomic) → GivesKind kind cast → as_type (names.Builtin kind) cast ≡ Ok b
       → (b.kind ≡ names.Builtin kind) × FitsItsType schemas b

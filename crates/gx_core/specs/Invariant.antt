@@ -1,9 +1,13 @@
 -- What the variables of a Core keep to: each stands in the scope of its binder, and no number is bound twice.
-use Rattle.std.specs.Prelude.{◌≡◌, ℕ, nat_eq, Bool, true, false, List, [], ◌∷◌, ◌++◌}
+use Rattle.std.specs.Prelude.{◌≡◌, ℕ, nat_eq, Bool, true, false, List, [], ◌∷◌, ◌++◌, Option, None, Some, is_some, All}
+use Rattle.std.specs.Bool.{IsTrue}
 use Rattle.std.specs.List.{list_any}
 use Rattle.gx_core.specs.declared.operator.Operator.{Operator}
 use Rattle.gx_core.specs.declared.operator.Operator.TheVariants as operators
-use Rattle.gx_core.specs.Expression.{Expression, At, Parts, no_parts, a_part}
+use Rattle.gx_core.specs.declared.expression.Core.{Core}
+use Rattle.gx_core.specs.declared.expression.CoreDeclaration.{CoreDeclaration}
+use Rattle.gx_core.specs.declared.expression.CoreDeclaration.TheVariants.{Global}
+use Rattle.gx_core.specs.Expression.{Expression, At, Parts, no_parts, a_part, CoreExpression}
 use Rattle.gx_core.specs.Bindings.{numbers_bound_by}
 
 abbrev pub is_among : List ℕ → ℕ → Bool
@@ -43,3 +47,40 @@ AreDistinct (number ∷ numbers) = (is_among numbers number ≡ false) × AreDis
 pub record HasVariablesInOrder {A : Type 0} (e : Expression A) : Type 0 where
   pub scoped : IsScoped [] e
   pub once : AreDistinct (numbers_bound e)
+
+-- ---- whole queries
+
+-- the numbers in scope behind declarations
+abbrev pub scope_behind : List CoreDeclaration → List ℕ → List ℕ
+scope_behind [] scope = scope
+scope_behind (Global name binder value ∷ others) scope = scope_behind others (binder.variable ∷ scope)
+
+abbrev pub IsScopedValue : List ℕ → Option CoreExpression → Type 0
+IsScopedValue scope None = Unit {0}
+IsScopedValue scope (Some value) = IsScoped scope value
+
+-- each value stands in the scope of the globals before it
+abbrev pub AreValuesScoped : List ℕ → List CoreDeclaration → Type 0
+AreValuesScoped scope [] = Unit {0}
+AreValuesScoped scope (Global name binder value ∷ others) = IsScopedValue scope value × AreValuesScoped (binder.variable ∷ scope) others
+
+abbrev pub value_numbers : Option CoreExpression → List ℕ
+value_numbers None = []
+value_numbers (Some value) = numbers_bound value
+
+-- the numbers that declarations bind, and their values
+abbrev pub declared_numbers : List CoreDeclaration → List ℕ
+declared_numbers [] = []
+declared_numbers (Global name binder value ∷ others) = value_numbers value ++ binder.variable ∷ declared_numbers others
+
+-- a global variable has a value, or its declaration has a type
+abbrev pub HasValueOrType : CoreDeclaration → Type 0
+HasValueOrType (Global name binder (Some value)) = Unit {0}
+HasValueOrType (Global name binder None) = IsTrue (is_some binder.kind)
+
+-- the variables of a whole query
+pub record HasQueryVariablesInOrder (core : Core) : Type 0 where
+  pub values : AreValuesScoped [] core.declarations
+  pub body : IsScoped (scope_behind core.declarations []) core.body
+  pub once : AreDistinct (declared_numbers core.declarations ++ numbers_bound core.body)
+  pub externals : All HasValueOrType core.declarations

@@ -1,7 +1,7 @@
 // Trees taken apart by a loop, so that dropping one takes no stack in proportion to its depth.
 
 use crate::expression::{CoreExpr, CoreForm, E};
-use crate::typed::{T, TypedExpr, TypedForm};
+use crate::typed::{T, TypedCore, TypedDeclaration, TypedExpr, TypedForm};
 use std::alloc::Global;
 
 /// Drops an expression of this form part by part. What finds no memory is dropped as it is.
@@ -28,6 +28,25 @@ pub fn dismantle_typed(alloc: Global, form: TypedForm) {
     }
 }
 
+/// Drops typed declarations, each value part by part.
+pub fn dismantle_declarations(alloc: Global, declarations: Vec<TypedDeclaration>) {
+    for declaration in declarations {
+        match declaration {
+            TypedDeclaration::Global { value, .. } => {
+                if let Some(value) = value {
+                    dismantle_typed(alloc, value.form);
+                }
+            }
+        }
+    }
+}
+
+/// Drops a typed query part by part.
+pub fn dismantle_query(alloc: Global, query: TypedCore) {
+    dismantle_declarations(alloc, query.declarations.into_vec());
+    dismantle_typed(alloc, query.body.form);
+}
+
 fn set_aside(alloc: Global, form: CoreForm, parts: &mut Vec<E>) {
     match form {
         CoreForm::Lit(_) | CoreForm::Var(_) | CoreForm::Empty => {}
@@ -37,11 +56,13 @@ fn set_aside(alloc: Global, form: CoreForm, parts: &mut Vec<E>) {
         CoreForm::Cast(operand, _target, _) | CoreForm::Castable(operand, _target, _) => {
             let _kept = parts.push(operand);
         }
-        CoreForm::Seq(first, second)
-        | CoreForm::Let(_, first, second)
-        | CoreForm::Binary(_, first, second) => {
+        CoreForm::Seq(first, second) | CoreForm::Binary(_, first, second) => {
             let _first_kept = parts.push(first);
             let _second_kept = parts.push(second);
+        }
+        CoreForm::Let(_binder, value, body) => {
+            let _value_kept = parts.push(value);
+            let _body_kept = parts.push(body);
         }
         CoreForm::If(condition, chosen, otherwise) => {
             let _condition_kept = parts.push(condition);
@@ -71,11 +92,13 @@ fn set_typed_aside(alloc: Global, form: TypedForm, parts: &mut Vec<T>) {
         TypedForm::Cast(operand, _target, _) | TypedForm::Castable(operand, _target, _) => {
             let _kept = parts.push(operand);
         }
-        TypedForm::Seq(first, second)
-        | TypedForm::Let(_, first, second)
-        | TypedForm::Binary(_, first, second) => {
+        TypedForm::Seq(first, second) | TypedForm::Binary(_, first, second) => {
             let _first_kept = parts.push(first);
             let _second_kept = parts.push(second);
+        }
+        TypedForm::Let(_binder, value, body) => {
+            let _value_kept = parts.push(value);
+            let _body_kept = parts.push(body);
         }
         TypedForm::If(condition, chosen, otherwise) => {
             let _condition_kept = parts.push(condition);

@@ -3,27 +3,42 @@
 ghost use Rattle.std.specs.Prelude.{◌≡◌};
 ghost use Rattle.gx_core.specs.BinaryOperators.{class_of};
 
+use crate::declarations::Declarations;
 use gx_atomic::Op;
+use gx_base::name::Name;
 use gx_base::place::Place;
 use gx_base::type_name::TypeName;
 use gx_facets::Atomic;
 use gx_funcs::function::Function;
+use gx_types::sequence_type::Ty;
 use std::marker::Model;
 
 /// A Core expression inside another one.
 pub type E = Box<CoreExpr>;
 
-/// A whole query in Core (XQuery 1.0 and XPath 2.0 Formal Semantics, section 2.3).
-#[derive(Debug, Drop)]
+/// A whole query in Core: its declarations in order, and its body (XQuery 1.0 and XPath 2.0 Formal Semantics, section 2.3).
+#[derive(Drop)]
 pub struct Core {
+    pub declarations: Declarations<CoreDeclaration>,
     pub body: CoreExpr,
 }
 
-/// The binding occurrence of a variable: its number, and the place of its `$`.
-#[derive(Clone, Copy, Debug, PartialEq, Eq)]
+/// A declaration of the prolog: a global variable, with its value unless it is external (XQuery 1.0, section 4.14).
+#[derive(Drop)]
+pub enum CoreDeclaration {
+    Global {
+        name: Name,
+        binder: Binder,
+        value: Option<CoreExpr>,
+    },
+}
+
+/// The binding occurrence of a variable: its number, the place of its `$`, and the type that is written behind `as`.
+#[derive(Debug, Drop)]
 pub struct Binder {
     pub variable: u32,
     pub place: Place,
+    pub kind: Option<Ty>,
 }
 
 /// The operators of two operands (XQuery 1.0, sections 3.3.1, 3.4 and 3.5).

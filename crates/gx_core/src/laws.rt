@@ -1,7 +1,7 @@
 // Laws over the definitions.
 
 ghost use Rattle.gx_core.specs.Laws.{MeaningLooksAtNoType, AfterKeeps, BindingsFitStill, BindingFits, OperandsKeepTheirTypes};
-ghost use Rattle.gx_core.specs.QueryMeaning.{SoundQueriesKeepTheirTypes};
+ghost use Rattle.gx_core.specs.QueryMeaning.{NoneNeedsNoDocument, SoundQueriesKeepTheirTypes};
 
 /// The meaning of a typed expression is that of the same expression without its types.
 pub fn meaning_looks_at_no_type()
@@ -24,6 +24,11 @@ pub fn bindings_fit_still()
 /// Parts that keep their types have values of these types, in the forest that the last part leaves.
 pub fn operands_keep_their_types()
     ensures { OperandsKeepTheirTypes }
+{}
+
+/// A query without external variables needs no document.
+pub fn no_document_is_needed()
+    ensures { NoneNeedsNoDocument }
 {}
 
 /// A query that is sound is no type error, and its value belongs to its type.

@@ -7,7 +7,7 @@ use gx_funcs::function::Function;
 
 /// One operator of Core, with what it has beside its parts: one variant for each form of an expression. The parts of an
 /// operator are its expressions in the order written.
-#[derive(Debug, PartialEq, Eq, Drop)]
+#[derive(Debug, Drop)]
 pub enum Operator {
     Lit(Atomic),
     Var(u32),

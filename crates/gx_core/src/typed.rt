@@ -1,6 +1,8 @@
 // Core expressions with their types.
 
+use crate::declarations::Declarations;
 use crate::expression::{BinaryOp, Binder};
+use gx_base::name::Name;
 use gx_base::place::Place;
 use gx_base::type_name::TypeName;
 use gx_facets::Atomic;
@@ -12,9 +14,20 @@ use std::marker::Model;
 pub type T = Box<TypedExpr>;
 
 /// A whole query in Core, each expression with its type (XQuery 1.0 and XPath 2.0 Formal Semantics, section 2.3).
-#[derive(Debug, Drop)]
+#[derive(Drop)]
 pub struct TypedCore {
+    pub declarations: Declarations<TypedDeclaration>,
     pub body: TypedExpr,
+}
+
+/// A declaration of the prolog, with types: a global variable, with its value unless it is external (XQuery 1.0, section 4.14).
+#[derive(Drop)]
+pub enum TypedDeclaration {
+    Global {
+        name: Name,
+        binder: Binder,
+        value: Option<TypedExpr>,
+    },
 }
 
 /// A Core expression with its type `kind`. `place` is its own place, `outer` that of its outermost parentheses as they were

@@ -1,3 +1,4 @@
 pub mod Operands
 pub mod Resuming
 pub mod Ranges
+pub mod Globals

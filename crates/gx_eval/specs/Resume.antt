@@ -1,16 +1,19 @@
 -- What an evaluation in its midst comes to.
-use Rattle.std.specs.Prelude.{ℕ, zero, suc, ◌+◌, List, [], ◌∷◌, ◌++◌, length, take, drop, map, Vec}
+use Rattle.std.specs.Prelude.{ℕ, zero, suc, ◌+◌, List, [], ◌∷◌, ◌++◌, length, take, drop, map, Option, None, Some, Vec}
 use Rattle.gx_facets.specs.declared.Atomic.{Atomic}
 use Rattle.gx_model.specs.Forest.{Forest}
 use Rattle.gx_model.specs.Item.{Items, atoms}
 use Rattle.gx_core.specs.declared.operator.Operator.{Operator}
 use Rattle.gx_core.specs.declared.operator.Operator.TheVariants as operators
+use Rattle.gx_core.specs.declared.typed.TypedCore.{TypedCore}
+use Rattle.gx_core.specs.declared.typed.TypedDeclaration.{TypedDeclaration}
+use Rattle.gx_core.specs.declared.typed.TypedDeclaration.TheVariants.{Global}
 use Rattle.gx_core.specs.Comparing.{condition_of}
 use Rattle.gx_core.specs.Outcome.{Outcome, gives, wrong, after, given}
 use Rattle.gx_core.specs.Meaning.{Context, Bindings, Denotation, acts, branch, meaning}
 use Rattle.gx_eval.specs.Operators.{single_operator}
 use Rattle.gx_eval.specs.declared.evaluation.Pending.{Pending}
-use Rattle.gx_eval.specs.declared.evaluation.Pending.TheVariants.{Evaluate, Data, Single as Operate, Right, Binary, Choose, Mark, Call, Bind, Unbind}
+use Rattle.gx_eval.specs.declared.evaluation.Pending.TheVariants.{Evaluate, Data, Single as Operate, Right, Binary, Choose, Mark, Call, Bind, Unbind, Declare, External}
 use Rattle.gx_eval.specs.declared.evaluation.Evaluation.{Evaluation}
 
 -- the values of each binding
@@ -32,6 +35,17 @@ abbrev pub in_order : List Denotation → (Items → List ℕ → Bindings → F
 in_order [] next values marks bindings forest = next values marks bindings forest
 in_order (part ∷ parts) next values marks bindings forest =
     after (part bindings forest) (λ more left. in_order parts next (values ++ more) (length values ∷ marks) bindings left)
+
+-- the globals in order, and then what follows them; no document is given for an external variable
+abbrev pub declared_then : Context → List TypedDeclaration → (Bindings → Forest → Outcome Items) → Bindings → Forest → Outcome Items
+declared_then k [] next bindings forest = next bindings forest
+declared_then k (Global name binder (Some value) ∷ others) next bindings forest =
+    after (meaning k value bindings forest) (λ items left. declared_then k others next ((binder.variable, items) ∷ bindings) left)
+declared_then k (Global name binder None ∷ others) next bindings forest = wrong
+
+-- what a query with its types comes to
+abbrev pub typed_outcome : Context → TypedCore → Forest → Outcome Items
+typed_outcome k core forest = declared_then k core.declarations (λ bindings left. meaning k core.body bindings left) [] forest
 
 -- what is left to do, over the values and the marks that are there
 abbrev pub resume : Context → List Pending → (values : Items) → (marks : List ℕ) → Bindings → Forest → Outcome Items
@@ -57,6 +71,8 @@ resume k (Call function more ∷ work) values marks bindings forest =
 resume k (Bind variable first body ∷ work) values marks bindings forest =
     after (meaning k body.now ((variable, drop first values) ∷ bindings) forest) (λ more left. resume k work (take first values ++ more) marks bindings left)
 resume k (Unbind ∷ work) values marks bindings forest = resume k work values marks (drop 1 bindings) forest
+resume k (Declare variable ∷ work) values marks bindings forest = resume k work [] marks ((variable, values) ∷ bindings) forest
+resume k (External ∷ work) values marks bindings forest = wrong
 
 abbrev pub outcome_of : Context → Forest → Evaluation → Outcome Items
 outcome_of k forest evaluation = resume k evaluation.work (atoms evaluation.values.items) evaluation.marks (items_of evaluation.scope) forest

@@ -8,10 +8,10 @@ ghost use Rattle.gx_core.specs.declared.operator.Operator.TheVariants as operato
 ghost use Rattle.gx_core.specs.Bindings.{look_up};
 ghost use Rattle.gx_core.specs.Comparing.{condition_of};
 ghost use Rattle.gx_core.specs.Outcome.{gives, after, given};
-ghost use Rattle.gx_core.specs.Meaning.{Context, denoted, meaning};
+ghost use Rattle.gx_core.specs.Meaning.{Context, Bindings, denoted, meaning};
 ghost use Rattle.gx_eval.specs.Failing.{FailsSo};
 ghost use Rattle.gx_eval.specs.Operators.{single_operator};
-ghost use Rattle.gx_eval.specs.Resume.{resume, in_order, outcome_of, outcome_with, outcome_behind, items_of};
+ghost use Rattle.gx_eval.specs.Resume.{resume, declared_then, typed_outcome, in_order, outcome_of, outcome_with, outcome_behind, items_of};
 ghost use Rattle.gx_eval.specs.declared.evaluation.Pending.TheVariants as work;
 
 use crate::answer::{of_two, put};
@@ -21,17 +21,18 @@ use crate::single::{Single, of_one};
 use gx_core::expression::BinaryOp;
 use gx_core::scope::Scope;
 use gx_core::stack::Stack;
-use gx_core::typed::{TypedExpr, TypedForm};
+use gx_core::typed::{TypedCore, TypedDeclaration, TypedExpr, TypedForm};
 use gx_facets::{AtomValue, Atomic};
 use gx_funcs::function::Function;
 use std::alloc::{AllocError, Global};
-use std::slice;
+use std::{mem, slice};
 
 // A piece of work. A number is that of the values before an operand: to evaluate an expression, behind the values that are
 // there; to atomize an operand; to apply an operator of one operand; to evaluate the right operand of an operator, whose left one is
 // there; to apply an operator of two operands; to choose the first of two branches where the operand is true, and else the
 // second; to mark where an argument begins; to call a function of two arguments and so many more, behind the last marks; to bind a
-// variable to an operand in the body of a `let`; or to take the innermost binding away.
+// variable to an operand in the body of a `let`; to take the innermost binding away; to bind a global variable to all values that
+// are there; or to find the document of an external variable, of which none is given.
 #[derive(Drop)]
 pub(crate) enum Pending<'a> {
     Evaluate(&'a TypedExpr),
@@ -44,6 +45,8 @@ pub(crate) enum Pending<'a> {
     Call(Function, usize),
     Bind(u32, usize, &'a TypedExpr),
     Unbind,
+    Declare(u32),
+    External,
 }
 
 #[derive(Drop)]
@@ -55,15 +58,11 @@ pub(crate) struct Evaluation<'a> {
 }
 
 impl<'a> Evaluation<'a> {
-    // The evaluation of an expression, with no variable in scope.
-    pub(crate) fn new(
-        alloc: Global,
-        expression: &'a TypedExpr,
-    ) -> Result<Evaluation<'a>, AllocError>
-        ensures { (k : Context) (forest : Forest) → IfOk result (λ e. outcome_of k forest e ≡ meaning k expression.now [] forest) }
+    // The evaluation of a query.
+    pub(crate) fn new(alloc: Global, core: &'a TypedCore) -> Result<Evaluation<'a>, AllocError>
+        ensures { (k : Context) (forest : Forest) → IfOk result (λ e. outcome_of k forest e ≡ typed_outcome k core.now forest) }
     {
-        let mut work = Stack::new(alloc);
-        work.push(Pending::Evaluate(expression))?;
+        let work = work_of(alloc, core)?;
         Ok(Evaluation {
             work,
             values: Vec::new(alloc),
@@ -92,6 +91,8 @@ impl<'a> Evaluation<'a> {
                 self.scope.unbind();
                 Ok(())
             }
+            Pending::Declare(variable) => Ok(self.declare(alloc, variable)?),
+            Pending::External => Err(Failure::Wrong),
         }
     }
 
@@ -258,6 +259,14 @@ impl<'a> Evaluation<'a> {
         Ok(())
     }
 
+    // Binds a global variable to all values that are there.
+    fn declare(&mut self, alloc: Global, variable: u32) -> Result<(), AllocError>
+        ensures { (k : Context) (forest : Forest) → OnOk result (outcome_of k forest self.new ≡ outcome_with k forest (work.Declare variable) self.old) }
+    {
+        let value = mem::replace(&mut self.values, Vec::new(alloc));
+        self.scope.bind(variable, value)
+    }
+
     // Puts the branch to the work that the values from the number on choose.
     #[tactic(auto, using(crate::proofs::Resuming::none_is_chosen))]
     fn choose(
@@ -324,6 +333,39 @@ impl<'a> Evaluation<'a> {
         ensures failed { (k : Context) (forest : Forest) → IfErr result (λ e. FailsSo e (outcome_with k forest (work.Call _function _more) self.old)) }
     {
         Err(Failure::Wrong)
+    }
+}
+
+// The work of a query: its globals in order, and its body.
+fn work_of<'a>(alloc: Global, core: &'a TypedCore) -> Result<Stack<Pending<'a>>, AllocError>
+    ensures { (k : Context) (forest : Forest) → IfOk result (λ made. resume k made [] [] [] forest ≡ typed_outcome k core.now forest) }
+{
+    let mut work = Stack::new(alloc);
+    work.push(Pending::Evaluate(&core.body))?;
+    let mut rest = core.declarations.as_slice();
+    while let Some((declaration, front)) = rest.split_last() {
+        put_down(declaration, &mut work)?;
+        rest = front;
+    }
+    Ok(work)
+}
+
+// Puts the work of a declaration before what is there.
+fn put_down<'a>(
+    declaration: &'a TypedDeclaration,
+    work: &mut Stack<Pending<'a>>,
+) -> Result<(), AllocError>
+    ensures { (k : Context) (bindings : Bindings) (forest : Forest) → OnOk result (resume k work.new [] [] bindings forest
+        ≡ declared_then k (declaration.now ∷ []) (λ bs left. resume k work.old [] [] bs left) bindings forest) }
+{
+    match declaration {
+        TypedDeclaration::Global { binder, value, .. } => match value {
+            Some(value) => {
+                work.push(Pending::Declare(binder.variable))?;
+                work.push(Pending::Evaluate(value))
+            }
+            None => work.push(Pending::External),
+        },
     }
 }
 

@@ -9,6 +9,7 @@ use Rattle.gx_types.specs.SchemaSet.{SchemaSet}
 use Rattle.gx_types.specs.Grounded.{Grounded}
 use Rattle.gx_types.specs.SequenceType.{SequenceType}
 use Rattle.gx_types.specs.TypeRules.{positions_of}
+use Rattle.gx_types.specs.Derivation.{bases_of}
 use Rattle.gx_include.specs.declared.letter.Letter.{Letter}
 use Rattle.gx_include.specs.declared.alphabet.Row.{Row}
 use Rattle.gx_include.specs.Step.{all_tests}
@@ -82,7 +83,7 @@ module _ (s : SchemaSet) (a b : SequenceType) where
             (in_flat (λ x. entry_if place x (all_tests a (is_taken s x)) (all_tests b (is_taken s x))) shape made shapes k (in_if (get_or (all_tests a (is_taken s shape)) place false) made g)))
       ]
 
-  module _ (g : Grounded s.bases) (letters : List Letter) (is : IsAlphabet s a b letters) where
+  module _ (g : Grounded (bases_of s)) (letters : List Letter) (is : IsAlphabet s a b letters) where
     names : List Name
     names = with_names (with_names [] a) b
 

@@ -241,13 +241,13 @@ in_possible left right place xs h k e one =
 
 -- the pairs that are reached are among them
 
-both_set_length : (xs ys : List Bool) (n : ℕ) → length xs ≡ n → length ys ≡ n → length (both_set xs ys) ≡ n
+pub both_set_length : (xs ys : List Bool) (n : ℕ) → length xs ≡ n → length ys ≡ n → length (both_set xs ys) ≡ n
 both_set_length [] ys n e f = e
 both_set_length (x ∷ xs) [] n e f = absurd (omega arith)
 both_set_length (x ∷ xs) (y ∷ ys) zero e f = absurd (omega arith)
 both_set_length (x ∷ xs) (y ∷ ys) (suc n) e f = ap (λ m. suc m) (both_set_length xs ys n (omega arith) (omega arith))
 
-next_length : (t : SequenceType) (set : List Bool) (begins : Bool) → length (next_of t begins set) ≡ positions_of t
+pub next_length : (t : SequenceType) (set : List Bool) (begins : Bool) → length (next_of t begins set) ≡ positions_of t
 next_length t set begins = ap (λ xs. length xs) (next_is t set begins) ∙ length_flags t (marked_next t begins (marks_from t set))
 
 tail_one : (xs : List Bool) → HasOneAtMost (false ∷ xs) → HasOneAtMost xs

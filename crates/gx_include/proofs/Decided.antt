@@ -10,13 +10,13 @@ use Rattle.gx_types.specs.declared.shape.Shape.{Shape}
 use Rattle.gx_types.specs.declared.shape.Shape.TheVariants as shapes
 use Rattle.gx_types.specs.SchemaSet.{SchemaSet}
 use Rattle.gx_types.specs.Grounded.{Grounded}
-use Rattle.gx_types.specs.Derivation.{is_derived, DerivesFrom}
+use Rattle.gx_types.specs.Derivation.{bases_of, is_derived, DerivesFrom}
 use Rattle.gx_types.specs.ItemTakes.{ItemTakes, name_fits}
 use Rattle.gx_types.specs.SequenceType.{SequenceType, never, nothing, item, both, either, optional, star, plus}
 use Rattle.gx_types.proofs.DerivationTest.{derives_when_tested, tested_when_derives}
 use Rattle.gx_include.specs.Test.{is_taken, IsDecided}
 
-module _ (s : SchemaSet) (g : Grounded s.bases) where
+module _ (s : SchemaSet) (g : Grounded (bases_of s)) where
   named : (wanted : Option Name) (name : Name) (t kind : TypeName) → IsTrue (name_fits wanted name && is_derived s t kind) ↔ (IsTrue (name_fits wanted name) × DerivesFrom s t kind)
   named wanted name t kind = (
     λ h. let p = and_parts (name_fits wanted name) (is_derived s t kind) h in (p.0, derives_when_tested s t kind p.1),

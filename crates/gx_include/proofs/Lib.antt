@@ -15,3 +15,7 @@ pub mod Counts
 pub mod Bound
 pub mod WellFormed
 pub mod OneAnswer
+pub mod Searching
+pub mod Deciding
+pub mod SomeAlphabet
+pub mod SomeAnswer

@@ -12,7 +12,7 @@ use Rattle.gx_types.specs.declared.shape.Shape.{Shape}
 use Rattle.gx_types.specs.declared.shape.Shape.TheVariants as shapes
 use Rattle.gx_types.specs.SameItemType.{same_type_name}
 use Rattle.gx_types.specs.SchemaSet.{SchemaSet}
-use Rattle.gx_types.specs.Derivation.{Bases, base_of, of_base, leads_within, is_derived}
+use Rattle.gx_types.specs.Derivation.{bases_of, Bases, base_of, of_base, leads_within, is_derived}
 use Rattle.gx_types.specs.ItemTakes.{name_fits}
 use Rattle.gx_types.specs.SequenceType.{SequenceType, never, nothing, item, both, either, optional, star, plus}
 use Rattle.gx_types.proofs.EqualNames.{names_are_equivalent, type_names_are_equivalent}
@@ -158,7 +158,7 @@ module _ (s : SchemaSet) (names : List Name) where
   both_alike : (wanted : Option Name) (n m : Name) (t u kind : TypeName) → ((w : Option Name) → IsKnown names w → name_fits w m ≡ name_fits w n) → same_type_name t u ≡ true → IsKnown names wanted
       → (name_fits wanted m && is_derived s u kind) ≡ (name_fits wanted n && is_derived s t kind)
   both_alike wanted n m t u kind f e k =
-      ap (λ b. b && is_derived s u kind) (f wanted k) ∙ ap (λ b. name_fits wanted n && b) (derived_alike s.bases (length s.bases + 23) t u kind e)
+      ap (λ b. b && is_derived s u kind) (f wanted k) ∙ ap (λ b. name_fits wanted n && b) (derived_alike (bases_of s) (length (bases_of s) + 23) t u kind e)
 
   elements_alike : (n m : Name) (t u : TypeName) → ((w : Option Name) → IsKnown names w → name_fits w m ≡ name_fits w n) → same_type_name t u ≡ true → Alike (shapes.Elem m u) (shapes.Elem n t)
   elements_alike n m t u f e (items.Element wanted kind) k = both_alike wanted n m t u kind f e k
@@ -175,7 +175,7 @@ module _ (s : SchemaSet) (names : List Name) where
   documents_alike n m t u f e _ k = refl
 
   atoms_alike : (t u : TypeName) → same_type_name t u ≡ true → Alike (shapes.Atom u) (shapes.Atom t)
-  atoms_alike t u e (items.Atom kind) k = derived_alike s.bases (length s.bases + 23) t u kind e
+  atoms_alike t u e (items.Atom kind) k = derived_alike (bases_of s) (length (bases_of s) + 23) t u kind e
   atoms_alike t u e _ k = refl
 
   -- what is tried

@@ -72,7 +72,7 @@ module _ (s : SchemaSet) where
         ]
       ]
 
-  tried_is_well_formed : (names : List Name) (x : Shape) → In x (trial_shapes (plain_types s) names) → IsWellFormedShape s x
+  pub tried_is_well_formed : (names : List Name) (x : Shape) → In x (trial_shapes (plain_types s) names) → IsWellFormedShape s x
   tried_is_well_formed names x h =
       of_five x (map shapes.Atom (plain_types s)) (named_shapes Element (element_types s) names) (named_shapes Attribute (plain_types s) names)
       (shapes.Text ∷ shapes.Doc None ∷ []) (named_shapes Document (element_types s) names) (an_atom x) (an_element names x) (an_attribute names x) (another x) (a_document names x) h

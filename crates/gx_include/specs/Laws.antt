@@ -6,6 +6,7 @@ use Rattle.gx_types.specs.SchemaSet.{SchemaSet}
 use Rattle.gx_types.specs.Grounded.{Grounded}
 use Rattle.gx_types.specs.SequenceType.{SequenceType}
 use Rattle.gx_types.specs.TypeRules.{positions_of}
+use Rattle.gx_types.specs.Derivation.{bases_of}
 use Rattle.gx_include.specs.declared.letter.Letter.{Letter}
 use Rattle.gx_include.specs.declared.verdict.Verdict.{Verdict}
 use Rattle.gx_include.specs.declared.verdict.Verdict.TheVariants.{Yes, No, TooManyPairs}
@@ -31,7 +32,7 @@ IsDeterministic schemas b =
 -- where the right type is so, no more pairs are reached than the start and each left position with a right one or none
 abbrev pub FewPairsAreReached : Type 0
 FewPairsAreReached =
-    (schemas : SchemaSet) (a b : SequenceType) (letters : List Letter) → Grounded schemas.bases → IsAlphabet schemas a b letters → IsDeterministic schemas b
+    (schemas : SchemaSet) (a b : SequenceType) (letters : List Letter) → Grounded (bases_of schemas) → IsAlphabet schemas a b letters → IsDeterministic schemas b
     → (pairs : List (ℕ × List Bool)) → IsDistinct same_pair pairs
     → ((i : ℕ) (pair : ℕ × List Bool) → StateAt pairs i pair → (run : List ℕ) × IsReached a b letters run pair)
     → length pairs ≤ 1 + positions_of a * (positions_of b + 1)

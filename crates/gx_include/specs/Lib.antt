@@ -15,3 +15,5 @@ pub mod Trials
 pub mod Alphabet
 pub mod Answer
 pub mod Laws
+pub mod Decision
+pub mod Existence

@@ -2,7 +2,9 @@
 
 ghost use Rattle.std.specs.Prelude.{◌≡◌, ◌+◌, ◌++◌, [], ◌∷◌, map, IfOk, OnOk};
 ghost use Rattle.std.specs.List.{All};
+ghost use Rattle.gx_types.specs.SchemaSet.{names_declared};
 ghost use Rattle.gx_types.specs.Grounded.{Grounded};
+ghost use Rattle.gx_types.specs.Derivation.{bases_of};
 ghost use Rattle.gx_include.specs.Alphabet.{entry_of_letter, entry_if, row_entries, rows_below, IsRow, IsAlphabet};
 ghost use Rattle.gx_include.specs.Inclusion.{built_in_types};
 ghost use Rattle.gx_include.specs.Trials.{with_names, IsOther, trial_shapes, untyped};
@@ -13,6 +15,7 @@ use crate::trial::{add_names, other_than, trials};
 use crate::walk::is_set;
 use gx_base::name::Name;
 use gx_base::type_name::{Builtin, TypeName};
+use gx_types::declaration::Declared;
 use gx_types::schemas::Schemas;
 use gx_types::sequence_type::Ty;
 use gx_types::shape::Shape;
@@ -34,9 +37,9 @@ pub(crate) fn alphabet(
     right: &Ty,
 ) -> Result<Vec<Letter>, AllocError>
     ensures letters { IfOk result (λ letters. IsAlphabet schemas.now left.now right.now letters.items) }
-    ensures grounded { OnOk result (Grounded schemas.now.bases) }
+    ensures grounded { OnOk result (Grounded (bases_of schemas.now)) }
 {
-    let shapes = shapes_of_types(alloc, schemas.bases(), left, right)?;
+    let shapes = shapes_of_types(alloc, schemas.types(), left, right)?;
     let rows = rows_of(alloc, schemas, left, right, shapes.as_slice())?;
     let width = taking_positions(alloc, schemas, left, &Shape::Text)?.len();
     let letters = letters_of(alloc, rows.as_slice(), width)?;
@@ -46,11 +49,11 @@ pub(crate) fn alphabet(
 // The shapes that are tried for two types.
 fn shapes_of_types(
     alloc: Global,
-    declarations: &[(TypeName, TypeName)],
+    declarations: &[Declared],
     left: &Ty,
     right: &Ty,
 ) -> Result<Vec<Shape>, AllocError>
-    ensures { IfOk result (λ shapes. (other : Name) × IsOther (with_names (with_names [] left.now) right.now) other × (shapes.items ≡ trial_shapes (built_in_types ++ map (λ (declaration : TypeName × TypeName). declaration.0) declarations.now) (with_names (with_names [] left.now) right.now ++ other ∷ []))) }
+    ensures { IfOk result (λ shapes. (other : Name) × IsOther (with_names (with_names [] left.now) right.now) other × (shapes.items ≡ trial_shapes (built_in_types ++ names_declared declarations.now) (with_names (with_names [] left.now) right.now ++ other ∷ []))) }
 {
     let names = names_of_types(alloc, left, right)?;
     let types = plain_types(alloc, declarations)?;
@@ -77,11 +80,8 @@ fn names_of_types(alloc: Global, left: &Ty, right: &Ty) -> Result<Vec<Name>, All
 }
 
 // The built-in types that a shape may have beside xs:untyped, and the declared types.
-fn plain_types(
-    alloc: Global,
-    declarations: &[(TypeName, TypeName)],
-) -> Result<Vec<TypeName>, AllocError>
-    ensures { IfOk result (λ types. types.items ≡ built_in_types ++ map (λ (declaration : TypeName × TypeName). declaration.0) declarations.now) }
+fn plain_types(alloc: Global, declarations: &[Declared]) -> Result<Vec<TypeName>, AllocError>
+    ensures { IfOk result (λ types. types.items ≡ built_in_types ++ names_declared declarations.now) }
 {
     let mut types = vec![in alloc;
         TypeName::Builtin(Builtin::UntypedAtomic),
@@ -119,14 +119,11 @@ fn element_types(alloc: Global, plain: &[TypeName]) -> Result<Vec<TypeName>, All
 }
 
 // Puts the types of declarations behind those of a list.
-fn add_declared(
-    types: &mut Vec<TypeName>,
-    declarations: &[(TypeName, TypeName)],
-) -> Result<(), AllocError>
-    ensures { OnOk result (types.new.items ≡ types.old.items ++ map (λ (declaration : TypeName × TypeName). declaration.0) declarations.now) }
+fn add_declared(types: &mut Vec<TypeName>, declarations: &[Declared]) -> Result<(), AllocError>
+    ensures { OnOk result (types.new.items ≡ types.old.items ++ names_declared declarations.now) }
 {
     for declaration in declarations {
-        types.push(declaration.0.clone()?)?;
+        types.push(declaration.name.clone()?)?;
     }
     Ok(())
 }

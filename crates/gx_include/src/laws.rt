@@ -1,5 +1,7 @@
 // Laws over the definitions.
 
+ghost use Rattle.gx_include.specs.Decision.{InclusionIsDecided};
+ghost use Rattle.gx_include.specs.Existence.{AnAnswerOfTypesExists};
 ghost use Rattle.gx_include.specs.Laws.{AnswersAreOne, PastIsNotWithin, FewPairsAreReached, NoExcludesInclusion};
 
 /// The pairs that are reached are not both past a limit and within it, so `TooManyPairs` comes exactly where they are past it.
@@ -18,7 +20,17 @@ pub fn no_excludes_inclusion()
     ensures { NoExcludesInclusion }
 {}
 
+/// The test of inclusion by search is exact.
+pub fn inclusion_is_decided()
+    ensures { InclusionIsDecided }
+{}
+
 /// There is one answer on two types: the list of a No too is one.
 pub fn answers_are_one()
     ensures { AnswersAreOne }
+{}
+
+/// Two types have an answer under each limit on the pairs.
+pub fn an_answer_exists()
+    ensures { AnAnswerOfTypesExists }
 {}

@@ -3,6 +3,7 @@
 
 mod alphabet;
 mod decide;
+pub mod decision;
 pub mod include;
 pub mod laws;
 mod letter;

@@ -1,1 +1,6 @@
 pub mod PublicLaws
+pub mod LookupLemmas
+pub mod ListLemmas
+pub mod LocationLemmas
+pub mod AxisLemmas
+pub mod SearchLemmas

@@ -2,3 +2,10 @@ pub mod Forest
 pub mod Item
 pub mod Belongs
 pub mod Growth
+pub mod Location
+pub mod DocumentOrder
+pub mod NodeTest
+pub mod Axes
+pub mod TypedValue
+pub mod Stepping
+pub mod Search

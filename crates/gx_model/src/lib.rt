@@ -1,5 +1,13 @@
 //! Nodes by their places in a forest, items, and the values that belong to a type.
 #![tactic(auto)]
 
+pub mod axis;
+pub mod forest;
 pub mod laws;
+mod lookup;
 pub mod node;
+mod node_test;
+pub mod order;
+mod search;
+pub mod typed_value;
+mod way;

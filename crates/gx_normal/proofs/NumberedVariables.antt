@@ -1,22 +1,28 @@
 -- Variables stand in the scopes of their binders, and are numbered once each.
-use Rattle.std.proofs.Common.{◌≡◌, ℕ, ◌+◌, ◌<◌, ◌≤◌, Bool, true, false, ◌||◌, List, [], ◌∷◌, ◌++◌, map, Option, Some, None, refl, ◌∙◌, ap, subst, arith, nat_eq, if◌then◌else◌}
+use Rattle.std.proofs.Common.{◌≡◌, ℕ, ◌+◌, ◌<◌, ◌≤◌, Bool, true, false, ◌||◌, List, [], ◌∷◌, ◌++◌, map, Option, Some, None, Result, Ok, Err, IfOk, All, refl, sym, ◌∙◌, ap, subst, rules, arith, nat_eq, if◌then◌else◌}
 use Rattle.std.proofs.lemmas.Bool.{ne_eqb, eq-eqb}
+use Rattle.std.proofs.lemmas.List.Elements.{All-nil, All-cons}
 use Rattle.gx_base.specs.declared.place.Place.{Place}
-use Rattle.gx_base.specs.declared.code.Code.{Code}
-use Rattle.gx_base.specs.declared.type_name.Builtin.{Builtin}
-use Rattle.gx_ast.specs.declared.name.QName.{QName}
+use Rattle.gx_base.specs.declared.type_name.TypeName.{TypeName}
 use Rattle.gx_ast.specs.declared.expression.BinaryOperator.{BinaryOperator}
-use Rattle.gx_ast.specs.declared.expression.BinaryOperator.TheVariants as written
-use Rattle.gx_ast.specs.SyntaxTree.{SyntaxTree, SyntaxForm, SyntaxTrees, Bindings, Clauses, at, number, string, variable, parenthesised, empty_sequence, context_item, call, comma, flwor, quantified, typeswitch, conditional, binary, instance_of, treat_as, castable_as, cast_as, signed, path, axis_step, parent_step, filtered, direct, document_node, text_node, element_node, empty_element, attribute_node, empty_attribute, no_tree, a_tree, no_binding, a_binding, no_clause, for_clause, let_clause, where_clause, no_key, a_key}
+use Rattle.gx_ast.specs.declared.expression.BinaryOperator.TheVariants as operator
 use Rattle.gx_funcs.specs.declared.function.Function.{Function}
 use Rattle.gx_funcs.specs.declared.function.Function.TheVariants as functions
+use Rattle.gx_names.specs.declared.tree.BoundName.{BoundName}
+use Rattle.gx_names.specs.declared.tree.Construct.{Construct}
+use Rattle.gx_names.specs.declared.tree.Construct.TheVariants as written
+use Rattle.gx_names.specs.declared.tree.Global.{Global as ResolvedGlobal}
+use Rattle.gx_names.specs.declared.tree.Resolved.{Resolved}
+use Rattle.gx_names.specs.ResolvedTree.{ResolvedTree, ResolvedTrees, resolved_at, no_resolved, a_resolved}
 use Rattle.gx_core.specs.declared.expression.BinaryOp.{BinaryOp}
+use Rattle.gx_core.specs.declared.expression.Core.{Core}
+use Rattle.gx_core.specs.declared.expression.CoreDeclaration.{CoreDeclaration}
+use Rattle.gx_core.specs.declared.expression.CoreDeclaration.TheVariants.{Global}
 use Rattle.gx_core.specs.declared.operator.Operator.TheVariants as operators
-use Rattle.gx_core.specs.Expression.{CoreExpression, At, no_parts, core_at}
-use Rattle.gx_core.specs.Invariant.{is_among, IsScoped, numbers_bound, AreDistinct, HasVariablesInOrder}
-use Rattle.gx_normal.specs.Names.{Names, number_in_scope, same_qname, is_known_prefix, function_of, Target, target, no_target, target_of}
-use Rattle.gx_normal.specs.Constructs.{within, data_around, boolean_around, core_sequence, operator_at, call_at, call_of_one, conditional_at, and_at, or_at, signed_at, cast_at, castable_at, let_at, operator_in_core, joined_by, joining}
-use Rattle.gx_normal.specs.Normalisation.{Normalised, made, unknown, then_made, or_refused, where_target, Continuation, core_of, core_of_form, call_core, bindings_core, clauses_core, normalised}
+use Rattle.gx_core.specs.Expression.{CoreExpression, At, Parts, no_parts, a_part, all_parts, core_at}
+use Rattle.gx_core.specs.Invariant.{is_among, IsScoped, ArePartsScoped, numbers_bound, numbers_bound_in, AreDistinct, scope_behind, AreValuesScoped, declared_numbers, HasValueOrType, HasQueryVariablesInOrder}
+use Rattle.gx_normal.specs.Constructs.{within, data_around, boolean_around, core_sequence, operator_at, call_at, call_of, empty_at, of_one, data_at, conditional_at, and_at, or_at, signed_at, cast_at, castable_at, let_at, operator_in_core, joined_by, joining}
+use Rattle.gx_normal.specs.Normalisation.{Numbers, same_place, number_at, variable_at, numbered_binder, of_two, of_three, joined_at, constructed, core_of, construct_core, cores_of, flwor_core, declarations_of, behind_globals, query_core}
 
 -- numbers that rise from one on, below another
 abbrev Rise : ℕ → ℕ → List ℕ → Type 0
@@ -51,43 +57,19 @@ record IsNumbered (scope : List ℕ) (free next : ℕ) (e : CoreExpression) : Ty
   scoped : IsScoped scope e
   rising : Rise free next (numbers_bound e)
 
-abbrev IfMade : (CoreExpression → ℕ → Type 0) → Normalised → Type 0
-IfMade Fact (made e next) = Fact e next
-IfMade Fact (unknown place code) = Unit {0}
-
-abbrev numbers_of : Names → List ℕ
-numbers_of names = map (λ bound. bound.1) names
-
--- what is made in a scope is numbered from the free number on
-abbrev Numbered : Names → ℕ → Normalised → Type 0
-Numbered names free n = IfMade (λ e next. IsNumbered (numbers_of names) free next e) n
-
-made_holds : (n : Normalised) (next : CoreExpression → ℕ → Normalised) (P Q : CoreExpression → ℕ → Type 0) → IfMade P n → ((e : CoreExpression) (free : ℕ) → P e free → IfMade Q (next e free)) → IfMade Q (then_made n next)
-made_holds (made e free) next P Q h f = f e free h
-made_holds (unknown place code) next P Q h f = tt
-
-refused_holds : {A : Type 0} (found : Option A) (place : Place) (code : Code) (next : A → Normalised) (P : CoreExpression → ℕ → Type 0) → ((a : A) → found ≡ Some a → IfMade P (next a)) → IfMade P (or_refused found place code next)
-refused_holds None place code next P f = tt
-refused_holds (Some a) place code next P f = f a refl
-
-known_holds : (known : Bool) (place : Place) (code : Code) (n : Normalised) (P : CoreExpression → ℕ → Type 0) → IfMade P n → IfMade P (if known then n else (unknown place code))
-known_holds true place code n P h = h
-known_holds false place code n P h = tt
-
-target_holds : (found : Target) (place : Place) (next : Builtin → Normalised) (P : CoreExpression → ℕ → Type 0) → ((kind : Builtin) → IfMade P (next kind)) → IfMade P (where_target found place next)
-target_holds (target kind) place next P f = f kind
-target_holds (no_target code) place next P f = tt
+abbrev numbers_of : Numbers → List ℕ
+numbers_of numbers = map (λ bound. bound.1) numbers
 
 or_true : (a b : Bool) → b ≡ true → (a || b) ≡ true
 or_true true b h = refl
 or_true false b h = h
 
-found_among : (names : Names) (name : QName) (k : ℕ) → number_in_scope names name ≡ Some k → is_among (numbers_of names) k ≡ true
-found_among [] name k e = absurd (cc)
-found_among (bound ∷ names) name k e =
-    elim (same_qname bound.0 name) as (λ (same : Bool). (if same then Some bound.1 else number_in_scope names name) ≡ Some k → (nat_eq bound.1 k || is_among (numbers_of names) k) ≡ true) [
-      | true ↦ λ g. let same : bound.1 ≡ k = cc in ap (λ (b : Bool). b || is_among (numbers_of names) k) (eq-eqb bound.1 k same)
-      | false ↦ λ g. or_true (nat_eq bound.1 k) (is_among (numbers_of names) k) (found_among names name k g)
+found_among : (numbers : Numbers) (binder : Place) (k : ℕ) → number_at numbers binder ≡ Some k → is_among (numbers_of numbers) k ≡ true
+found_among [] binder k e = absurd (cc)
+found_among (bound ∷ numbers) binder k e =
+    elim (same_place bound.0 binder) as (λ (same : Bool). (if same then Some bound.1 else number_at numbers binder) ≡ Some k → (nat_eq bound.1 k || is_among (numbers_of numbers) k) ≡ true) [
+      | true ↦ λ g. let same : bound.1 ≡ k = cc in ap (λ (b : Bool). b || is_among (numbers_of numbers) k) (eq-eqb bound.1 k same)
+      | false ↦ λ g. or_true (nat_eq bound.1 k) (is_among (numbers_of numbers) k) (found_among numbers binder k g)
     ] e
 
 -- constructs over parts that are numbered one behind another
@@ -108,16 +90,12 @@ data_numbered scope free next e h = record { scoped = (tt, (h.scoped, tt)); risi
 boolean_numbered : JoinsOne boolean_around
 boolean_numbered scope free next e h = record { scoped = (tt, (h.scoped, tt)); rising = rise_alone free next (numbers_bound e) h.rising }
 
-call_numbered : (place : Place) (function : Function) → JoinsOne (call_of_one place function)
-call_numbered place functions.Data scope free next e h = record { scoped = (tt, (h.scoped, tt)); rising = rise_alone free next (numbers_bound e) h.rising }
-call_numbered place _ scope free next e h = record { scoped = (tt, (h.scoped, tt)); rising = rise_alone free next (numbers_bound e) h.rising }
-
-cast_numbered : (place : Place) (kind : Builtin) (optional : Bool) → JoinsOne (cast_at place kind optional)
+cast_numbered : (place : Place) (kind : TypeName) (optional : Bool) → JoinsOne (cast_at place kind optional)
 cast_numbered place kind optional scope free next e h =
     let d = data_numbered scope free next e h in
     record { scoped = (tt, (d.scoped, tt)); rising = rise_alone free next (numbers_bound (data_around e)) d.rising }
 
-castable_numbered : (place : Place) (kind : Builtin) (optional : Bool) → JoinsOne (castable_at place kind optional)
+castable_numbered : (place : Place) (kind : TypeName) (optional : Bool) → JoinsOne (castable_at place kind optional)
 castable_numbered place kind optional scope free next e h =
     let d = data_numbered scope free next e h in
     record { scoped = (tt, (d.scoped, tt)); rising = rise_alone free next (numbers_bound (data_around e)) d.rising }
@@ -164,125 +142,177 @@ or_numbered : (place : Place) → JoinsTwo (or_at place)
 or_numbered place scope free middle next a b h k =
     conditional_numbered place scope free middle middle next a (call_at place functions.True no_parts) (boolean_around b) h (truth_numbered place functions.True scope middle) (boolean_numbered scope middle next b k)
 
-same_join : (place : Place) (found : Option BinaryOp) (join : CoreExpression → CoreExpression → CoreExpression) → joined_by place found ≡ Some join → JoinsTwo join
-same_join place None join e = absurd (cc)
-same_join place (Some op) join e = let same : operator_at place op ≡ join = cc in subst JoinsTwo same (operator_numbered place op)
+-- ---- constructs over parts that are numbered one behind another
 
-and_join : (place : Place) (join : CoreExpression → CoreExpression → CoreExpression) → Some (and_at place) ≡ Some join → JoinsTwo join
-and_join place join e = let same : and_at place ≡ join = cc in subst JoinsTwo same (and_numbered place)
+-- expressions within these variables, whose own have the numbers from one on, each behind the one before
+abbrev AreNumbered : (scope : List ℕ) (free next : ℕ) → List CoreExpression → Type 0
+AreNumbered scope free next [] = free ≤ next
+AreNumbered scope free next (e ∷ es) = (middle : ℕ) × IsNumbered scope free middle e × AreNumbered scope middle next es
 
-or_join : (place : Place) (join : CoreExpression → CoreExpression → CoreExpression) → Some (or_at place) ≡ Some join → JoinsTwo join
-or_join place join e = let same : or_at place ≡ join = cc in subst JoinsTwo same (or_numbered place)
+rising_order : (low high : ℕ) (ns : List ℕ) → Rise low high ns → low ≤ high
+rising_order low high [] r = r
+rising_order low high (n ∷ ns) r = omega (arith, r.0, rising_order (n + 1) high ns r.1)
 
-joining_numbered : (place : Place) (operator : BinaryOperator) (join : CoreExpression → CoreExpression → CoreExpression) → joining place operator ≡ Some join → JoinsTwo join
-joining_numbered place written.And join e = and_join place join e
-joining_numbered place written.Or join e = or_join place join e
-joining_numbered place operator join e = same_join place (operator_in_core operator) join e
+least : (scope : List ℕ) (free next : ℕ) (es : List CoreExpression) → AreNumbered scope free next es → free ≤ next
+least scope free next [] h = h
+least scope free next (e ∷ es) h = omega (arith, rising_order free h.0 (numbers_bound e) h.1.rising, least scope h.0 next es h.2)
 
--- constructs over parts that are normalised one behind another
+empty_numbered : (place : Place) (scope : List ℕ) (free next : ℕ) → free ≤ next → IsNumbered scope free next (empty_at place)
+empty_numbered place scope free next h = record { scoped = (tt, tt); rising = h }
 
-one_numbered : (names : Names) (free : ℕ) (n : Normalised) (join : CoreExpression → CoreExpression) → JoinsOne join → Numbered names free n → Numbered names free (then_made n (λ e. made (join e)))
-one_numbered names free n join j h =
-    made_holds n (λ e. made (join e)) (λ e next. IsNumbered (numbers_of names) free next e) (λ e next. IsNumbered (numbers_of names) free next e) h (λ e next k. j (numbers_of names) free next e k)
+nothing_behind : (ns : List ℕ) → ns ++ [] ≡ ns
+nothing_behind [] = refl
+nothing_behind (n ∷ ns) = ap (λ (others : List ℕ). n ∷ others) (nothing_behind ns)
 
-two_numbered : (names : Names) (free : ℕ) (n : Normalised) (second : ℕ → Normalised) (join : CoreExpression → CoreExpression → CoreExpression) → JoinsTwo join → Numbered names free n → ((middle : ℕ) → Numbered names middle (second middle))
-    → Numbered names free (then_made n (λ a middle. then_made (second middle) (λ b. made (join a b))))
-two_numbered names free n second join j h k =
-    made_holds n (λ a middle. then_made (second middle) (λ b. made (join a b))) (λ e next. IsNumbered (numbers_of names) free next e) (λ e next. IsNumbered (numbers_of names) free next e) h
-    (λ a middle p. made_holds (second middle) (λ b. made (join a b)) (λ e next. IsNumbered (numbers_of names) middle next e) (λ e next. IsNumbered (numbers_of names) free next e) (k middle)
-    (λ b next q. j (numbers_of names) free middle next a b p q))
+wider : (scope : List ℕ) (free next last : ℕ) (e : CoreExpression) → IsNumbered scope free next e → next ≤ last → IsNumbered scope free last e
+wider scope free next last e h k = record { scoped = h.scoped; rising = subst (Rise free last) (nothing_behind (numbers_bound e)) (rise_joined free next last (numbers_bound e) [] h.rising k) }
 
-three_numbered : (names : Names) (free : ℕ) (n : Normalised) (second third : ℕ → Normalised) (place : Place) → Numbered names free n → ((m : ℕ) → Numbered names m (second m)) → ((m : ℕ) → Numbered names m (third m))
-    → Numbered names free (then_made n (λ a middle. then_made (second middle) (λ b last. then_made (third last) (λ c. made (conditional_at place a b c)))))
-three_numbered names free n second third place h k l =
-    made_holds n (λ a middle. then_made (second middle) (λ b last. then_made (third last) (λ c. made (conditional_at place a b c)))) (λ e next. IsNumbered (numbers_of names) free next e) (λ e next. IsNumbered (numbers_of names) free next e) h
-    (λ a middle p. made_holds (second middle) (λ b last. then_made (third last) (λ c. made (conditional_at place a b c))) (λ e next. IsNumbered (numbers_of names) middle next e) (λ e next. IsNumbered (numbers_of names) free next e) (k middle)
-    (λ b last q. made_holds (third last) (λ c. made (conditional_at place a b c)) (λ e next. IsNumbered (numbers_of names) last next e) (λ e next. IsNumbered (numbers_of names) free next e) (l last)
-    (λ c next r. conditional_numbered place (numbers_of names) free middle last next a b c p q r)))
+one_numbered : (place : Place) (make : CoreExpression → CoreExpression) → JoinsOne make → (scope : List ℕ) (free next : ℕ) (parts : List CoreExpression) → AreNumbered scope free next parts → IsNumbered scope free next (of_one place make parts)
+one_numbered place make j scope free next [] h = empty_numbered place scope free next h
+one_numbered place make j scope free next (a ∷ []) h = wider scope free h.0 next (make a) (j scope free h.0 a h.1) h.2
+one_numbered place make j scope free next (a ∷ b ∷ es) h = empty_numbered place scope free next (least scope free next (a ∷ b ∷ es) h)
 
-let_numbered : (names : Names) (name : QName) (free : ℕ) (place dollar : Place) (n : Normalised) (body : ℕ → Normalised) → Numbered names free n → ((m : ℕ) → Numbered ((name, m) ∷ names) (m + 1) (body m))
-    → Numbered names free (then_made n (λ value m. then_made (body m) (λ e. made (let_at place (record { variable = m; place = dollar }) value e))))
-let_numbered names name free place dollar n body h k =
-    made_holds n (λ value m. then_made (body m) (λ e. made (let_at place (record { variable = m; place = dollar }) value e))) (λ e next. IsNumbered (numbers_of names) free next e) (λ e next. IsNumbered (numbers_of names) free next e) h
-    (λ a m p. made_holds (body m) (λ e. made (let_at place (record { variable = m; place = dollar }) a e)) (λ e next. IsNumbered (m ∷ numbers_of names) (m + 1) next e) (λ e next. IsNumbered (numbers_of names) free next e) (k m)
-    (λ b next q. record {
-      scoped = (tt, (p.scoped, (q.scoped, tt)));
-      rising = rise_joined free m next (numbers_bound a) (m ∷ (numbers_bound b ++ [])) p.rising (omega arith, rise_alone (m + 1) next (numbers_bound b) q.rising);
-    }))
+two_numbered : (place : Place) (make : CoreExpression → CoreExpression → CoreExpression) → JoinsTwo make → (scope : List ℕ) (free next : ℕ) (parts : List CoreExpression) → AreNumbered scope free next parts → IsNumbered scope free next (of_two place make parts)
+two_numbered place make j scope free next [] h = empty_numbered place scope free next h
+two_numbered place make j scope free next (a ∷ []) h = empty_numbered place scope free next (least scope free next (a ∷ []) h)
+two_numbered place make j scope free next (a ∷ b ∷ []) h = wider scope free h.2.0 next (make a b) (j scope free h.0 h.2.0 a b h.1 h.2.1) h.2.2
+two_numbered place make j scope free next (a ∷ b ∷ c ∷ es) h = empty_numbered place scope free next (least scope free next (a ∷ b ∷ c ∷ es) h)
 
-variable_numbered : (names : Names) (name : QName) (place : Place) (free k : ℕ) → number_in_scope names name ≡ Some k → IsNumbered (numbers_of names) free free (core_at place place (operators.Var k) no_parts)
-variable_numbered names name place free k e = record { scoped = (found_among names name k e, tt); rising = omega arith }
+three_numbered : (place : Place) (scope : List ℕ) (free next : ℕ) (parts : List CoreExpression) → AreNumbered scope free next parts → IsNumbered scope free next (of_three place (conditional_at place) parts)
+three_numbered place scope free next [] h = empty_numbered place scope free next h
+three_numbered place scope free next (a ∷ []) h = empty_numbered place scope free next (least scope free next (a ∷ []) h)
+three_numbered place scope free next (a ∷ b ∷ []) h = empty_numbered place scope free next (least scope free next (a ∷ b ∷ []) h)
+three_numbered place scope free next (a ∷ b ∷ c ∷ []) h =
+    wider scope free h.2.2.0 next (conditional_at place a b c) (conditional_numbered place scope free h.0 h.2.0 h.2.2.0 a b c h.1 h.2.1 h.2.2.1) h.2.2.2
+three_numbered place scope free next (a ∷ b ∷ c ∷ d ∷ es) h = empty_numbered place scope free next (least scope free next (a ∷ b ∷ c ∷ d ∷ es) h)
 
-abbrev IsNumberedSoFar : ℕ → Names → CoreExpression → ℕ → Type 0
-IsNumberedSoFar free names e next = IsNumbered (numbers_of names) free next e
+joined_numbered : (place : Place) (found : Option BinaryOp) (scope : List ℕ) (free next : ℕ) (parts : List CoreExpression) → AreNumbered scope free next parts → IsNumbered scope free next (joined_at place (joined_by place found) parts)
+joined_numbered place None scope free next parts h = empty_numbered place scope free next (least scope free next parts h)
+joined_numbered place (Some op) scope free next parts h = two_numbered place (operator_at place op) (operator_numbered place op) scope free next parts h
+
+joining_numbered : (place : Place) (o : BinaryOperator) (scope : List ℕ) (free next : ℕ) (parts : List CoreExpression) → AreNumbered scope free next parts → IsNumbered scope free next (joined_at place (joining place o) parts)
+joining_numbered place operator.And scope free next parts h = two_numbered place (and_at place) (and_numbered place) scope free next parts h
+joining_numbered place operator.Or scope free next parts h = two_numbered place (or_at place) (or_numbered place) scope free next parts h
+joining_numbered place o scope free next parts h = joined_numbered place (operator_in_core o) scope free next parts h
+
+-- the arguments of a call
+parts_scoped : (function : Function) (scope : List ℕ) (free next : ℕ) (before : List (Unit {0})) (es : List CoreExpression) → AreNumbered scope free next es → ArePartsScoped scope (operators.Call function) before (all_parts es)
+parts_scoped function scope free next before [] h = tt
+parts_scoped function scope free next before (e ∷ es) h = (h.1.scoped, parts_scoped function scope h.0 next (before ++ tt ∷ []) es h.2)
+
+parts_rising : (function : Function) (scope : List ℕ) (free next : ℕ) (before : List (Unit {0})) (es : List CoreExpression) → AreNumbered scope free next es → Rise free next (numbers_bound_in (operators.Call function) before (all_parts es))
+parts_rising function scope free next before [] h = h
+parts_rising function scope free next before (e ∷ es) h = rise_joined free h.0 next (numbers_bound e) (numbers_bound_in (operators.Call function) (before ++ tt ∷ []) (all_parts es)) h.1.rising (parts_rising function scope h.0 next (before ++ tt ∷ []) es h.2)
+
+call_is_numbered : (place : Place) (function : Function) (scope : List ℕ) (free next : ℕ) (es : List CoreExpression) → AreNumbered scope free next es → IsNumbered scope free next (call_at place function (all_parts es))
+call_is_numbered place function scope free next es h = record { scoped = (tt, parts_scoped function scope free next [] es h); rising = parts_rising function scope free next [] es h }
+
+data_of_numbered : (place : Place) → JoinsOne (data_at place)
+data_of_numbered place scope free next e h = record { scoped = (tt, (h.scoped, tt)); rising = rise_alone free next (numbers_bound e) h.rising }
+
+call_numbered : (place : Place) (function : Function) (scope : List ℕ) (free next : ℕ) (es : List CoreExpression) → AreNumbered scope free next es → IsNumbered scope free next (call_of place function es)
+call_numbered place functions.Data scope free next es h = one_numbered place (data_at place) (data_of_numbered place) scope free next es h
+call_numbered place function scope free next es h = call_is_numbered place function scope free next es h
+
+constructed_numbered : (place : Place) (construct : Construct) (scope : List ℕ) (free next : ℕ) (es : List CoreExpression) → AreNumbered scope free next es → IsNumbered scope free next (constructed place construct es)
+constructed_numbered place (written.Number value) scope free next es h = record { scoped = (tt, tt); rising = least scope free next es h }
+constructed_numbered place (written.String characters) scope free next es h = record { scoped = (tt, tt); rising = least scope free next es h }
+constructed_numbered place written.Parenthesised scope free next es h = one_numbered place (within place) (within_numbered place) scope free next es h
+constructed_numbered place (written.Call function) scope free next es h = call_numbered place function scope free next es h
+constructed_numbered place written.Sequence scope free next es h = two_numbered place core_sequence sequence_numbered scope free next es h
+constructed_numbered place written.If scope free next es h = three_numbered place scope free next es h
+constructed_numbered place (written.Binary o) scope free next es h = joining_numbered place o scope free next es h
+constructed_numbered place (written.CastableAs kind optional) scope free next es h = one_numbered place (castable_at place kind optional) (castable_numbered place kind optional) scope free next es h
+constructed_numbered place (written.CastAs kind optional) scope free next es h = one_numbered place (cast_at place kind optional) (cast_numbered place kind optional) scope free next es h
+constructed_numbered place (written.Signed minus) scope free next es h = one_numbered place (signed_at place minus) (signed_numbered place minus) scope free next es h
+constructed_numbered place _ scope free next es h = empty_numbered place scope free next (least scope free next es h)
+
+let_numbered : (place : Place) (bound : BoundName) (scope : List ℕ) (free middle next : ℕ) (value body : CoreExpression)
+    → IsNumbered scope free middle value → IsNumbered (middle ∷ scope) (middle + 1) next body → IsNumbered scope free next (let_at place (numbered_binder bound middle) value body)
+let_numbered place bound scope free middle next value body h k =
+    record {
+      scoped = (tt, (h.scoped, (k.scoped, tt)));
+      rising = rise_joined free middle next (numbers_bound value) (middle ∷ (numbers_bound body ++ [])) h.rising (omega arith, rise_alone (middle + 1) next (numbers_bound body) k.rising);
+    }
+
+found_numbered : (place : Place) (numbers : Numbers) (binder : Place) (free : ℕ) (found : Option ℕ) → number_at numbers binder ≡ found → IsNumbered (numbers_of numbers) free free (variable_at place found)
+found_numbered place numbers binder free None e = empty_numbered place (numbers_of numbers) free free (omega arith)
+found_numbered place numbers binder free (Some k) e = record { scoped = (found_among numbers binder k e, tt); rising = omega arith }
+
+-- ---- trees
+
+abbrev IsNumberedCore : Numbers → ℕ → CoreExpression × ℕ → Type 0
+IsNumberedCore numbers free made = IsNumbered (numbers_of numbers) free made.1 made.0
+
+construct_numbered : (place : Place) (construct : Construct) (numbers : Numbers) (free : ℕ) (parts : List CoreExpression × ℕ) (clauses : CoreExpression × ℕ)
+    → AreNumbered (numbers_of numbers) free parts.1 parts.0 → IsNumberedCore numbers free clauses → IsNumberedCore numbers free (construct_core place construct numbers free parts clauses)
+construct_numbered place (written.Variable name binder) numbers free parts clauses h k = found_numbered place numbers binder free (number_at numbers binder) refl
+construct_numbered place written.Flwor numbers free parts clauses h k = k
+construct_numbered place construct numbers free parts clauses h k = constructed_numbered place construct (numbers_of numbers) free parts.1 parts.0 h
 
 mutual
-  core_numbered : (tree : SyntaxTree) (names : Names) (free : ℕ) → Numbered names free (core_of tree names free)
-  core_numbered (at place form) names free = form_numbered place form names free
+  core_numbered : (tree : ResolvedTree) (numbers : Numbers) (free : ℕ) → IsNumberedCore numbers free (core_of tree numbers free)
+  core_numbered (resolved_at place construct parts) numbers free =
+      construct_numbered place construct numbers free (cores_of parts numbers free) (flwor_core place parts numbers free) (cores_numbered parts numbers free) (flwor_numbered place parts numbers free)
 
-  form_numbered : (place : Place) (form : SyntaxForm) (names : Names) (free : ℕ) → Numbered names free (core_of_form place form names free)
-  form_numbered place (number value) names free = record { scoped = (tt, tt); rising = omega arith }
-  form_numbered place (string characters) names free = record { scoped = (tt, tt); rising = omega arith }
-  form_numbered place (variable name) names free =
-      known_holds (is_known_prefix name.prefix) place _ _ (IsNumberedSoFar free names)
-      (refused_holds (number_in_scope names name) place _ _ (IsNumberedSoFar free names) (λ k e. variable_numbered names name place free k e))
-  form_numbered place (parenthesised inner) names free = one_numbered names free (core_of inner names free) (within place) (within_numbered place) (core_numbered inner names free)
-  form_numbered place empty_sequence names free = record { scoped = (tt, tt); rising = omega arith }
-  form_numbered place (call name arguments) names free = known_holds (is_known_prefix name.prefix) place _ _ (IsNumberedSoFar free names) (call_is_numbered place name arguments names free)
-  form_numbered place (comma first second) names free =
-      two_numbered names free (core_of first names free) (λ m. core_of second names m) core_sequence sequence_numbered (core_numbered first names free) (λ m. core_numbered second names m)
-  form_numbered place (flwor clauses stable no_key returned) names free = clauses_numbered place clauses (core_of returned) (λ ns m. core_numbered returned ns m) names free
-  form_numbered place (flwor clauses stable (a_key value order others) returned) names free = tt
-  form_numbered place (conditional test chosen otherwise) names free =
-      three_numbered names free (core_of test names free) (λ m. core_of chosen names m) (λ m. core_of otherwise names m) place (core_numbered test names free) (λ m. core_numbered chosen names m) (λ m. core_numbered otherwise names m)
-  form_numbered place (binary operator left right) names free =
-      refused_holds (joining place operator) place _ _ (IsNumberedSoFar free names)
-      (λ join e. two_numbered names free (core_of left names free) (λ m. core_of right names m) join (joining_numbered place operator join e) (core_numbered left names free) (λ m. core_numbered right names m))
-  form_numbered place (cast_as operand kind) names free =
-      made_holds (core_of operand names free) _ (IsNumberedSoFar free names) (IsNumberedSoFar free names) (core_numbered operand names free)
-      (λ e next h. target_holds (target_of kind.name) kind.name.place _ (IsNumberedSoFar free names) (λ builtin. cast_numbered place builtin kind.optional (numbers_of names) free next e h))
-  form_numbered place (castable_as operand kind) names free =
-      made_holds (core_of operand names free) _ (IsNumberedSoFar free names) (IsNumberedSoFar free names) (core_numbered operand names free)
-      (λ e next h. target_holds (target_of kind.name) kind.name.place _ (IsNumberedSoFar free names) (λ builtin. castable_numbered place builtin kind.optional (numbers_of names) free next e h))
-  form_numbered place (signed minus operand) names free = one_numbered names free (core_of operand names free) (signed_at place minus) (signed_numbered place minus) (core_numbered operand names free)
-  form_numbered place context_item names free = tt
-  form_numbered place (quantified every bindings condition) names free = tt
-  form_numbered place (typeswitch operand cases default otherwise) names free = tt
-  form_numbered place (instance_of operand kind) names free = tt
-  form_numbered place (treat_as operand kind) names free = tt
-  form_numbered place (path descendants left right) names free = tt
-  form_numbered place (axis_step step) names free = tt
-  form_numbered place parent_step names free = tt
-  form_numbered place (filtered operand predicates) names free = tt
-  form_numbered place (direct name attributes content) names free = tt
-  form_numbered place (document_node content) names free = tt
-  form_numbered place (text_node content) names free = tt
-  form_numbered place (element_node name content) names free = tt
-  form_numbered place (empty_element name) names free = tt
-  form_numbered place (attribute_node name content) names free = tt
-  form_numbered place (empty_attribute name) names free = tt
+  cores_numbered : (parts : ResolvedTrees) (numbers : Numbers) (free : ℕ) → AreNumbered (numbers_of numbers) free (cores_of parts numbers free).1 (cores_of parts numbers free).0
+  cores_numbered no_resolved numbers free = omega arith
+  cores_numbered (a_resolved first others) numbers free =
+      ((core_of first numbers free).1, core_numbered first numbers free, cores_numbered others numbers (core_of first numbers free).1)
 
-  call_is_numbered : (place : Place) (name : QName) (arguments : SyntaxTrees) (names : Names) (free : ℕ) → Numbered names free (call_core place name arguments names free)
-  call_is_numbered place name no_tree names free = refused_holds (function_of name 0) place _ _ (IsNumberedSoFar free names) (λ function e. truth_numbered place function (numbers_of names) free)
-  call_is_numbered place name (a_tree argument no_tree) names free =
-      refused_holds (function_of name 1) place _ _ (IsNumberedSoFar free names)
-      (λ function e. one_numbered names free (core_of argument names free) (call_of_one place function) (call_numbered place function) (core_numbered argument names free))
-  call_is_numbered place name (a_tree argument (a_tree second others)) names free = tt
+  flwor_numbered : (place : Place) (parts : ResolvedTrees) (numbers : Numbers) (free : ℕ) → IsNumberedCore numbers free (flwor_core place parts numbers free)
+  flwor_numbered place no_resolved numbers free = empty_numbered place (numbers_of numbers) free free (omega arith)
+  flwor_numbered place (a_resolved (resolved_at there (written.Let bound) (a_resolved value more)) others) numbers free =
+      let middle = (core_of value numbers free).1 in
+      let body = flwor_core place others ((bound.place, middle) ∷ numbers) (middle + 1) in
+      let_numbered place bound (numbers_of numbers) free middle body.1 (core_of value numbers free).0 body.0 (core_numbered value numbers free)
+      (flwor_numbered place others ((bound.place, middle) ∷ numbers) (middle + 1))
+  flwor_numbered place (a_resolved returned others) numbers free = core_numbered returned numbers free
 
-  bindings_numbered : (place : Place) (bindings : Bindings) (next : Continuation) → ((ns : Names) (m : ℕ) → Numbered ns m (next ns m)) → (names : Names) (free : ℕ) → Numbered names free (bindings_core place bindings next names free)
-  bindings_numbered place no_binding next f names free = f names free
-  bindings_numbered place (a_binding bound value others) next f names free =
-      known_holds (is_known_prefix bound.variable.name.prefix) bound.variable.place _ _ (IsNumberedSoFar free names)
-      (let_numbered names bound.variable.name free place bound.variable.place (core_of value names free) (λ m. bindings_core place others next ((bound.variable.name, m) ∷ names) (m + 1)) (core_numbered value names free)
-      (λ m. bindings_numbered place others next f ((bound.variable.name, m) ∷ names) (m + 1)))
+-- ---- whole queries
 
-  clauses_numbered : (place : Place) (clauses : Clauses) (next : Continuation) → ((ns : Names) (m : ℕ) → Numbered ns m (next ns m)) → (names : Names) (free : ℕ) → Numbered names free (clauses_core place clauses next names free)
-  clauses_numbered place no_clause next f names free = f names free
-  clauses_numbered place (let_clause word bindings others) next f names free = bindings_numbered place bindings (clauses_core place others next) (λ ns m. clauses_numbered place others next f ns m) names free
-  clauses_numbered place (for_clause word bindings others) next f names free = tt
-  clauses_numbered place (where_clause word condition others) next f names free = tt
+abbrev scope_of : List ResolvedGlobal → Numbers → ℕ → List ℕ
+scope_of globals numbers free = numbers_of (behind_globals globals numbers free).0
 
-pub normalised_in_order : (tree : SyntaxTree) (e : CoreExpression) (free : ℕ) → normalised tree ≡ made e free → HasVariablesInOrder e
-normalised_in_order tree e free h =
-    let n = subst (IfMade (λ e next. IsNumbered [] 1 next e)) h (core_numbered tree [] 1) in
-    record { scoped = n.scoped; once = rising_distinct 1 free (numbers_bound e) n.rising }
+scope_is : (globals : List ResolvedGlobal) (numbers : Numbers) (free : ℕ) → scope_behind (declarations_of globals numbers free) (numbers_of numbers) ≡ scope_of globals numbers free
+scope_is [] numbers free = refl
+scope_is (g ∷ gs) numbers free =
+    let middle = (core_of g.value numbers free).1 in scope_is gs ((g.bound.place, middle) ∷ numbers) (middle + 1)
+
+values_scoped : (globals : List ResolvedGlobal) (numbers : Numbers) (free : ℕ) → AreValuesScoped (numbers_of numbers) (declarations_of globals numbers free)
+values_scoped [] numbers free = tt
+values_scoped (g ∷ gs) numbers free =
+    let middle = (core_of g.value numbers free).1 in
+    ((core_numbered g.value numbers free).scoped, values_scoped gs ((g.bound.place, middle) ∷ numbers) (middle + 1))
+
+globals_rising : (globals : List ResolvedGlobal) (numbers : Numbers) (free : ℕ) → Rise free (behind_globals globals numbers free).1 (declared_numbers (declarations_of globals numbers free))
+globals_rising [] numbers free = omega arith
+globals_rising (g ∷ gs) numbers free =
+    let middle = (core_of g.value numbers free).1 in
+    let next = (behind_globals gs ((g.bound.place, middle) ∷ numbers) (middle + 1)).1 in
+    rise_joined free middle next (numbers_bound (core_of g.value numbers free).0) (middle ∷ declared_numbers (declarations_of gs ((g.bound.place, middle) ∷ numbers) (middle + 1)))
+    (core_numbered g.value numbers free).rising (omega arith, globals_rising gs ((g.bound.place, middle) ∷ numbers) (middle + 1))
+
+have_values : (globals : List ResolvedGlobal) (numbers : Numbers) (free : ℕ) → All HasValueOrType (declarations_of globals numbers free)
+have_values [] numbers free = All-nil HasValueOrType
+have_values (g ∷ gs) numbers free =
+    let v = core_of g.value numbers free in
+    let d : CoreDeclaration = Global g.bound.name (numbered_binder g.bound v.1) (Some v.0) in
+    All-cons HasValueOrType d (declarations_of gs ((g.bound.place, v.1) ∷ numbers) (v.1 + 1)) tt (have_values gs ((g.bound.place, v.1) ∷ numbers) (v.1 + 1))
+
+query_in_order : (query : Resolved) → HasQueryVariablesInOrder (query_core query)
+query_in_order query =
+    let behind = behind_globals query.globals [] 1 in
+    let body = core_of query.body behind.0 behind.1 in
+    let numbered = core_numbered query.body behind.0 behind.1 in
+    record {
+      values = values_scoped query.globals [] 1;
+      body = subst (λ (scope : List ℕ). IsScoped scope body.0) (sym (scope_is query.globals [] 1)) numbered.scoped;
+      once = rising_distinct 1 body.1 (declared_numbers (declarations_of query.globals [] 1) ++ numbers_bound body.0)
+          (rise_joined 1 behind.1 body.1 (declared_numbers (declarations_of query.globals [] 1)) (numbers_bound body.0) (globals_rising query.globals [] 1) numbered.rising);
+      externals = have_values query.globals [] 1;
+    }
+
+pub made_in_order : {E : Type 0} (query : Resolved) (made : Result Core E) → IfOk made (λ core. core ≡ query_core query) → IfOk made (λ core. HasQueryVariablesInOrder core)
+made_in_order query (Ok core) h = subst (λ (c : Core). HasQueryVariablesInOrder c) (sym h) (query_in_order query)
+made_in_order query (Err error) h = tt

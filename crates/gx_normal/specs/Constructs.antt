@@ -1,8 +1,7 @@
 -- What each construct of the language stands for in Core, over its parts (XQuery 1.0 and XPath 2.0 Formal Semantics, section 4).
-use Rattle.std.specs.Prelude.{Bool, true, false, pos, Option, None, Some}
+use Rattle.std.specs.Prelude.{Bool, true, false, pos, List, [], ◌∷◌, Option, None, Some}
 use Rattle.gx_base.specs.declared.place.Place.{Place}
-use Rattle.gx_base.specs.declared.type_name.Builtin.{Builtin}
-use Rattle.gx_base.specs.declared.type_name.TypeName.TheVariants as names
+use Rattle.gx_base.specs.declared.type_name.TypeName.{TypeName}
 use Rattle.gx_num.specs.declared.Number.TheVariants.{Int}
 use Rattle.gx_facets.specs.declared.Atomic.{Atomic}
 use Rattle.gx_ast.specs.declared.expression.BinaryOperator.{BinaryOperator}
@@ -15,7 +14,7 @@ use Rattle.gx_core.specs.declared.expression.Binder.{Binder}
 use Rattle.gx_core.specs.declared.operator.Operator.{Operator}
 use Rattle.gx_core.specs.declared.operator.Operator.TheVariants as operators
 use Rattle.gx_core.specs.Arithmetic.{number_atom}
-use Rattle.gx_core.specs.Expression.{CoreExpression, At, Parts, no_parts, one_part, two_parts, three_parts, core_at, outer_of}
+use Rattle.gx_core.specs.Expression.{CoreExpression, At, Parts, no_parts, one_part, two_parts, three_parts, all_parts, core_at, outer_of}
 
 -- the expression in parentheses that stand there
 abbrev pub within : Place → CoreExpression → CoreExpression
@@ -46,10 +45,21 @@ operator_at place op a b = core_at place place (operators.Binary op) (two_parts 
 abbrev pub call_at : Place → Function → Parts (Unit {0}) → CoreExpression
 call_at place function arguments = core_at place place (operators.Call function) arguments
 
--- a call of one argument; `data` is an operator of its own
-abbrev pub call_of_one : Place → Function → CoreExpression → CoreExpression
-call_of_one place functions.Data e = core_at place place operators.DataOf (one_part e)
-call_of_one place function e = call_at place function (one_part e)
+abbrev pub empty_at : Place → CoreExpression
+empty_at place = core_at place place operators.Empty no_parts
+
+-- what is made of one part; another number of parts stands for nothing
+abbrev pub of_one : Place → (CoreExpression → CoreExpression) → List CoreExpression → CoreExpression
+of_one place make (a ∷ []) = make a
+of_one place make _ = empty_at place
+
+abbrev pub data_at : Place → CoreExpression → CoreExpression
+data_at place e = core_at place place operators.DataOf (one_part e)
+
+-- a call; `data` is an operator of its own
+abbrev pub call_of : Place → Function → List CoreExpression → CoreExpression
+call_of place functions.Data arguments = of_one place (data_at place) arguments
+call_of place function arguments = call_at place function (all_parts arguments)
 
 abbrev pub conditional_at : Place → CoreExpression → CoreExpression → CoreExpression → CoreExpression
 conditional_at place test chosen otherwise = core_at place place operators.If (three_parts (boolean_around test) chosen otherwise)
@@ -66,11 +76,11 @@ abbrev pub signed_at : Place → (minus : Bool) → CoreExpression → CoreExpre
 signed_at place true e = core_at place place operators.Neg (one_part (data_around e))
 signed_at place false e = core_at place place (operators.Binary core.Sub) (two_parts (data_around e) (literal_at place (number_atom (Int (pos 0)))))
 
-abbrev pub cast_at : Place → Builtin → (optional : Bool) → CoreExpression → CoreExpression
-cast_at place kind optional e = core_at place place (operators.Cast (names.Builtin kind) optional) (one_part (data_around e))
+abbrev pub cast_at : Place → TypeName → (optional : Bool) → CoreExpression → CoreExpression
+cast_at place kind optional e = core_at place place (operators.Cast kind optional) (one_part (data_around e))
 
-abbrev pub castable_at : Place → Builtin → (optional : Bool) → CoreExpression → CoreExpression
-castable_at place kind optional e = core_at place place (operators.Castable (names.Builtin kind) optional) (one_part (data_around e))
+abbrev pub castable_at : Place → TypeName → (optional : Bool) → CoreExpression → CoreExpression
+castable_at place kind optional e = core_at place place (operators.Castable kind optional) (one_part (data_around e))
 
 abbrev pub let_at : Place → Binder → CoreExpression → CoreExpression → CoreExpression
 let_at place binder value body = core_at place place (operators.Let binder) (two_parts value body)

@@ -1,7 +1,6 @@
-pub mod Names
 pub mod Constructs
 pub mod Normalisation
 pub mod Normalising
-pub mod NameRefusal
 pub mod Unbuilt
 pub mod Searching
+pub mod Making

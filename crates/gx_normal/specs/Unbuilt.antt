@@ -3,9 +3,13 @@ use Rattle.std.specs.Prelude.{List, [], ◌∷◌, Option, None, Some}
 use Rattle.gx_base.specs.declared.place.Place.{Place}
 use Rattle.gx_ast.specs.declared.expression.BinaryOperator.{BinaryOperator}
 use Rattle.gx_ast.specs.declared.expression.BinaryOperator.TheVariants.{Is, Before, After, Union, Intersect, Except}
-use Rattle.gx_ast.specs.declared.sequence_type.SequenceType.{SequenceType}
 use Rattle.gx_ast.specs.declared.query.Setting.{Setting}
+use Rattle.gx_ast.specs.declared.query.SettingNode.{SettingNode}
+use Rattle.gx_ast.specs.declared.query.SettingNode.TheVariants as settings
 use Rattle.gx_ast.specs.declared.query.Definition.{Definition}
+use Rattle.gx_ast.specs.declared.query.DefinitionNode.{DefinitionNode}
+use Rattle.gx_ast.specs.declared.query.DefinitionNode.TheVariants as definitions
+use Rattle.gx_ast.specs.declared.query.Initialiser.TheVariants as initial
 use Rattle.gx_ast.specs.declared.query.Query.{Query}
 use Rattle.gx_ast.specs.SyntaxTree.{SyntaxTree, SyntaxForm, SyntaxTrees, Bindings, Clauses, Keys, at, number, string, variable, parenthesised, empty_sequence, call, comma, flwor, conditional, binary, instance_of, treat_as, castable_as, cast_as, signed, path, filtered, no_tree, a_tree, no_binding, a_binding, no_clause, for_clause, let_clause, where_clause, no_key, a_key}
 
@@ -26,11 +30,6 @@ unbuilt_operator Union place = Some place
 unbuilt_operator Intersect place = Some place
 unbuilt_operator Except place = Some place
 unbuilt_operator _ place = None
-
--- the type of a variable, at the variable
-abbrev pub unbuilt_kind : Option SequenceType → Place → Option Place
-unbuilt_kind None place = None
-unbuilt_kind (Some kind) place = Some place
 
 -- predicates, at the first of them
 abbrev pub unbuilt_predicates : SyntaxTrees → Place → Place
@@ -72,7 +71,7 @@ abbrev mutual
 
   pub unbuilt_bindings : Bindings → Option Place
   unbuilt_bindings no_binding = None
-  unbuilt_bindings (a_binding bound value others) = earlier_place (unbuilt_kind bound.kind bound.variable.place) (earlier_place (first_unbuilt value) (unbuilt_bindings others))
+  unbuilt_bindings (a_binding bound value others) = earlier_place (first_unbuilt value) (unbuilt_bindings others)
 
   pub unbuilt_clauses : Clauses → Option Place
   unbuilt_clauses no_clause = None
@@ -80,11 +79,24 @@ abbrev mutual
   unbuilt_clauses (let_clause place bindings others) = earlier_place (unbuilt_bindings bindings) (unbuilt_clauses others)
   unbuilt_clauses (where_clause place condition others) = Some place
 
--- a declaration, at the first of them; then the body
-abbrev pub unbuilt_in : List Setting → List Definition → SyntaxTree → Option Place
-unbuilt_in (s ∷ ss) ds body = Some s.place
-unbuilt_in [] (d ∷ ds) body = Some d.place
-unbuilt_in [] [] body = first_unbuilt body
+-- an import of a schema, at `import`
+abbrev pub unbuilt_setting : Place → SettingNode → Option Place
+unbuilt_setting place (settings.Schema prefix uri locations) = Some place
+unbuilt_setting place _ = None
 
+abbrev pub unbuilt_settings : List Setting → Option Place
+unbuilt_settings [] = None
+unbuilt_settings (s ∷ ss) = earlier_place (unbuilt_setting s.place s.node) (unbuilt_settings ss)
+
+-- an external variable or a function, at `declare`; a variable with a value is built where the value is
+abbrev pub unbuilt_definition : Place → DefinitionNode → Option Place
+unbuilt_definition place (definitions.Variable binder kind (initial.Value value)) = first_unbuilt value
+unbuilt_definition place _ = Some place
+
+abbrev pub unbuilt_definitions : List Definition → Option Place
+unbuilt_definitions [] = None
+unbuilt_definitions (d ∷ ds) = earlier_place (unbuilt_definition d.place d.node) (unbuilt_definitions ds)
+
+-- the declarations in their order, and then the body
 abbrev pub unbuilt_query : Query → Option Place
-unbuilt_query query = unbuilt_in query.settings query.definitions query.body
+unbuilt_query query = earlier_place (unbuilt_settings query.settings) (earlier_place (unbuilt_definitions query.definitions) (first_unbuilt query.body))

@@ -1,13 +1,14 @@
 // The Core of each construct, over its parts.
 
-ghost use Rattle.std.specs.Prelude.{◌≡◌, IfOk, Some, None};
+ghost use Rattle.std.specs.Prelude.{◌≡◌, IfOk, MatchOption, Some, None};
 ghost use Rattle.gx_core.specs.Arithmetic.{number_atom};
 ghost use Rattle.gx_funcs.specs.Function.{string_atom};
-ghost use Rattle.gx_core.specs.Expression.{core_at, no_parts, one_part, two_parts};
+ghost use Rattle.gx_core.specs.Expression.{CoreExpression, core_at, no_parts, one_part, two_parts};
 ghost use Rattle.gx_core.specs.ExpressionView.{operator_of, parts_of};
 ghost use Rattle.gx_num.specs.declared.Number.TheVariants as numbers;
-ghost use Rattle.gx_normal.specs.Constructs.{boolean_around, call_at, call_of_one, conditional_at, operator_in_core, data_around, literal_at, operator_at, core_sequence, signed_at, within};
-ghost use Rattle.gx_normal.specs.Normalising.{one_made, two_made};
+ghost use Rattle.gx_normal.specs.Constructs.{boolean_around, call_at, call_of, cast_at, castable_at, conditional_at, data_at, empty_at, joining, of_one, let_at, operator_in_core, data_around, literal_at, operator_at, core_sequence, signed_at, within};
+ghost use Rattle.gx_normal.specs.Normalisation.{constructed, of_two, of_three};
+ghost use Rattle.gx_normal.specs.Making.{made_of_one, made_of_two, operation_at};
 
 use gx_ast::expression::BinaryOperator;
 use gx_base::place::Place;
@@ -16,93 +17,237 @@ use gx_base::type_name::{Builtin, TypeName};
 use gx_core::expression::{BinaryOp, Binder, CoreExpr, CoreForm, E};
 use gx_facets::{AtomValue, Atomic};
 use gx_funcs::function::{Function, string_atom};
+use gx_names::tree::Construct;
 use gx_num::Number;
 use std::alloc::{AllocError, Global};
 
-// What is made of one part: the expression in parentheses at this place, a signed one, with `-` where that is true, a cast, a test
-// whether there is one, or a call.
-#[derive(Clone, Copy)]
-pub(crate) enum OneConstruct {
-    Within(Place),
-    Sign(Place, bool),
-    Cast(Place, Builtin, bool),
-    Castable(Place, Builtin, bool),
-    Call(Place, Function),
-}
-
-// What is made of two parts: a sequence, an operator at its place, or a `let`.
-#[derive(Clone, Copy)]
-pub(crate) enum TwoConstruct {
-    Sequence,
-    And(Place),
-    Or(Place),
-    Operator(Place, BinaryOp),
-    Let(Place, Binder),
-}
-
-// What is made of parts; a conditional at its place is made of three.
-#[derive(Clone, Copy)]
-pub(crate) enum Construct {
-    One(OneConstruct),
-    Two(TwoConstruct),
-    Conditional(Place),
-}
-
-pub(crate) fn construct_one(
+/// The Core of a construct over that of its parts.
+pub(crate) fn construct(
     alloc: Global,
-    construct: OneConstruct,
-    part: E,
+    place: Place,
+    construct: &Construct,
+    parts: Vec<CoreExpr>,
 ) -> Result<CoreExpr, AllocError>
-    ensures { IfOk result (λ e. e ≡ one_made construct part.value) }
+    ensures { IfOk result (λ e. e ≡ constructed place construct.now parts.items) }
 {
     match construct {
-        OneConstruct::Within(outer) => Ok(within(outer, Box::into_inner(part))),
-        OneConstruct::Sign(place, minus) => signed(alloc, place, minus, part),
-        OneConstruct::Cast(place, kind, optional) => {
-            let operand = data_around(alloc, part)?;
-            Ok(at(
-                place,
-                CoreForm::Cast(operand, TypeName::Builtin(kind), optional),
-            ))
+        Construct::Number(value) => Ok(number(place, *value)),
+        Construct::String(text) => string(place, text),
+        Construct::Call(function) => call_of(alloc, place, *function, parts),
+        Construct::Sequence | Construct::Binary(_) => {
+            construct_of_two(alloc, place, construct, parts)
         }
-        OneConstruct::Castable(place, kind, optional) => {
-            let operand = data_around(alloc, part)?;
-            Ok(at(
-                place,
-                CoreForm::Castable(operand, TypeName::Builtin(kind), optional),
-            ))
-        }
-        OneConstruct::Call(place, function) => call_of_one(alloc, place, function, part),
+        Construct::If => construct_of_three(alloc, place, parts),
+        Construct::Parenthesised
+        | Construct::Signed(_)
+        | Construct::CastAs(_, _)
+        | Construct::CastableAs(_, _) => construct_of_one(alloc, place, construct, parts),
+        _ => Ok(empty(place)),
     }
 }
 
-pub(crate) fn construct_two(
+// What is made of one part.
+fn construct_of_one(
     alloc: Global,
-    construct: TwoConstruct,
+    place: Place,
+    construct: &Construct,
+    parts: Vec<CoreExpr>,
+) -> Result<CoreExpr, AllocError>
+    ensures { IfOk result (λ e. e ≡ made_of_one place construct.now parts.items) }
+{
+    let Some(part) = one_part_of(alloc, parts)? else {
+        return Ok(empty(place));
+    };
+    match construct {
+        Construct::Parenthesised => Ok(within(place, Box::into_inner(part))),
+        Construct::Signed(minus) => signed(alloc, place, *minus, part),
+        Construct::CastAs(kind, optional) => {
+            let kind = kind.clone()?;
+            cast(alloc, place, kind, *optional, part)
+        }
+        Construct::CastableAs(kind, optional) => {
+            let kind = kind.clone()?;
+            castable(alloc, place, kind, *optional, part)
+        }
+        _ => Ok(empty(place)),
+    }
+}
+
+// What is made of two parts.
+fn construct_of_two(
+    alloc: Global,
+    place: Place,
+    construct: &Construct,
+    parts: Vec<CoreExpr>,
+) -> Result<CoreExpr, AllocError>
+    ensures { IfOk result (λ e. e ≡ made_of_two place construct.now parts.items) }
+{
+    let Some((first, second)) = two_parts_of(alloc, parts)? else {
+        return Ok(empty(place));
+    };
+    match construct {
+        Construct::Sequence => Ok(at(first.outer, CoreForm::Seq(first, second))),
+        Construct::Binary(operator) => operation(alloc, place, *operator, first, second),
+        _ => Ok(empty(place)),
+    }
+}
+
+// An operator between two operands.
+fn operation(
+    alloc: Global,
+    place: Place,
+    operator: BinaryOperator,
     first: E,
     second: E,
 ) -> Result<CoreExpr, AllocError>
-    ensures { IfOk result (λ e. e ≡ two_made construct first.value second.value) }
+    ensures { IfOk result (λ e. e ≡ operation_at place (joining place operator) first.value second.value) }
 {
-    match construct {
-        TwoConstruct::Sequence => Ok(at(first.outer, CoreForm::Seq(first, second))),
-        TwoConstruct::And(place) => {
+    match operator {
+        BinaryOperator::And => {
             let second = boolean_around(alloc, second)?;
             let otherwise = Box::new(alloc, call_of_none(alloc, place, Function::False))?;
             conditional(alloc, place, first, second, otherwise)
         }
-        TwoConstruct::Or(place) => {
+        BinaryOperator::Or => {
             let second = boolean_around(alloc, second)?;
             let chosen = Box::new(alloc, call_of_none(alloc, place, Function::True))?;
             conditional(alloc, place, first, chosen, second)
         }
-        TwoConstruct::Operator(place, op) => {
-            let first = data_around(alloc, first)?;
-            let second = data_around(alloc, second)?;
-            Ok(at(place, CoreForm::Binary(op, first, second)))
-        }
-        TwoConstruct::Let(place, binder) => Ok(at(place, CoreForm::Let(binder, first, second))),
+        _ => match operator_in_core(operator) {
+            Some(op) => {
+                let first = data_around(alloc, first)?;
+                let second = data_around(alloc, second)?;
+                Ok(at(place, CoreForm::Binary(op, first, second)))
+            }
+            None => Ok(empty(place)),
+        },
     }
+}
+
+// What is made of three parts.
+#[tactic(auto, using(crate::proofs::MakingLemmas::not_of_three))]
+fn construct_of_three(
+    alloc: Global,
+    place: Place,
+    parts: Vec<CoreExpr>,
+) -> Result<CoreExpr, AllocError>
+    ensures { IfOk result (λ e. e ≡ of_three place (conditional_at place) parts.items) }
+{
+    if parts.len() != 3 {
+        return Ok(empty(place));
+    }
+    let mut parts = parts.into_iter();
+    let Some(test) = parts.next() else {
+        return Ok(empty(place));
+    };
+    let Some(chosen) = parts.next() else {
+        return Ok(empty(place));
+    };
+    let Some(otherwise) = parts.next() else {
+        return Ok(empty(place));
+    };
+    let test = Box::new(alloc, test)?;
+    let chosen = Box::new(alloc, chosen)?;
+    let otherwise = Box::new(alloc, otherwise)?;
+    conditional(alloc, place, test, chosen, otherwise)
+}
+
+// The part, where there is one alone.
+fn one_part_of(alloc: Global, parts: Vec<CoreExpr>) -> Result<Option<E>, AllocError>
+    ensures { (place : Place) (make : CoreExpression → CoreExpression)
+        → IfOk result (λ o. MatchOption o (of_one place make parts.items ≡ empty_at place) (λ e. of_one place make parts.items ≡ make e.value)) }
+{
+    let mut parts = parts.into_iter();
+    let Some(part) = parts.next() else {
+        return Ok(None);
+    };
+    match parts.next() {
+        Some(_) => Ok(None),
+        None => Ok(Some(Box::new(alloc, part)?)),
+    }
+}
+
+// The parts, where there are two.
+fn two_parts_of(alloc: Global, parts: Vec<CoreExpr>) -> Result<Option<(E, E)>, AllocError>
+    ensures { (place : Place) (make : CoreExpression → CoreExpression → CoreExpression)
+        → IfOk result (λ o. MatchOption o (of_two place make parts.items ≡ empty_at place) (λ p. of_two place make parts.items ≡ make p.0.value p.1.value)) }
+{
+    let mut parts = parts.into_iter();
+    let Some(first) = parts.next() else {
+        return Ok(None);
+    };
+    let Some(second) = parts.next() else {
+        return Ok(None);
+    };
+    if parts.next().is_some() {
+        return Ok(None);
+    }
+    let first = Box::new(alloc, first)?;
+    Ok(Some((first, Box::new(alloc, second)?)))
+}
+
+/// A `let`.
+pub(crate) fn let_in(place: Place, binder: Binder, value: E, body: E) -> CoreExpr
+    ensures { result ≡ let_at place binder value.value body.value }
+{
+    at(place, CoreForm::Let(binder, value, body))
+}
+
+/// The empty sequence.
+pub(crate) fn empty(place: Place) -> CoreExpr
+    ensures { result ≡ empty_at place }
+{
+    at(place, CoreForm::Empty)
+}
+
+fn cast(
+    alloc: Global,
+    place: Place,
+    kind: TypeName,
+    optional: bool,
+    operand: E,
+) -> Result<CoreExpr, AllocError>
+    ensures { IfOk result (λ e. e ≡ cast_at place kind optional operand.value) }
+{
+    let operand = data_around(alloc, operand)?;
+    Ok(at(place, CoreForm::Cast(operand, kind, optional)))
+}
+
+fn castable(
+    alloc: Global,
+    place: Place,
+    kind: TypeName,
+    optional: bool,
+    operand: E,
+) -> Result<CoreExpr, AllocError>
+    ensures { IfOk result (λ e. e ≡ castable_at place kind optional operand.value) }
+{
+    let operand = data_around(alloc, operand)?;
+    Ok(at(place, CoreForm::Castable(operand, kind, optional)))
+}
+
+// A call, or the operator that `data` is.
+fn call_of(
+    alloc: Global,
+    place: Place,
+    function: Function,
+    arguments: Vec<CoreExpr>,
+) -> Result<CoreExpr, AllocError>
+    ensures { IfOk result (λ e. e ≡ call_of place function arguments.items) }
+{
+    match function {
+        Function::Data => match one_part_of(alloc, arguments)? {
+            Some(argument) => Ok(data_of(place, argument)),
+            None => Ok(empty(place)),
+        },
+        _ => Ok(at(place, CoreForm::Call(function, arguments))),
+    }
+}
+
+fn data_of(place: Place, operand: E) -> CoreExpr
+    ensures { result ≡ data_at place operand.value }
+{
+    at(place, CoreForm::DataOf(operand))
 }
 
 /// `if`, whose test is its effective boolean value.
@@ -215,21 +360,6 @@ fn call(
     let mut arguments = Vec::new(alloc);
     arguments.push(Box::into_inner(argument))?;
     Ok(at(place, CoreForm::Call(function, arguments)))
-}
-
-// A call of one argument, or the operator that `data` is.
-fn call_of_one(
-    alloc: Global,
-    place: Place,
-    function: Function,
-    argument: E,
-) -> Result<CoreExpr, AllocError>
-    ensures { IfOk result (λ e. e ≡ call_of_one place function argument.value) }
-{
-    match function {
-        Function::Data => Ok(at(place, CoreForm::DataOf(argument))),
-        _ => call(alloc, place, function, argument),
-    }
 }
 
 fn boolean_around(alloc: Global, operand: E) -> Result<E, AllocError>

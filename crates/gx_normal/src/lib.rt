@@ -2,7 +2,7 @@
 #![tactic(auto)]
 
 mod construct;
-mod names;
+pub mod laws;
 pub mod normalise;
 mod normalising;
 pub mod unbuilt;

@@ -4,10 +4,10 @@ ghost use Rattle.std.specs.Prelude.{◌≡◌, ◌∷◌, IfOk, OnOk};
 ghost use Rattle.gx_ast.specs.SyntaxView.{bindings_of, keys_of, trees_of};
 ghost use Rattle.gx_normal.specs.declared.unbuilt.Pending.TheVariants as pendings;
 ghost use Rattle.gx_normal.specs.Searching.{first_in, first_of_all};
-ghost use Rattle.gx_normal.specs.Unbuilt.{first_unbuilt, earlier_place, unbuilt_bindings, unbuilt_keys, unbuilt_operator, unbuilt_predicates, unbuilt_query};
+ghost use Rattle.gx_normal.specs.Unbuilt.{first_unbuilt, earlier_place, unbuilt_bindings, unbuilt_definition, unbuilt_definitions, unbuilt_keys, unbuilt_operator, unbuilt_predicates, unbuilt_query, unbuilt_settings};
 
 use gx_ast::expression::{BinaryOperator, Binding, Clause, Expr, ExprNode, Key};
-use gx_ast::query::Query;
+use gx_ast::query::{Definition, DefinitionNode, Initialiser, Query, Setting, SettingNode};
 use gx_base::place::Place;
 use gx_core::stack::Stack;
 use std::alloc::{AllocError, Global};
@@ -22,17 +22,62 @@ pub(crate) enum Pending<'a> {
     Found(Option<Place>),
 }
 
-/// The place of the first production in a query that is not built, if there is one. Declarations are not.
+/// The place of the first production in a query that is not built, if there is one.
 pub fn unbuilt_query(alloc: Global, query: &Query) -> Result<Option<Place>, AllocError>
     ensures { IfOk result (λ place. place ≡ unbuilt_query query.now) }
 {
-    if let Some(setting) = query.settings.as_slice().first() {
-        return Ok(Some(setting.place));
+    if let Some(place) = unbuilt_settings(query.settings.as_slice()) {
+        return Ok(Some(place));
     }
-    if let Some(definition) = query.definitions.as_slice().first() {
-        return Ok(Some(definition.place));
+    if let Some(place) = unbuilt_definitions(alloc, query.definitions.as_slice())? {
+        return Ok(Some(place));
     }
     first_unbuilt(alloc, &query.body)
+}
+
+// The first import of a schema.
+fn unbuilt_settings(settings: &[Setting]) -> Option<Place>
+    ensures { result ≡ unbuilt_settings settings.now }
+{
+    let mut left = settings;
+    while let Some((setting, others)) = left.split_first() {
+        if let SettingNode::Schema(_, _, _) = &setting.node {
+            return Some(setting.place);
+        }
+        left = others;
+    }
+    None
+}
+
+fn unbuilt_definitions(
+    alloc: Global,
+    definitions: &[Definition],
+) -> Result<Option<Place>, AllocError>
+    ensures { IfOk result (λ place. place ≡ unbuilt_definitions definitions.now) }
+{
+    let mut left = definitions;
+    while let Some((definition, others)) = left.split_first() {
+        let unbuilt = unbuilt_definition(alloc, definition.place, &definition.node)?;
+        if let Some(place) = unbuilt {
+            return Ok(Some(place));
+        }
+        left = others;
+    }
+    Ok(None)
+}
+
+// External variables and functions are not built; a variable with a value is where the value is.
+fn unbuilt_definition(
+    alloc: Global,
+    place: Place,
+    definition: &DefinitionNode,
+) -> Result<Option<Place>, AllocError>
+    ensures { IfOk result (λ found. found ≡ unbuilt_definition place definition.now) }
+{
+    match definition {
+        DefinitionNode::Variable(_, _, Initialiser::Value(value)) => first_unbuilt(alloc, value),
+        _ => Ok(Some(place)),
+    }
 }
 
 /// The place of the first production in an expression that is not built, if there is one. The search ends long before its
@@ -88,13 +133,7 @@ fn open_bindings<'a>(
         return Ok(());
     };
     pending.push(Pending::Bindings(others))?;
-    pending.push(Pending::Tree(&first.value))?;
-    let bound = &first.bound;
-    let found = match &bound.kind {
-        None => None,
-        Some(_) => Some(bound.variable.place),
-    };
-    pending.push(Pending::Found(found))
+    pending.push(Pending::Tree(&first.value))
 }
 
 #[tactic(auto, using(crate::proofs::SearchLemmas::or_else_nests))]

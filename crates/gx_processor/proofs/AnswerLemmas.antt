@@ -31,7 +31,7 @@ outcome_unique (raises code) a b h k = h ∙ sym k
 outcome_unique wrong a b h k = absurd h
 
 typed_unique : (command : Command) (core : Core) (t : TypedCore) (a b : Answer) → AnswersTyped command core t a → AnswersTyped command core t b → a ≡ b
-typed_unique (run_file name) core t a b h k = outcome_unique (query_outcome no_declarations core []) a b h k
+typed_unique (run_file name) core t a b h k = outcome_unique (query_outcome no_declarations core [] []) a b h k
 typed_unique (check_file name) core t a b h k = h ∙ sym k
 
 judged_unique : (command : Command) (core : Core) (j : QueryJudgement) (a b : Answer) → AnswersJudged command core j a → AnswersJudged command core j b → a ≡ b
@@ -43,7 +43,7 @@ named_unique command (named_query core) a b h k = judged_unique command core (qu
 named_unique command (unknown_name place code) a b h k = h ∙ sym k
 
 built_unique : (command : Command) (tree : SyntaxQuery) (unbuilt : Option Place) (a b : Answer) → AnswersBuilt command tree unbuilt a → AnswersBuilt command tree unbuilt b → a ≡ b
-built_unique command tree None a b h k = named_unique command (query_named tree.body) a b h k
+built_unique command tree None a b h k = named_unique command (query_named no_declarations tree) a b h k
 built_unique command tree (Some place) a b h k = h ∙ sym k
 
 parsed_unique : (command : Command) (p : Parsing) (a b : Answer) → AnswersParsed command p a → AnswersParsed command p b → a ≡ b
@@ -119,7 +119,7 @@ named_refused name (named_query core) status line h = judged_refused name core (
 named_refused name (unknown_name place code) status line h = h
 
 built_refused : (name : List ℕ) (tree : SyntaxQuery) (unbuilt : Option Place) (status : Status) (line : List ℕ) → AnswersBuilt (check_file name) tree unbuilt (refuses status line) → AnswersBuilt (run_file name) tree unbuilt (refuses status line)
-built_refused name tree None status line h = named_refused name (query_named tree.body) status line h
+built_refused name tree None status line h = named_refused name (query_named no_declarations tree) status line h
 built_refused name tree (Some place) status line h = h
 
 parsed_refused : (name : List ℕ) (p : Parsing) (status : Status) (line : List ℕ) → AnswersParsed (check_file name) p (refuses status line) → AnswersParsed (run_file name) p (refuses status line)

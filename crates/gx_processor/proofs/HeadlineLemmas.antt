@@ -8,7 +8,9 @@ use Rattle.gx_core.specs.declared.expression.Core.{Core}
 use Rattle.gx_core.specs.declared.typed.TypedCore.{TypedCore}
 use Rattle.gx_model.specs.Item.{Items}
 use Rattle.gx_core.specs.Outcome.{Outcome, gives, raises, wrong}
-use Rattle.gx_core.specs.QueryMeaning.{query_outcome, query_type, SoundQueriesKeepTheirTypes}
+use Rattle.gx_core.specs.QueryMeaning.{query_outcome, query_type, DocumentsFit, HasNoExternal, SoundQueriesKeepTheirTypes}
+use Rattle.gx_core.proofs.SoundQueries.{none_needs_no_document}
+use Rattle.gx_normal.proofs.WholeQueries.{named_queries_have_no_external}
 use Rattle.gx_core.specs.Soundness.{typed_setting, Keeps}
 use Rattle.gx_static.specs.QueryJudgement.{QueryJudgement, query_typed, query_rejected, query_judged, QueryTypingIsSound, QueryRejectionNamesFailure}
 use Rattle.gx_io.specs.Load.{file_of}
@@ -50,14 +52,15 @@ typed_answer words files command core t a e q j h = subst (λ (k : QueryJudgemen
 
 -- the meaning of a query that has a type keeps the type
 abbrev pub TypesAreKept : Type 0
-TypesAreKept = (core : Core) (t : TypedCore) → query_judged no_declarations core ≡ query_typed t → Keeps (typed_setting no_declarations) [] (query_type t) (query_outcome no_declarations core [])
+TypesAreKept = (core : Core) (t : TypedCore) → HasNoExternal core.declarations → query_judged no_declarations core ≡ query_typed t → Keeps (typed_setting no_declarations) [] (query_type t) (query_outcome no_declarations core [] [])
 
 pub types_are_kept : QueryTypingIsSound → SoundQueriesKeepTheirTypes → TypesAreKept
-types_are_kept sound keep core t j =
+types_are_kept sound keep core t none j =
     let s = sound no_declarations core t j in
-    subst (λ (c : Core). Keeps (typed_setting no_declarations) [] (query_type t) (query_outcome no_declarations c [])) s.same (keep no_declarations t [] tt s.sound)
+    let fit = none_needs_no_document no_declarations [] core.declarations none in
+    subst (λ (c : Core). Keeps (typed_setting no_declarations) [] (query_type t) (query_outcome no_declarations c [] [])) s.same (keep no_declarations t [] [] tt (subst (λ (c : Core). DocumentsFit no_declarations [] c.declarations []) (sym s.same) fit) s.sound)
 
-outcome_runs : (run : Run) (core : Core) (t : TypedCore) (o : Outcome Items) (a : Answer) → query_outcome no_declarations core [] ≡ o → Keeps (typed_setting no_declarations) [] (query_type t) o → AnswersOutcome o a → run.status ≡ status_of a → LeavesAnswer a run → RunEnds core t run
+outcome_runs : (run : Run) (core : Core) (t : TypedCore) (o : Outcome Items) (a : Answer) → query_outcome no_declarations core [] [] ≡ o → Keeps (typed_setting no_declarations) [] (query_type t) o → AnswersOutcome o a → run.status ≡ status_of a → LeavesAnswer a run → RunEnds core t run
 outcome_runs run core t (gives items forest) a m k is s l =
     let sinks = subst (λ (b : Answer). LeavesAnswer b run) is l in
     inl (record { items = items; forest = forest; value = m; belongs = k.fact; status = s ∙ ap status_of is; output = sinks.0; line = sinks.1 })
@@ -70,7 +73,7 @@ pub typed_run : (run : Run) (files : List (List ℕ × List ℕ)) → TypesAreKe
 typed_run run files kept (inr m) name core t e q j = inr (inr m)
 typed_run run files kept (inl answered) name core t e q j =
     let of_outcome = typed_answer run.words files (run_file name) core t answered.answer e q j answered.answers in
-    outcome_runs run core t (query_outcome no_declarations core []) answered.answer refl (kept core t j) of_outcome answered.status answered.sinks
+    outcome_runs run core t (query_outcome no_declarations core [] []) answered.answer refl (kept core t (named_queries_have_no_external no_declarations q.query.tree core q.query.named) j) of_outcome answered.status answered.sinks
 
 pub typed_check : (run : Run) (files : List (List ℕ × List ℕ)) → AnsweredOrStarved run files → ChecksTyped run files
 typed_check run files (inr m) name core t e q j = inr m
@@ -91,7 +94,7 @@ named_printed name (unknown_name place code) printed h = cc
 built_printed : (files : List (List ℕ × List ℕ)) (name bytes : List ℕ) (tree : SyntaxQuery) (unbuilt : Option Place) (printed : List ℕ) → file_of files name ≡ Some bytes → length bytes ≤ 16777216 → Parses bytes (parsed tree) → unbuilt_query tree ≡ unbuilt → AnswersBuilt (check_file name) tree unbuilt (writes printed) → HoldsTyped files name printed
 built_printed files name bytes tree (Some place) printed held within p b h = cc
 built_printed files name bytes tree None printed held within p b h =
-    let n = named_printed name (query_named tree.body) printed h in
+    let n = named_printed name (query_named no_declarations tree) printed h in
     record {
       core = n.0;
       typing = n.1;

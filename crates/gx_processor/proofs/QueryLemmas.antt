@@ -1,12 +1,13 @@
 -- The steps of an answer, one behind another.
-use Rattle.std.proofs.Common.{◌≡◌, ℕ, ◌≤◌, Bool, true, List, length, Option, Some, None, IfSome, Result, Ok, Err, IfOk, IfErr, String, string_bytes, sym, subst, nat_le}
+use Rattle.std.proofs.Common.{◌≡◌, ℕ, ◌≤◌, Bool, true, List, [], ◌∷◌, length, Option, Some, None, IfSome, Result, Ok, Err, IfOk, IfErr, String, string_bytes, refl, sym, ap, ◌∙◌, subst, nat_le}
 use Rattle.std.specs.Bool.{MatchBool}
 use Rattle.std.proofs.lemmas.Bool.{le-leb}
+use Rattle.gx_base.specs.declared.code.Code.{Code}
 use Rattle.gx_base.specs.declared.code.Code.TheVariants.{GLXS0001}
 use Rattle.gx_types.specs.SchemaSet.{no_declarations}
 use Rattle.gx_core.specs.declared.expression.Core.{Core}
 use Rattle.gx_core.specs.declared.typed.TypedCore.{TypedCore}
-use Rattle.gx_core.specs.QueryMeaning.{plain_query}
+use Rattle.gx_core.specs.QueryMeaning.{plain_query, HasNoExternal}
 use Rattle.gx_static.specs.QueryJudgement.{QueryJudgement, query_typed, query_judged}
 use Rattle.gx_io.specs.Load.{file_of}
 use Rattle.gx_ast.specs.declared.query.Query.{Query as SyntaxQuery}
@@ -17,8 +18,12 @@ use Rattle.gx_processor.specs.declared.refusal.Refusal.{Refusal}
 use Rattle.gx_processor.specs.declared.refusal.Refusal.TheVariants.{ReadFault, TooLong, Query, Dynamic, Memory}
 use Rattle.gx_processor.specs.declared.status.Status.TheVariants as status
 use Rattle.gx_processor.specs.Command.{Command, query_file}
-use Rattle.gx_processor.specs.FaultLines.{code_line}
-use Rattle.gx_normal.specs.Normalisation.{NamedQuery, named_query, query_named}
+use Rattle.gx_processor.specs.FaultLines.{code_line, placed_line}
+use Rattle.gx_names.specs.declared.refusal.Refusal.{Refusal as NamedRefusal}
+use Rattle.gx_names.specs.Stacked.{first}
+use Rattle.gx_names.specs.Refusals.{query_refusals}
+use Rattle.gx_names.specs.Resolution.{query_resolved}
+use Rattle.gx_normal.specs.Normalisation.{NamedQuery, named_query, unknown_name, unless_refused, query_core, query_named}
 use Rattle.gx_processor.specs.Query.{HoldsQuery}
 use Rattle.gx_processor.specs.Answer.{Answer, writes, refuses, AnswersTyped, AnswersJudged, AnswersNamed, AnswersBuilt, AnswersBytes, AnswersFile, AnswersCommand}
 use Rattle.gx_processor.specs.Replies.{RefusesSo}
@@ -38,10 +43,10 @@ judged_answers command core t a j h = subst (λ (k : QueryJudgement). AnswersJud
 named_answers : (command : Command) (n : NamedQuery) (core : Core) (a : Answer) → n ≡ named_query core → AnswersJudged command core (query_judged no_declarations core) a → AnswersNamed command n a
 named_answers command n core a e h = subst (λ (m : NamedQuery). AnswersNamed command m a) (sym e) h
 
-built_answers : (command : Command) (tree : SyntaxQuery) (unbuilt : Option Place) (a : Answer) → unbuilt ≡ None → AnswersNamed command (query_named tree.body) a → AnswersBuilt command tree unbuilt a
+built_answers : (command : Command) (tree : SyntaxQuery) (unbuilt : Option Place) (a : Answer) → unbuilt ≡ None → AnswersNamed command (query_named no_declarations tree) a → AnswersBuilt command tree unbuilt a
 built_answers command tree unbuilt a e h = subst (λ (o : Option Place). AnswersBuilt command tree o a) (sym e) h
 
-tree_answers : (command : Command) (bytes : List ℕ) (tree : SyntaxQuery) (a : Answer) → Parses bytes (parsed tree) → unbuilt_query tree ≡ None → AnswersNamed command (query_named tree.body) a → AnswersBytes command bytes a
+tree_answers : (command : Command) (bytes : List ℕ) (tree : SyntaxQuery) (a : Answer) → Parses bytes (parsed tree) → unbuilt_query tree ≡ None → AnswersNamed command (query_named no_declarations tree) a → AnswersBytes command bytes a
 tree_answers command bytes tree a p b h = (parsed tree, p, built_answers command tree (unbuilt_query tree) a b h)
 
 short_answers : (command : Command) (short : Bool) (bytes : List ℕ) (a b : Answer) → short ≡ true → AnswersBytes command bytes a → MatchBool short (AnswersBytes command bytes a) (a ≡ b)
@@ -57,7 +62,7 @@ pub query_answers : (files : List (List ℕ × List ℕ)) (command : Command) (c
 query_answers files command core t a q j h =
     file_answers command (file_of files (query_file command)) q.bytes a q.held q.within
     (tree_answers command q.bytes q.query.tree a q.query.parses q.query.built
-    (named_answers command (query_named q.query.tree.body) core a q.query.named (judged_answers command core t a j h)))
+    (named_answers command (query_named no_declarations q.query.tree) core a q.query.named (judged_answers command core t a j h)))
 
 -- the refusals of the steps
 pub file_refused : (told : Option (List (List ℕ × List ℕ))) (name bytes : List ℕ) (r : Refusal) → IfSome told (λ files. file_of files name ≡ Some bytes) → length bytes ≤ 16777216 → ((command : Command) → RefusesSo r (AnswersBytes command bytes)) → IfSome told (λ files. (command : Command) → RefusesSo r (AnswersFile command (file_of files name)))
@@ -65,8 +70,8 @@ file_refused None name bytes r held within h = tt
 file_refused (Some files) name bytes r held within h = λ command.
     refuses_through r (AnswersBytes command bytes) (AnswersFile command (file_of files name)) (λ a k. file_answers command (file_of files name) bytes a held within k) (h command)
 
-pub tree_refused : (bytes : List ℕ) (tree : SyntaxQuery) (r : Refusal) → Parses bytes (parsed tree) → unbuilt_query tree ≡ None → ((command : Command) → RefusesSo r (AnswersNamed command (query_named tree.body))) → (command : Command) → RefusesSo r (AnswersBytes command bytes)
-tree_refused bytes tree r p b h command = refuses_through r (AnswersNamed command (query_named tree.body)) (AnswersBytes command bytes) (λ a k. tree_answers command bytes tree a p b k) (h command)
+pub tree_refused : (bytes : List ℕ) (tree : SyntaxQuery) (r : Refusal) → Parses bytes (parsed tree) → unbuilt_query tree ≡ None → ((command : Command) → RefusesSo r (AnswersNamed command (query_named no_declarations tree))) → (command : Command) → RefusesSo r (AnswersBytes command bytes)
+tree_refused bytes tree r p b h command = refuses_through r (AnswersNamed command (query_named no_declarations tree)) (AnswersBytes command bytes) (λ a k. tree_answers command bytes tree a p b k) (h command)
 
 -- a production that is not built is refused where it stands
 pub unbuilt_refused : (bytes : List ℕ) (tree : SyntaxQuery) (r : Refusal) → Parses bytes (parsed tree) → ((command : Command) → RefusesSo r (AnswersBuilt command tree (unbuilt_query tree))) → (command : Command) → RefusesSo r (AnswersBytes command bytes)
@@ -81,12 +86,12 @@ pub kept_parses : {E : Type 0} (bytes : List ℕ) (tree : SyntaxQuery) (r : Resu
 kept_parses bytes tree (Ok kept) p e = subst (λ t. Parses bytes (parsed t)) (sym e) p
 kept_parses bytes tree (Err e) p h = tt
 
-pub core_refused : (tree : SyntaxQuery) (core : Core) (r : Refusal) → query_named tree.body ≡ named_query core → ((command : Command) → RefusesSo r (AnswersJudged command core (query_judged no_declarations core))) → (command : Command) → RefusesSo r (AnswersNamed command (query_named tree.body))
+pub core_refused : (tree : SyntaxQuery) (core : Core) (r : Refusal) → query_named no_declarations tree ≡ named_query core → ((command : Command) → RefusesSo r (AnswersJudged command core (query_judged no_declarations core))) → (command : Command) → RefusesSo r (AnswersNamed command (query_named no_declarations tree))
 core_refused tree core r e h command =
-    refuses_through r (AnswersJudged command core (query_judged no_declarations core)) (AnswersNamed command (query_named tree.body)) (λ a k. named_answers command (query_named tree.body) core a e k) (h command)
+    refuses_through r (AnswersJudged command core (query_judged no_declarations core)) (AnswersNamed command (query_named no_declarations tree)) (λ a k. named_answers command (query_named no_declarations tree) core a e k) (h command)
 
 -- the query that the steps come to
-pub held_query : (told : Option (List (List ℕ × List ℕ))) (name bytes : List ℕ) (tree : SyntaxQuery) (core : Core) → IfSome told (λ files. file_of files name ≡ Some bytes) → length bytes ≤ 16777216 → Parses bytes (parsed tree) → unbuilt_query tree ≡ None → query_named tree.body ≡ named_query core → IfSome told (λ files. HoldsQuery files name core)
+pub held_query : (told : Option (List (List ℕ × List ℕ))) (name bytes : List ℕ) (tree : SyntaxQuery) (core : Core) → IfSome told (λ files. file_of files name ≡ Some bytes) → length bytes ≤ 16777216 → Parses bytes (parsed tree) → unbuilt_query tree ≡ None → query_named no_declarations tree ≡ named_query core → IfSome told (λ files. HoldsQuery files name core)
 held_query None name bytes tree core held within p b e = tt
 held_query (Some files) name bytes tree core held within p b e = record {
   bytes = bytes;
@@ -126,3 +131,25 @@ pub refused_typed : {V : Type 0} (told : Option (List (List ℕ × List ℕ))) (
 refused_typed None name core r h f = tt
 refused_typed (Some files) name core (Ok v) h f = tt
 refused_typed (Some files) name core (Err e) h f = f e h
+
+-- the query with its types has no external variable either
+pub no_external_again : (core : Core) (r : Result TypedCore Refusal) → HasNoExternal core.declarations → IfOk r (λ t. plain_query t ≡ core) → IfOk r (λ t. HasNoExternal (plain_query t).declarations)
+no_external_again core (Ok t) none same = subst (λ (c : Core). HasNoExternal c.declarations) (sym same) none
+no_external_again core (Err e) none same = tt
+
+-- the Core of the resolved query, where nothing is refused
+pub named_so : (tree : SyntaxQuery) (core : Core) → query_refusals no_declarations tree ≡ [] → core ≡ query_core (query_resolved no_declarations tree) → query_named no_declarations tree ≡ named_query core
+named_so tree core h e = ap (λ (refusals : List NamedRefusal). unless_refused refusals (query_core (query_resolved no_declarations tree))) h ∙ ap named_query (sym e)
+
+refused_among : (command : Command) (refusals : List NamedRefusal) (core : Core) (code : Code) (place : Place) → first refusals ≡ Some (record { code = code; place = place })
+    → unless_refused refusals core ≡ unknown_name place code
+refused_among command [] core code place h = absurd (cc)
+refused_among command (r ∷ rs) core code place h =
+    let same : r ≡ record { code = code; place = place } = cc in ap (λ (x : NamedRefusal). unknown_name x.place x.code) same
+
+-- the first refusal of the names
+pub refused_so : (tree : SyntaxQuery) (code : Code) (place : Place) (command : Command) → first (query_refusals no_declarations tree) ≡ Some (record { code = code; place = place })
+    → AnswersNamed command (query_named no_declarations tree) (refuses status.Query (placed_line code place))
+refused_so tree code place command h =
+    subst (λ (n : NamedQuery). AnswersNamed command n (refuses status.Query (placed_line code place)))
+    (sym (refused_among command (query_refusals no_declarations tree) (query_core (query_resolved no_declarations tree)) code place h)) refl

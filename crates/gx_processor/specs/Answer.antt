@@ -52,7 +52,7 @@ AnswersOutcome wrong answer = ⊥
 
 -- what a command does with a query that has a type: a run evaluates it, and a check writes its type
 abbrev pub AnswersTyped : Command → Core → TypedCore → Answer → Type 0
-AnswersTyped (run_file name) core typing answer = AnswersOutcome (query_outcome no_declarations core []) answer
+AnswersTyped (run_file name) core typing answer = AnswersOutcome (query_outcome no_declarations core [] []) answer
 AnswersTyped (check_file name) core typing answer = answer ≡ writes (type_bytes (query_type typing))
 
 -- typing
@@ -68,7 +68,7 @@ AnswersNamed command (named_query core) answer = AnswersJudged command core (que
 -- a production that is not built yet
 abbrev pub AnswersBuilt : Command → Query → (unbuilt : Option Place) → Answer → Type 0
 AnswersBuilt command tree (Some place) answer = answer ≡ refuses status.Query (placed_line XPST0003 place)
-AnswersBuilt command tree None answer = AnswersNamed command (query_named tree.body) answer
+AnswersBuilt command tree None answer = AnswersNamed command (query_named no_declarations tree) answer
 
 -- parsing
 abbrev pub AnswersParsed : Command → Parsing → Answer → Type 0
@@ -105,9 +105,9 @@ AnswersWords files None asked answer = AnswersCommand files asked answer
 abbrev pub Answers : List (List ℕ) → List (List ℕ × List ℕ) → Answer → Type 0
 Answers words files answer = AnswersWords files (texts_to_compare words) (command_of words) answer
 
--- there is an answer to words over a query, and to words that name no command
+-- there is an answer to all words and files
 abbrev pub AnAnswerExists : Type 0
-AnAnswerExists = (words : List (List ℕ)) (files : List (List ℕ × List ℕ)) → texts_to_compare words ≡ None → (answer : Answer) × Answers words files answer
+AnAnswerExists = (words : List (List ℕ)) (files : List (List ℕ × List ℕ)) → (answer : Answer) × Answers words files answer
 
 -- what a check of a file refuses, a run of it refuses with the same line
 abbrev pub ChecksRefuseForRuns : Type 0

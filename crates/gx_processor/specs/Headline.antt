@@ -28,7 +28,7 @@ use Rattle.gx_processor.specs.Run.{Run}
 pub record WritesValue (core : Core) (typing : TypedCore) (run : Run) : Type 0 where
   pub items : Items
   pub forest : Forest
-  pub value : query_outcome no_declarations core [] ≡ gives items forest
+  pub value : query_outcome no_declarations core [] [] ≡ gives items forest
   pub belongs : Belongs no_declarations forest items (query_type typing)
   pub status : run.status ≡ Done
   pub output : Took run.out (serialised forest items)
@@ -37,7 +37,7 @@ pub record WritesValue (core : Core) (typing : TypedCore) (run : Run) : Type 0 w
 -- the dynamic error that the query raises is reported, and nothing else
 pub record ReportsError (core : Core) (run : Run) : Type 0 where
   pub code : Code
-  pub raised : query_outcome no_declarations core [] ≡ raises code
+  pub raised : query_outcome no_declarations core [] [] ≡ raises code
   pub status : run.status ≡ Dynamic
   pub output : IsUntouched run.out
   pub line : Took run.err (code_line code)

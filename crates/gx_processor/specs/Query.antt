@@ -1,6 +1,7 @@
 -- Which bytes are those of a query of this language.
 use Rattle.std.specs.Prelude.{◌≡◌, ℕ, ◌≤◌, List, length, None, Some}
 use Rattle.gx_base.specs.declared.limits.TheConstants.{FILE_BYTES}
+use Rattle.gx_types.specs.SchemaSet.{no_declarations}
 use Rattle.gx_core.specs.declared.expression.Core.{Core}
 use Rattle.gx_io.specs.Load.{file_of}
 use Rattle.gx_ast.specs.declared.query.Query.{Query}
@@ -13,7 +14,7 @@ pub record IsQueryOf (bytes : List ℕ) (core : Core) : Type 0 where
   pub tree : Query
   pub parses : Parses bytes (parsed tree)
   pub built : unbuilt_query tree ≡ None
-  pub named : query_named tree.body ≡ named_query core
+  pub named : query_named no_declarations tree ≡ named_query core
 
 -- the file of that name holds a query with this Core
 pub record HoldsQuery (files : List (List ℕ × List ℕ)) (name : List ℕ) (core : Core) : Type 0 where

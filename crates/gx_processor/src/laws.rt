@@ -3,7 +3,7 @@
 ghost use Rattle.std.specs.Prelude.{◌≡◌, ℕ, List};
 ghost use Rattle.gx_processor.specs.Answer.{Answer, Answers, AnAnswerExists, AnswersLookAtTheirLoads, ChecksRefuseForRuns};
 
-/// The words and the files have an answer, where the words do not compare two type texts.
+/// The words and the files have an answer.
 pub fn an_answer_exists()
     ensures { AnAnswerExists }
 {}

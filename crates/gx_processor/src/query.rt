@@ -2,7 +2,7 @@
 
 ghost use Rattle.std.specs.Prelude.{◌≡◌, ◌≤◌, [], ◌∷◌, length, IfOk, IfErr, IfSome, Some, None};
 ghost use Rattle.gx_types.specs.SchemaSet.{no_declarations};
-ghost use Rattle.gx_core.specs.QueryMeaning.{plain_query, IsSoundQuery};
+ghost use Rattle.gx_core.specs.QueryMeaning.{plain_query, HasNoExternal, IsSoundQuery};
 ghost use Rattle.gx_static.specs.QueryJudgement.{query_judged, query_typed};
 ghost use Rattle.gx_io.specs.Calls.{Loads};
 ghost use Rattle.gx_io.specs.Faults.{Rose};
@@ -14,17 +14,24 @@ ghost use Rattle.gx_processor.specs.Query.{HoldsQuery};
 ghost use Rattle.gx_normal.specs.Normalisation.{query_named, named_query};
 ghost use Rattle.gx_processor.specs.Replies.{RefusesSo, HasCause};
 ghost use Rattle.gx_processor.specs.RuleCode.{rule_code};
+ghost use Rattle.gx_names.specs.Refused.{Judges};
+ghost use Rattle.gx_names.specs.Refusals.{query_refusals};
+ghost use Rattle.gx_names.specs.Resolution.{query_resolved};
 ghost use Rattle.gx_normal.specs.Unbuilt.{unbuilt_query};
 
 use crate::refusal::Refusal;
 use gx_ast::dismantle::dismantle;
-use gx_ast::query::Query;
+use gx_ast::query::{Definition, DefinitionNode, Initialiser, Query};
 use gx_base::code::Code;
 use gx_base::limits::FILE_BYTES;
 use gx_core::expression::Core;
 use gx_core::typed::TypedCore;
 use gx_io::{Library, LoadError};
-use gx_normal::normalise::{NameRefusal, normalise};
+use gx_names::refusal::NameRefusal;
+use gx_names::resolve::resolve;
+use gx_names::tree::Resolved;
+use gx_normal::laws::named_queries_have_no_external;
+use gx_normal::normalise::normalise;
 use gx_normal::unbuilt::unbuilt_query;
 use gx_parse::parser::{SyntaxRefusal, SyntaxRule, parse};
 use gx_static::error::InferError;
@@ -43,10 +50,12 @@ pub fn typed_query<L: Library>(
     ensures query { IfSome (L.files library.old) (λ files. IfOk result (λ query. HoldsQuery files file.now (plain_query query))) }
     ensures typed { IfOk result (λ query. query_judged no_declarations (plain_query query) ≡ query_typed query) }
     ensures sound { IfOk result (λ query. IsSoundQuery no_declarations query) }
+    ensures closed { IfOk result (λ query. HasNoExternal (plain_query query).declarations) }
     ensures refused { IfSome (L.files library.old) (λ files. IfErr result (λ refusal.
         (command : Command) → RefusesSo refusal (AnswersFile command (file_of files file.now)))) }
     ensures cause { IfErr result (HasCause (Rose (L.faults library.old) (L.faults library.new)) ⊥) }
 {
+    named_queries_have_no_external();
     let bytes = bytes_of(alloc, file, library)?;
     let tree = tree_of(alloc, bytes.as_slice())?;
     let core = core_of(alloc, tree)?;
@@ -120,30 +129,56 @@ fn built(alloc: Global, tree: Query) -> Result<Query, Refusal>
     Err(refusal)
 }
 
-// Drops a query, its body by a loop.
+// Drops a query, its trees by a loop.
 fn drop_query(alloc: Global, query: Query) {
     let Query {
         version: _,
         settings: _,
-        definitions: _,
+        definitions,
         body,
     } = query;
+    for definition in definitions.into_vec() {
+        drop_definition(alloc, definition);
+    }
     dismantle(alloc, body);
 }
 
+fn drop_definition(alloc: Global, definition: Definition) {
+    let Definition { place: _, node } = definition;
+    if let DefinitionNode::Variable(_variable, _kind, initialiser) = node {
+        drop_initialiser(alloc, initialiser);
+    }
+}
+
+fn drop_initialiser(alloc: Global, initialiser: Initialiser) {
+    if let Initialiser::Value(value) = initialiser {
+        dismantle(alloc, value);
+    }
+}
+
 // The Core of a tree, which ends here.
+#[tactic(auto, using(crate::proofs::QueryLemmas::named_so, crate::proofs::QueryLemmas::refused_so))]
 fn core_of(alloc: Global, tree: Query) -> Result<Core, Refusal>
-    ensures core { IfOk result (λ core. query_named tree.body ≡ named_query core) }
-    ensures refused { IfErr result (λ refusal. (command : Command) → RefusesSo refusal (AnswersNamed command (query_named tree.body))) }
+    ensures core { IfOk result (λ core. query_named no_declarations tree ≡ named_query core) }
+    ensures refused { IfErr result (λ refusal. (command : Command) → RefusesSo refusal (AnswersNamed command (query_named no_declarations tree))) }
     ensures cause { IfErr result (HasCause ⊥ ⊥) }
 {
-    let core = normalise(alloc, &tree.body);
+    let resolved = resolved(alloc, &tree);
     drop_query(alloc, tree);
-    match core {
-        Ok(core) => Ok(core),
+    match resolved {
+        Ok(resolved) => Ok(normalise(alloc, resolved)?),
         Err(NameRefusal::Refused { code, place }) => Err(Refusal::Query { code, place }),
         Err(NameRefusal::Memory) => Err(Refusal::Memory),
     }
+}
+
+// A tree with its names resolved, where no schema is imported.
+fn resolved(alloc: Global, tree: &Query) -> Result<Resolved, NameRefusal>
+    ensures refusals { Judges result (query_refusals no_declarations tree.now) }
+    ensures resolved { IfOk result (λ r. r ≡ query_resolved no_declarations tree.now) }
+{
+    let schemas = Schemas::empty(alloc)?;
+    resolve(alloc, tree, &schemas)
 }
 
 // A Core with its types.

@@ -11,23 +11,25 @@ use Rattle.gx_core.specs.declared.operator.Operator.TheVariants as operators
 use Rattle.gx_core.specs.Expression.{CoreExpression, core_at, Parts, no_parts, a_part, one_part, two_parts, three_parts, all_parts, each_of, annotation_of}
 use Rattle.gx_core.specs.Bindings.{Types, types_bound}
 use Rattle.gx_core.specs.Soundness.{TypedExpression}
+use Rattle.gx_core.specs.declared.typed.TypedCore.{TypedCore}
+use Rattle.gx_core.specs.declared.typed.TypedDeclaration.{TypedDeclaration}
 use Rattle.gx_static.specs.Rule.{ruling}
 use Rattle.gx_static.specs.Judgement.{Judged, Judgement, typed, rejected, with_typed, judged, parts_judged, concluded}
 use Rattle.gx_static.specs.declared.typing.Task.{Task}
 use Rattle.gx_static.specs.declared.typing.Task.TheVariants.{Finish, FinishCall}
-use Rattle.gx_static.specs.Typing.{part_count, then_typed, finished, typed_in_order, last_parts, continued}
+use Rattle.gx_static.specs.Typing.{Awaited, part_count, then_typed, finished, typed_in_order, last_parts, continued}
 
 -- what is made of all parts, made of each
-made_typed : {R : Type 0} (j : Judged R) (make : R → Judgement) (next : TypedExpression → Option Judgement) → then_typed j (λ x. then_typed (make x) next) ≡ then_typed (with_typed j make) next
+made_typed : {R : Type 0} (j : Judged R) (make : R → Judgement) (next : TypedExpression → Awaited) → then_typed j (λ x. then_typed (make x) next) ≡ then_typed (with_typed j make) next
 made_typed (typed x) make next = refl
 made_typed (rejected place code) make next = refl
 
-put_in_front : (t : TypedExpression) (j : Judged (Parts SequenceType)) (next : Parts SequenceType → Option Judgement)
+put_in_front : (t : TypedExpression) (j : Judged (Parts SequenceType)) (next : Parts SequenceType → Awaited)
     → then_typed j (λ ts. next (a_part t ts)) ≡ then_typed (with_typed j (λ ts. typed (a_part t ts))) next
 put_in_front t (typed ts) next = refl
 put_in_front t (rejected place code) next = refl
 
-one_more : (j : Judgement) (others : TypedExpression → Judged (Parts SequenceType)) (rest : TypedExpression → Option Judgement) (next : Parts SequenceType → Option Judgement)
+one_more : (j : Judgement) (others : TypedExpression → Judged (Parts SequenceType)) (rest : TypedExpression → Awaited) (next : Parts SequenceType → Awaited)
     → ((t : TypedExpression) → rest t ≡ then_typed (others t) (λ ts. next (a_part t ts)))
     → then_typed j rest ≡ then_typed (with_typed j (λ t. with_typed (others t) (λ ts. typed (a_part t ts)))) next
 one_more (typed t) others rest next h = h t ∙ put_in_front t (others t) next
@@ -40,7 +42,7 @@ count_with (e ∷ es) n = count_with es (suc n)
 
 -- typing expressions in order and taking them is judging the parts
 parts_in_order : (schemas : SchemaSet) (operator : Operator) (types : Types) → ((before : List SequenceType) → types_bound operator before ≡ [])
-    → (next : Parts SequenceType → List TypedExpression → Option Judgement) (below : List TypedExpression) (es : List CoreExpression) (before : List SequenceType) (n : ℕ) (there : List TypedExpression)
+    → (next : Parts SequenceType → List TypedExpression → Awaited) (below : List TypedExpression) (es : List CoreExpression) (before : List SequenceType) (n : ℕ) (there : List TypedExpression)
     (behind : Parts SequenceType → Parts SequenceType) → ((parts : Parts SequenceType) → last_parts n there parts next ≡ next (behind parts) below)
     → typed_in_order schemas es types (λ parts. last_parts (count_with es n) parts no_parts next) there
     ≡ then_typed (parts_judged schemas operator before (all_parts es) types) (λ ts. next (behind ts) below)
@@ -59,7 +61,7 @@ counted (e ∷ es) n = omega (arith, counted es (suc n))
 
 -- so does an operator that binds nothing
 operator_opens : (schemas : SchemaSet) (operator : Operator) → ((before : List SequenceType) → types_bound operator before ≡ [])
-    → (place outer : Place) (types : Types) (next : TypedExpression → List TypedExpression → Option Judgement) (below : List TypedExpression) (es : List CoreExpression)
+    → (place outer : Place) (types : Types) (next : TypedExpression → List TypedExpression → Awaited) (below : List TypedExpression) (es : List CoreExpression)
     → typed_in_order schemas es types (λ parts. last_parts (count_with es 0) parts no_parts (finished schemas place outer operator types next)) below
     ≡ then_typed (judged schemas (core_at place outer operator (all_parts es)) types) (λ t. next t below)
 operator_opens schemas operator none place outer types next below es =
@@ -67,44 +69,44 @@ operator_opens schemas operator none place outer types next below es =
     ∙ made_typed (parts_judged schemas operator [] (all_parts es) types) (λ ts. concluded place outer operator ts (ruling schemas operator (each_of annotation_of ts) types)) (λ t. next t below)
 
 pub single_opens : (schemas : SchemaSet) (operator : Operator) → ((before : List SequenceType) → types_bound operator before ≡ []) → part_count operator ≡ 1
-    → (tasks : List Task) (parts : List TypedExpression) (types : Types) (place outer : Place) (operand : CoreExpression)
-    → typed_in_order schemas (operand ∷ []) types (λ parts. continued schemas (Finish place outer operator ∷ tasks) parts types) parts
-    ≡ then_typed (judged schemas (core_at place outer operator (one_part operand)) types) (λ t. continued schemas tasks (t ∷ parts) types)
-single_opens schemas operator none one tasks parts types place outer operand =
-    subst (λ (n : ℕ). typed_in_order schemas (operand ∷ []) types (λ parts. last_parts n parts no_parts (finished schemas place outer operator types (λ t below. continued schemas tasks (t ∷ below) types))) parts
-    ≡ then_typed (judged schemas (core_at place outer operator (one_part operand)) types) (λ t. continued schemas tasks (t ∷ parts) types)) (sym one)
-    (operator_opens schemas operator none place outer types (λ t below. continued schemas tasks (t ∷ below) types) parts (operand ∷ []))
+    → (tasks : List Task) (parts : List TypedExpression) (types : Types) (declared : List TypedDeclaration) (place outer : Place) (operand : CoreExpression)
+    → typed_in_order schemas (operand ∷ []) types (λ parts. continued schemas (Finish place outer operator ∷ tasks) parts types declared) parts
+    ≡ then_typed (judged schemas (core_at place outer operator (one_part operand)) types) (λ t. continued schemas tasks (t ∷ parts) types declared)
+single_opens schemas operator none one tasks parts types declared place outer operand =
+    subst (λ (n : ℕ). typed_in_order schemas (operand ∷ []) types (λ parts. last_parts n parts no_parts (finished schemas place outer operator types (λ t below. continued schemas tasks (t ∷ below) types declared))) parts
+    ≡ then_typed (judged schemas (core_at place outer operator (one_part operand)) types) (λ t. continued schemas tasks (t ∷ parts) types declared)) (sym one)
+    (operator_opens schemas operator none place outer types (λ t below. continued schemas tasks (t ∷ below) types declared) parts (operand ∷ []))
 
 pub pair_opens : (schemas : SchemaSet) (operator : Operator) → ((before : List SequenceType) → types_bound operator before ≡ []) → part_count operator ≡ 2
-    → (tasks : List Task) (parts : List TypedExpression) (types : Types) (place outer : Place) (first second : CoreExpression)
-    → typed_in_order schemas (first ∷ second ∷ []) types (λ parts. continued schemas (Finish place outer operator ∷ tasks) parts types) parts
-    ≡ then_typed (judged schemas (core_at place outer operator (two_parts first second)) types) (λ t. continued schemas tasks (t ∷ parts) types)
-pair_opens schemas operator none two tasks parts types place outer first second =
-    subst (λ (n : ℕ). typed_in_order schemas (first ∷ second ∷ []) types (λ parts. last_parts n parts no_parts (finished schemas place outer operator types (λ t below. continued schemas tasks (t ∷ below) types))) parts
-    ≡ then_typed (judged schemas (core_at place outer operator (two_parts first second)) types) (λ t. continued schemas tasks (t ∷ parts) types)) (sym two)
-    (operator_opens schemas operator none place outer types (λ t below. continued schemas tasks (t ∷ below) types) parts (first ∷ second ∷ []))
+    → (tasks : List Task) (parts : List TypedExpression) (types : Types) (declared : List TypedDeclaration) (place outer : Place) (first second : CoreExpression)
+    → typed_in_order schemas (first ∷ second ∷ []) types (λ parts. continued schemas (Finish place outer operator ∷ tasks) parts types declared) parts
+    ≡ then_typed (judged schemas (core_at place outer operator (two_parts first second)) types) (λ t. continued schemas tasks (t ∷ parts) types declared)
+pair_opens schemas operator none two tasks parts types declared place outer first second =
+    subst (λ (n : ℕ). typed_in_order schemas (first ∷ second ∷ []) types (λ parts. last_parts n parts no_parts (finished schemas place outer operator types (λ t below. continued schemas tasks (t ∷ below) types declared))) parts
+    ≡ then_typed (judged schemas (core_at place outer operator (two_parts first second)) types) (λ t. continued schemas tasks (t ∷ parts) types declared)) (sym two)
+    (operator_opens schemas operator none place outer types (λ t below. continued schemas tasks (t ∷ below) types declared) parts (first ∷ second ∷ []))
 
-pub conditional_opens : (schemas : SchemaSet) (tasks : List Task) (parts : List TypedExpression) (types : Types) (place outer : Place) (condition chosen otherwise : CoreExpression)
-    → typed_in_order schemas (condition ∷ chosen ∷ otherwise ∷ []) types (λ parts. continued schemas (Finish place outer operators.If ∷ tasks) parts types) parts
-    ≡ then_typed (judged schemas (core_at place outer operators.If (three_parts condition chosen otherwise)) types) (λ t. continued schemas tasks (t ∷ parts) types)
-conditional_opens schemas tasks parts types place outer condition chosen otherwise =
-    operator_opens schemas operators.If (λ before. refl) place outer types (λ t below. continued schemas tasks (t ∷ below) types) parts (condition ∷ chosen ∷ otherwise ∷ [])
+pub conditional_opens : (schemas : SchemaSet) (tasks : List Task) (parts : List TypedExpression) (types : Types) (declared : List TypedDeclaration) (place outer : Place) (condition chosen otherwise : CoreExpression)
+    → typed_in_order schemas (condition ∷ chosen ∷ otherwise ∷ []) types (λ parts. continued schemas (Finish place outer operators.If ∷ tasks) parts types declared) parts
+    ≡ then_typed (judged schemas (core_at place outer operators.If (three_parts condition chosen otherwise)) types) (λ t. continued schemas tasks (t ∷ parts) types declared)
+conditional_opens schemas tasks parts types declared place outer condition chosen otherwise =
+    operator_opens schemas operators.If (λ before. refl) place outer types (λ t below. continued schemas tasks (t ∷ below) types declared) parts (condition ∷ chosen ∷ otherwise ∷ [])
 
-pub call_opens : (schemas : SchemaSet) (tasks : List Task) (parts : List TypedExpression) (types : Types) (place outer : Place) (function : Function) (arguments : List CoreExpression)
-    → typed_in_order schemas arguments types (λ parts. continued schemas (FinishCall place outer function (length arguments) ∷ tasks) parts types) parts
-    ≡ then_typed (judged schemas (core_at place outer (operators.Call function) (all_parts arguments)) types) (λ t. continued schemas tasks (t ∷ parts) types)
-call_opens schemas tasks parts types place outer function arguments =
+pub call_opens : (schemas : SchemaSet) (tasks : List Task) (parts : List TypedExpression) (types : Types) (declared : List TypedDeclaration) (place outer : Place) (function : Function) (arguments : List CoreExpression)
+    → typed_in_order schemas arguments types (λ parts. continued schemas (FinishCall place outer function (length arguments) ∷ tasks) parts types declared) parts
+    ≡ then_typed (judged schemas (core_at place outer (operators.Call function) (all_parts arguments)) types) (λ t. continued schemas tasks (t ∷ parts) types declared)
+call_opens schemas tasks parts types declared place outer function arguments =
     let count : count_with arguments 0 ≡ length arguments = omega (arith, counted arguments 0) in
-    subst (λ (n : ℕ). typed_in_order schemas arguments types (λ parts. last_parts n parts no_parts (finished schemas place outer (operators.Call function) types (λ t below. continued schemas tasks (t ∷ below) types))) parts
-    ≡ then_typed (judged schemas (core_at place outer (operators.Call function) (all_parts arguments)) types) (λ t. continued schemas tasks (t ∷ parts) types)) count
-    (operator_opens schemas (operators.Call function) (λ before. refl) place outer types (λ t below. continued schemas tasks (t ∷ below) types) parts arguments)
+    subst (λ (n : ℕ). typed_in_order schemas arguments types (λ parts. last_parts n parts no_parts (finished schemas place outer (operators.Call function) types (λ t below. continued schemas tasks (t ∷ below) types declared))) parts
+    ≡ then_typed (judged schemas (core_at place outer (operators.Call function) (all_parts arguments)) types) (λ t. continued schemas tasks (t ∷ parts) types declared)) count
+    (operator_opens schemas (operators.Call function) (λ before. refl) place outer types (λ t below. continued schemas tasks (t ∷ below) types declared) parts arguments)
 
-also_behind : (j : Judgement) (f g : TypedExpression → Option Judgement) → ((t : TypedExpression) → f t ≡ g t) → then_typed j f ≡ then_typed j g
+also_behind : (j : Judgement) (f g : TypedExpression → Awaited) → ((t : TypedExpression) → f t ≡ g t) → then_typed j f ≡ then_typed j g
 also_behind (typed t) f g h = h t
 also_behind (rejected place code) f g h = refl
 
 -- the last of several expressions is typed behind the others
-pub last_typed : (schemas : SchemaSet) (es : List CoreExpression) (e : CoreExpression) (types : Types) (next : List TypedExpression → Option Judgement) (parts : List TypedExpression)
+pub last_typed : (schemas : SchemaSet) (es : List CoreExpression) (e : CoreExpression) (types : Types) (next : List TypedExpression → Awaited) (parts : List TypedExpression)
     → typed_in_order schemas (es ++ e ∷ []) types next parts ≡ typed_in_order schemas es types (λ there. then_typed (judged schemas e types) (λ t. next (t ∷ there))) parts
 last_typed schemas [] e types next parts = refl
 last_typed schemas (d ∷ es) e types next parts =
@@ -112,7 +114,7 @@ last_typed schemas (d ∷ es) e types next parts =
     (λ t. typed_in_order schemas es types (λ there. then_typed (judged schemas e types) (λ u. next (u ∷ there))) (t ∷ parts)) (λ t. last_typed schemas es e types next (t ∷ parts))
 
 -- parts that are taken from the top, the last first
-arguments_taken : (taken : List TypedExpression) (below : List TypedExpression) (there : List TypedExpression) (next : Parts SequenceType → List TypedExpression → Option Judgement)
+arguments_taken : (taken : List TypedExpression) (below : List TypedExpression) (there : List TypedExpression) (next : Parts SequenceType → List TypedExpression → Awaited)
     → last_parts (length taken) (taken ++ below) (all_parts there) next ≡ next (all_parts (reverse taken ++ there)) below
 arguments_taken [] below there next = refl
 arguments_taken (t ∷ taken) below there next =
@@ -121,7 +123,7 @@ arguments_taken (t ∷ taken) below there next =
     reverse_onto : (t : TypedExpression) (taken there : List TypedExpression) → reverse taken ++ (t ∷ there) ≡ reverse (t ∷ taken) ++ there
     reverse_onto t taken there = sym (ap (λ (ts : List TypedExpression). ts ++ there) (reverse-append (t ∷ []) taken) ∙ append_assoc (reverse taken) (t ∷ []) there)
 
-pub last_are_arguments : (count : ℕ) (taken there below : List TypedExpression) (next : Parts SequenceType → List TypedExpression → Option Judgement) → length taken ≡ count → taken ++ below ≡ there
+pub last_are_arguments : (count : ℕ) (taken there below : List TypedExpression) (next : Parts SequenceType → List TypedExpression → Awaited) → length taken ≡ count → taken ++ below ≡ there
     → last_parts count there no_parts next ≡ next (all_parts (reverse taken)) below
 last_are_arguments count taken there below next n e =
     subst (λ (m : ℕ). last_parts m there no_parts next ≡ next (all_parts (reverse taken)) below) n
@@ -134,37 +136,37 @@ each_of_arguments look [] = refl
 each_of_arguments look (e ∷ es) = ap (λ bs. look e ∷ bs) (each_of_arguments look es)
 
 -- a `let`, whose body is typed under the type of its value
-second_typed : (t : TypedExpression) (j : Judgement) (conclude : Parts SequenceType → Judgement) (next : TypedExpression → Option Judgement)
+second_typed : (t : TypedExpression) (j : Judgement) (conclude : Parts SequenceType → Judgement) (next : TypedExpression → Awaited)
     → then_typed j (λ u. then_typed (conclude (two_parts t u)) next)
     ≡ then_typed (with_typed (with_typed (with_typed j (λ u. typed (a_part u no_parts))) (λ ts. typed (a_part t ts))) conclude) next
 second_typed t (typed u) conclude next = refl
 second_typed t (rejected place code) conclude next = refl
 
-both_typed : (j : Judgement) (second : TypedExpression → Judgement) (conclude : Parts SequenceType → Judgement) (next : TypedExpression → Option Judgement)
+both_typed : (j : Judgement) (second : TypedExpression → Judgement) (conclude : Parts SequenceType → Judgement) (next : TypedExpression → Awaited)
     → then_typed j (λ t. then_typed (second t) (λ u. then_typed (conclude (two_parts t u)) next))
     ≡ then_typed (with_typed (with_typed j (λ t. with_typed (with_typed (second t) (λ u. typed (a_part u no_parts))) (λ ts. typed (a_part t ts)))) conclude) next
 both_typed (typed t) second conclude next = second_typed t (second t) conclude next
 both_typed (rejected place code) second conclude next = refl
 
-pub let_opens : (schemas : SchemaSet) (tasks : List Task) (parts : List TypedExpression) (types : Types) (place outer : Place) (binder : Binder) (value body : CoreExpression)
-    → then_typed (judged schemas value types) (λ t. then_typed (judged schemas body ((binder.variable, annotation_of t) ∷ types)) (λ u. continued schemas (Finish place outer (operators.Let binder) ∷ tasks) (u ∷ t ∷ parts) types))
-    ≡ then_typed (judged schemas (core_at place outer (operators.Let binder) (two_parts value body)) types) (λ t. continued schemas tasks (t ∷ parts) types)
-let_opens schemas tasks parts types place outer binder value body =
+pub let_opens : (schemas : SchemaSet) (tasks : List Task) (parts : List TypedExpression) (types : Types) (declared : List TypedDeclaration) (place outer : Place) (binder : Binder) (value body : CoreExpression)
+    → then_typed (judged schemas value types) (λ t. then_typed (judged schemas body ((binder.variable, annotation_of t) ∷ types)) (λ u. continued schemas (Finish place outer (operators.Let binder) ∷ tasks) (u ∷ t ∷ parts) types declared))
+    ≡ then_typed (judged schemas (core_at place outer (operators.Let binder) (two_parts value body)) types) (λ t. continued schemas tasks (t ∷ parts) types declared)
+let_opens schemas tasks parts types declared place outer binder value body =
     both_typed (judged schemas value types) (λ t. judged schemas body ((binder.variable, annotation_of t) ∷ types))
-    (λ ts. concluded place outer (operators.Let binder) ts (ruling schemas (operators.Let binder) (each_of annotation_of ts) types)) (λ t. continued schemas tasks (t ∷ parts) types)
+    (λ ts. concluded place outer (operators.Let binder) ts (ruling schemas (operators.Let binder) (each_of annotation_of ts) types)) (λ t. continued schemas tasks (t ∷ parts) types declared)
 
 -- so many parts are there as the operator has, where what is left to do comes to a judgement
-pub parts_are_there : (n : ℕ) (below : List TypedExpression) (parts : Parts SequenceType) (next : Parts SequenceType → List TypedExpression → Option Judgement)
+pub parts_are_there : (n : ℕ) (below : List TypedExpression) (parts : Parts SequenceType) (next : Parts SequenceType → List TypedExpression → Awaited)
     → last_parts n below parts next ≢ None → n ≤ length below
 parts_are_there zero below parts next h = omega arith
 parts_are_there (suc n) [] parts next h = absurd (h refl)
 parts_are_there (suc n) (t ∷ below) parts next h = let e = parts_are_there n below (a_part t parts) next h in omega (arith, e)
 
 -- a typing that is done has its result on top
-pub part_is_there : (schemas : SchemaSet) (parts : List TypedExpression) (types : Types) (j : Judgement) → continued schemas [] parts types ≡ Some j → parts ≢ []
-part_is_there schemas [] types j e h = cc
-part_is_there schemas (t ∷ parts) types j e h = cc
+pub part_is_there : (schemas : SchemaSet) (parts : List TypedExpression) (types : Types) (declared : List TypedDeclaration) (j : Judged TypedCore) → continued schemas [] parts types declared ≡ Some j → parts ≢ []
+part_is_there schemas [] types declared j e h = cc
+part_is_there schemas (t ∷ parts) types declared j e h = cc
 
-pub judgement_is : (schemas : SchemaSet) (parts : List TypedExpression) (types : Types) (j : Judgement) (t : TypedExpression)
-    → continued schemas [] parts types ≡ Some j → continued schemas [] parts types ≡ Some (typed t) → j ≡ typed t
-judgement_is schemas parts types j t e f = cc
+pub judgement_is : (schemas : SchemaSet) (parts : List TypedExpression) (types : Types) (declared : List TypedDeclaration) (j : Judged TypedCore) (query : TypedCore)
+    → continued schemas [] parts types declared ≡ Some j → continued schemas [] parts types declared ≡ Some (typed query) → j ≡ typed query
+judgement_is schemas parts types declared j query e f = cc

@@ -8,11 +8,8 @@ use Rattle.gx_core.specs.declared.operator.Operator.{Operator}
 use Rattle.gx_core.specs.Expression.{CoreExpression, At, Parts, no_parts, a_part, each_of, annotation_of, outer_of}
 use Rattle.gx_core.specs.Bindings.{Types, types_bound}
 use Rattle.gx_static.specs.Rule.{Ruling, has_type, has_none, ruling}
-use Rattle.gx_static.specs.Judgement.{Judged, typed, rejected, with_typed, code_place, concluded, judged, parts_judged}
+use Rattle.gx_static.specs.Judgement.{Judged, typed, rejected, with_typed, code_place, own_place, concluded, judged, parts_judged}
 use Rattle.gx_static.specs.Failure.{FailsFirst, PartFailsFirst}
-use Rattle.gx_static.specs.declared.error.InferError.{InferError}
-use Rattle.gx_static.specs.declared.error.InferError.TheVariants.{NoType, Memory}
-use Rattle.gx_static.specs.Refusal.{Rejects, NamesFailure}
 use Rattle.gx_static.specs.Laws.{RejectionNamesFailure}
 
 -- what holds of the place and the code, if there is a rejection
@@ -28,12 +25,12 @@ made_fails (rejected place code) next P Q h f g = f place code h
 
 -- the expression itself
 pub own_fails : (own outer : Place) (operator : Operator) (ts : Parts SequenceType) (r : Ruling) (Q : Place → Code → Type 0)
-    → ((code : Code) (part : Option ℕ) → r ≡ has_none code part → Q (code_place own (each_of outer_of ts) part) code) → IfRejected Q (concluded own outer operator ts r)
+    → ((code : Code) (part : Option ℕ) → r ≡ has_none code part → Q (code_place (own_place operator own) (each_of outer_of ts) part) code) → IfRejected Q (concluded own outer operator ts r)
 own_fails own outer operator ts (has_type t) Q f = tt
 own_fails own outer operator ts (has_none code part) Q f = f code part refl
 
 mutual
-  judged_fails : (s : SchemaSet) (e : CoreExpression) (types : Types) → IfRejected (FailsFirst s e types) (judged s e types)
+  pub judged_fails : (s : SchemaSet) (e : CoreExpression) (types : Types) → IfRejected (FailsFirst s e types) (judged s e types)
   judged_fails s (At own outer tt operator parts) types =
       made_fails (parts_judged s operator [] parts types) (λ ts. concluded own outer operator ts (ruling s operator (each_of annotation_of ts) types))
       (PartFailsFirst s operator [] parts types) (FailsFirst s (At own outer tt operator parts) types) (parts_fail s operator [] parts types) (λ place code h. inr h)
@@ -51,7 +48,3 @@ mutual
 
 pub rejection_names_failure : RejectionNamesFailure
 rejection_names_failure s e types place code j = subst (IfRejected (FailsFirst s e types)) j (judged_fails s e types)
-
-pub error_names_failure : (s : SchemaSet) (core : CoreExpression) (e : InferError) → Rejects e (judged s core []) → NamesFailure e (FailsFirst s core [])
-error_names_failure s core (NoType place code) r = rejection_names_failure s core [] place code r
-error_names_failure s core Memory r = tt

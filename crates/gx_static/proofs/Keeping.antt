@@ -27,7 +27,7 @@ use Rattle.gx_core.specs.Meaning.{Context, Bindings, Denotation, atomized, binar
 use Rattle.gx_core.specs.Soundness.{Setting, typed_setting, context_of, IsOfType, AreOfTypes, Keeps, Situation}
 use Rattle.gx_core.specs.Laws.{AllKeep}
 use Rattle.gx_core.proofs.KeptFacts.{fact_after, fact_at_once, binding_fits, bindings_fit_still, operands_keep}
-use Rattle.gx_static.specs.Rule.{has_type, has_none, type_if, shown_type, all_items, is_atomic, binary_rule, rule, ruling, variable_ruling}
+use Rattle.gx_static.specs.Rule.{is_as_written, has_type, has_none, type_if, shown_type, all_items, is_atomic, binary_rule, rule, ruling, variable_ruling}
 use Rattle.gx_static.specs.Laws.{ActsKeepType, PartsKeepTypes, OperatorKeepsType, LiteralKeepsType, VariableKeepsType, EmptyKeepsType, SequenceKeepsType, LetKeepsType, DataKeepsType}
 use Rattle.gx_static.proofs.ItemLemmas.{EachItem, IsAtom, items_are_atoms}
 use Rattle.gx_static.proofs.LiteralLemmas.{literal_fits}
@@ -145,7 +145,7 @@ let_keeps s binder (a_part a (a_part b no_parts)) types place outer t e h situat
     let k : Context = context_of setting in
     fact_after setting situation.forest (IsOfType s (annotation_of a)) (IsOfType s t) (meaning k a situation.bindings situation.forest)
     (λ xs left. meaning k b ((binder.variable, xs) ∷ situation.bindings) left) (h.0 situation)
-    (λ xs now grown honest belongs. subst (λ (u : SequenceType). Keeps setting now u (meaning k b ((binder.variable, xs) ∷ situation.bindings) now)) (ruled (annotation_of b) t e)
+    (λ xs now grown honest belongs. subst (λ (u : SequenceType). Keeps setting now u (meaning k b ((binder.variable, xs) ∷ situation.bindings) now)) (type_so (is_as_written s binder.kind (annotation_of a)) (annotation_of b) t e).1
     (h.1.0 (record {
       bindings = (binder.variable, xs) ∷ situation.bindings;
       forest = now;

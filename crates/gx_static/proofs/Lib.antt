@@ -16,3 +16,4 @@ pub mod ScopedVariables
 pub mod Refusals
 pub mod QueryLaws
 pub mod Continuing
+pub mod Declaring

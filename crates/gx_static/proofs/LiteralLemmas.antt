@@ -14,7 +14,7 @@ use Rattle.gx_types.specs.BuiltinBase.{builtin_base_of}
 use Rattle.gx_types.specs.BuiltinOrder.{same_builtin}
 use Rattle.gx_types.specs.SameItemType.{same_type_name}
 use Rattle.gx_types.specs.SchemaSet.{SchemaSet}
-use Rattle.gx_types.specs.Derivation.{DerivesFrom}
+use Rattle.gx_types.specs.Derivation.{bases_of, DerivesFrom}
 use Rattle.gx_types.proofs.EqualNames.{builtins_are_one}
 use Rattle.gx_types.proofs.DerivationLemmas.{from_base, baseless}
 use Rattle.gx_types.proofs.DerivationOrder.{derivation_is_linear, derivation_is_a_preorder}
@@ -26,10 +26,10 @@ use Rattle.gx_static.specs.Rule.{shown_type}
 apart : (s : SchemaSet) (b c : Builtin) → builtin_base_of b ≡ Some AnyAtomic → same_builtin b c ≡ false → same_builtin AnyAtomic c ≡ false → same_builtin AnySimple c ≡ false → same_builtin AnyType c ≡ false
     → DerivesFrom s (names.Builtin b) (names.Builtin c) → ⊥
 apart s b c base differs atomic simple any d =
-    baseless s.bases (names.Builtin AnyType) (names.Builtin c) any refl
-    (from_base s.bases (names.Builtin AnySimple) (names.Builtin c) (names.Builtin AnyType) simple refl
-    (from_base s.bases (names.Builtin AnyAtomic) (names.Builtin c) (names.Builtin AnySimple) atomic refl
-    (from_base s.bases (names.Builtin b) (names.Builtin c) (names.Builtin AnyAtomic) differs (ap (λ o. option_map names.Builtin o) base) d)))
+    baseless (bases_of s) (names.Builtin AnyType) (names.Builtin c) any refl
+    (from_base (bases_of s) (names.Builtin AnySimple) (names.Builtin c) (names.Builtin AnyType) simple refl
+    (from_base (bases_of s) (names.Builtin AnyAtomic) (names.Builtin c) (names.Builtin AnySimple) atomic refl
+    (from_base (bases_of s) (names.Builtin b) (names.Builtin c) (names.Builtin AnyAtomic) differs (ap (λ o. option_map names.Builtin o) base) d)))
 
 pub decimal_is_no_integer : (s : SchemaSet) → DerivesFrom s (names.Builtin Decimal) (names.Builtin Integer) → ⊥
 decimal_is_no_integer s = apart s Decimal Integer refl refl refl refl refl

@@ -23,10 +23,10 @@ use Rattle.gx_static.specs.Judgement.{typed, with_typed, concluded, judged, part
 use Rattle.gx_static.specs.Laws.{ScopedVariablesHaveTypes}
 use Rattle.gx_static.proofs.Failing.{IfRejected, made_fails, own_fails}
 
-abbrev Bound : Place → Code → Type 0
+abbrev pub Bound : Place → Code → Type 0
 Bound place code = code ≢ XPST0008
 
-abbrev in_scope : Types → List ℕ
+abbrev pub in_scope : Types → List ℕ
 in_scope types = map (λ t. t.0) types
 
 not_found : (types : Types) (number : ℕ) → look_up types number ≡ None → is_among (in_scope types) number ≡ false
@@ -99,7 +99,7 @@ ruling_code s operators.Empty [] types code part h e = absurd (cc)
 ruling_code s operators.Empty (t ∷ ts) types code part h e = other_code code part e
 ruling_code s operators.Seq (t ∷ u ∷ []) types code part h e = absurd (cc)
 ruling_code s operators.Seq _ types code part h e = other_code code part e
-ruling_code s (operators.Let binder) (t ∷ u ∷ []) types code part h e = absurd (cc)
+ruling_code s (operators.Let binder) (t ∷ u ∷ []) types code part h e = tested_code _ _ XPTY0004 code part (λ x. cc) e
 ruling_code s (operators.Let binder) _ types code part h e = other_code code part e
 ruling_code s operators.DataOf (t ∷ []) types code part h e = tested_code _ _ FOTY0012 code part (λ x. cc) e
 ruling_code s operators.DataOf _ types code part h e = other_code code part e
@@ -125,7 +125,7 @@ numbers_agree (operators.Let binder) (t ∷ []) = refl
 numbers_agree (operators.Let binder) (t ∷ u ∷ ts) = refl
 numbers_agree _ before = refl
 
-in_scope_joined : (bound types : Types) → in_scope (bound ++ types) ≡ in_scope bound ++ in_scope types
+pub in_scope_joined : (bound types : Types) → in_scope (bound ++ types) ≡ in_scope bound ++ in_scope types
 in_scope_joined [] types = refl
 in_scope_joined (b ∷ bound) types = ap (λ ns. b.0 ∷ ns) (in_scope_joined bound types)
 
@@ -137,7 +137,7 @@ one_more_place [] t = refl
 one_more_place (b ∷ before) t = ap (λ ps. tt ∷ ps) (one_more_place before t)
 
 mutual
-  judged_bound : (s : SchemaSet) (e : CoreExpression) (types : Types) → IsScoped (in_scope types) e → IfRejected Bound (judged s e types)
+  pub judged_bound : (s : SchemaSet) (e : CoreExpression) (types : Types) → IsScoped (in_scope types) e → IfRejected Bound (judged s e types)
   judged_bound s (At own outer tt operator parts) types h =
       made_fails (parts_judged s operator [] parts types) (λ ts. concluded own outer operator ts (ruling s operator (each_of annotation_of ts) types))
       Bound Bound (parts_bound s operator [] parts types h.1) (λ place code k. k)

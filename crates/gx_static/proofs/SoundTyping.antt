@@ -55,12 +55,12 @@ operator_keeps s (operators.Binary operator) =
     strict_keeps s (operators.Binary operator) (record { denotes = λ k ps bs f. refl; binds_nothing = λ before. refl; ruled = λ s ps types. refl }) (binary_keeps s operator (class_of operator) refl)
 
 -- what holds of what has types, if there is something
-abbrev IfTyped : {R : Type 0} → (R → Type 0) → Judged R → Type 0
+abbrev pub IfTyped : {R : Type 0} → (R → Type 0) → Judged R → Type 0
 IfTyped Fact (typed result) = Fact result
 IfTyped Fact (rejected place code) = Unit {0}
 
 -- something that has types, and what is made of it
-made_holds : {R S : Type 0} (j : Judged R) (next : R → Judged S) (P : R → Type 0) (Q : S → Type 0) → IfTyped P j → ((x : R) → P x → IfTyped Q (next x)) → IfTyped Q (with_typed j next)
+pub made_holds : {R S : Type 0} (j : Judged R) (next : R → Judged S) (P : R → Type 0) (Q : S → Type 0) → IfTyped P j → ((x : R) → P x → IfTyped Q (next x)) → IfTyped Q (with_typed j next)
 made_holds (typed x) next P Q h f = f x h
 made_holds (rejected place code) next P Q h f = tt
 
@@ -82,7 +82,7 @@ concluded_holds s place outer operator parts types ts (has_type t) e h = record 
 concluded_holds s place outer operator parts types ts (has_none code part) e h = tt
 
 mutual
-  judged_holds : (s : SchemaSet) (e : CoreExpression) (types : Types) → IfTyped (IsTypedSoundly s e types) (judged s e types)
+  pub judged_holds : (s : SchemaSet) (e : CoreExpression) (types : Types) → IfTyped (IsTypedSoundly s e types) (judged s e types)
   judged_holds s (At place outer tt operator parts) types =
       made_holds (parts_judged s operator [] parts types) (λ ts. concluded place outer operator ts (ruling s operator (each_of annotation_of ts) types))
       (AreTypedSoundly s operator [] parts types) (IsTypedSoundly s (At place outer tt operator parts) types) (parts_hold s operator [] parts types)

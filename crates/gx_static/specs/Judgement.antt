@@ -5,6 +5,7 @@ use Rattle.gx_base.specs.declared.code.Code.{Code}
 use Rattle.gx_types.specs.SchemaSet.{SchemaSet}
 use Rattle.gx_types.specs.SequenceType.{SequenceType}
 use Rattle.gx_core.specs.declared.operator.Operator.{Operator}
+use Rattle.gx_core.specs.declared.operator.Operator.TheVariants as operators
 use Rattle.gx_core.specs.Expression.{CoreExpression, At, Parts, no_parts, a_part, each_of, annotation_of, outer_of}
 use Rattle.gx_core.specs.Bindings.{Types, types_bound}
 use Rattle.gx_core.specs.Soundness.{TypedExpression}
@@ -28,10 +29,15 @@ abbrev pub code_place : Place → List Place → Option ℕ → Place
 code_place place parts None = place
 code_place place parts (Some number) = get_or parts number place
 
+-- a code of a `let` stands at its variable, and one of another operator at the operator
+abbrev pub own_place : Operator → Place → Place
+own_place (operators.Let binder) place = binder.place
+own_place _ place = place
+
 -- what the ruling says of an expression with these parts
 abbrev pub concluded : (place outer : Place) → Operator → Parts SequenceType → Ruling → Judgement
 concluded place outer operator parts (has_type t) = typed (At place outer t operator parts)
-concluded place outer operator parts (has_none code part) = rejected (code_place place (each_of outer_of parts) part) code
+concluded place outer operator parts (has_none code part) = rejected (code_place (own_place operator place) (each_of outer_of parts) part) code
 
 abbrev mutual
   pub judged : SchemaSet → CoreExpression → Types → Judgement

@@ -28,11 +28,13 @@ use Rattle.gx_funcs.specs.Function.{parameters_of, arity_of, answer_type_of}
 use Rattle.gx_core.specs.declared.expression.ArithmeticOp.{ArithmeticOp}
 use Rattle.gx_core.specs.declared.expression.ArithmeticOp.TheVariants.{Div, IDiv}
 use Rattle.gx_core.specs.declared.expression.BinaryClass.{BinaryClass}
+use Rattle.gx_core.specs.declared.expression.Binder.{Binder}
 use Rattle.gx_core.specs.declared.expression.BinaryClass.TheVariants.{Arithmetic, Value, General, Range}
 use Rattle.gx_core.specs.declared.operator.Operator.{Operator}
 use Rattle.gx_core.specs.declared.operator.Operator.TheVariants as operators
 use Rattle.gx_core.specs.Arithmetic.{type_of_number}
 use Rattle.gx_core.specs.BinaryOperators.{class_of}
+use Rattle.gx_include.specs.Decision.{is_included}
 use Rattle.gx_static.specs.declared.rules.Family.{Family}
 use Rattle.gx_static.specs.declared.rules.Family.TheVariants as families
 use Rattle.gx_core.specs.Bindings.{look_up, Types}
@@ -172,6 +174,18 @@ abbrev pub conditional_rule : SchemaSet → (condition chosen otherwise : Sequen
 conditional_rule schemas condition chosen otherwise =
     type_if (is_at_least_one condition && is_optional_in schemas Boolean condition) (choice_of chosen otherwise)
 
+-- ---- binders
+
+-- a type that is written at a binder changes no type: that of the variable is included in it
+abbrev pub is_as_written : SchemaSet → (written : Option SequenceType) → (given : SequenceType) → Bool
+is_as_written schemas None given = true
+is_as_written schemas (Some written) given = is_included schemas given written
+
+abbrev pub let_rule : SchemaSet → Binder → (value body : SequenceType) → Ruling
+let_rule schemas binder value body = type_if (is_as_written schemas binder.kind value) body
+
+-- ---- literals and atomization
+
 -- the type that an atomic value shows
 abbrev pub shown_type : AtomValue → Builtin
 shown_type (Untyped t) = UntypedAtomic
@@ -251,7 +265,7 @@ rule schemas (operators.Lit value) [] = literal_rule value
 rule schemas (operators.Var number) (bound ∷ []) = has_type bound
 rule schemas operators.Empty [] = has_type nothing
 rule schemas operators.Seq (first ∷ second ∷ []) = has_type (sequence_of first second)
-rule schemas (operators.Let binder) (value ∷ body ∷ []) = has_type body
+rule schemas (operators.Let binder) (value ∷ body ∷ []) = let_rule schemas binder value body
 rule schemas operators.DataOf (operand ∷ []) = data_rule operand
 rule schemas operators.If (condition ∷ chosen ∷ otherwise ∷ []) = conditional_rule schemas condition chosen otherwise
 rule schemas (operators.Cast kind allows_empty) (operand ∷ []) = cast_rule kind allows_empty operand

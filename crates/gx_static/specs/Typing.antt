@@ -1,5 +1,5 @@
 -- What a typing in its midst comes to.
-use Rattle.std.specs.Prelude.{◌≡◌, ℕ, zero, suc, List, [], ◌∷◌, Option, None, Some, drop}
+use Rattle.std.specs.Prelude.{◌≡◌, ℕ, zero, suc, List, [], ◌∷◌, ◌++◌, Option, None, Some, drop}
 use Rattle.gx_base.specs.declared.place.Place.{Place}
 use Rattle.gx_types.specs.SchemaSet.{SchemaSet}
 use Rattle.gx_types.specs.SequenceType.{SequenceType}
@@ -9,16 +9,27 @@ use Rattle.gx_core.specs.declared.operator.Operator.TheVariants as operators
 use Rattle.gx_core.specs.Expression.{CoreExpression, Parts, no_parts, a_part, each_of, annotation_of}
 use Rattle.gx_core.specs.Bindings.{Types}
 use Rattle.gx_core.specs.Soundness.{TypedExpression}
+use Rattle.gx_core.specs.declared.expression.CoreDeclaration.{CoreDeclaration}
+use Rattle.gx_core.specs.declared.expression.CoreDeclaration.TheVariants.{Global}
+use Rattle.gx_core.specs.declared.typed.TypedCore.{TypedCore}
+use Rattle.gx_core.specs.declared.typed.TypedDeclaration.{TypedDeclaration}
+use Rattle.gx_core.specs.declared.typed.TypedDeclaration.TheVariants as globals
+use Rattle.gx_core.specs.QueryMeaning.{global_types, external_types}
 use Rattle.gx_static.specs.Rule.{ruling}
-use Rattle.gx_static.specs.Judgement.{Judged, Judgement, typed, rejected, judged, concluded}
+use Rattle.gx_static.specs.Judgement.{Judged, typed, rejected, judged, concluded}
+use Rattle.gx_static.specs.QueryJudgement.{declared_as}
 use Rattle.gx_static.specs.declared.error.InferError.{InferError}
 use Rattle.gx_static.specs.declared.error.InferError.TheVariants as errors
 use Rattle.gx_static.specs.declared.typing.Task.{Task}
-use Rattle.gx_static.specs.declared.typing.Task.TheVariants.{Infer, Bind, Unbind, Finish, FinishCall}
+use Rattle.gx_static.specs.declared.typing.Task.TheVariants.{Infer, Bind, Unbind, Finish, FinishCall, Declare, External}
 use Rattle.gx_static.specs.declared.typing.Typing.{Typing}
 
+-- what a typing comes to, where no part is missing
+abbrev pub Awaited : Type 0
+Awaited = Option (Judged TypedCore)
+
 -- the rest of a typing, from the first expression on; the first rejection ends it
-abbrev pub then_typed : {R : Type 0} → Judged R → (R → Option Judgement) → Option Judgement
+abbrev pub then_typed : {R : Type 0} → Judged R → (R → Awaited) → Awaited
 then_typed (typed result) next = next result
 then_typed (rejected place code) next = Some (rejected place code)
 
@@ -38,42 +49,53 @@ part_count operators.Neg = 1
 part_count (operators.Binary operator) = 2
 
 -- so many last parts, in order, and those below them; none where a part is missing
-abbrev pub last_parts : ℕ → (below : List TypedExpression) → (parts : Parts SequenceType) → (Parts SequenceType → List TypedExpression → Option Judgement) → Option Judgement
+abbrev pub last_parts : ℕ → (below : List TypedExpression) → (parts : Parts SequenceType) → (Parts SequenceType → List TypedExpression → Awaited) → Awaited
 last_parts zero below parts next = next parts below
 last_parts (suc n) [] parts next = None
 last_parts (suc n) (t ∷ below) parts next = last_parts n below (a_part t parts) next
 
 -- the expression of an operator, made of typed parts, and what follows it
-abbrev pub finished : SchemaSet → (place outer : Place) → Operator → Types → (TypedExpression → List TypedExpression → Option Judgement) → Parts SequenceType → List TypedExpression → Option Judgement
+abbrev pub finished : SchemaSet → (place outer : Place) → Operator → Types → (TypedExpression → List TypedExpression → Awaited) → Parts SequenceType → List TypedExpression → Awaited
 finished schemas place outer operator types next parts below =
     then_typed (concluded place outer operator parts (ruling schemas operator (each_of annotation_of parts) types)) (λ t. next t below)
 
 -- expressions that are typed in order, each on top of the parts
-abbrev pub typed_in_order : SchemaSet → List CoreExpression → Types → (List TypedExpression → Option Judgement) → (parts : List TypedExpression) → Option Judgement
+abbrev pub typed_in_order : SchemaSet → List CoreExpression → Types → (List TypedExpression → Awaited) → (parts : List TypedExpression) → Awaited
 typed_in_order schemas [] types next parts = next parts
 typed_in_order schemas (e ∷ es) types next parts = then_typed (judged schemas e types) (λ t. typed_in_order schemas es types next (t ∷ parts))
 
--- what is left to do, over the typed parts that are there, the last first; none where a part is missing
-abbrev pub continued : SchemaSet → List Task → (parts : List TypedExpression) → Types → Option Judgement
-continued schemas [] [] types = None
-continued schemas [] (t ∷ parts) types = Some (typed t)
-continued schemas (Infer e ∷ tasks) parts types = then_typed (judged schemas e types) (λ t. continued schemas tasks (t ∷ parts) types)
-continued schemas (Bind variable ∷ tasks) [] types = None
-continued schemas (Bind variable ∷ tasks) (t ∷ parts) types = continued schemas tasks (t ∷ parts) ((variable, annotation_of t) ∷ types)
-continued schemas (Unbind ∷ tasks) parts types = continued schemas tasks parts (drop 1 types)
-continued schemas (Finish place outer operator ∷ tasks) parts types =
-    last_parts (part_count operator) parts no_parts (finished schemas place outer operator types (λ t below. continued schemas tasks (t ∷ below) types))
-continued schemas (FinishCall place outer function count ∷ tasks) parts types =
-    last_parts count parts no_parts (finished schemas place outer (operators.Call function) types (λ t below. continued schemas tasks (t ∷ below) types))
+-- the tasks of declarations, each with its value first, and what is left to do behind them
+abbrev pub tasks_of : List CoreDeclaration → (behind : List Task) → List Task
+tasks_of [] behind = behind
+tasks_of (Global name binder (Some value) ∷ others) behind = Infer value ∷ Declare name binder ∷ tasks_of others behind
+tasks_of (Global name binder None ∷ others) behind = External name binder ∷ tasks_of others behind
 
-abbrev pub judgement_of : SchemaSet → Typing → Option Judgement
-judgement_of schemas typing = continued schemas typing.tasks typing.parts typing.scope
+-- what is left to do, over the typed parts that are there, the last first, and what is declared so far; none where a part is missing
+abbrev pub continued : SchemaSet → List Task → (parts : List TypedExpression) → Types → (declared : List TypedDeclaration) → Awaited
+continued schemas [] [] types declared = None
+continued schemas [] (t ∷ parts) types declared = Some (typed (record { declarations = declared; body = t }))
+continued schemas (Infer e ∷ tasks) parts types declared = then_typed (judged schemas e types) (λ t. continued schemas tasks (t ∷ parts) types declared)
+continued schemas (Bind variable ∷ tasks) [] types declared = None
+continued schemas (Bind variable ∷ tasks) (t ∷ parts) types declared = continued schemas tasks (t ∷ parts) ((variable, annotation_of t) ∷ types) declared
+continued schemas (Unbind ∷ tasks) parts types declared = continued schemas tasks parts (drop 1 types) declared
+continued schemas (Finish place outer operator ∷ tasks) parts types declared =
+    last_parts (part_count operator) parts no_parts (finished schemas place outer operator types (λ t below. continued schemas tasks (t ∷ below) types declared))
+continued schemas (FinishCall place outer function count ∷ tasks) parts types declared =
+    last_parts count parts no_parts (finished schemas place outer (operators.Call function) types (λ t below. continued schemas tasks (t ∷ below) types declared))
+continued schemas (Declare name binder ∷ tasks) [] types declared = None
+continued schemas (Declare name binder ∷ tasks) (t ∷ parts) types declared =
+    then_typed (declared_as schemas name binder t) (λ d. continued schemas tasks parts (global_types d ++ types) (declared ++ d ∷ []))
+continued schemas (External name binder ∷ tasks) parts types declared =
+    continued schemas tasks parts (external_types binder binder.kind ++ types) (declared ++ globals.Global name binder None ∷ [])
+
+abbrev pub judgement_of : SchemaSet → Typing → Awaited
+judgement_of schemas typing = continued schemas typing.tasks typing.parts typing.scope typing.declared.items
 
 -- with one more task that comes first
-abbrev pub judgement_with : SchemaSet → Task → Typing → Option Judgement
-judgement_with schemas task typing = continued schemas (task ∷ typing.tasks) typing.parts typing.scope
+abbrev pub judgement_with : SchemaSet → Task → Typing → Awaited
+judgement_with schemas task typing = continued schemas (task ∷ typing.tasks) typing.parts typing.scope typing.declared.items
 
 -- a typing that fails so is rejected with this place and code; want of memory says nothing
-abbrev pub EndsRejected : InferError → Option Judgement → Type 0
+abbrev pub EndsRejected : InferError → Awaited → Type 0
 EndsRejected (errors.NoType place code) judgement = judgement ≡ Some (rejected place code)
 EndsRejected errors.Memory judgement = Unit {0}

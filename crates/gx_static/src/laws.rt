@@ -1,7 +1,7 @@
 // Laws of typing: one for each operator, and the one that is joined of them.
 
 ghost use Rattle.gx_static.specs.Laws.{LiteralKeepsType, VariableKeepsType, EmptyKeepsType, SequenceKeepsType, LetKeepsType, DataKeepsType, ArithmeticKeepsType, NegationKeepsType, ValueComparisonKeepsType, GeneralComparisonKeepsType, RangeKeepsType, ConditionalKeepsType, CastKeepsType, CastableKeepsType, CallKeepsType, TypingIsSound, RejectionNamesFailure, ScopedVariablesHaveTypes};
-ghost use Rattle.gx_static.specs.QueryJudgement.{QueryTypingIsSound, QueryRejectionNamesFailure};
+ghost use Rattle.gx_static.specs.QueryJudgement.{QueryTypingIsSound, QueryRejectionNamesFailure, QueryVariablesHaveTypes};
 
 /// A literal has the type of its value.
 pub fn literal_keeps_its_type()
@@ -105,4 +105,9 @@ pub fn query_typing_is_sound()
 /// Where a query is rejected, the place and the code are those of the first expression in it that fails.
 pub fn query_rejection_names_a_failure()
     ensures { QueryRejectionNamesFailure }
+{}
+
+/// Where each variable of a query stands in the scope of its binder, typing rejects none.
+pub fn query_variables_have_types()
+    ensures { QueryVariablesHaveTypes }
 {}

@@ -6,17 +6,18 @@ ghost use Rattle.gx_types.specs.SameType.{same_type};
 ghost use Rattle.gx_types.specs.TypeRules.{sequence_of};
 ghost use Rattle.gx_core.specs.BinaryOperators.{class_of};
 ghost use Rattle.gx_funcs.specs.Function.{answer_type_of};
-ghost use Rattle.gx_static.specs.Rule.{rule, arity, has_type, type_if, binary_rule, arithmetic_rule, arithmetic_type, number_type, integer_if, negation_rule, is_at_most_one, is_at_least_one, is_optional_in, both_occur, compared_occur, is_all_in, is_atomic_in, atomic, literal_rule, shown_type, data_rule, all_items, is_atomic, is_of_family, are_of_family, are_of_one_family, value_comparison_rule, are_comparable_items, are_comparable_types, general_comparison_rule, range_rule, conditional_rule, cast_rule, castable_rule, has_effective_boolean, takes_argument, answer_rule, call_rule};
+ghost use Rattle.gx_static.specs.Rule.{rule, arity, has_type, type_if, binary_rule, arithmetic_rule, arithmetic_type, number_type, integer_if, negation_rule, is_at_most_one, is_at_least_one, is_optional_in, both_occur, compared_occur, is_all_in, is_atomic_in, atomic, literal_rule, shown_type, data_rule, all_items, is_atomic, is_of_family, are_of_family, are_of_one_family, value_comparison_rule, are_comparable_items, are_comparable_types, general_comparison_rule, range_rule, conditional_rule, cast_rule, castable_rule, has_effective_boolean, takes_argument, answer_rule, call_rule, is_as_written, let_rule};
 ghost use Rattle.gx_static.specs.declared.error.RuleError.TheVariants as errors;
 ghost use Rattle.gx_static.specs.Refusal.{RefusesType};
 
 use crate::error::RuleError;
 use gx_base::code::Code;
 use gx_base::type_name::{Builtin, TypeName};
-use gx_core::expression::{ArithmeticOp, BinaryClass, BinaryOp};
+use gx_core::expression::{ArithmeticOp, BinaryClass, BinaryOp, Binder};
 use gx_core::operator::Operator;
 use gx_facets::{AtomValue, Atomic};
 use gx_funcs::function::{Function, ParameterType};
+use gx_include::decision::is_included;
 use gx_num::Number;
 use gx_types::derivation::derives;
 use gx_types::item_type::ItemType;
@@ -53,7 +54,7 @@ pub fn operator_type(
             node: TyNode::Empty,
         }),
         (Operator::Seq, [first, second]) => Ok(sequence_type(alloc, first, second)?),
-        (Operator::Let(_), [_, body]) => Ok(body.clone()?),
+        (Operator::Let(binder), [value, body]) => let_type(alloc, schemas, binder, value, body),
         (Operator::If, [condition, chosen, otherwise]) => {
             conditional_type(alloc, schemas, condition, chosen, otherwise)
         }
@@ -95,6 +96,39 @@ pub(crate) fn binary_type(
         BinaryClass::Value(_) => value_comparison_type(alloc, schemas, left, right),
         BinaryClass::General(_) => general_comparison_type(alloc, schemas, left, right),
         BinaryClass::Range => range_type(alloc, schemas, left, right),
+    }
+}
+
+// Whether a type is included in the one that is written at a binder.
+pub(crate) fn is_as_written(
+    alloc: Global,
+    schemas: &Schemas,
+    binder: &Binder,
+    given: &Ty,
+) -> Result<bool, AllocError>
+    ensures { IfOk result (λ answer. answer ≡ is_as_written schemas.now binder.now.kind given.now) }
+{
+    match &binder.kind {
+        Some(written) => is_included(alloc, schemas, given, written),
+        None => Ok(true),
+    }
+}
+
+// The type of a `let` is that of its body.
+pub(crate) fn let_type(
+    alloc: Global,
+    schemas: &Schemas,
+    binder: &Binder,
+    value: &Ty,
+    body: &Ty,
+) -> Result<Ty, RuleError>
+    ensures typed { IfOk result (λ t. let_rule schemas.now binder.now value.now body.now ≡ has_type t) }
+    ensures refused { IfErr result (λ e. RefusesType e (let_rule schemas.now binder.now value.now body.now)) }
+{
+    if is_as_written(alloc, schemas, binder, value)? {
+        Ok(body.clone()?)
+    } else {
+        Err(no_type(Code::XPTY0004))
     }
 }
 

@@ -1,6 +1,6 @@
 // A typing in its midst: the tasks that are left, and the typed parts that are there.
 
-ghost use Rattle.std.specs.Prelude.{◌≡◌, ◌≢◌, ◌≤◌, List, [], ◌∷◌, length, map, Option, None, Some, IfOk, IfErr, OnOk};
+ghost use Rattle.std.specs.Prelude.{◌≡◌, ◌≢◌, ◌≤◌, ◌++◌, List, [], ◌∷◌, length, map, None, Some, IfOk, IfErr, OnOk};
 ghost use Rattle.gx_types.specs.SchemaSet.{SchemaSet};
 ghost use Rattle.gx_types.specs.SequenceType.{SequenceType};
 ghost use Rattle.gx_core.specs.declared.operator.Operator.TheVariants as operators;
@@ -8,25 +8,29 @@ ghost use Rattle.gx_core.specs.Expression.{Parts, no_parts, all_parts, each_of, 
 ghost use Rattle.gx_core.specs.Bindings.{look_up};
 ghost use Rattle.gx_core.specs.Soundness.{TypedExpression};
 ghost use Rattle.gx_core.specs.TypedView.{typed_operator_of, typed_parts_of};
-ghost use Rattle.gx_static.specs.Judgement.{Judgement, judged, typed, code_place};
+ghost use Rattle.gx_static.specs.Judgement.{judged, typed, code_place, own_place};
 ghost use Rattle.gx_static.specs.Refusal.{RefusesType, refusal_at};
 ghost use Rattle.gx_static.specs.Rule.{has_type, ruling, variable_ruling};
-ghost use Rattle.gx_static.specs.Typing.{continued, then_typed, typed_in_order, finished, part_count, last_parts, judgement_of, judgement_with, EndsRejected};
+ghost use Rattle.gx_core.specs.declared.typed.TypedDeclaration.TheVariants as globals;
+ghost use Rattle.gx_static.specs.QueryJudgement.{core_judged};
+ghost use Rattle.gx_static.specs.Typing.{Awaited, continued, tasks_of, then_typed, typed_in_order, finished, part_count, last_parts, judgement_of, judgement_with, EndsRejected};
 ghost use Rattle.gx_static.specs.declared.typing.Task.TheVariants as tasks;
 
 use crate::error::{InferError, RuleError};
 use crate::rules::{
-    binary_type, call_type, cast_type, castable_type, conditional_type, data_type, literal_type,
-    negation_type, sequence_type,
+    binary_type, call_type, cast_type, castable_type, conditional_type, data_type, is_as_written,
+    let_type, literal_type, negation_type, sequence_type,
 };
 use gx_base::code::Code;
+use gx_base::name::Name;
 use gx_base::place::Place;
-use gx_core::dismantle::{dismantle, dismantle_typed};
-use gx_core::expression::{Binder, CoreExpr, CoreForm, E};
+use gx_core::declarations::Declarations;
+use gx_core::dismantle::{dismantle, dismantle_declarations, dismantle_typed};
+use gx_core::expression::{Binder, Core, CoreDeclaration, CoreExpr, CoreForm, E};
 use gx_core::operator::Operator;
 use gx_core::scope::Scope;
 use gx_core::stack::Stack;
-use gx_core::typed::{T, TypedExpr, TypedForm};
+use gx_core::typed::{T, TypedCore, TypedDeclaration, TypedExpr, TypedForm};
 use gx_funcs::function::Function;
 use gx_types::schemas::Schemas;
 use gx_types::sequence_type::{Ty, TyNode};
@@ -34,7 +38,8 @@ use std::alloc::{AllocError, Global};
 
 // A task: to infer the type of an expression, whose typed form goes on top of the parts; to bind a variable to the type of the
 // part on top; to take the innermost binding away; or to make the expression of an operator, or of a call with so many
-// arguments, at its place and that of its outermost parentheses, of the parts on top.
+// arguments, at its place and that of its outermost parentheses, of the parts on top; to declare a global variable, whose value is
+// the part on top; or to declare an external variable.
 #[derive(Drop)]
 pub(crate) enum Task {
     Infer(CoreExpr),
@@ -42,6 +47,8 @@ pub(crate) enum Task {
     Unbind,
     Finish(Place, Place, Operator),
     FinishCall(Place, Place, Function, usize),
+    Declare(Name, Binder),
+    External(Name, Binder),
 }
 
 #[derive(Drop)]
@@ -49,34 +56,39 @@ pub(crate) struct Typing {
     pub(crate) tasks: Stack<Task>,
     parts: Stack<TypedExpr>,
     scope: Scope<Ty>,
+    declared: Vec<TypedDeclaration>,
 }
 
 impl Typing {
-    // The typing of an expression, with no variable in scope.
-    pub(crate) fn new(alloc: Global, expression: CoreExpr) -> Result<Typing, AllocError>
-        ensures { (schemas : SchemaSet) → IfOk result (λ t. judgement_of schemas t ≡ Some (judged schemas expression [])) }
+    // The typing of a query.
+    #[tactic(auto, using(crate::proofs::Declaring::tasks_come_to_the_judgement))]
+    pub(crate) fn new(alloc: Global, core: Core) -> Result<Typing, AllocError>
+        ensures { (schemas : SchemaSet) → IfOk result (λ t. judgement_of schemas t ≡ Some (core_judged schemas core)) }
     {
-        let mut tasks = Stack::new(alloc);
-        tasks.push(Task::Infer(expression))?;
+        let tasks = tasks_of(alloc, core)?;
         Ok(Typing {
             tasks,
             parts: Stack::new(alloc),
             scope: Scope::new(alloc),
+            declared: Vec::new(alloc),
         })
     }
 
-    // The typed expression, where no task is left.
-    pub(crate) fn result(mut self) -> TypedExpr
+    // The typed query, where no task is left.
+    pub(crate) fn result(mut self) -> TypedCore
         requires { self.parts ≢ [] }
-        ensures { (schemas : SchemaSet) → continued schemas [] self.parts self.scope ≡ Some (typed result) }
+        ensures { (schemas : SchemaSet) → continued schemas [] self.parts self.scope self.declared.items ≡ Some (typed result) }
     {
         match self.parts.pop() {
-            Some(part) => part,
+            Some(body) => TypedCore {
+                declarations: Declarations::from_vec(self.declared),
+                body,
+            },
             None => unreachable!(),
         }
     }
 
-    // Drops the tasks and the parts that a refusal leaves, each tree by a loop.
+    // Drops the tasks, the parts and the declarations that a refusal leaves, each tree by a loop.
     pub(crate) fn dismantle(self, alloc: Global) {
         for task in self.tasks.into_items() {
             if let Task::Infer(expression) = task {
@@ -86,6 +98,7 @@ impl Typing {
         for part in self.parts.into_items() {
             dismantle_typed(alloc, part.form);
         }
+        dismantle_declarations(alloc, self.declared);
     }
 
     // Does a task.
@@ -112,6 +125,8 @@ impl Typing {
             Task::FinishCall(place, outer, function, count) => {
                 self.finish_call(alloc, schemas, place, outer, function, count)
             }
+            Task::Declare(name, binder) => self.declare(alloc, schemas, name, binder),
+            Task::External(name, binder) => Ok(self.declare_external(name, binder)?),
         }
     }
 
@@ -173,7 +188,7 @@ impl Typing {
     ) -> Result<(), AllocError>
         ensures { (schemas : SchemaSet) → OnOk result (judgement_of schemas self.new
             ≡ typed_in_order schemas (operand.value ∷ []) self.old.scope
-            (λ parts. continued schemas (tasks.Finish place outer operator ∷ self.old.tasks) parts self.old.scope) self.old.parts) }
+            (λ parts. continued schemas (tasks.Finish place outer operator ∷ self.old.tasks) parts self.old.scope self.old.declared.items) self.old.parts) }
     {
         self.tasks.push(Task::Finish(place, outer, operator))?;
         self.tasks.push(Task::Infer(Box::into_inner(operand)))
@@ -190,7 +205,7 @@ impl Typing {
     ) -> Result<(), AllocError>
         ensures { (schemas : SchemaSet) → OnOk result (judgement_of schemas self.new
             ≡ typed_in_order schemas (first.value ∷ second.value ∷ []) self.old.scope
-            (λ parts. continued schemas (tasks.Finish place outer operator ∷ self.old.tasks) parts self.old.scope) self.old.parts) }
+            (λ parts. continued schemas (tasks.Finish place outer operator ∷ self.old.tasks) parts self.old.scope self.old.declared.items) self.old.parts) }
     {
         self.tasks.push(Task::Finish(place, outer, operator))?;
         self.tasks.push(Task::Infer(Box::into_inner(second)))?;
@@ -207,7 +222,7 @@ impl Typing {
     ) -> Result<(), AllocError>
         ensures { (schemas : SchemaSet) → OnOk result (judgement_of schemas self.new
             ≡ typed_in_order schemas (condition.value ∷ chosen.value ∷ otherwise.value ∷ []) self.old.scope
-            (λ parts. continued schemas (tasks.Finish place outer operators.If ∷ self.old.tasks) parts self.old.scope) self.old.parts) }
+            (λ parts. continued schemas (tasks.Finish place outer operators.If ∷ self.old.tasks) parts self.old.scope self.old.declared.items) self.old.parts) }
     {
         self.tasks.push(Task::Finish(place, outer, Operator::If))?;
         self.tasks.push(Task::Infer(Box::into_inner(otherwise)))?;
@@ -226,7 +241,7 @@ impl Typing {
     ) -> Result<(), AllocError>
         ensures { (schemas : SchemaSet) → OnOk result (judgement_of schemas self.new
             ≡ typed_in_order schemas arguments.items self.old.scope
-            (λ parts. continued schemas (tasks.FinishCall place outer function (length arguments.items) ∷ self.old.tasks) parts self.old.scope) self.old.parts) }
+            (λ parts. continued schemas (tasks.FinishCall place outer function (length arguments.items) ∷ self.old.tasks) parts self.old.scope self.old.declared.items) self.old.parts) }
     {
         self.tasks
             .push(Task::FinishCall(place, outer, function, arguments.len()))?;
@@ -247,13 +262,14 @@ impl Typing {
     ) -> Result<(), AllocError>
         ensures { (schemas : SchemaSet) → OnOk result (judgement_of schemas self.new
             ≡ then_typed (judged schemas value.value self.old.scope) (λ t. then_typed (judged schemas body.value ((binder.variable, annotation_of t) ∷ self.old.scope))
-            (λ u. continued schemas (tasks.Finish place outer (operators.Let binder) ∷ self.old.tasks) (u ∷ t ∷ self.old.parts) self.old.scope))) }
+            (λ u. continued schemas (tasks.Finish place outer (operators.Let binder) ∷ self.old.tasks) (u ∷ t ∷ self.old.parts) self.old.scope self.old.declared.items))) }
     {
+        let variable = binder.variable;
         self.tasks
             .push(Task::Finish(place, outer, Operator::Let(binder)))?;
         self.tasks.push(Task::Unbind)?;
         self.tasks.push(Task::Infer(Box::into_inner(body)))?;
-        self.tasks.push(Task::Bind(binder.variable))?;
+        self.tasks.push(Task::Bind(variable))?;
         self.tasks.push(Task::Infer(Box::into_inner(value)))
     }
 
@@ -267,6 +283,64 @@ impl Typing {
         };
         self.scope.bind(variable, value.kind.clone()?)?;
         self.parts.push(value)
+    }
+
+    // Declares a global variable, whose value is the part on top.
+    fn declare(
+        &mut self,
+        alloc: Global,
+        schemas: &Schemas,
+        name: Name,
+        binder: Binder,
+    ) -> Result<(), InferError>
+        requires { judgement_with schemas.now (tasks.Declare name binder) self.now ≢ None }
+        ensures typed { OnOk result (judgement_of schemas.now self.new ≡ judgement_with schemas.now (tasks.Declare name binder) self.old) }
+        ensures rejected { IfErr result (λ e. EndsRejected e (judgement_with schemas.now (tasks.Declare name binder) self.old)) }
+    {
+        let Some(value) = self.parts.pop() else {
+            unreachable!();
+        };
+        if is_as_written(alloc, schemas, &binder, &value.kind)? {
+            Ok(self.add_global(name, binder, value)?)
+        } else {
+            dismantle_typed(alloc, value.form);
+            Err(InferError::NoType {
+                place: binder.place,
+                code: Code::XPTY0004,
+            })
+        }
+    }
+
+    // Adds a global variable, which has the type of its value.
+    fn add_global(&mut self, name: Name, binder: Binder, value: TypedExpr) -> Result<(), AllocError>
+        ensures { (schemas : SchemaSet) → OnOk result (judgement_of schemas self.new
+            ≡ continued schemas self.old.tasks self.old.parts ((binder.variable, annotation_of value) ∷ self.old.scope)
+            (self.old.declared.items ++ globals.Global name binder (Some value) ∷ [])) }
+    {
+        self.scope.bind(binder.variable, value.kind.clone()?)?;
+        let value = Some(value);
+        self.declared.push(TypedDeclaration::Global {
+            name,
+            binder,
+            value,
+        })?;
+        Ok(())
+    }
+
+    // Declares an external variable, which has the type that is written.
+    fn declare_external(&mut self, name: Name, binder: Binder) -> Result<(), AllocError>
+        ensures { (schemas : SchemaSet) → OnOk result (judgement_of schemas self.new ≡ judgement_with schemas (tasks.External name binder) self.old) }
+    {
+        if let Some(kind) = &binder.kind {
+            self.scope.bind(binder.variable, kind.clone()?)?;
+        }
+        let value = None;
+        self.declared.push(TypedDeclaration::Global {
+            name,
+            binder,
+            value,
+        })?;
+        Ok(())
     }
 
     // Makes the expression of an operator of the parts on top.
@@ -323,9 +397,9 @@ impl Typing {
     ) -> Result<(), InferError>
         ensures typed { OnOk result (judgement_of schemas.now self.new
             ≡ finished schemas.now place outer (typed_operator_of form) self.old.scope
-            (λ t below. continued schemas.now self.old.tasks (t ∷ below) self.old.scope) (typed_parts_of form) self.old.parts) }
+            (λ t below. continued schemas.now self.old.tasks (t ∷ below) self.old.scope self.old.declared.items) (typed_parts_of form) self.old.parts) }
         ensures rejected { IfErr result (λ e. EndsRejected e (finished schemas.now place outer (typed_operator_of form) self.old.scope
-            (λ t below. continued schemas.now self.old.tasks (t ∷ below) self.old.scope) (typed_parts_of form) self.old.parts)) }
+            (λ t below. continued schemas.now self.old.tasks (t ∷ below) self.old.scope self.old.declared.items) (typed_parts_of form) self.old.parts)) }
     {
         match form_type(alloc, schemas, &form, &self.scope) {
             Ok(kind) => Ok(
@@ -348,10 +422,11 @@ impl Typing {
     fn form(&mut self, alloc: Global, operator: Operator) -> Result<TypedForm, AllocError>
         requires { part_count operator ≤ length self.now.parts }
         ensures operator { IfOk result (λ form. typed_operator_of form ≡ operator) }
-        ensures parts { (next : Parts SequenceType → List TypedExpression → Option Judgement)
+        ensures parts { (next : Parts SequenceType → List TypedExpression → Awaited)
             → IfOk result (λ form. last_parts (part_count operator) self.old.parts no_parts next ≡ next (typed_parts_of form) self.new.parts) }
         ensures tasks { self.new.tasks ≡ self.old.tasks }
         ensures scope { self.new.scope ≡ self.old.scope }
+        ensures declared { self.new.declared.items ≡ self.old.declared.items }
     {
         match operator {
             Operator::Lit(value) => Ok(TypedForm::Lit(value)),
@@ -392,10 +467,11 @@ impl Typing {
     #[tactic(auto, using(crate::proofs::Continuing::last_are_arguments))]
     fn last(&mut self, alloc: Global, count: usize) -> Result<Vec<TypedExpr>, AllocError>
         requires { count ≤ length self.now.parts }
-        ensures parts { (next : Parts SequenceType → List TypedExpression → Option Judgement)
+        ensures parts { (next : Parts SequenceType → List TypedExpression → Awaited)
             → IfOk result (λ taken. last_parts count self.old.parts no_parts next ≡ next (all_parts taken.items) self.new.parts) }
         ensures tasks { self.new.tasks ≡ self.old.tasks }
         ensures scope { self.new.scope ≡ self.old.scope }
+        ensures declared { self.new.declared.items ≡ self.old.declared.items }
     {
         let mut taken = Vec::new(alloc);
         for _ in 0..count {
@@ -414,11 +490,44 @@ impl Typing {
         ensures part { IfOk result (λ part. self.old.parts ≡ part.value ∷ self.new.parts) }
         ensures tasks { self.new.tasks ≡ self.old.tasks }
         ensures scope { self.new.scope ≡ self.old.scope }
+        ensures declared { self.new.declared.items ≡ self.old.declared.items }
     {
         match self.parts.pop() {
             Some(part) => Ok(Box::new(alloc, part)?),
             None => unreachable!(),
         }
+    }
+}
+
+// The tasks of a query: to type and to declare its globals in order, and to type its body.
+fn tasks_of(alloc: Global, core: Core) -> Result<Stack<Task>, AllocError>
+    ensures { IfOk result (λ made. made ≡ tasks_of core.declarations (tasks.Infer core.body ∷ [])) }
+{
+    let mut tasks = Stack::new(alloc);
+    tasks.push(Task::Infer(core.body))?;
+    let mut declarations = core.declarations.into_vec();
+    while let Some(declaration) = declarations.pop() {
+        put_down(declaration, &mut tasks)?;
+    }
+    Ok(tasks)
+}
+
+// Puts down the tasks of a declaration.
+fn put_down(declaration: CoreDeclaration, tasks: &mut Stack<Task>) -> Result<(), AllocError>
+    ensures { OnOk result (tasks.new ≡ tasks_of (declaration ∷ []) tasks.old) }
+{
+    match declaration {
+        CoreDeclaration::Global {
+            name,
+            binder,
+            value,
+        } => match value {
+            Some(value) => {
+                tasks.push(Task::Declare(name, binder))?;
+                tasks.push(Task::Infer(value))
+            }
+            None => tasks.push(Task::External(name, binder)),
+        },
     }
 }
 
@@ -451,7 +560,9 @@ fn form_type(
             node: TyNode::Empty,
         }),
         TypedForm::Seq(first, second) => Ok(sequence_type(alloc, &first.kind, &second.kind)?),
-        TypedForm::Let(_, _, body) => Ok(body.kind.clone()?),
+        TypedForm::Let(binder, value, body) => {
+            let_type(alloc, schemas, binder, &value.kind, &body.kind)
+        }
         TypedForm::If(condition, chosen, otherwise) => conditional_type(
             alloc,
             schemas,
@@ -491,7 +602,7 @@ fn variable_type(number: u32, scope: &Scope<Ty>) -> Result<Ty, RuleError>
 
 // Why the operator of a form has no type.
 fn refusal(place: Place, form: &TypedForm, error: RuleError) -> InferError
-    ensures { result ≡ refusal_at place (each_of outer_of (typed_parts_of form.now)) error }
+    ensures { result ≡ refusal_at (own_place (typed_operator_of form.now) place) (each_of outer_of (typed_parts_of form.now)) error }
 {
     match error {
         RuleError::NoType { code, part } => InferError::NoType {
@@ -502,10 +613,10 @@ fn refusal(place: Place, form: &TypedForm, error: RuleError) -> InferError
     }
 }
 
-// Where the code of an operator stands: at a part, or at the operator itself.
+// Where the code of an operator stands: at a part, at the variable of a `let`, or at the operator itself.
 #[tactic(auto, using(crate::proofs::Continuing::each_of_arguments))]
 fn form_place(place: Place, form: &TypedForm, part: Option<u32>) -> Place
-    ensures { result ≡ code_place place (each_of outer_of (typed_parts_of form.now)) part }
+    ensures { result ≡ code_place (own_place (typed_operator_of form.now) place) (each_of outer_of (typed_parts_of form.now)) part }
 {
     match form {
         TypedForm::Lit(_) | TypedForm::Var(_) | TypedForm::Empty => code_place(place, &[], part),
@@ -513,10 +624,11 @@ fn form_place(place: Place, form: &TypedForm, part: Option<u32>) -> Place
         | TypedForm::Neg(operand)
         | TypedForm::Cast(operand, _, _)
         | TypedForm::Castable(operand, _, _) => code_place(place, &[operand.outer], part),
-        TypedForm::Seq(first, second)
-        | TypedForm::Let(_, first, second)
-        | TypedForm::Binary(_, first, second) => {
+        TypedForm::Seq(first, second) | TypedForm::Binary(_, first, second) => {
             code_place(place, &[first.outer, second.outer], part)
+        }
+        TypedForm::Let(binder, value, body) => {
+            code_place(binder.place, &[value.outer, body.outer], part)
         }
         TypedForm::If(condition, chosen, otherwise) => code_place(
             place,

@@ -1,2 +1,3 @@
 mod Readings
 pub mod OneText
+pub mod SomeText

@@ -1,5 +1,5 @@
 -- What is answered on two type texts.
-use Rattle.std.specs.Prelude.{◌≡◌, ℕ, List, ◌++◌, codes, Some}
+use Rattle.std.specs.Prelude.{◌≡◌, ℕ, ◌⊎◌, List, ◌++◌, codes, Some}
 use Rattle.std.specs.Str.{encode_utf8_all}
 use Rattle.gx_base.specs.declared.limits.TheConstants.{INCLUSION_PAIRS}
 use Rattle.gx_types.specs.SchemaSet.{no_declarations}
@@ -50,3 +50,9 @@ IsUnanswered left right Memory = Unit {0}
 -- two texts have one answer
 abbrev pub AnswerTextsAreOne : Type 0
 AnswerTextsAreOne = (left right bytes others : List ℕ) → IsAnswerText left right bytes → IsAnswerText left right others → bytes ≡ others
+
+-- of two texts the left one stands for no type, or the right one alone, or they have an answer
+abbrev pub AnAnswerTextExists : Type 0
+AnAnswerTextExists =
+    (left right : List ℕ)
+    → IsNoType left ⊎ (((t : SequenceType) × IsTypeText no_declarations left t × IsNoType right) ⊎ ((bytes : List ℕ) × IsAnswerText left right bytes))

@@ -8,7 +8,7 @@ use Rattle.gx_base.specs.declared.type_name.TypeName.TheVariants as names
 use Rattle.gx_types.specs.BuiltinBase.{builtin_base_of}
 use Rattle.gx_types.specs.BuiltinOrder.{builtin_number}
 use Rattle.gx_types.specs.SameItemType.{same_type_name}
-use Rattle.gx_types.specs.Derivation.{Bases, declared_base_of, is_declared, base_of, Leads, LeadsTo}
+use Rattle.gx_types.specs.Derivation.{bases_of, Bases, declared_base_of, is_declared, base_of, Leads, LeadsTo}
 use Rattle.gx_types.specs.Grounded.{EndsWithin, is_known}
 use Rattle.gx_types.specs.DerivationLaws.{DerivationIsAPreorder, DerivationIsLinear, DerivationLooksAtNoPrefix, AllTypesAreDerivedFromAnyType}
 use Rattle.gx_types.proofs.EqualNames.{builtins_are_one, type_names_are_equivalent, type_name_symm, type_name_trans, type_name_itself}
@@ -42,7 +42,7 @@ chains_join bases zero t u v h k = (k.0, leads_from_equal bases k.0 t u v h k.1)
 chains_join bases (suc n) t u v (b, e, r) k = let q = chains_join bases n b u v r k in (suc q.0, (b, e, q.1))
 
 pub derivation_is_a_preorder : DerivationIsAPreorder
-derivation_is_a_preorder = record { reflexive = λ s t. (0, type_name_itself t); transitive = λ s t u v h k. chains_join s.bases h.0 t u v h.1 k }
+derivation_is_a_preorder = record { reflexive = λ s t. (0, type_name_itself t); transitive = λ s t u v h k. chains_join (bases_of s) h.0 t u v h.1 k }
 
 -- of two chains from a type the longer one goes on from the end of the shorter
 chains_are_one : (bases : Bases) (m n : ℕ) (t u v : TypeName) → Leads bases m t u → Leads bases n t v → LeadsTo bases u v ⊎ LeadsTo bases v u
@@ -52,11 +52,11 @@ chains_are_one bases (suc m) (suc n) t u v (b, e, h) (c, f, k) =
     let same : c ≡ b = cc in chains_are_one bases m n b u v h (subst (λ (x : TypeName). Leads bases n x v) same k)
 
 pub derivation_is_linear : DerivationIsLinear
-derivation_is_linear s t u v h k = chains_are_one s.bases h.0 k.0 t u v h.1 k.1
+derivation_is_linear s t u v h k = chains_are_one (bases_of s) h.0 k.0 t u v h.1 k.1
 
 pub derivation_looks_at_no_prefix : DerivationLooksAtNoPrefix
 derivation_looks_at_no_prefix s t u v w h k d =
-    (d.0, leads_from_equal s.bases d.0 u t w (type_name_symm t u h) (leads_to_equal s.bases d.0 t w v (type_name_symm v w k) d.1))
+    (d.0, leads_from_equal (bases_of s) d.0 u t w (type_name_symm t u h) (leads_to_equal (bases_of s) d.0 t w v (type_name_symm v w k) d.1))
 
 -- built-in types lead to xs:anyType, and so do declared ones
 leads_to_top : (bases : Bases) (n : ℕ) (b : Builtin) → builtin_number b < n → LeadsTo bases (names.Builtin b) (names.Builtin AnyType)
@@ -109,6 +109,6 @@ known_if_declared bases (names.Anonymous n) h = h
 
 pub all_types_are_derived_from_any_type : AllTypesAreDerivedFromAnyType
 all_types_are_derived_from_any_type = record {
-  builtin = λ s b. leads_to_top s.bases (suc (builtin_number b)) b (omega arith);
-  declared = λ s t g h. declared_to_top s.bases (length s.bases) t g.based (g.ends t) (known_if_declared s.bases t h);
+  builtin = λ s b. leads_to_top (bases_of s) (suc (builtin_number b)) b (omega arith);
+  declared = λ s t g h. declared_to_top (bases_of s) (length (bases_of s)) t g.based (g.ends t) (known_if_declared (bases_of s) t h);
 }

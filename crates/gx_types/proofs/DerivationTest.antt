@@ -10,7 +10,7 @@ use Rattle.gx_types.specs.BuiltinBase.{builtin_base_of}
 use Rattle.gx_types.specs.BuiltinOrder.{builtin_number}
 use Rattle.gx_types.specs.SameItemType.{same_type_name}
 use Rattle.gx_types.specs.SchemaSet.{SchemaSet}
-use Rattle.gx_types.specs.Derivation.{Bases, base_of, Leads, LeadsTo, of_base, leads_within, is_derived, DerivesFrom}
+use Rattle.gx_types.specs.Derivation.{bases_of, Bases, base_of, Leads, LeadsTo, of_base, leads_within, is_derived, DerivesFrom}
 use Rattle.gx_types.specs.Grounded.{EndsWithin, Grounded}
 use Rattle.gx_types.proofs.DerivationLemmas.{rank_of, rank_at_most}
 
@@ -82,13 +82,13 @@ chain_is_short bases (suc k) (suc n) (names.Anonymous m) u h (base, e, r) = omeg
 
 -- where the bases of declared types end, the test is exact
 pub derives_when_tested : (schemas : SchemaSet) (t u : TypeName) → is_derived schemas t u ≡ true → DerivesFrom schemas t u
-derives_when_tested schemas t u h = found_is_chain schemas.bases (length schemas.bases + 23) t u h
+derives_when_tested schemas t u h = found_is_chain (bases_of schemas) (length (bases_of schemas) + 23) t u h
 
-pub tested_when_derives : (schemas : SchemaSet) (t u : TypeName) → Grounded schemas.bases → DerivesFrom schemas t u → is_derived schemas t u ≡ true
+pub tested_when_derives : (schemas : SchemaSet) (t u : TypeName) → Grounded (bases_of schemas) → DerivesFrom schemas t u → is_derived schemas t u ≡ true
 tested_when_derives schemas t u g d =
-    chain_is_found schemas.bases (length schemas.bases + 23) d.0 t u (omega (arith, chain_is_short schemas.bases (length schemas.bases) d.0 t u (g.ends t) d.1, rank_at_most t)) d.1
+    chain_is_found (bases_of schemas) (length (bases_of schemas) + 23) d.0 t u (omega (arith, chain_is_short (bases_of schemas) (length (bases_of schemas)) d.0 t u (g.ends t) d.1, rank_at_most t)) d.1
 
-pub test_is_exact : (schemas : SchemaSet) (t u : TypeName) (answer : Bool) → Grounded schemas.bases → (IsTrue answer ↔ DerivesFrom schemas t u) → answer ≡ is_derived schemas t u
+pub test_is_exact : (schemas : SchemaSet) (t u : TypeName) (answer : Bool) → Grounded (bases_of schemas) → (IsTrue answer ↔ DerivesFrom schemas t u) → answer ≡ is_derived schemas t u
 test_is_exact schemas t u true g a = sym (tested_when_derives schemas t u g (a.0 refl))
 test_is_exact schemas t u false g a =
     elim (is_derived schemas t u) as (λ (b : Bool). is_derived schemas t u ≡ b → false ≡ b) [

@@ -11,7 +11,7 @@ use Rattle.gx_types.specs.declared.shape.Shape.TheVariants as shapes
 use Rattle.gx_types.specs.SameItemType.{same_optional_name, same_type_name, same_item_type}
 use Rattle.gx_types.specs.SameType.{same_type}
 use Rattle.gx_types.specs.SchemaSet.{SchemaSet}
-use Rattle.gx_types.specs.Derivation.{Bases, Leads, DerivesFrom}
+use Rattle.gx_types.specs.Derivation.{bases_of, Bases, Leads, DerivesFrom}
 use Rattle.gx_types.specs.ItemTakes.{name_fits, ItemTakes}
 use Rattle.gx_types.specs.Takes.{Takes, Each}
 use Rattle.gx_types.specs.SequenceType.{SequenceType, never, nothing, item, both, either, optional, star, plus}
@@ -23,7 +23,7 @@ leads_to_equal bases zero t a b h k = type_name_trans t b a k (type_name_symm a 
 leads_to_equal bases (suc n) t a b h k = (k.0, k.1, leads_to_equal bases n k.0 a b h k.2)
 
 derives_from_equal : (s : SchemaSet) (t a b : TypeName) → same_type_name a b ≡ true → DerivesFrom s t b → DerivesFrom s t a
-derives_from_equal s t a b h k = (k.0, leads_to_equal s.bases k.0 t a b h k.1)
+derives_from_equal s t a b h k = (k.0, leads_to_equal (bases_of s) k.0 t a b h k.1)
 
 fits_equal : (a b : Option Name) (n : Name) → same_optional_name a b ≡ true → name_fits b n ≡ true → name_fits a n ≡ true
 fits_equal None None n h k = refl

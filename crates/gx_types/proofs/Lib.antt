@@ -1,4 +1,5 @@
 pub mod DerivationLemmas
+pub mod SchemaLemmas
 pub mod EqualNames
 pub mod EqualTypes
 pub mod Joined

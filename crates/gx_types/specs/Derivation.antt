@@ -1,5 +1,5 @@
 -- When a type is derived from another one (XML Schema 1.0 part 1, section 2.2.1.1; XQuery 1.0, section 2.5.4).
-use Rattle.std.specs.Prelude.{◌≡◌, ℕ, zero, suc, ◌+◌, Bool, false, ◌||◌, List, [], ◌∷◌, length, Option, None, Some, is_some, if◌then◌else◌}
+use Rattle.std.specs.Prelude.{◌≡◌, ℕ, zero, suc, ◌+◌, Bool, false, ◌||◌, List, [], ◌∷◌, map, length, Option, None, Some, is_some, if◌then◌else◌}
 use Rattle.std.specs.Bool.{IsTrue}
 use Rattle.std.specs.Option.{option_map}
 use Rattle.gx_base.specs.declared.type_name.TypeName.{TypeName}
@@ -7,10 +7,18 @@ use Rattle.gx_base.specs.declared.type_name.TypeName.TheVariants as names
 use Rattle.gx_types.specs.BuiltinBase.{builtin_base_of}
 use Rattle.gx_types.specs.SameItemType.{same_type_name}
 use Rattle.gx_types.specs.SchemaSet.{SchemaSet}
+use Rattle.gx_types.specs.declared.declaration.Declared.{Declared}
 
--- each declared type with its base
+-- declared types, each with its base
 abbrev pub Bases : Type 0
 Bases = List (TypeName × TypeName)
+
+abbrev pub bases_among : List Declared → Bases
+bases_among types = map (λ (declared : Declared). (declared.name, declared.base)) types
+
+-- the declared types with their bases, in document order
+abbrev pub bases_of : SchemaSet → Bases
+bases_of schemas = bases_among schemas.types
 
 -- the base that a type is declared with
 abbrev pub declared_base_of : Bases → TypeName → Option TypeName
@@ -36,7 +44,7 @@ LeadsTo bases t u = (steps : ℕ) × Leads bases steps t u
 
 -- a type is derived from another one: a finite chain of bases, possibly of no step, leads there
 abbrev pub DerivesFrom : SchemaSet → TypeName → TypeName → Type 0
-DerivesFrom schemas t u = LeadsTo schemas.bases t u
+DerivesFrom schemas t u = LeadsTo (bases_of schemas) t u
 
 -- what holds of a base, if there is one
 abbrev pub of_base : Option TypeName → (TypeName → Bool) → Bool
@@ -50,4 +58,4 @@ leads_within bases (suc steps) t u = same_type_name t u || of_base (base_of base
 
 -- the test for derivation: no chain has more bases than there are types, declared and built-in
 abbrev pub is_derived : SchemaSet → TypeName → TypeName → Bool
-is_derived schemas t u = leads_within schemas.bases (length schemas.bases + 23) t u
+is_derived schemas t u = leads_within (bases_of schemas) (length (bases_of schemas) + 23) t u

@@ -10,7 +10,7 @@ use Rattle.gx_types.specs.BuiltinOrder.{same_builtin}
 use Rattle.gx_types.specs.SameItemType.{same_type_name, same_item_type}
 use Rattle.gx_types.specs.SameType.{same_type}
 use Rattle.gx_types.specs.SchemaSet.{SchemaSet}
-use Rattle.gx_types.specs.Derivation.{Bases, base_of, is_declared, DerivesFrom}
+use Rattle.gx_types.specs.Derivation.{bases_of, Bases, base_of, is_declared, DerivesFrom}
 use Rattle.gx_types.specs.Grounded.{Grounded}
 
 -- derivation is reflexive and transitive
@@ -35,7 +35,7 @@ EqualTypesHaveOneBase = (bases : Bases) (t u : TypeName) → IsTrue (same_type_n
 -- each built-in type is derived from xs:anyType, and so is each declared type
 pub record AllTypesAreDerivedFromAnyType : Type 0 where
   pub builtin : (schemas : SchemaSet) (b : Builtin) → DerivesFrom schemas (names.Builtin b) (names.Builtin AnyType)
-  pub declared : (schemas : SchemaSet) (t : TypeName) → Grounded schemas.bases → IsTrue (is_declared schemas.bases t) → DerivesFrom schemas t (names.Builtin AnyType)
+  pub declared : (schemas : SchemaSet) (t : TypeName) → Grounded (bases_of schemas) → IsTrue (is_declared (bases_of schemas) t) → DerivesFrom schemas t (names.Builtin AnyType)
 
 -- equality of built-in types, of names of types, of item types and of types
 pub record EqualityIsAnEquivalence : Type 0 where

@@ -15,6 +15,7 @@ pub mod BuiltinBase
 pub mod SchemaSet
 pub mod Derivation
 pub mod Grounded
+pub mod SchemaInvariant
 pub mod ItemTakes
 pub mod Takes
 pub mod Laws

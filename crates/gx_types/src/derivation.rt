@@ -1,11 +1,13 @@
 // Derivation of types, and what item types take.
 
 ghost use Rattle.std.specs.Prelude.{◌≡◌, IsTrue, ◌↔◌, option_copied};
-ghost use Rattle.gx_types.specs.Derivation.{DerivesFrom, LeadsTo, declared_base_of, is_derived};
+ghost use Rattle.gx_types.specs.SchemaSet.{declaration_among};
+ghost use Rattle.gx_types.specs.Derivation.{bases_among, DerivesFrom, LeadsTo, is_derived};
 ghost use Rattle.gx_types.specs.Grounded.{EndsWithin};
 ghost use Rattle.gx_types.specs.ItemTakes.{ItemTakes, name_fits};
 
 use crate::builtin::builtin_base;
+use crate::declaration::Declared;
 use crate::item_type::{ItemType, same_kinds};
 use crate::schemas::Schemas;
 use crate::shape::Shape;
@@ -18,8 +20,8 @@ pub fn derives(schemas: &Schemas, t: &TypeName, u: &TypeName) -> bool
     ensures exact { IsTrue result ↔ DerivesFrom schemas.now t.now u.now }
     ensures test { result ≡ is_derived schemas.now t.now u.now }
 {
-    let bases = schemas.bases.as_slice();
-    leads_to(bases, t, u, bases.len())
+    let types = schemas.types.as_slice();
+    leads_to(types, t, u, types.len())
 }
 
 /// Whether an item type takes a shape (XQuery 1.0, section 2.5.4).
@@ -54,36 +56,33 @@ fn fits(wanted: &Option<Name>, name: &Name) -> bool
 }
 
 // Whether a chain of bases with at most so many declared types leads from a type to another one.
-fn leads_to(bases: &[(TypeName, TypeName)], t: &TypeName, u: &TypeName, steps: usize) -> bool
-    requires { EndsWithin bases.now steps t.now }
-    ensures { IsTrue result ↔ LeadsTo bases.now t.now u.now }
+fn leads_to(types: &[Declared], t: &TypeName, u: &TypeName, steps: usize) -> bool
+    requires { EndsWithin (bases_among types.now) steps t.now }
+    ensures { IsTrue result ↔ LeadsTo (bases_among types.now) t.now u.now }
 {
     if same_kinds(t, u) {
         return true;
     }
     match t {
         TypeName::Builtin(builtin) => match builtin_base(*builtin) {
-            Some(base) => leads_to(bases, &TypeName::Builtin(base), u, steps),
+            Some(base) => leads_to(types, &TypeName::Builtin(base), u, steps),
             None => false,
         },
-        TypeName::Named(_) | TypeName::Anonymous(_) => match declared_base(bases, t) {
-            Some(base) => leads_to(bases, base, u, steps - 1),
+        TypeName::Named(_) | TypeName::Anonymous(_) => match declaration(types, t) {
+            Some(declared) => leads_to(types, &declared.base, u, steps - 1),
             None => false,
         },
     }
 }
 
-// The base that a type is declared with.
-pub(crate) fn declared_base<'a>(
-    bases: &'a [(TypeName, TypeName)],
-    t: &TypeName,
-) -> Option<&'a TypeName>
-    ensures { option_copied result ≡ declared_base_of bases.now t.now }
+// The declaration of a type.
+pub(crate) fn declaration<'a>(types: &'a [Declared], t: &TypeName) -> Option<&'a Declared>
+    ensures { option_copied result ≡ declaration_among types.now t.now }
 {
-    let mut rest = bases;
-    while let Some((declaration, others)) = rest.split_first() {
-        if same_kinds(&declaration.0, t) {
-            return Some(&declaration.1);
+    let mut rest = types;
+    while let Some((declared, others)) = rest.split_first() {
+        if same_kinds(&declared.name, t) {
+            return Some(declared);
         }
         rest = others;
     }

@@ -3,6 +3,7 @@
 #![tactic(auto)]
 
 mod builtin;
+pub mod declaration;
 pub mod derivation;
 pub mod item_type;
 pub mod laws;

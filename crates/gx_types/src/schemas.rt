@@ -3,65 +3,77 @@
 ghost use Rattle.std.specs.Prelude.{◌≡◌, option_copied};
 ghost use Rattle.gx_types.specs.SchemaSet.{type_of_element};
 
-use crate::derivation::declared_base;
+use crate::declaration::{Declared, GlobalElement};
+use crate::derivation::declaration;
 use gx_base::name::Name;
 use gx_base::text::Text;
 use gx_base::type_name::TypeName;
 use std::alloc::{AllocError, Global};
 use std::marker::Model;
 
-/// What schema files declare: types with their bases, global elements with their types, and the target namespace of each
-/// file (XML Schema 1.0 part 1, section 3.15). The bases of a declared type end at a built-in type or at one that has no
-/// base.
+/// What schema files declare: types, global elements with their types, and the target namespace of each file (XML Schema 1.0
+/// part 1, section 3.15).
 #[derive(Drop)]
 pub struct Schemas {
-    pub(crate) bases: Vec<(TypeName, TypeName)>,
-    elements: Vec<(Name, TypeName)>,
+    pub(crate) types: Vec<Declared>,
+    elements: Vec<GlobalElement>,
     targets: Vec<Text>,
 }
 
 impl Model for Schemas {
     ghost use Rattle.gx_types.specs.SchemaSet.{SchemaSet};
-    ghost use Rattle.gx_types.specs.Grounded.{Grounded};
+    ghost use Rattle.gx_types.specs.SchemaInvariant.{IsSchemaSet};
+    ghost use Rattle.gx_types.specs.contracts.sequence_type.Ty as kinds;
+    ghost use Rattle.std.specs.Coded.{codes};
 
     ghost Value = { SchemaSet };
 
-    ghost view = { λ s. record { bases = s.bases.items; elements = s.elements.items; targets = s.targets.items } };
+    ghost coded = { Prim.hlevel (codes, kinds.the_row.coded) };
 
-    ghost invariant = { λ s. Grounded s.bases.items };
+    ghost view = { λ s. record { types = s.types.items; elements = s.elements.items; targets = s.targets.items } };
+
+    ghost invariant = { λ s. IsSchemaSet (record { types = s.types.items; elements = s.elements.items; targets = s.targets.items }) };
 }
 
-#[tactic(auto, using(crate::proofs::DerivationLemmas::nothing_is_grounded))]
+#[tactic(auto, using(crate::proofs::SchemaLemmas::nothing_is_a_schema_set))]
 impl Schemas {
-    ghost use Rattle.std.specs.Prelude.{◌≡◌, IfOk, option_copied};
-    ghost use Rattle.gx_types.specs.SchemaSet.{no_declarations, global_type};
-    ghost use Rattle.gx_types.specs.Derivation.{is_declared};
-    ghost use Rattle.gx_types.specs.Grounded.{Grounded};
+    ghost use Rattle.std.specs.Prelude.{◌≡◌, IfOk, option_copied, slice_get, is_some};
+    ghost use Rattle.gx_types.specs.SchemaSet.{no_declarations, declaration_of, global_type};
+    ghost use Rattle.gx_types.specs.SchemaInvariant.{IsSchemaSet};
 
     /// The schemas that declare nothing.
     pub fn empty(alloc: Global) -> Result<Schemas, AllocError>
         ensures { IfOk result (λ s. s ≡ no_declarations) }
     {
-        Ok(Schemas {
-            bases: Vec::new(alloc),
-            elements: Vec::new(alloc),
-            targets: Vec::new(alloc),
-        })
+        Ok(Schemas::new(Vec::new(alloc), Vec::new(alloc), Vec::new(alloc)))
     }
 
-    /// Each declared type with its base, in document order.
-    pub fn bases(&self) -> &[(TypeName, TypeName)]
-        ensures value { result.now ≡ self.now.bases }
-        ensures grounded { Grounded self.now.bases }
+    /// Schemas of these types, in document order, of these global elements, and with the target namespace of each file, empty
+    /// where it has none.
+    pub fn new(types: Vec<Declared>, elements: Vec<GlobalElement>, targets: Vec<Text>) -> Schemas
+        requires { IsSchemaSet (record { types = types.items; elements = elements.items; targets = targets.items }) }
+        ensures { result ≡ record { types = types.items; elements = elements.items; targets = targets.items } }
     {
-        self.bases.as_slice()
+        Schemas {
+            types,
+            elements,
+            targets,
+        }
     }
 
-    /// Whether a type is declared.
-    pub fn declares(&self, t: &TypeName) -> bool
-        ensures { result ≡ is_declared self.now.bases t.now }
+    /// The declared types, in document order.
+    pub fn types(&self) -> &[Declared]
+        ensures value { result.now ≡ self.now.types }
+        ensures invariant { IsSchemaSet self.now }
     {
-        declared_base(self.bases.as_slice(), t).is_some()
+        self.types.as_slice()
+    }
+
+    /// The declaration of a type; None exactly where it is not declared.
+    pub fn declared(&self, t: &TypeName) -> Option<&Declared>
+        ensures { option_copied result ≡ declaration_of self.now t.now }
+    {
+        declaration(self.types.as_slice(), t)
     }
 
     /// The type of the global element of a name (XML Schema 1.0 part 1, section 3.3); None exactly where none has the name.
@@ -70,16 +82,23 @@ impl Schemas {
     {
         global_element(self.elements.as_slice(), name)
     }
+
+    /// The target namespace of the file of a number, counted from 0, empty where it has none; None exactly past the last file.
+    pub fn target(&self, file: u32) -> Option<&Text>
+        ensures { option_copied result ≡ slice_get self.now.targets file }
+    {
+        self.targets.get(file as usize)
+    }
 }
 
 // The type of the element of a name.
-fn global_element<'a>(elements: &'a [(Name, TypeName)], name: &Name) -> Option<&'a TypeName>
+fn global_element<'a>(elements: &'a [GlobalElement], name: &Name) -> Option<&'a TypeName>
     ensures { option_copied result ≡ type_of_element elements.now name.now }
 {
     let mut rest = elements;
     while let Some((element, others)) = rest.split_first() {
-        if element.0 == *name {
-            return Some(&element.1);
+        if element.name == *name {
+            return Some(&element.kind);
         }
         rest = others;
     }

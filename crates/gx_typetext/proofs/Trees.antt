@@ -27,7 +27,7 @@ use Rattle.gx_typetext.proofs.Holding.{Holds, holding}
 -- trees that are read in part
 
 -- what stands in parentheses in front of a unit: types with a comma behind them, and units with a bar
-record TreePart : Type 0 where
+pub record TreePart : Type 0 where
   pub front : Option WrittenType
   pub choice : Option WrittenChoice
 
@@ -104,7 +104,7 @@ abbrev Continues : Production → List Piece → Type 0
 Continues (operand depth room) ps = (inner : TreePart) (outer : List TreePart) → length outer ≡ depth → Ends (context_pieces inner outer) ps
 Continues (behind depth room) ps = (b : Bare) (inner : TreePart) (outer : List TreePart) → length outer ≡ depth → Ends (context_pieces inner outer ++ bare_pieces b) ps
 
-abbrev Gives : Production → Made → Type 0
+abbrev pub Gives : Production → Made → Type 0
 Gives p v = (ps : List Piece) × (v ≡ pieces ps) × Continues p ps
 
 operand_then : (depth room rest : ℕ) (o : Operand) (ps : List Piece) → Continues (behind depth rest) ps → Continues (operand depth room) (piece.Operand o ∷ ps)
@@ -352,7 +352,7 @@ ending_gives (suc depth) room v h = (
   closing_then depth room h.of.right.0 h.of.right.2,
 )
 
-separated_gives : (depth room : ℕ) (v : Made) → H (separated depth room) v → GivesBehindUnit depth v
+pub separated_gives : (depth room : ℕ) (v : Made) → H (separated depth room) v → GivesBehindUnit depth v
 unfolding separated
 separated_gives depth room v (inl h) = (
   piece.Comma ∷ h.of.right.0,
@@ -381,7 +381,7 @@ indicated_gives depth room v (inr (inl h)) = put_mark depth room indicator.Star 
 indicated_gives depth room v (inr (inr (inl h))) = put_mark depth room indicator.Plus h.of.first v h.part h.of.second h.is h.of.is h.of.right
 indicated_gives depth room v (inr (inr (inr h))) = let s = separated_gives depth room v h in (s.0, s.1, unmarked_then depth room s.0 s.2)
 
-rules_give : (p : Production) (v : Made) → H (rules p) v → Gives p v
+pub rules_give : (p : Production) (v : Made) → H (rules p) v → Gives p v
 rules_give (operand depth room) v h = nested_gives (nat_le (suc depth) 40) depth room v h
 rules_give (behind depth room) v h = indicated_gives depth room v h
 

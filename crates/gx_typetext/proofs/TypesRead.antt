@@ -1,5 +1,5 @@
 -- What the type of pieces says of the text that has them.
-use Rattle.std.proofs.Common.{◌≡◌, ◌≢◌, ℕ, List, refl, sym, subst, ap, ◌∙◌, Result, Ok, Err, MatchResult}
+use Rattle.std.proofs.Common.{◌≡◌, ℕ, List, refl, sym, subst, ap, ◌∙◌, Result, Ok, Err, MatchResult}
 use Rattle.gx_types.specs.SchemaSet.{SchemaSet}
 use Rattle.gx_types.specs.SequenceType.{SequenceType}
 use Rattle.gx_typetext.specs.declared.read.TypeRead.{TypeRead}
@@ -32,7 +32,7 @@ type_read s text ps (Err (UnknownName name)) has h =
 type_read s text ps (Err Memory) has h = tt
 
 -- the pieces of a text are one list
-one_list : (text : List ℕ) (ps qs : List Piece) → HasPieces text ps → HasPieces text qs → ps ≡ qs
+pub one_list : (text : List ℕ) (ps qs : List Piece) → HasPieces text ps → HasPieces text qs → ps ≡ qs
 one_list text ps qs h k = let same : pair nothing (pieces ps) ≡ pair nothing (pieces qs) = k.only (pair nothing (pieces ps)) h.derived in cc same
 
 pub one_text_type : TypeTextsHaveOneType

@@ -19,7 +19,7 @@ abbrev pub all_low : List ℕ → Bool
 all_low [] = true
 all_low (c ∷ cs) = nat_lt c 128 && all_low cs
 
-ascii : (bs : List ℕ) → all_low bs ≡ true → IsAscii bs
+pub ascii : (bs : List ℕ) → all_low bs ≡ true → IsAscii bs
 ascii [] e zero = omega arith
 ascii [] e (suc i) = omega arith
 ascii (c ∷ cs) e zero = ltb-true c 128 (and_parts (nat_lt c 128) (all_low cs) e).0

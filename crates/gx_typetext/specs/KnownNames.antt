@@ -1,5 +1,5 @@
 -- What the names and the operands of a type text stand for (XQuery 1.0, sections 2.5.3 and 2.5.4).
-use Rattle.std.specs.Prelude.{ℕ, List, [], ◌∷◌, find, unwrap_or, if◌then◌else◌, Option, None, Some}
+use Rattle.std.specs.Prelude.{ℕ, List, [], ◌∷◌, find, unwrap_or, is_some, if◌then◌else◌, Option, None, Some}
 use Rattle.std.specs.Option.{option_map}
 use Rattle.gx_base.specs.Text.{same_text}
 use Rattle.gx_base.specs.declared.name.Name.{Name}
@@ -9,8 +9,8 @@ use Rattle.gx_base.specs.declared.type_name.TypeName.{TypeName}
 use Rattle.gx_base.specs.declared.type_name.TypeName.TheVariants as names
 use Rattle.gx_types.specs.declared.item_type.ItemType.TheVariants as items
 use Rattle.gx_types.specs.Choice.{choice_among}
-use Rattle.gx_types.specs.Derivation.{is_declared, is_derived}
-use Rattle.gx_types.specs.SchemaSet.{SchemaSet, global_type}
+use Rattle.gx_types.specs.Derivation.{is_derived}
+use Rattle.gx_types.specs.SchemaSet.{SchemaSet, declaration_of, global_type}
 use Rattle.gx_types.specs.SequenceType.{SequenceType, never, nothing, item}
 use Rattle.gx_typetext.specs.declared.written.Space.{Space}
 use Rattle.gx_typetext.specs.declared.written.Space.TheVariants as space
@@ -40,7 +40,7 @@ abbrev pub builtin_with_name : List ℕ → Option Builtin
 builtin_with_name local = find (λ builtin. same_text (word (local_name builtin)) local) all_builtins
 
 abbrev pub declared_with_name : SchemaSet → Name → Option TypeName
-declared_with_name schemas name = if is_declared schemas.bases (names.Named name) then Some (names.Named name) else None
+declared_with_name schemas name = if is_some (declaration_of schemas (names.Named name)) then Some (names.Named name) else None
 
 -- the type of a name: a built-in one in the schema namespace, and else a declared one
 abbrev pub type_with_name : SchemaSet → Name → Option TypeName

@@ -19,3 +19,5 @@ pub mod WrittenTypes
 pub mod Building
 pub mod TypeReading
 pub mod TreeLaws
+pub mod TextLaws
+pub mod ReadBack

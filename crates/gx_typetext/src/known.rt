@@ -101,15 +101,15 @@ fn declared_with_name(
     ensures { IfOk result (λ t. t ≡ declared_with_name schemas.now name.now) }
 {
     let t = TypeName::Named(SharedName::new(alloc, name.clone()?)?);
-    if schemas.declares(&t) {
+    if schemas.declared(&t).is_some() {
         Ok(Some(t))
     } else {
         Ok(None)
     }
 }
 
-// The type of a name.
-fn type_with_name(
+/// The type of a name: a built-in one in the schema namespace, and else a declared one; None exactly where there is none.
+pub fn type_with_name(
     alloc: Global,
     schemas: &Schemas,
     name: &Name,
@@ -123,8 +123,8 @@ fn type_with_name(
     }
 }
 
-// The atomic type of a name.
-fn atomic_with_name(
+/// The atomic type of a name; None exactly where there is none.
+pub fn atomic_with_name(
     alloc: Global,
     schemas: &Schemas,
     name: &Name,
@@ -250,16 +250,16 @@ fn item_types(alloc: Global) -> Result<Vec<Ty>, AllocError>
     Ok(types)
 }
 
-// The type of `node()`.
-fn any_node(alloc: Global) -> Result<Ty, AllocError>
+/// The type of `node()`, the choice of the kinds of nodes.
+pub fn any_node(alloc: Global) -> Result<Ty, AllocError>
     ensures { IfOk result (λ t. t ≡ choice_among node_types) }
 {
     let types = node_types(alloc)?;
     choose(alloc, types.as_slice())
 }
 
-// The type of `item()`.
-fn any_item(alloc: Global) -> Result<Ty, AllocError>
+/// The type of `item()`, the choice of the kinds of nodes and of all atomic values.
+pub fn any_item(alloc: Global) -> Result<Ty, AllocError>
     ensures { IfOk result (λ t. t ≡ choice_among item_types) }
 {
     let types = item_types(alloc)?;

@@ -4,6 +4,8 @@ ghost use Rattle.std.specs.Prelude.{List, ℕ};
 ghost use Rattle.gx_grammar.specs.Text.{IsReadable, IsVerdict};
 ghost use Rattle.gx_typetext.specs.Examples.{Examples};
 ghost use Rattle.gx_typetext.specs.Grammar.{type_phrase, type_texts};
+ghost use Rattle.gx_typetext.specs.ReadBack.{PrintedTypesReadBack};
+ghost use Rattle.gx_typetext.specs.TextLaws.{TextsAreJudged, TypeTextsAreShort};
 ghost use Rattle.gx_typetext.specs.TreeLaws.{PiecesHaveOneType, RefusedTextsHaveNoType, TypeTextsAreTrees, TypeTextsHaveOneType};
 ghost use Rattle.gx_typetext.specs.Verdicts.{read_pieces};
 
@@ -41,4 +43,20 @@ pub fn type_texts_have_one_type()
 /// A text that is refused, but for want of memory, stands for no type.
 pub fn refused_texts_have_no_type()
     ensures { RefusedTextsHaveNoType }
+{}
+
+/// A text stands for a type, or for none.
+pub fn texts_are_judged()
+    ensures { TextsAreJudged }
+{}
+
+/// The type of a type text keeps the limit on positions.
+pub fn type_texts_are_short()
+    ensures { TypeTextsAreShort }
+{}
+
+/// The text of a type whose names are known, and which keeps the limits of type texts, is that of a type that takes the same
+/// lists.
+pub fn printed_types_read_back()
+    ensures { PrintedTypesReadBack }
 {}

@@ -6,7 +6,7 @@ mod builtin_name;
 mod context;
 mod gap;
 mod item_text;
-mod known;
+pub mod known;
 pub mod laws;
 pub mod letters;
 mod names;

@@ -1,5 +1,6 @@
 use Rattle.std.proofs.Common.{◌≡◌, ◌+◌, ◌++◌, ◌∷◌, [], ◌∙◌, ap, List, length, map, arith}
-use Rattle.gx_base.specs.declared.type_name.TypeName.{TypeName}
+use Rattle.gx_types.specs.SchemaSet.{names_declared}
+use Rattle.gx_types.specs.declared.declaration.Declared.{Declared}
 use Rattle.gx_types.specs.declared.shape.Shape.TheVariants.{Text}
 use Rattle.gx_types.specs.TypeRules.{positions_of}
 use Rattle.gx_include.specs.declared.alphabet.Row.{Row}
@@ -22,5 +23,8 @@ returns-clause-letters c =
     (c.in_ok-letters.ensures ∙ ap (λ (rs : List Row). rows_below rs c.len-width.result) c.as_slice-2.ensures.value)
     c.in_ok-rows.ensures.each
     (c.in_ok-rows.ensures.shapes ∙ c.as_slice.ensures.value)
-    (shapes.2 ∙ ap (λ (ds : List (TypeName × TypeName)). trial_shapes (built_in_types ++ map (λ (declaration : TypeName × TypeName). declaration.0) ds) names) c.bases.ensures.value)
+    (shapes.2 ∙ ap (λ (ds : List Declared). trial_shapes (built_in_types ++ names_declared ds) names) c.types.ensures.value)
     width
+
+pub returns-clause-grounded : goal.returns-clause-grounded
+returns-clause-grounded c = c.types.ensures.invariant.grounded

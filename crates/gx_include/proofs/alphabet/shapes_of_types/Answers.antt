@@ -1,4 +1,5 @@
 use Rattle.std.proofs.Common.{◌++◌, ◌∙◌, ap, List, map}
+use Rattle.gx_types.specs.SchemaSet.{names_declared}
 use Rattle.gx_base.specs.declared.name.Name.{Name}
 use Rattle.gx_base.specs.declared.type_name.TypeName.{TypeName}
 use Rattle.gx_include.specs.Inclusion.{built_in_types}
@@ -12,5 +13,5 @@ returns c =
       names.1,
       c.in_ok-shapes.ensures
           ∙ ap (λ (ts : List TypeName). trial_shapes ts c.as_slice-4.result.now) (c.as_slice-2.ensures.value ∙ c.in_ok-types.ensures)
-          ∙ ap (λ (ns : List Name). trial_shapes (built_in_types ++ map (λ (declaration : TypeName × TypeName). declaration.0) c.args.declarations.now) ns) (c.as_slice-4.ensures.value ∙ names.2),
+          ∙ ap (λ (ns : List Name). trial_shapes (built_in_types ++ names_declared c.args.declarations.now) ns) (c.as_slice-4.ensures.value ∙ names.2),
     )

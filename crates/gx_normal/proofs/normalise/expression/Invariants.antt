@@ -1,8 +1,9 @@
-use Rattle.std.proofs.Common.{◌≡◌, Some}
-use Rattle.gx_normal.specs.Normalisation.{normalised}
-use Rattle.gx_normal.specs.Normalising.{core_left}
+use Rattle.std.proofs.Common.{◌≡◌, [], ◌∷◌}
+use Rattle.gx_normal.specs.Normalisation.{core_of}
+use Rattle.gx_normal.specs.Normalising.{left_of}
 use Rattle.gx_normal.proofs.normalise.expression.Given as goal
 
--- what is left to do comes to the Core of the tree
+-- what is left comes to the Core of the tree
 abbrev pub invariant-loop : goal.invariant-loop
-invariant-loop l = core_left l.normalising ≡ Some (normalised l.query)
+invariant-loop l =
+    left_of l.normalising ≡ record { made = ((core_of l.fn.tree l.fn.numbers l.fn.free).0 ∷ []) ∷ []; numbers = l.fn.numbers; free = (core_of l.fn.tree l.fn.numbers l.fn.free).1 }

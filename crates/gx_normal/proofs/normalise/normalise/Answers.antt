@@ -1,10 +1,8 @@
-use Rattle.std.proofs.Common.{ap}
-use Rattle.gx_normal.specs.Normalisation.{whole_query}
-use Rattle.gx_normal.proofs.NumberedVariables.{normalised_in_order}
+use Rattle.gx_names.specs.declared.tree.Resolved.{Resolved}
+use Rattle.gx_normal.proofs.NumberedVariables.{made_in_order}
 use Rattle.gx_normal.proofs.normalise.normalise.Goals as goal
 
-pub returns-clause-core : goal.returns-clause-core
-returns-clause-core c = ap whole_query c.in_ok-body.ensures.made.1
-
 pub returns-clause-variables : goal.returns-clause-variables
-returns-clause-variables c = normalised_in_order c.args.query.now c.in_ok-body.body c.in_ok-body.ensures.made.0 c.in_ok-body.ensures.made.1
+returns-clause-variables c =
+    let query : Resolved = record { globals = c.as_slice.result.now; body = c.args.query.body } in
+    made_in_order query c.core_of_query-core.result c.core_of_query-core.ensures

@@ -1,10 +1,11 @@
 use Rattle.std.proofs.Common.{ℕ, List, subst}
+use Rattle.gx_types.specs.SchemaSet.{no_declarations}
 use Rattle.gx_parse.specs.Query.{Parses, parsed}
 use Rattle.gx_processor.specs.Answer.{AnswersBytes}
 use Rattle.gx_processor.specs.Command.{Command}
 use Rattle.gx_processor.specs.Replies.{RefusesSo}
 use Rattle.std.proofs.lemmas.Result.{err_from_is_err_and}
-use Rattle.gx_processor.proofs.QueryLemmas.{file_refused, tree_refused, core_refused, held_query, held_typed, typed_again, refused_typed}
+use Rattle.gx_processor.proofs.QueryLemmas.{file_refused, tree_refused, core_refused, held_query, held_typed, no_external_again, typed_again, refused_typed}
 use Rattle.gx_processor.proofs.query.typed_query.Goals as goal
 
 pub returns-in_err-tree-clause-refused : goal.returns-in_err-tree-clause-refused
@@ -34,3 +35,7 @@ returns-clause-query g c =
 
 pub returns-clause-typed : goal.returns-clause-typed
 returns-clause-typed g c = typed_again c.in_ok-core.core c.typed_core.result c.typed_core.ensures.typed c.typed_core.ensures.same
+
+pub returns-clause-closed : goal.returns-clause-closed
+returns-clause-closed g c =
+    no_external_again c.in_ok-core.core c.typed_core.result (c.named_queries_have_no_external.ensures no_declarations c.in_ok-tree.tree c.in_ok-core.core c.in_ok-core.ensures.core) c.typed_core.ensures.same

@@ -8,4 +8,5 @@ invariant-loop l = record {
   number : length l.taken.items ≡ l.counter;
   same_tasks : l.self.tasks ≡ l.fn.self.tasks;
   same_scope : l.self.scope ≡ l.fn.self.scope;
+  same_declared : l.self.declared.items ≡ l.fn.self.declared.items;
 }

@@ -8,7 +8,7 @@ returns-in-Seq c = λ schemas.
     rw (
       ← c.expression.view_is,
       c.in-Seq.is,
-      ← pair_opens schemas operators.Seq (λ before. refl) refl c.args.self.now.tasks c.args.self.now.parts c.args.self.now.scope c.expression.inside.place c.expression.inside.outer c.in-Seq.first.value c.in-Seq.second.value,
+      ← pair_opens schemas operators.Seq (λ before. refl) refl c.args.self.now.tasks c.args.self.now.parts c.args.self.now.scope c.args.self.now.declared.items c.expression.inside.place c.expression.inside.outer c.in-Seq.first.value c.in-Seq.second.value,
     )
     (c.open_pair.ensures schemas)
 
@@ -17,7 +17,7 @@ returns-in-Let c = λ schemas.
     rw (
       ← c.expression.view_is,
       c.in-Let.is,
-      ← let_opens schemas c.args.self.now.tasks c.args.self.now.parts c.args.self.now.scope c.expression.inside.place c.expression.inside.outer c.in-Let.binder c.in-Let.value.value c.in-Let.body.value,
+      ← let_opens schemas c.args.self.now.tasks c.args.self.now.parts c.args.self.now.scope c.args.self.now.declared.items c.expression.inside.place c.expression.inside.outer c.in-Let.binder c.in-Let.value.value c.in-Let.body.value,
     )
     (c.open_let.ensures schemas)
 
@@ -26,7 +26,7 @@ returns-in-If c = λ schemas.
     rw (
       ← c.expression.view_is,
       c.in-If.is,
-      ← conditional_opens schemas c.args.self.now.tasks c.args.self.now.parts c.args.self.now.scope c.expression.inside.place c.expression.inside.outer c.in-If.condition.value c.in-If.chosen.value c.in-If.otherwise.value,
+      ← conditional_opens schemas c.args.self.now.tasks c.args.self.now.parts c.args.self.now.scope c.args.self.now.declared.items c.expression.inside.place c.expression.inside.outer c.in-If.condition.value c.in-If.chosen.value c.in-If.otherwise.value,
     )
     (c.open_conditional.ensures schemas)
 
@@ -35,7 +35,7 @@ returns-in-Call c = λ schemas.
     rw (
       ← c.expression.view_is,
       c.in-Call.is,
-      ← call_opens schemas c.args.self.now.tasks c.args.self.now.parts c.args.self.now.scope c.expression.inside.place c.expression.inside.outer c.in-Call.function c.in-Call.arguments.items,
+      ← call_opens schemas c.args.self.now.tasks c.args.self.now.parts c.args.self.now.scope c.args.self.now.declared.items c.expression.inside.place c.expression.inside.outer c.in-Call.function c.in-Call.arguments.items,
     )
     (c.open_call.ensures schemas)
 
@@ -44,7 +44,7 @@ returns-in-Binary c = λ schemas.
     rw (
       ← c.expression.view_is,
       c.in-Binary.is,
-      ← pair_opens schemas (operators.Binary c.in-Binary.operator) (λ before. refl) refl c.args.self.now.tasks c.args.self.now.parts c.args.self.now.scope c.expression.inside.place c.expression.inside.outer c.in-Binary.left.value c.in-Binary.right.value,
+      ← pair_opens schemas (operators.Binary c.in-Binary.operator) (λ before. refl) refl c.args.self.now.tasks c.args.self.now.parts c.args.self.now.scope c.args.self.now.declared.items c.expression.inside.place c.expression.inside.outer c.in-Binary.left.value c.in-Binary.right.value,
     )
     (c.open_pair-in-Binary.ensures schemas)
 
@@ -59,7 +59,7 @@ returns-in-Cast c = λ schemas.
     rw (
       ← c.expression.view_is,
       c.in-Cast.is,
-      ← single_opens schemas (operators.Cast c.in-Cast.kind c.in-Cast.optional) (λ before. refl) refl c.args.self.now.tasks c.args.self.now.parts c.args.self.now.scope c.expression.inside.place c.expression.inside.outer c.in-Cast.operand.value,
+      ← single_opens schemas (operators.Cast c.in-Cast.kind c.in-Cast.optional) (λ before. refl) refl c.args.self.now.tasks c.args.self.now.parts c.args.self.now.scope c.args.self.now.declared.items c.expression.inside.place c.expression.inside.outer c.in-Cast.operand.value,
     )
     (c.open_single.ensures schemas)
 
@@ -68,7 +68,7 @@ returns-in-Castable c = λ schemas.
     rw (
       ← c.expression.view_is,
       c.in-Castable.is,
-      ← single_opens schemas (operators.Castable c.in-Castable.kind c.in-Castable.optional) (λ before. refl) refl c.args.self.now.tasks c.args.self.now.parts c.args.self.now.scope c.expression.inside.place c.expression.inside.outer c.in-Castable.operand.value,
+      ← single_opens schemas (operators.Castable c.in-Castable.kind c.in-Castable.optional) (λ before. refl) refl c.args.self.now.tasks c.args.self.now.parts c.args.self.now.scope c.args.self.now.declared.items c.expression.inside.place c.expression.inside.outer c.in-Castable.operand.value,
     )
     (c.open_single-in-Castable.ensures schemas)
 
@@ -77,7 +77,7 @@ returns-in-DataOf c = λ schemas.
     rw (
       ← c.expression.view_is,
       c.in-DataOf.is,
-      ← single_opens schemas (operators.DataOf) (λ before. refl) refl c.args.self.now.tasks c.args.self.now.parts c.args.self.now.scope c.expression.inside.place c.expression.inside.outer c.in-DataOf.operand.value,
+      ← single_opens schemas (operators.DataOf) (λ before. refl) refl c.args.self.now.tasks c.args.self.now.parts c.args.self.now.scope c.args.self.now.declared.items c.expression.inside.place c.expression.inside.outer c.in-DataOf.operand.value,
     )
     (c.open_single-in-DataOf.ensures schemas)
 
@@ -86,6 +86,6 @@ returns-in-Neg c = λ schemas.
     rw (
       ← c.expression.view_is,
       c.in-Neg.is,
-      ← single_opens schemas (operators.Neg) (λ before. refl) refl c.args.self.now.tasks c.args.self.now.parts c.args.self.now.scope c.expression.inside.place c.expression.inside.outer c.in-Neg.operand.value,
+      ← single_opens schemas (operators.Neg) (λ before. refl) refl c.args.self.now.tasks c.args.self.now.parts c.args.self.now.scope c.args.self.now.declared.items c.expression.inside.place c.expression.inside.outer c.in-Neg.operand.value,
     )
     (c.open_single-in-Neg.ensures schemas)

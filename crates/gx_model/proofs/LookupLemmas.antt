@@ -1,0 +1,28 @@
+-- The parts of trees.
+use Rattle.std.proofs.Common.{◌≡◌, List, [], ◌∷◌, Option, None, Some, length, refl, ap}
+use Rattle.gx_base.specs.declared.type_name.Builtin.TheVariants as types
+use Rattle.gx_base.specs.declared.type_name.TypeName.TheVariants.{Builtin}
+use Rattle.gx_facets.specs.declared.AtomValue.TheVariants.{Untyped}
+use Rattle.gx_tree.specs.PlainTree.{PlainTree, document, element, attribute, text, trees_of, list_of}
+use Rattle.gx_model.specs.Belongs.{only_element}
+use Rattle.gx_model.specs.TypedValue.{FoundUntyped, found_string_value, found_untyped_value}
+
+-- the trees of a list are those of the list
+pub children_back : (ts : List PlainTree) → list_of (trees_of ts) ≡ ts
+children_back [] = refl
+children_back (t ∷ ts) = ap (λ us. t ∷ us) (children_back ts)
+
+-- no one element stands among no trees or several
+pub no_single_element : (ts : List PlainTree) → (length ts ≡ 1 → ⊥) → None ≡ only_element (trees_of ts)
+no_single_element [] h = refl
+no_single_element (t ∷ []) h = absurd (h refl)
+no_single_element (document ds ∷ u ∷ us) h = refl
+no_single_element (element n k l ds ∷ u ∷ us) h = refl
+no_single_element (attribute a ∷ u ∷ us) h = refl
+no_single_element (text x ∷ u ∷ us) h = refl
+
+-- a node with an untyped value is found
+pub untyped_when_found : (found : Option PlainTree) → FoundUntyped found
+    → record { value = Untyped (found_string_value found); kind = Builtin types.UntypedAtomic } ∷ [] ≡ found_untyped_value found
+untyped_when_found None h = absurd h
+untyped_when_found (Some t) h = refl

@@ -1,0 +1,4 @@
+pub mod ResolvingLemmas
+pub mod NameLemmas
+pub mod StackLemmas
+pub mod NestedLemmas

@@ -1,0 +1,17 @@
+-- The URI of a name with a prefix.
+use Rattle.std.proofs.Common.{◌≡◌, ◌≢◌, ℕ, List, [], ◌∷◌, Option, Some, None, refl}
+use Rattle.gx_base.specs.Text.{same_text}
+use Rattle.gx_names.specs.NestedMap.{bound_value}
+use Rattle.gx_names.specs.Environment.{Namespaces, if_not_empty, uri_of}
+
+pub uri_of_prefixed : (namespaces : Namespaces) (unprefixed prefix : List ℕ) → prefix ≢ [] → uri_of namespaces unprefixed prefix ≡ if_not_empty (bound_value same_text namespaces prefix)
+uri_of_prefixed namespaces unprefixed [] h = absurd (h refl)
+uri_of_prefixed namespaces unprefixed (c ∷ cs) h = refl
+
+pub uri_of_unprefixed : (namespaces : Namespaces) (unprefixed prefix : List ℕ) → prefix ≡ [] → uri_of namespaces unprefixed prefix ≡ Some unprefixed
+uri_of_unprefixed namespaces unprefixed [] h = refl
+uri_of_unprefixed namespaces unprefixed (c ∷ cs) h = absurd (cc)
+
+pub not_empty_uri : (uri : List ℕ) → uri ≢ [] → if_not_empty (Some uri) ≡ Some uri
+not_empty_uri [] h = absurd (h refl)
+not_empty_uri (c ∷ cs) h = refl

@@ -1,0 +1,13 @@
+pub mod NestedMap
+pub mod NestedBindings
+pub mod Stacked
+pub mod ResolvedTree
+pub mod ResolvedCode
+pub mod ResolvedView
+pub mod ResolvedParts
+pub mod Environment
+pub mod TypeNames
+pub mod Refused
+pub mod Refusals
+pub mod Resolution
+pub mod Resolving

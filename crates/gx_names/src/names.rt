@@ -1,0 +1,172 @@
+// Expanded names.
+
+ghost use Rattle.std.specs.Prelude.{◌≡◌, ◌∷◌, IfOk, OnOk, option_copied};
+ghost use Rattle.std.specs.Str.{chars};
+ghost use Rattle.gx_names.specs.Environment.{expanded, known_namespaces};
+
+use crate::nested_map::NestedMap;
+use gx_ast::name::QName;
+use gx_base::name::Name;
+use gx_base::text::Text;
+use gx_types::schemas::Schemas;
+use std::alloc::{AllocError, Global};
+use std::marker::Model;
+
+/// The namespaces in scope, with the schemas (XQuery 1.0, section 2.1.1).
+#[derive(Drop)]
+pub struct Names<'s> {
+    namespaces: NestedMap<Text, Text>,
+    nowhere: Text,
+    functions: Text,
+    pub(crate) schemas: &'s Schemas,
+}
+
+impl<'s> Model for Names<'s> {
+    ghost use Rattle.std.specs.Prelude.{◌≡◌, []};
+    ghost use Rattle.gx_names.specs.Environment.{Environment, function_uri};
+    ghost use Rattle.gx_types.specs.contracts.sequence_type.Ty as kinds;
+    ghost use Rattle.std.specs.Coded.{codes};
+
+    ghost Value = { Environment };
+
+    ghost coded = { Prim.hlevel (codes, kinds.the_row.coded) };
+
+    ghost view = { λ n. record { namespaces = n.namespaces; schemas = n.schemas.now } };
+
+    ghost invariant = { λ n. (n.nowhere ≡ []) × (n.functions ≡ function_uri) };
+}
+
+impl<'s> Names<'s> {
+    ghost use Rattle.gx_base.specs.Text.{same_text};
+    ghost use Rattle.gx_names.specs.Environment.{element_name, function_name, function_uri, known_namespaces, plain_name, uri_of, default_element_uri};
+
+    /// What is known without a declaration.
+    pub fn new(alloc: Global, schemas: &'s Schemas) -> Result<Names<'s>, AllocError>
+        ensures { IfOk result (λ n. n ≡ record { namespaces = known_namespaces; schemas = schemas.now }) }
+    {
+        Ok(Names {
+            namespaces: known_namespaces(alloc)?,
+            nowhere: Text::empty(alloc)?,
+            functions: Text::from_str(alloc, FUNCTIONS)?,
+            schemas,
+        })
+    }
+
+    /// Binds a prefix to a URI.
+    pub fn bind(&mut self, prefix: Text, uri: Text) -> Result<(), AllocError>
+        ensures { OnOk result (self.new ≡ record self.old { namespaces = (prefix, uri) ∷ self.old.namespaces }) }
+    {
+        self.namespaces.bind(prefix, uri)
+    }
+
+    // The URI of a name with this prefix; without one it is the given URI.
+    #[tactic(auto, using(crate::proofs::NameLemmas::uri_of_prefixed))]
+    fn uri_of<'t>(&'t self, unprefixed: &'t Text, prefix: &Text) -> Option<&'t Text>
+        ensures { option_copied result ≡ uri_of self.now.namespaces unprefixed.now prefix.now }
+    {
+        if prefix.is_empty() {
+            return Some(unprefixed);
+        }
+        match self.namespaces.find(prefix) {
+            Some(uri) if !uri.is_empty() => Some(uri),
+            _ => None,
+        }
+    }
+
+    fn default_element_uri(&self) -> &Text
+        ensures { result.now ≡ default_element_uri self.now.namespaces }
+    {
+        match self.namespaces.find(&self.nowhere) {
+            Some(uri) => uri,
+            None => &self.nowhere,
+        }
+    }
+
+    /// The name of an element or a type; None exactly where its prefix is unknown.
+    pub fn element_name(&self, name: &QName) -> Result<Option<Name>, AllocError>
+        ensures { IfOk result (λ n. n ≡ element_name self.now name.now) }
+    {
+        expanded(name, self.uri_of(self.default_element_uri(), &name.prefix))
+    }
+
+    /// The name of a variable or an attribute; None exactly where its prefix is unknown.
+    pub fn plain_name(&self, name: &QName) -> Result<Option<Name>, AllocError>
+        ensures { IfOk result (λ n. n ≡ plain_name self.now name.now) }
+    {
+        expanded(name, self.uri_of(&self.nowhere, &name.prefix))
+    }
+
+    /// Whether a name is in the namespace of the functions of the standard.
+    pub fn is_standard_function(&self, name: &Name) -> bool
+        ensures { result ≡ same_text name.now.uri function_uri }
+    {
+        name.uri == self.functions
+    }
+
+    /// The name of a function; None exactly where its prefix is unknown.
+    pub fn function_name(&self, name: &QName) -> Result<Option<Name>, AllocError>
+        ensures { IfOk result (λ n. n ≡ function_name self.now name.now) }
+    {
+        expanded(name, self.uri_of(&self.functions, &name.prefix))
+    }
+}
+
+const FUNCTIONS: &str = "http://www.w3.org/2005/xpath-functions";
+
+fn expanded(name: &QName, uri: Option<&Text>) -> Result<Option<Name>, AllocError>
+    ensures { IfOk result (λ n. n ≡ expanded name.now (option_copied uri.entry)) }
+{
+    let Some(uri) = uri else {
+        return Ok(None);
+    };
+    let prefix = name.prefix.clone()?;
+    let local = name.local.clone()?;
+    let uri = uri.clone()?;
+    Ok(Some(Name { uri, prefix, local }))
+}
+
+// The prefixes that are known without a declaration.
+fn known_namespaces(alloc: Global) -> Result<NestedMap<Text, Text>, AllocError>
+    ensures { IfOk result (λ n. n ≡ known_namespaces) }
+{
+    let mut namespaces = NestedMap::new(alloc);
+    know(
+        alloc,
+        &mut namespaces,
+        "xml",
+        "http://www.w3.org/XML/1998/namespace",
+    )?;
+    know(
+        alloc,
+        &mut namespaces,
+        "xs",
+        "http://www.w3.org/2001/XMLSchema",
+    )?;
+    know(
+        alloc,
+        &mut namespaces,
+        "xsi",
+        "http://www.w3.org/2001/XMLSchema-instance",
+    )?;
+    know(alloc, &mut namespaces, "fn", FUNCTIONS)?;
+    know(
+        alloc,
+        &mut namespaces,
+        "local",
+        "http://www.w3.org/2005/xquery-local-functions",
+    )?;
+    Ok(namespaces)
+}
+
+fn know(
+    alloc: Global,
+    namespaces: &mut NestedMap<Text, Text>,
+    prefix: &str,
+    uri: &str,
+) -> Result<(), AllocError>
+    ensures { OnOk result (namespaces.new ≡ (chars prefix.now, chars uri.now) ∷ namespaces.old) }
+{
+    let prefix = Text::from_str(alloc, prefix)?;
+    let uri = Text::from_str(alloc, uri)?;
+    namespaces.bind(prefix, uri)
+}
