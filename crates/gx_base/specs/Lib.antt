@@ -2,4 +2,5 @@ pub mod Text
 pub mod Name
 pub mod Code
 pub mod WhiteSpace
+pub mod NameCharacters
 pub mod Stored

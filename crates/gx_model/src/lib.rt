@@ -6,7 +6,7 @@ pub mod forest;
 pub mod laws;
 mod lookup;
 pub mod node;
-mod node_test;
+pub mod node_test;
 pub mod order;
 mod search;
 pub mod typed_value;

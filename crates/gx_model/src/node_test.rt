@@ -118,7 +118,8 @@ fn element_of(children: &Vec<Tree>) -> Option<(&Name, &TypeName)>
     }
 }
 
-fn passes_name(test: &NameTest, name: &Name) -> bool
+/// Whether a name passes a test (XQuery 1.0, section 3.2.1.2).
+pub fn passes_name(test: &NameTest, name: &Name) -> bool
     ensures { result ≡ name_passes test.now name.now }
 {
     match test {

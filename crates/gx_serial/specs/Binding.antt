@@ -1,40 +1,7 @@
 -- Prefixes and the URIs that they are bound to (Namespaces in XML 1.0).
 use Rattle.std.specs.Prelude.{ℕ, zero, suc, ◌+◌, List, [], ◌∷◌, ◌++◌, length, Bool, false, not, ◌&&◌, bytes_eq, Option, Some, None, if◌then◌else◌, codes, decimal}
 use Rattle.std.specs.List.{list_any}
-
--- a prefix with its URI; the empty prefix stands for the default namespace, and the empty URI for no namespace
-abbrev pub Binding : Type 0
-Binding = List ℕ × List ℕ
-
--- the later one, if there is one
-abbrev pub last_of : Option (List ℕ) → Option (List ℕ) → Option (List ℕ)
-last_of first None = first
-last_of first (Some uri) = Some uri
-
--- the URI that the last of these bindings of a prefix gives it
-abbrev pub bound_to : List Binding → List ℕ → Option (List ℕ)
-bound_to [] prefix = None
-bound_to (b ∷ bs) prefix = last_of (if bytes_eq b.0 prefix then Some b.1 else None) (bound_to bs prefix)
-
--- the prefix xml
-abbrev pub xml : List ℕ
-xml = codes "xml"
-
--- the URI that the prefix xml is always bound to
-abbrev pub xml_uri : List ℕ
-xml_uri = codes "http://www.w3.org/XML/1998/namespace"
-
--- the prefix xmlns, which declares prefixes
-abbrev pub xmlns : List ℕ
-xmlns = codes "xmlns"
-
--- the URI that the prefix xmlns is always bound to
-abbrev pub xmlns_uri : List ℕ
-xmlns_uri = codes "http://www.w3.org/2000/xmlns/"
-
--- where nothing is declared, a name without a prefix is in no namespace
-abbrev pub outermost_scope : List Binding
-outermost_scope = ([], []) ∷ []
+pub use Rattle.gx_tree.specs.Binding.{Binding, last_of, bound_to, xml, xml_uri, xmlns, xmlns_uri, outermost_scope}
 
 -- two bindings, where there are any, give one URI
 abbrev pub gives : Option (List ℕ) → List ℕ → Bool

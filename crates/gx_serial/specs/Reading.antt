@@ -1,18 +1,11 @@
 -- The names of a written text as they are read (Namespaces in XML 1.0, sections 5 and 6).
-use Rattle.std.specs.Prelude.{◌≡◌, ◌≢◌, ℕ, ◌^◌, ◌<◌, List, [], ◌∷◌, ◌++◌, length, Option, Some, if◌then◌else◌, bytes_eq}
+use Rattle.std.specs.Prelude.{◌≡◌, ◌≢◌, ℕ, ◌^◌, ◌<◌, List, [], ◌∷◌, ◌++◌, length, Some}
 use Rattle.gx_base.specs.declared.name.Name.{Name}
 use Rattle.gx_tree.specs.declared.attribute.Attribute.{Attribute}
 use Rattle.gx_tree.specs.PlainTree.{PlainTree, PlainTrees, document, element, attribute, text, no_trees, a_tree}
-use Rattle.gx_serial.specs.Binding.{Binding, bound_to, xml, xml_uri, xmlns, xmlns_uri}
+use Rattle.gx_serial.specs.Binding.{Binding, xml, xml_uri, xmlns, xmlns_uri}
 use Rattle.gx_serial.specs.Markup.{WrittenAttribute, Markup, Markups, tagged, characters, several, no_markup, a_markup}
-
--- the URI of a prefix where these bindings are in force; the prefix xml is always bound
-abbrev pub uri_read : List Binding → List ℕ → Option (List ℕ)
-uri_read scope prefix = if bytes_eq prefix xml then Some xml_uri else bound_to scope prefix
-
--- the URI of an attribute's name; a default declaration does not apply to it
-abbrev pub attribute_uri_read : List Binding → List ℕ → Option (List ℕ)
-attribute_uri_read scope prefix = if bytes_eq prefix [] then Some [] else uri_read scope prefix
+pub use Rattle.gx_tree.specs.Binding.{uri_read, attribute_uri_read}
 
 -- written attributes are read with the URIs, local parts and values of those of the tree
 abbrev pub AttributesReadAs : List Binding → List WrittenAttribute → List Attribute → Type 0

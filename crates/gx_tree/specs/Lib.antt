@@ -4,3 +4,4 @@ pub mod TreeView
 pub mod TreeParts
 pub mod Erasure
 pub mod StringValue
+pub mod Binding

@@ -1,6 +1,6 @@
 -- What some type texts read as is computed.
 use Rattle.std.proofs.Common.{refl}
-use Rattle.gx_typetext.specs.Letters.{is_ncname_start, is_ncname_character, is_xml_character}
+use Rattle.gx_base.specs.NameCharacters.{is_ncname_start, is_ncname_character, is_xml_character}
 use Rattle.gx_typetext.specs.Grammar.{braced, prefixed, unprefixed, name, tested_name, behind_comma, nothing_inside, tested, declared, document_test, document, word_content, tail, behind_word, item, nested, ending, separated, indicated}
 use Rattle.gx_typetext.specs.Verdicts.{read_pieces}
 use Rattle.gx_typetext.specs.Examples.{Examples}

@@ -2,7 +2,7 @@
 use Rattle.std.proofs.Common.{◌≡◌, ℕ, zero, suc, ◌+◌, ◌-◌, ◌<◌, true, false, List, [], ◌∷◌, length, refl, sym, ap, subst, ◌∙◌, arith}
 use Rattle.gx_base.specs.WhiteSpace.{is_white_space}
 use Rattle.gx_grammar.specs.Gaps.{begins_comment, ends_comment}
-use Rattle.gx_typetext.specs.Letters.{is_xml_character}
+use Rattle.gx_base.specs.NameCharacters.{is_xml_character}
 use Rattle.gx_typetext.specs.GapSteps.{StepsOn, Stops}
 
 pub white_step : (c : ℕ) (rest x : List ℕ) → is_white_space c ≡ true → rest ≡ c ∷ x → StepsOn 0 rest 0 x

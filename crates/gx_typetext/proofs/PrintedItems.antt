@@ -30,7 +30,7 @@ use Rattle.gx_typetext.specs.declared.written.Piece.TheVariants as piece
 use Rattle.gx_typetext.specs.BuiltinName.{local_name}
 use Rattle.gx_typetext.specs.Grammar.{operand, behind, nothing_inside, document_test, document, word_content, room_inside, room_bare, tail, behind_word, item, nested}
 use Rattle.gx_typetext.specs.ItemText.{is_any_type, is_any_simple_type, test_text, element_text, item_text}
-use Rattle.gx_typetext.specs.Letters.{is_ncname_start, is_ncname_character}
+use Rattle.gx_base.specs.NameCharacters.{is_ncname_start, is_ncname_character}
 use Rattle.gx_typetext.specs.NameText.{word, type_name_text}
 use Rattle.gx_typetext.specs.Nodes.{Made, pieces, inside_made, name_word, with_inside, bare, is_type_word}
 use Rattle.gx_typetext.specs.ReadBack.{is_ncname, CanBeWritten, IsKnownKind, IsKnownItem, IsNotNone}

@@ -23,7 +23,8 @@ use Rattle.gx_typetext.specs.BuiltinName.{local_name}
 use Rattle.gx_typetext.specs.Grammar.{braced as braced_phrase, prefixed, unprefixed, name, tested_name, behind_comma, tested}
 use Rattle.gx_typetext.specs.ItemText.{test_text}
 use Rattle.gx_grammar.specs.Tokens.{all_pass}
-use Rattle.gx_typetext.specs.Letters.{is_ncname_start, is_ncname_character, is_uri_character}
+use Rattle.gx_base.specs.NameCharacters.{is_ncname_start, is_ncname_character}
+use Rattle.gx_typetext.specs.Letters.{is_uri_character}
 use Rattle.gx_typetext.specs.NameText.{word, braced, schema_namespace, space_text, name_text, type_name_text}
 use Rattle.gx_typetext.specs.Nodes.{Made, written_name_made, maybe_name_made, inside_made}
 use Rattle.gx_typetext.specs.ReadBack.{is_ncname, CanBeWritten, IsWritten, IsKnownKind, IsKnownTest}

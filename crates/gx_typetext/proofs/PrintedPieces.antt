@@ -17,7 +17,7 @@ use Rattle.gx_typetext.specs.declared.written.Piece.{Piece}
 use Rattle.gx_typetext.specs.declared.written.Piece.TheVariants as piece
 use Rattle.gx_typetext.specs.Grammar.{operand, behind, nested, ending, separated, indicated, type_phrase}
 use Rattle.gx_typetext.specs.ItemText.{item_text}
-use Rattle.gx_typetext.specs.Letters.{is_ncname_start, is_ncname_character}
+use Rattle.gx_base.specs.NameCharacters.{is_ncname_start, is_ncname_character}
 use Rattle.gx_typetext.specs.NameText.{word}
 use Rattle.gx_typetext.specs.Nodes.{pieces}
 use Rattle.gx_typetext.specs.ReadBack.{IsKnownItem, AreKnownItems, one_if, nesting_in}

@@ -10,7 +10,8 @@ use Rattle.gx_grammar.specs.Gaps.{Gap, gap_ends, gap_white, ends_gap}
 use Rattle.gx_grammar.specs.Tokens.{all_pass}
 use Rattle.gx_grammar.specs.Value.{nothing, characters, pair}
 use Rattle.gx_typetext.specs.Grammar.{TypePhrase, lexeme, type_texts}
-use Rattle.gx_typetext.specs.Letters.{is_ncname_start, is_ncname_character, is_xml_character, is_uri_character, no_character}
+use Rattle.gx_base.specs.NameCharacters.{is_ncname_start, is_ncname_character, is_xml_character}
+use Rattle.gx_typetext.specs.Letters.{is_uri_character, no_character}
 use Rattle.gx_typetext.specs.Nodes.{Made}
 use Rattle.gx_typetext.specs.ReadBack.{is_ncname}
 use Rattle.gx_typetext.specs.Tokens.{symbol, keyword, local, uri, gap, derives}

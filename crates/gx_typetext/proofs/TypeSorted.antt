@@ -10,7 +10,7 @@ use Rattle.gx_grammar.proofs.PublicLaws.{character_chooses, computed_heads, sort
 use Rattle.std.specs.List.{list_all}
 use Rattle.gx_typetext.specs.declared.written.NameWord.{NameWord}
 use Rattle.gx_typetext.specs.declared.written.NameWord.TheVariants as word
-use Rattle.gx_typetext.specs.Letters.{is_ncname_start}
+use Rattle.gx_base.specs.NameCharacters.{is_ncname_start}
 use Rattle.gx_typetext.specs.Nodes.{name_word}
 use Rattle.gx_typetext.specs.Tokens.{Token, symbol, keyword, local, opens, takes, token_shape}
 use Rattle.gx_typetext.specs.Grammar.{Production, operand, behind, TypePhrase, lexeme, braced, prefixed, unprefixed, if_prefixed, name, tested_name, behind_comma, nothing_inside, tested, declared, document_test, document, word_content, room_inside, room_bare, tail, behind_word, item, nested, ending, separated, indicated, rules, type_phrase, type_texts, firsts, production_takes, fronts}

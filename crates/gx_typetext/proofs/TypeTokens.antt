@@ -8,7 +8,8 @@ use Rattle.gx_grammar.specs.Apart.{HasShape, is}
 use Rattle.std.proofs.lemmas.Bool.{and_parts}
 use Rattle.gx_grammar.proofs.Apart.{word_shape}
 use Rattle.gx_grammar.proofs.PublicLaws.{lawful_gap, lawful_name, lawful_tokens, lawful_word}
-use Rattle.gx_typetext.specs.Letters.{is_ncname_start, is_ncname_character, is_xml_character, no_character, starts, goes, stops}
+use Rattle.gx_base.specs.NameCharacters.{is_ncname_start, is_ncname_character, is_xml_character}
+use Rattle.gx_typetext.specs.Letters.{no_character, starts, goes, stops}
 use Rattle.gx_typetext.specs.Nodes.{TypeTextNode, Made}
 use Rattle.gx_typetext.specs.Tokens.{Token, symbol, keyword, named, local, gap, derives, opens, scan, seen, no_faults, is_full, takes, token_shape}
 use Rattle.gx_typetext.specs.Grammar.{type_texts}

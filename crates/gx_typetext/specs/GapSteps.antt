@@ -1,7 +1,7 @@
 -- One step over white space and comments.
 use Rattle.std.specs.Prelude.{◌≡◌, ℕ, zero, suc, ◌+◌, ◌<◌, ◌≤◌, ◌==◌, if◌then◌else◌, List, [], ◌∷◌, length, Some, None}
 use Rattle.gx_grammar.specs.Gaps.{behind_gap, seen_gap}
-use Rattle.gx_typetext.specs.Letters.{is_xml_character}
+use Rattle.gx_base.specs.NameCharacters.{is_xml_character}
 
 -- what is left goes on as before
 pub record StepsOn (depth : ℕ) (rest : List ℕ) (open_then : ℕ) (left : List ℕ) : Type 0 where

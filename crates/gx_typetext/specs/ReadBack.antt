@@ -17,7 +17,8 @@ use Rattle.gx_types.specs.SequenceType.{SequenceType, never, nothing, item, both
 use Rattle.gx_types.specs.TypeRules.{positions_of}
 use Rattle.gx_typetext.specs.declared.context.Context.{Context}
 use Rattle.gx_typetext.specs.declared.context.Context.TheVariants.{Whole, Sequence, Choice, Indicator}
-use Rattle.gx_typetext.specs.Letters.{is_ncname_start, is_ncname_character, is_uri_character}
+use Rattle.gx_base.specs.NameCharacters.{is_ncname_start, is_ncname_character}
+use Rattle.gx_typetext.specs.Letters.{is_uri_character}
 use Rattle.gx_typetext.specs.NameText.{word, schema_namespace}
 use Rattle.gx_typetext.specs.TypeReading.{IsTypeText}
 use Rattle.gx_typetext.specs.TypeText.{type_text, sequence_is_wrapped, choice_is_wrapped, indicated_is_wrapped}

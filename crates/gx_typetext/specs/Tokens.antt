@@ -6,7 +6,8 @@ use Rattle.gx_grammar.specs.Gaps.{IsGap, OpensGap, scan_gap, seen_gap}
 use Rattle.gx_grammar.specs.Apart.{Shape, headed, shapeless, one_word}
 use Rattle.gx_typetext.specs.declared.letters.Run.{Run}
 use Rattle.gx_typetext.specs.declared.letters.Run.TheVariants as run
-use Rattle.gx_typetext.specs.Letters.{is_ncname_character, is_xml_character, no_character, starts, goes, stops}
+use Rattle.gx_base.specs.NameCharacters.{is_ncname_character, is_xml_character}
+use Rattle.gx_typetext.specs.Letters.{no_character, starts, goes, stops}
 use Rattle.gx_typetext.specs.Nodes.{Made}
 
 pub data Token : Type 0 where

@@ -2,11 +2,10 @@
 
 ghost use Rattle.std.specs.Prelude.{◌≡◌, ◌+◌, ◌≤◌, ◌<◌, ◌^◌, IsNone, IfSome, Some, None, MatchOption, length, [], ◌∷◌};
 ghost use Rattle.gx_grammar.specs.Gaps.{begins_comment, behind_gap, ends_comment, seen_gap};
-ghost use Rattle.gx_typetext.specs.Letters.{is_xml_character};
+ghost use Rattle.gx_base.specs.NameCharacters.{is_xml_character};
 ghost use Rattle.gx_typetext.specs.GapSteps.{StepsOn, Stops};
 
-use crate::letters::is_char;
-use gx_base::characters::is_white_space;
+use gx_base::characters::{is_char, is_white_space};
 
 fn begins_comment(c: char, e: char) -> bool
     ensures { result ≡ begins_comment c e }

@@ -4,11 +4,13 @@ ghost use Rattle.std.specs.Prelude.{◌≡◌, ◌≤◌, [], ◌∷◌, ◌++�
 ghost use Rattle.gx_grammar.specs.First.{head_passes};
 ghost use Rattle.gx_grammar.specs.Tokens.{behind_common, behind_run, run_of, scan_name, scan_word, seen_name, seen_word, strip};
 ghost use Rattle.gx_grammar.specs.Value.{characters, nothing};
-ghost use Rattle.gx_typetext.specs.Letters.{goes, is_ncname_character, starts, stops};
+ghost use Rattle.gx_base.specs.NameCharacters.{is_ncname_character};
+ghost use Rattle.gx_typetext.specs.Letters.{goes, starts, stops};
 ghost use Rattle.gx_typetext.specs.Nodes.{TypeTextNode};
 ghost use Rattle.gx_typetext.specs.Tokens.{keyword, named, scan, seen, symbol};
 
-use crate::letters::{Run, is_name_character};
+use crate::letters::Run;
+use gx_base::characters::is_name_character;
 use gx_base::text::Text;
 use gx_base::text_builder::TextBuilder;
 use std::alloc::{AllocError, Global};

@@ -1,6 +1,6 @@
 use Rattle.std.proofs.Common.{◌≡◌, ◌≤◌, ◌+◌, length}
 use Rattle.gx_grammar.specs.Gaps.{behind_gap, seen_gap}
-use Rattle.gx_typetext.specs.Letters.{is_xml_character}
+use Rattle.gx_base.specs.NameCharacters.{is_xml_character}
 use Rattle.gx_typetext.proofs.gap.gap.Given as goal
 
 abbrev pub invariant-loop-next : goal.invariant-loop-next
