@@ -1,0 +1,17 @@
+pub mod RunLemmas
+pub mod CharacterLemmas
+pub mod Steps
+pub mod NodeLemmas
+pub mod PhraseLemmas
+pub mod ValueLemmas
+pub mod IndexLemmas
+pub mod TagLemmas
+pub mod DoubleLemmas
+pub mod GatherLemmas
+pub mod ContentLemmas
+pub mod DocumentLemmas
+pub mod DocumentTokens
+pub mod DocumentLevels
+pub mod UntypedLemmas
+pub mod SoundLemmas
+pub mod OneReading

@@ -1,0 +1,14 @@
+use Rattle.std.proofs.Common.{◌≡◌, ◌≤◌, ◌+◌, length, take}
+use Rattle.gx_xml.specs.Runs.{walk_for}
+use Rattle.gx_xml.proofs.RunLemmas.{Walked}
+use Rattle.gx_xml.proofs.scan.find_run.Given as goal
+
+abbrev pub invariant-loop-character : goal.invariant-loop-character
+invariant-loop-character l = record {
+  bounded : l.state ≤ 1114111;
+  counted : l.count + length l.rest ≡ length l.fn.text;
+  walked : Walked (walk_for l.fn.run) l.fn.state l.fn.text (take l.count l.fn.text) l.state l.rest;
+}
+
+abbrev pub decreases-loop-character : goal.decreases-loop-character
+decreases-loop-character l = length l.rest

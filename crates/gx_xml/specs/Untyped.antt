@@ -1,0 +1,32 @@
+-- The tree of a document without types.
+use Rattle.std.specs.Prelude.{map}
+use Rattle.gx_base.specs.declared.type_name.Builtin.TheVariants.{Untyped, UntypedAtomic}
+use Rattle.gx_base.specs.declared.type_name.TypeName.TheVariants.{Builtin}
+use Rattle.gx_tree.specs.declared.attribute.Attribute.{Attribute}
+use Rattle.gx_tree.specs.PlainTree.{PlainTree, PlainTrees, document, element, text, no_trees, a_tree}
+use Rattle.gx_xml.specs.declared.source.SourceAttribute.{SourceAttribute}
+use Rattle.gx_xml.specs.declared.source.SourceChild.{SourceChild}
+use Rattle.gx_xml.specs.declared.source.SourceChild.TheVariants.{Element, Text}
+use Rattle.gx_xml.specs.SourceTree.{SourceTree, SourceContents, source, no_content, a_child, a_text}
+
+abbrev pub untyped_attribute : SourceAttribute → Attribute
+untyped_attribute a = record { name = a.name; kind = Builtin UntypedAtomic; value = a.value }
+
+-- the element with xs:untyped on every element and xs:untypedAtomic on every attribute
+abbrev mutual
+  pub untyped_element : SourceTree → PlainTree
+  untyped_element (source name declarations attributes cs) = element name (Builtin Untyped) (map untyped_attribute attributes) (untyped_contents cs)
+
+  pub untyped_contents : SourceContents → PlainTrees
+  untyped_contents no_content = no_trees
+  untyped_contents (a_child t cs) = a_tree (untyped_element t) (untyped_contents cs)
+  untyped_contents (a_text x cs) = a_tree (text x) (untyped_contents cs)
+
+-- the document node over it
+abbrev pub untyped_document : SourceTree → PlainTree
+untyped_document root = document (a_tree (untyped_element root) no_trees)
+
+-- the tree of one child
+abbrev pub untyped_child : SourceChild → PlainTree
+untyped_child (Element t) = untyped_element t
+untyped_child (Text x) = text x

@@ -1,0 +1,20 @@
+//! Documents: reading XML, with namespaces, and the trees that documents stand for.
+#![tactic(auto)]
+
+mod bindings;
+mod children;
+mod declaration;
+pub mod document;
+mod element;
+pub mod laws;
+mod marks;
+mod phrases;
+mod reader;
+pub mod refusal;
+mod resolve;
+mod runs;
+mod scan;
+pub mod source;
+mod tag;
+pub mod untyped;
+mod value;

@@ -1,0 +1,136 @@
+// Start tags.
+
+ghost use Rattle.gx_grammar.specs.Ran.{IsDone, left_of};
+ghost use Rattle.gx_xml.specs.TagView.{HasAdded, ReadAttribute, ReadAttributes};
+ghost use Rattle.std.specs.Prelude.{◌≡◌, ◌≤◌, ◌<◌, ◌⊎◌, [], IfOk, OnOk};
+
+use crate::phrases::{QName, equals, qualified, quote, space};
+use crate::reader::Reader;
+use crate::runs::Run;
+use crate::source::Declaration;
+use crate::value::{Purpose, purpose_of, value};
+use gx_base::text::Text;
+use gx_base::text_builder::TextBuilder;
+use std::alloc::{AllocError, Global};
+
+/// An attribute as it is written, with its normalised value.
+#[derive(Debug, Drop)]
+pub struct TagAttribute {
+    pub prefix: Text,
+    pub local: Text,
+    pub value: Text,
+}
+
+/// The name, the declarations and the other attributes of a start tag.
+#[derive(Debug, Drop)]
+pub struct StartTag {
+    pub prefix: Text,
+    pub local: Text,
+    pub declarations: Vec<Declaration>,
+    pub attributes: Vec<TagAttribute>,
+}
+
+/// The text of characters.
+pub fn text_of(alloc: Global, characters: &[char]) -> Result<Text, AllocError>
+    ensures { IfOk result (λ t. t ≡ characters.now) }
+{
+    let mut builder = TextBuilder::new(alloc);
+    for c in characters {
+        builder.push(*c)?;
+    }
+    builder.finish()
+}
+
+/// A start tag behind its name.
+pub fn begun(alloc: Global, name: QName<'_>) -> Result<StartTag, AllocError>
+    ensures prefix { IfOk result (λ t. t.prefix ≡ name.entry.prefix.now) }
+    ensures local { IfOk result (λ t. t.local ≡ name.entry.local.now) }
+    ensures declarations { IfOk result (λ t. t.declarations.items ≡ []) }
+    ensures attributes { IfOk result (λ t. t.attributes.items ≡ []) }
+{
+    let prefix = text_of(alloc, name.prefix)?;
+    let local = text_of(alloc, name.local)?;
+    Ok(StartTag {
+        prefix,
+        local,
+        declarations: Vec::new(alloc),
+        attributes: Vec::new(alloc),
+    })
+}
+
+// Adds an attribute to a tag.
+fn add(alloc: Global, tag: &mut StartTag, name: QName<'_>, value: &[char]) -> Result<(), AllocError>
+    ensures added { OnOk result (HasAdded name.entry.prefix.now name.entry.local.now value.now tag.old tag.new) }
+    ensures prefix { OnOk result (tag.new.prefix ≡ tag.old.prefix) }
+    ensures local { OnOk result (tag.new.local ≡ tag.old.local) }
+{
+    let value = text_of(alloc, value)?;
+    match purpose_of(name) {
+        Purpose::Default => {
+            let prefix = Text::empty(alloc)?;
+            let uri = value;
+            tag.declarations.push(Declaration { prefix, uri })?;
+        }
+        Purpose::Prefix(prefix) => {
+            let prefix = text_of(alloc, prefix)?;
+            let uri = value;
+            tag.declarations.push(Declaration { prefix, uri })?;
+        }
+        Purpose::Ordinary => {
+            let prefix = text_of(alloc, name.prefix)?;
+            let local = text_of(alloc, name.local)?;
+            tag.attributes.push(TagAttribute {
+                prefix,
+                local,
+                value,
+            })?;
+        }
+    }
+    Ok(())
+}
+
+// Reads an attribute, the first part of whose name was read.
+fn attribute<'a>(
+    alloc: Global,
+    reader: &mut Reader<'a>,
+    tag: &mut StartTag,
+    first: &'a [char],
+) -> Result<(), AllocError>
+    ensures read { OnOk result (ReadAttribute first.now tag.old tag.new reader.old reader.new) }
+    ensures prefix { OnOk result (tag.new.prefix ≡ tag.old.prefix) }
+    ensures local { OnOk result (tag.new.local ≡ tag.old.local) }
+    ensures shrinks { left_of reader.new ≤ left_of reader.old }
+    ensures shorter { OnOk result (IsDone reader.new ⊎ (left_of reader.new < left_of reader.old)) }
+{
+    let name = qualified(reader, first);
+    equals(reader);
+    let quote = quote(reader);
+    let value = value(alloc, reader, name, quote)?;
+    add(alloc, tag, name, &value)
+}
+
+/// Reads the attributes of a tag, up to its end (XML 1.0, section 3.1).
+pub fn attributes(
+    alloc: Global,
+    reader: &mut Reader<'_>,
+    tag: &mut StartTag,
+) -> Result<(), AllocError>
+    ensures read { OnOk result (ReadAttributes tag.old tag.new reader.old reader.new) }
+    ensures prefix { OnOk result (tag.new.prefix ≡ tag.old.prefix) }
+    ensures local { OnOk result (tag.new.local ≡ tag.old.local) }
+    ensures shrinks { left_of reader.new ≤ left_of reader.old }
+{
+    loop {
+        if !space(reader) {
+            return Ok(());
+        }
+        let first = reader.maybe_run(Run::Name, 0);
+        if first.is_empty() {
+            return Ok(());
+        }
+        attribute(alloc, reader, tag, first)?;
+        if reader.has_ended() {
+            return Ok(());
+        }
+    }
+}

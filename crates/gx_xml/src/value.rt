@@ -1,0 +1,219 @@
+// The values of attributes.
+
+ghost use Rattle.gx_grammar.specs.Grammar.{rule};
+ghost use Rattle.gx_grammar.specs.Ran.{Ran, left_of, IsDone};
+ghost use Rattle.gx_grammar.specs.Value.{characters};
+ghost use Rattle.gx_tree.specs.Binding.{xml, xml_uri, xmlns_uri};
+ghost use Rattle.gx_xml.specs.Grammar.{expected_at, may_refer, value, value_run};
+ghost use Rattle.gx_xml.specs.Names.{purpose_as};
+ghost use Rattle.gx_xml.specs.Runs.{character_kept, normalised};
+ghost use Rattle.gx_xml.specs.Standings.{Did, ReadValue, read_document_token};
+ghost use Rattle.gx_xml.specs.Tags.{declares_xml, is_reserved_namespace, may_close, purpose_of};
+ghost use Rattle.std.specs.Prelude.{◌≡◌, ◌≤◌, ◌<◌, ◌⊎◌, ◌++◌, [], IfOk, OnOk, bytes_eq, false, slice_get, List, ℕ, ◌∷◌};
+ghost use Rattle.std.specs.Option.{option_to_list};
+
+use crate::marks::{Choice, Mark};
+use crate::phrases::{QName, reference};
+use crate::reader::{Reader, is_xmlns};
+use crate::runs::{Quote, Run, XML_URI};
+use std::alloc::{AllocError, Global};
+
+/// What an attribute is for.
+#[derive(Clone, Copy)]
+pub enum Purpose<'a> {
+    /// It declares the default namespace.
+    Default,
+    /// It declares a prefix.
+    Prefix(&'a [char]),
+    Ordinary,
+}
+
+// The prefix that is always bound.
+const XML: [char; 3] = ['x', 'm', 'l'];
+
+// The URI of the prefix `xmlns`.
+const XMLNS_URI: [char; 29] = [
+    'h', 't', 't', 'p', ':', '/', '/', 'w', 'w', 'w', '.', 'w', '3', '.', 'o', 'r', 'g', '/', '2',
+    '0', '0', '0', '/', 'x', 'm', 'l', 'n', 's', '/',
+];
+
+/// What an attribute of this name is for (Namespaces in XML 1.0, section 3).
+pub fn purpose_of<'a>(name: QName<'a>) -> Purpose<'a>
+    ensures { purpose_as result ≡ purpose_of name.entry.prefix.now name.entry.local.now }
+{
+    if is_xmlns(name.prefix) {
+        return Purpose::Prefix(name.local);
+    }
+    if name.prefix.is_empty() && is_xmlns(name.local) {
+        return Purpose::Default;
+    }
+    Purpose::Ordinary
+}
+
+fn is_xml(prefix: &[char]) -> bool
+    ensures { result ≡ bytes_eq prefix.now xml }
+{
+    prefix == XML.as_slice()
+}
+
+fn is_uri_of_xml(uri: &[char]) -> bool
+    ensures { result ≡ bytes_eq uri.now xml_uri }
+{
+    uri == XML_URI.as_slice()
+}
+
+fn is_uri_of_xmlns(uri: &[char]) -> bool
+    ensures { result ≡ bytes_eq uri.now xmlns_uri }
+{
+    uri == XMLNS_URI.as_slice()
+}
+
+fn is_reserved(uri: &[char]) -> bool
+    ensures { result ≡ is_reserved_namespace uri.now }
+{
+    is_uri_of_xml(uri) || is_uri_of_xmlns(uri)
+}
+
+// Whether the attribute declares the prefix `xml`.
+fn declares_xml(purpose: Purpose<'_>) -> bool
+    ensures { result ≡ declares_xml (purpose_as purpose.entry) }
+{
+    match purpose {
+        Purpose::Prefix(prefix) => is_xml(prefix),
+        _ => false,
+    }
+}
+
+// Whether a value may end behind these characters.
+fn may_close(purpose: Purpose<'_>, so_far: &[char]) -> bool
+    ensures { result ≡ may_close (purpose_as purpose.entry) so_far.now }
+{
+    match purpose {
+        Purpose::Default => !is_reserved(so_far),
+        Purpose::Prefix(prefix) => {
+            if is_xml(prefix) {
+                is_uri_of_xml(so_far)
+            } else {
+                !(so_far.is_empty() || is_reserved(so_far))
+            }
+        }
+        Purpose::Ordinary => true,
+    }
+}
+
+fn may_refer(of_xml: bool, so_far: &[char]) -> bool
+    ensures { result ≡ may_refer of_xml so_far.now }
+{
+    !(of_xml && is_uri_of_xml(so_far))
+}
+
+// The character at a position, if there is one.
+fn character_at(characters: &[char], position: usize) -> Option<char>
+    ensures { result ≡ slice_get characters.now position }
+{
+    characters.get(position).copied()
+}
+
+// The character that a reference must stand for.
+fn expected_at(of_xml: bool, position: usize) -> Option<char>
+    ensures { result ≡ expected_at of_xml position }
+{
+    if of_xml {
+        character_at(&XML_URI, position)
+    } else {
+        None
+    }
+}
+
+// Reads the characters of a value up to a reference or the quote, behind so many.
+fn value_run<'a>(reader: &mut Reader<'a>, of_xml: bool, quote: Quote, position: usize) -> &'a [char]
+    ensures read { Ran (characters result.now) reader.old reader.new (read_document_token (value_run of_xml quote position)) }
+    ensures shrinks { left_of reader.new ≤ left_of reader.old }
+{
+    if of_xml {
+        return reader.maybe_run(Run::NamespaceOfXml, position.min(36) as u32);
+    }
+    reader.maybe_run(Run::Value(quote), 0)
+}
+
+fn character_kept(spaces: bool, c: char) -> char
+    ensures { result ≡ character_kept spaces c }
+{
+    if spaces && (c == '\t' || c == '\n') {
+        ' '
+    } else {
+        c
+    }
+}
+
+// What a character stands for, and whether a carriage return stands in front of the next one.
+fn normalised_step(spaces: bool, behind_return: bool, c: char) -> (Option<char>, bool)
+    ensures { (x : List ℕ) → normalised spaces behind_return (c ∷ x) ≡ option_to_list result.0 ++ normalised spaces result.1 x }
+{
+    if c == '\r' {
+        return (Some(character_kept(spaces, '\n')), true);
+    }
+    if behind_return && c == '\n' {
+        return (None, false);
+    }
+    (Some(character_kept(spaces, c)), false)
+}
+
+fn push_kept(out: &mut Vec<char>, kept: Option<char>) -> Result<(), AllocError>
+    ensures { OnOk result (out.new.items ≡ out.old.items ++ option_to_list kept) }
+{
+    if let Some(c) = kept {
+        out.push(c)?;
+    }
+    Ok(())
+}
+
+/// Adds the characters of a run, with line ends as line feeds, and in a value with spaces for tabs and line feeds.
+pub fn push_normalised(out: &mut Vec<char>, run: &[char], spaces: bool) -> Result<(), AllocError>
+    ensures { OnOk result (out.new.items ≡ out.old.items ++ normalised spaces false run.now) }
+{
+    let mut behind_return = false;
+    for c in run {
+        let (kept, returned) = normalised_step(spaces, behind_return, *c);
+        push_kept(out, kept)?;
+        behind_return = returned;
+    }
+    Ok(())
+}
+
+/// Reads a value whose opening quote was read, of an attribute of this name (XML 1.0, sections 2.3 and 3.3.3; Namespaces in
+/// XML 1.0, section 3).
+pub fn value(
+    alloc: Global,
+    reader: &mut Reader<'_>,
+    name: QName<'_>,
+    quote: Quote,
+) -> Result<Vec<char>, AllocError>
+    ensures read { IfOk result (λ v. ReadValue name.entry.prefix.now name.entry.local.now quote [] v.items reader.old reader.new) }
+    ensures shrinks { left_of reader.new ≤ left_of reader.old }
+    ensures shorter { OnOk result (IsDone reader.new ⊎ (left_of reader.new < left_of reader.old)) }
+{
+    let purpose = purpose_of(name);
+    let of_xml = declares_xml(purpose);
+    let mut so_far = Vec::new(alloc);
+    loop {
+        let run = value_run(reader, of_xml, quote, so_far.len());
+        push_normalised(&mut so_far, run, true)?;
+        let closes = may_close(purpose, &so_far);
+        let refers = may_refer(of_xml, &so_far);
+        let choice = Choice::Value {
+            quote,
+            closes,
+            refers,
+        };
+        let mark = reader.choice(choice);
+        if reader.has_ended() {
+            return Ok(so_far);
+        }
+        if !mark.is_reference() {
+            return Ok(so_far);
+        }
+        let character = reference(reader, expected_at(of_xml, so_far.len()));
+        so_far.push(character)?;
+    }
+}
