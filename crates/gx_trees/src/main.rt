@@ -1,9 +1,11 @@
-//! Worked values of trees and of the serialiser: each line of standard input is a call with the parts of its trees, and is
+//! Worked values of trees, of documents and of the serialiser: each line of standard input is a call with the parts of its trees, and is
 //! written again with its answer.
 #![tactic(auto)]
 
+mod documents;
 mod parts;
 
+use documents::{bytes_of, fronts_row, joined, read_row, source_row};
 use gx_io::MemorySink;
 use gx_row::not_a_row;
 use gx_row::words::words;
@@ -39,6 +41,10 @@ fn row_answer(alloc: Global, row: &str) -> Result<String, AllocError> {
             serialise_row(alloc, put.parse::<u64>().unwrap_or(0), words)
         }
         ["serialise", words @ ..] => serialise_row(alloc, 0, words),
+        ["read", "bytes", words @ ..] => read_row(alloc, &bytes_of(alloc, words)?),
+        ["read", words @ ..] => read_row(alloc, joined(alloc, words)?.as_bytes()),
+        ["source", words @ ..] => source_row(alloc, joined(alloc, words)?.as_bytes()),
+        ["fronts", text] => fronts_row(alloc, text),
         [call, words @ ..] => tree_row(alloc, call, words),
         [] => not_a_row(alloc),
     }
