@@ -15,3 +15,5 @@ pub mod DocumentLevels
 pub mod UntypedLemmas
 pub mod SoundLemmas
 pub mod OneReading
+pub mod CodeLemmas
+pub mod SomeReading

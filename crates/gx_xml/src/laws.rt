@@ -9,7 +9,7 @@ ghost use Rattle.gx_xml.specs.Sound.{IsSoundSource, source_depth};
 ghost use Rattle.gx_xml.specs.SourceTree.{SourceTree};
 ghost use Rattle.gx_xml.specs.declared.refusal.XmlRefusal.TheVariants.{Refused};
 ghost use Rattle.gx_xml.specs.declared.refusal.XmlRule.{XmlRule};
-ghost use Rattle.std.specs.Prelude.{◌≡◌, ◌≤◌, ℕ, List, []};
+ghost use Rattle.std.specs.Prelude.{◌≡◌, ◌≤◌, ◌⊎◌, ℕ, List, []};
 
 /// A text has at most one tree.
 pub fn one_source_tree()
@@ -21,6 +21,11 @@ pub fn documents_are_read_in_one_way()
     ensures tree { (bytes : List ℕ) (s t : SourceTree) → IsDocumentOf bytes s → IsDocumentOf bytes t → s ≡ t }
     ensures either { (bytes : List ℕ) (t : SourceTree) (r : XmlRule) (p : Place) → IsDocumentOf bytes t → IsDocumentRefusal bytes (Refused p r) → ⊥ }
     ensures refusal { (bytes : List ℕ) (r s : XmlRule) (p q : Place) → IsDocumentRefusal bytes (Refused p r) → IsDocumentRefusal bytes (Refused q s) → (r ≡ s) × (p ≡ q) }
+{}
+
+/// Bytes are read: to a tree, or to a rule that refuses them at a place.
+pub fn documents_are_read()
+    ensures { (bytes : List ℕ) → ((t : SourceTree) × IsDocumentOf bytes t) ⊎ ((r : XmlRule) × (p : Place) × IsDocumentRefusal bytes (Refused p r)) }
 {}
 
 /// In the tree of a text no tag declares a prefix twice, no two attributes of a tag have one expanded name (Namespaces in
