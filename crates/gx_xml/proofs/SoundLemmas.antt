@@ -20,7 +20,7 @@ use Rattle.gx_xml.specs.Marks.{is_misc}
 use Rattle.gx_xml.specs.Tokens.{Token, symbol, run, maybe_run, target, declared_prefix, numeral, choice, maybe_choice, tag_end, prolog_mark, numeral_value, derives}
 use Rattle.gx_xml.specs.Tags.{TagSoFar, Purpose, default_namespace, namespace_of, ordinary, purpose_of, declares_xml, with_attribute, tagged_element, tag_fault, tag_attributes, has_doubled, has_unbound, fault_in, fault_by_room, repeats_behind}
 use Rattle.gx_xml.specs.Grammar.{Production, prolog, epilog, element, inside, value, content, Phrase, on, past, spaced, past_space, past_equals, past_opening_quote, past_quote, past_comment, past_data, past_instruction, past_standalone, behind_encoding, past_encoding, behind_version, past_declaration, character_read, character_of, character_reference, behind_name, qualified, past_element_name, begun_tag, with_content, closing_tag, behind_tag, tag_ending, attribute, attribute_or_end, behind_tag_space, value_run, expected_at, behind_value_run, value_ending, behind_content, past_misc, root_and_behind, behind_prolog, rules, behind_start, whole_document, documents}
-use Rattle.gx_xml.specs.Sound.{AreDistinct, IsSoundSource, AreSoundContents, source_depth, contents_depth}
+use Rattle.gx_xml.specs.Sound.{HasNoRepeats, IsSoundSource, AreSoundContents, source_depth, contents_depth}
 use Rattle.gx_xml.proofs.DoubleLemmas.{any-append}
 use Rattle.gx_xml.proofs.DocumentTokens.{or_parts}
 
@@ -216,7 +216,7 @@ none_behind same before after e (x ∷ xs) h =
     let others = none_behind same before (after ++ x ∷ []) e xs (ap (λ l. repeats_behind same l xs) (sym (append_assoc before (e ∷ after) (x ∷ []))) ∙ parts.1) in
     ap (λ b. b || list_any (same e) xs) first.0 ∙ others
 
-distinct : {A : Type 0} (same : A → A → Bool) (earlier xs : List A) → repeats_behind same earlier xs ≡ false → AreDistinct same xs
+distinct : {A : Type 0} (same : A → A → Bool) (earlier xs : List A) → repeats_behind same earlier xs ≡ false → HasNoRepeats same xs
 distinct same earlier [] h = tt
 distinct same earlier (x ∷ xs) h =
     let parts = or_parts (list_any (λ y. same y x) earlier) (repeats_behind same (earlier ++ x ∷ []) xs) h in
@@ -225,8 +225,8 @@ distinct same earlier (x ∷ xs) h =
 -- a tag without a fault
 record IsFaultless (t : TagSoFar) : Type 0 where
   room : t.room ≢ 0
-  prefixes : AreDistinct bytes_eq (map (λ d. d.prefix) t.declarations)
-  names : AreDistinct same_name (map (λ a. a.name) (tag_attributes t))
+  prefixes : HasNoRepeats bytes_eq (map (λ d. d.prefix) t.declarations)
+  names : HasNoRepeats same_name (map (λ a. a.name) (tag_attributes t))
 
 undoubled : (unbound doubled : Bool) → is_none (fault_in unbound doubled) ≡ true → doubled ≡ false
 undoubled true doubled e = absurd (cc)

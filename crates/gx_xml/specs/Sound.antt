@@ -5,9 +5,9 @@ use Rattle.gx_base.specs.Name.{same_name}
 use Rattle.gx_xml.specs.SourceTree.{SourceTree, SourceContents, source, no_content, a_child, a_text}
 
 -- no two of a list are the same
-abbrev pub AreDistinct : {A : Type 0} → (A → A → Bool) → List A → Type 0
-AreDistinct same [] = Unit {0}
-AreDistinct same (x ∷ xs) = (list_any (same x) xs ≡ false) × AreDistinct same xs
+abbrev pub HasNoRepeats : {A : Type 0} → (A → A → Bool) → List A → Type 0
+HasNoRepeats same [] = Unit {0}
+HasNoRepeats same (x ∷ xs) = (list_any (same x) xs ≡ false) × HasNoRepeats same xs
 
 -- no text stands at the front
 abbrev pub BeginsWithNoText : SourceContents → Type 0
@@ -20,7 +20,7 @@ BeginsWithNoText (a_text x cs) = ⊥
 abbrev mutual
   pub IsSoundSource : SourceTree → Type 0
   IsSoundSource (source name declarations attributes cs) =
-      AreDistinct bytes_eq (map (λ d. d.prefix) declarations) × AreDistinct same_name (map (λ a. a.name) attributes) × AreSoundContents cs
+      HasNoRepeats bytes_eq (map (λ d. d.prefix) declarations) × HasNoRepeats same_name (map (λ a. a.name) attributes) × AreSoundContents cs
 
   pub AreSoundContents : SourceContents → Type 0
   AreSoundContents no_content = Unit {0}
