@@ -1,0 +1,11 @@
+pub mod DerivedLemmas
+pub mod SameNames
+pub mod Replacing
+pub mod UntypedKinds
+pub mod Testing
+pub mod HonestNodes
+pub mod FoundNodes
+pub mod ChildTypes
+pub mod AttributeTypes
+pub mod NearSteps
+pub mod DataTypes

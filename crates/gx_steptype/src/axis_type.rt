@@ -1,0 +1,146 @@
+// The types of steps.
+
+ghost use Rattle.std.specs.Prelude.{◌≡◌, IfOk, IsTrue, MatchResult};
+ghost use Rattle.gx_include.specs.Decision.{is_included as included_in};
+ghost use Rattle.gx_model.specs.Axes.{is_attribute_axis};
+ghost use Rattle.gx_steptype.specs.AskedView.{kind_asked};
+ghost use Rattle.gx_steptype.specs.Replaced.{replaced_items};
+ghost use Rattle.gx_steptype.specs.TestedType.{tested_item as item_tested};
+ghost use Rattle.gx_steptype.specs.StepType.{is_near, step_type, child_type as type_of_children, parent_type as type_of_parent, node_type as type_of_node};
+ghost use Rattle.gx_steptype.specs.StepAnswer.{HasStepType, RefusesStep};
+
+use crate::asked::{Asked, asked_by};
+use crate::attributes::attribute_type;
+use crate::children::{any_document, any_element, child_type, parent_type, text_type};
+use crate::error::StepError;
+use crate::replace::{Replacement, replace};
+use crate::tested::{Tested, tested_type};
+use gx_base::type_name::{Builtin, TypeName};
+use gx_include::decision::is_included;
+use gx_types::item_type::ItemType;
+use gx_types::schemas::Schemas;
+use gx_types::sequence_type::Ty;
+use gx_types::step::{Axis, Test};
+use gx_types::type_rules::{choose, limit};
+use std::alloc::{AllocError, Global};
+
+/// The type of the nodes that a step along the child, attribute, self or parent axis gives from one node (XQuery 1.0 and XPath 2.0
+/// Formal Semantics, section 8.2). `NotANode` comes exactly where the context is not included in `node()`.
+pub fn axis_type(
+    alloc: Global,
+    schemas: &Schemas,
+    axis: Axis,
+    test: &Test,
+    context: &Ty,
+) -> Result<Ty, StepError>
+    requires { IsTrue (is_near axis) }
+    ensures { MatchResult result (HasStepType schemas.now axis test.now context.now) (RefusesStep schemas.now context.now) }
+{
+    if !is_one_node(alloc, schemas, context)? {
+        return Err(StepError::NotANode);
+    }
+    Ok(step_from(alloc, schemas, axis, test, context)?)
+}
+
+// Whether a type is that of one node.
+fn is_one_node(alloc: Global, schemas: &Schemas, context: &Ty) -> Result<bool, AllocError>
+    ensures { IfOk result (λ answer. answer ≡ included_in schemas.now context.now type_of_node) }
+{
+    let node = node_type(alloc)?;
+    is_included(alloc, schemas, context, &node)
+}
+
+// The type of a step from one node.
+fn step_from(
+    alloc: Global,
+    schemas: &Schemas,
+    axis: Axis,
+    test: &Test,
+    context: &Ty,
+) -> Result<Ty, AllocError>
+    ensures { IfOk result (λ t. t ≡ step_type schemas.now axis test.now context.now) }
+{
+    let asked = asked_by(schemas, is_of_attributes(axis), test);
+    let step = Step {
+        schemas,
+        axis,
+        asked,
+    };
+    limit(alloc, replace(alloc, &step, context)?)
+}
+
+// Whether an axis is that of attributes.
+fn is_of_attributes(axis: Axis) -> bool
+    ensures { result ≡ is_attribute_axis axis }
+{
+    matches!(axis, Axis::Attribute)
+}
+
+// A step in the place of each item type.
+#[derive(Clone, Copy)]
+struct Step<'a> {
+    pub schemas: &'a Schemas,
+    pub axis: Axis,
+    pub asked: Asked<'a>,
+}
+
+impl Replacement for Step<'_> {
+    ghost use Rattle.gx_steptype.specs.AskedView.{kind_asked};
+    ghost use Rattle.gx_steptype.specs.StepType.{item_step};
+
+    ghost gives = { λ s kind. item_step s.schemas.now s.axis (kind_asked s.asked) kind };
+
+    fn replace(&self, alloc: Global, item: &ItemType) -> Result<Ty, AllocError> {
+        match self.axis {
+            Axis::Child => children_tested(alloc, self.schemas, self.asked, item),
+            Axis::Attribute => attribute_type(alloc, self.schemas, self.asked, item),
+            Axis::SelfAxis => tested_type(alloc, self.schemas, self.asked, item),
+            Axis::Parent => parents_tested(alloc, self.schemas, self.asked, item),
+            _ => Ok(Ty::empty()),
+        }
+    }
+}
+
+// What a test leaves of the children of a node of an item type.
+fn children_tested(
+    alloc: Global,
+    schemas: &Schemas,
+    asked: Asked<'_>,
+    item: &ItemType,
+) -> Result<Ty, AllocError>
+    ensures { IfOk result (λ t. t ≡ replaced_items (item_tested schemas.now (kind_asked asked.entry)) (type_of_children schemas.now item.now)) }
+{
+    let children = child_type(alloc, schemas, item)?;
+    replace(alloc, &Tested { schemas, asked }, &children)
+}
+
+// What a test leaves of the parent of a node of an item type.
+fn parents_tested(
+    alloc: Global,
+    schemas: &Schemas,
+    asked: Asked<'_>,
+    item: &ItemType,
+) -> Result<Ty, AllocError>
+    ensures { IfOk result (λ t. t ≡ replaced_items (item_tested schemas.now (kind_asked asked.entry)) (type_of_parent item.now)) }
+{
+    let parent = parent_type(alloc, item)?;
+    replace(alloc, &Tested { schemas, asked }, &parent)
+}
+
+// node(), the type of one node.
+fn node_type(alloc: Global) -> Result<Ty, AllocError>
+    ensures { IfOk result (λ t. t ≡ type_of_node) }
+{
+    let attribute = ItemType::Attribute {
+        name: None,
+        kind: TypeName::Builtin(Builtin::AnySimple),
+    };
+    let attribute = Ty::of_item(alloc, attribute)?;
+    let members = [
+        any_document(alloc)?,
+        any_element(alloc)?,
+        attribute,
+        text_type(alloc)?,
+    ];
+    choose(alloc, &members)
+}
