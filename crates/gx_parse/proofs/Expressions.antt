@@ -10,27 +10,28 @@ use Rattle.gx_grammar.specs.First.{by_character}
 use Rattle.gx_grammar.specs.Reading.{State, Reading, go_on, read_with, repeat}
 use Rattle.gx_grammar.specs.Ran.{Standing, Going, GaveUp, Lost, Ran, Looked, IsDone, Loses, Makes, left_of}
 use Rattle.gx_grammar.proofs.PublicLaws.{ran_idle, ran_item, ran_makes, ran_none}
-use Rattle.gx_parse.specs.declared.word.Barrier.TheVariants as barrier
-use Rattle.gx_parse.specs.declared.word.Word.{Word}
-use Rattle.gx_parse.specs.declared.word.Word.TheVariants as word
-use Rattle.gx_parse.specs.declared.word.WordSet.{WordSet}
-use Rattle.gx_parse.specs.declared.word.WordSet.TheVariants as set
+use Rattle.gx_syntax.specs.declared.word.Barrier.TheVariants as barrier
+use Rattle.gx_syntax.specs.declared.word.Word.{Word}
+use Rattle.gx_syntax.specs.declared.word.Word.TheVariants as word
+use Rattle.gx_syntax.specs.declared.word.WordSet.{WordSet}
+use Rattle.gx_syntax.specs.declared.word.WordSet.TheVariants as set
 use Rattle.gx_parse.specs.declared.parts.Sign.{Sign}
-use Rattle.gx_parse.specs.declared.names.ReadName.{ReadName}
+use Rattle.gx_scan.specs.declared.names.ReadName.{ReadName}
 use Rattle.gx_parse.specs.declared.members.Members.{Members}
 use Rattle.gx_parse.specs.declared.members.Members.TheVariants.{Singles, Operands, Steps}
-use Rattle.gx_parse.specs.Characters.{is_name_start}
-use Rattle.gx_parse.specs.Names.{name_made}
-use Rattle.gx_parse.specs.Nodes.{Node, Made, Arguments, Found, Operator, Tree, name_at, name_length, named_value, second_value, signed_value, condition_value, parenthesised_value, arguments_value, trees_in, is_minus, tree, chain_value, joined_to}
-use Rattle.gx_parse.specs.Tokens.{Token, one_of, gap, gap_then_open, gap_not_open, gap_then_dollar, gap_then_neither, barred, qname}
-use Rattle.gx_parse.specs.Grammar.{Phrase, word_of, lexeme, at_tokens, operator, more, more_signs, single, rules, expression, ladder, other_operand, other_step, step, dots, literal, variable_step, parenthesised_step, more_arguments, arguments_in, arguments, behind_plain_name, behind_any_name, filtered_step, test_or_literal, path_from, signed_path, condition, branched, branched_or_name, begun, behind_keyword, opened_or_name, named_single, is_name, is_reserved, is_single, level_at, two, chain, query_language, place_in}
-use Rattle.gx_parse.specs.Casts.{casts}
-use Rattle.gx_parse.specs.declared.word.Opening.{Opening}
-use Rattle.gx_parse.specs.Binding.{opening_named, opened}
-use Rattle.gx_parse.specs.NodeTests.{wildcard_or, any_step}
-use Rattle.gx_parse.specs.declared.word.Branching.{Branching}
-use Rattle.gx_parse.specs.Typeswitch.{branching_named}
-use Rattle.gx_parse.specs.Reading.{NameRead, call, more_than, read_in, read_one}
+use Rattle.gx_base.specs.NameCharacters.{is_ncname_start}
+use Rattle.gx_scan.specs.Names.{name_made}
+use Rattle.gx_syntax.specs.Nodes.{Node, Made, Arguments, Found, Operator, Tree, name_at, name_length, named_value, second_value, signed_value, condition_value, parenthesised_value, arguments_value, trees_in, is_minus, tree, chain_value, joined_to}
+use Rattle.gx_syntax.specs.Tokens.{Token, one_of, gap, gap_then_open, gap_not_open, gap_then_dollar, gap_then_neither, barred, qname}
+use Rattle.gx_syntax.specs.Grammar.{Phrase, word_of, lexeme, at_tokens, operator, more, more_signs, single, rules, expression, ladder, other_operand, other_step, step, dots, literal, variable_step, parenthesised_step, more_arguments, arguments_in, arguments, behind_plain_name, behind_any_name, filtered_step, test_or_literal, path_from, signed_path, condition, branched, branched_or_name, begun, behind_keyword, opened_or_name, named_single, is_name, is_reserved, is_single, level_at, two, chain, query_language, place_in}
+use Rattle.gx_syntax.specs.Casts.{casts}
+use Rattle.gx_syntax.specs.declared.word.Opening.{Opening}
+use Rattle.gx_syntax.specs.Binding.{opening_named, opened}
+use Rattle.gx_syntax.specs.NodeTests.{wildcard_or, any_step}
+use Rattle.gx_syntax.specs.declared.word.Branching.{Branching}
+use Rattle.gx_syntax.specs.Typeswitch.{branching_named}
+use Rattle.gx_scan.specs.Reading.{NameRead, call, read_in, read_one}
+use Rattle.gx_syntax.specs.Levels.{more_than}
 use Rattle.gx_parse.specs.Parsing.{KeepsTree, Listed, join_of, set_of, read_chain, chain_of, is_pair, most_of, member_of, named_tree, called_tree, signs_before, wrapped, read_item, read_items}
 use Rattle.gx_parse.proofs.Chains.{ran_any, ran_keeps, chain_reads, chain_ends, chain_goes_on}
 use Rattle.gx_parse.proofs.Phrases.{in_token, in_both, in_keyed, in_empty, in_left, in_right, in_made, in_rule, signed_wraps, loses_done, stays_done}
@@ -84,26 +85,26 @@ module _ (text : List ℕ) (n : ℕ) where
   unfolding call read_in
   single_is v a b h = h
 
-  pub single_other : (t : SyntaxTree) (taken : Bool) (a b c : Standing) → taken ≡ false → Looked taken a b (by_character is_name_start) → Ran (tree t) b c (read_in text n (ladder (place_in text) 8 n (other_operand (place_in text) n))) → Ran (tree t) a c (call text (suc (suc n)) (single (suc n)))
+  pub single_other : (t : SyntaxTree) (taken : Bool) (a b c : Standing) → taken ≡ false → Looked taken a b (by_character is_ncname_start) → Ran (tree t) b c (read_in text n (ladder (place_in text) 8 n (other_operand (place_in text) n))) → Ran (tree t) a c (call text (suc (suc n)) (single (suc n)))
   single_other t taken a b c e h k =
       single_is (tree t) a c
-      (in_right text n (by_character is_name_start) (made (λ left v. second_value v) (keyed qname (λ v. behind_single_name v))) (ladder (place_in text) 8 n (other_operand (place_in text) n)) (tree t) taken a b c e h k)
+      (in_right text n (by_character is_ncname_start) (made (λ left v. second_value v) (keyed qname (λ v. behind_single_name v))) (ladder (place_in text) 8 n (other_operand (place_in text) n)) (tree t) taken a b c e h k)
 
-  pub single_named : (t : SyntaxTree) (v : Made) (taken : Bool) (a b c d : Standing) → taken ≡ true → Looked taken a b (by_character is_name_start) → Ran v b c (read_one qname) → Ran (tree t) c d (read_in text n (behind_single_name v)) → Ran (tree t) a d (call text (suc (suc n)) (single (suc n)))
+  pub single_named : (t : SyntaxTree) (v : Made) (taken : Bool) (a b c d : Standing) → taken ≡ true → Looked taken a b (by_character is_ncname_start) → Ran v b c (read_one qname) → Ran (tree t) c d (read_in text n (behind_single_name v)) → Ran (tree t) a d (call text (suc (suc n)) (single (suc n)))
   single_named t v taken a b c d e h k l =
       single_is (tree t) a d
-      (in_left text n (by_character is_name_start) (made (λ left v. second_value v) (keyed qname (λ v. behind_single_name v))) (ladder (place_in text) 8 n (other_operand (place_in text) n)) (tree t) taken a b d e h
+      (in_left text n (by_character is_ncname_start) (made (λ left v. second_value v) (keyed qname (λ v. behind_single_name v))) (ladder (place_in text) 8 n (other_operand (place_in text) n)) (tree t) taken a b d e h
       (in_made text n (λ left v. second_value v) (keyed qname (λ v. behind_single_name v)) (pair v (tree t)) b d (in_keyed text n qname (λ v. behind_single_name v) v (tree t) b c d k l)))
 
   -- steps
-  pub step_other : (t : SyntaxTree) (taken : Bool) (a b c : Standing) → taken ≡ false → Looked taken a b (by_character is_name_start) → Ran (tree t) b c (read_in text n (other_step (place_in text) n)) → Ran (tree t) a c (read_in text n (step (place_in text) n))
+  pub step_other : (t : SyntaxTree) (taken : Bool) (a b c : Standing) → taken ≡ false → Looked taken a b (by_character is_ncname_start) → Ran (tree t) b c (read_in text n (other_step (place_in text) n)) → Ran (tree t) a c (read_in text n (step (place_in text) n))
   unfolding step
-  step_other t taken a b c e h k = in_right text n (by_character is_name_start) (made (λ left v. second_value v) (keyed qname (λ v. behind_step_name v))) (other_step (place_in text) n) (tree t) taken a b c e h k
+  step_other t taken a b c e h k = in_right text n (by_character is_ncname_start) (made (λ left v. second_value v) (keyed qname (λ v. behind_step_name v))) (other_step (place_in text) n) (tree t) taken a b c e h k
 
-  pub step_named : (t : SyntaxTree) (v : Made) (taken : Bool) (a b c d : Standing) → taken ≡ true → Looked taken a b (by_character is_name_start) → Ran v b c (read_one qname) → Ran (tree t) c d (read_in text n (behind_step_name v)) → Ran (tree t) a d (read_in text n (step (place_in text) n))
+  pub step_named : (t : SyntaxTree) (v : Made) (taken : Bool) (a b c d : Standing) → taken ≡ true → Looked taken a b (by_character is_ncname_start) → Ran v b c (read_one qname) → Ran (tree t) c d (read_in text n (behind_step_name v)) → Ran (tree t) a d (read_in text n (step (place_in text) n))
   unfolding step
   step_named t v taken a b c d e h k l =
-      in_left text n (by_character is_name_start) (made (λ left v. second_value v) (keyed qname (λ v. behind_step_name v))) (other_step (place_in text) n) (tree t) taken a b d e h
+      in_left text n (by_character is_ncname_start) (made (λ left v. second_value v) (keyed qname (λ v. behind_step_name v))) (other_step (place_in text) n) (tree t) taken a b d e h
       (in_made text n (λ left v. second_value v) (keyed qname (λ v. behind_step_name v)) (pair v (tree t)) b d (in_keyed text n qname (λ v. behind_step_name v) v (tree t) b c d k l))
 
   -- what stands behind a name

@@ -10,17 +10,17 @@ use Rattle.gx_grammar.specs.Apart.{is}
 use Rattle.gx_grammar.specs.First.{by_character}
 use Rattle.gx_grammar.specs.Reading.{State, Reading}
 use Rattle.gx_grammar.specs.Ran.{Standing, Ran, Looked, IsDone, left_of}
-use Rattle.gx_parse.specs.declared.word.Word.TheVariants as word
-use Rattle.gx_parse.specs.declared.kind_words.KindWord.{KindWord}
-use Rattle.gx_parse.specs.declared.kind_words.TestContent.{TestContent}
-use Rattle.gx_parse.specs.Characters.{is_name_start}
-use Rattle.gx_parse.specs.Nodes.{Made, name_at, name_length, has_prefix, second_value, tree}
-use Rattle.gx_parse.specs.Tokens.{one_of, qname, ncname, local_wildcard, gap}
-use Rattle.gx_parse.specs.declared.word.WordSet.{WordSet}
-use Rattle.gx_parse.specs.Grammar.{Phrase, word_of, lexeme, at_tokens, literal, test_or_literal, place_in}
-use Rattle.gx_parse.specs.Reading.{read_in, read_one}
-use Rattle.gx_parse.specs.Types.{Gave, kind_word, content, content_made}
-use Rattle.gx_parse.specs.NodeTests.{test_of, step_tree, test_made, maybe_content, local_value, any_value, test_value, step_made, wildcard_made, in_namespace, if_wildcard, wildcard_or, wildcard, kind_content, behind_test, any_test, any_step, node_test, axis_test, attribute_step, wildcard_step}
+use Rattle.gx_syntax.specs.declared.word.Word.TheVariants as word
+use Rattle.gx_syntax.specs.declared.kind_words.KindWord.{KindWord}
+use Rattle.gx_syntax.specs.declared.kind_words.TestContent.{TestContent}
+use Rattle.gx_base.specs.NameCharacters.{is_ncname_start}
+use Rattle.gx_syntax.specs.Nodes.{Made, name_at, name_length, has_prefix, second_value, tree}
+use Rattle.gx_syntax.specs.Tokens.{one_of, qname, ncname, local_wildcard, gap}
+use Rattle.gx_syntax.specs.declared.word.WordSet.{WordSet}
+use Rattle.gx_syntax.specs.Grammar.{Phrase, word_of, lexeme, at_tokens, literal, test_or_literal, place_in}
+use Rattle.gx_scan.specs.Reading.{read_in, read_one}
+use Rattle.gx_syntax.specs.Types.{Gave, kind_word, content, content_made}
+use Rattle.gx_syntax.specs.NodeTests.{test_of, step_tree, test_made, maybe_content, local_value, any_value, test_value, step_made, wildcard_made, in_namespace, if_wildcard, wildcard_or, wildcard, kind_content, behind_test, any_test, any_step, node_test, axis_test, attribute_step, wildcard_step}
 use Rattle.gx_parse.proofs.Chains.{ran_any}
 use Rattle.gx_parse.proofs.Phrases.{in_token, in_both, in_keyed, in_empty, in_left, in_right, in_made}
 
@@ -129,24 +129,24 @@ module _ (text : List ℕ) (n : ℕ) where
   abbrev named_test : Phrase
   named_test = made (λ left v. second_value v) (keyed qname (λ v. behind_test_name v))
 
-  pub node_wildcard : (o : Option NodeTest) (taken : Bool) (a b c : Standing) → taken ≡ false → Looked taken a b (by_character is_name_start) → Gave test_made o b c (reading (wildcard (place_in text))) → Gave test_made o a c (reading (node_test (place_in text)))
+  pub node_wildcard : (o : Option NodeTest) (taken : Bool) (a b c : Standing) → taken ≡ false → Looked taken a b (by_character is_ncname_start) → Gave test_made o b c (reading (wildcard (place_in text))) → Gave test_made o a c (reading (node_test (place_in text)))
   unfolding node_test
-  node_wildcard None taken a b c t h g = (g.0, λ v. in_right text n (by_character is_name_start) named_test (wildcard (place_in text)) v taken a b c t h (g.1 v))
-  node_wildcard (Some o) taken a b c t h g = in_right text n (by_character is_name_start) named_test (wildcard (place_in text)) (test_made o) taken a b c t h g
+  node_wildcard None taken a b c t h g = (g.0, λ v. in_right text n (by_character is_ncname_start) named_test (wildcard (place_in text)) v taken a b c t h (g.1 v))
+  node_wildcard (Some o) taken a b c t h g = in_right text n (by_character is_ncname_start) named_test (wildcard (place_in text)) (test_made o) taken a b c t h g
 
-  named_read : (v u : Made) (taken : Bool) (a b c d : Standing) → taken ≡ true → Looked taken a b (by_character is_name_start) → Ran v b c (read_one qname) → Ran u c d (reading (behind_test_name v)) → Ran u a d (reading (node_test (place_in text)))
+  named_read : (v u : Made) (taken : Bool) (a b c d : Standing) → taken ≡ true → Looked taken a b (by_character is_ncname_start) → Ran v b c (read_one qname) → Ran u c d (reading (behind_test_name v)) → Ran u a d (reading (node_test (place_in text)))
   unfolding node_test
   named_read v u taken a b c d t h k l =
-      in_left text n (by_character is_name_start) named_test (wildcard (place_in text)) u taken a b d t h
+      in_left text n (by_character is_ncname_start) named_test (wildcard (place_in text)) u taken a b d t h
       (in_made text n (λ left v. second_value v) (keyed qname (λ v. behind_test_name v)) (pair v u) b d (in_keyed text n qname (λ v. behind_test_name v) v u b c d k l))
 
-  pub node_named : (v : Made) (o : Option NodeTest) (taken : Bool) (a b c d : Standing) → taken ≡ true → Looked taken a b (by_character is_name_start) → Ran v b c (read_one qname) → Gave test_made o c d (reading (behind_test_name v))
+  pub node_named : (v : Made) (o : Option NodeTest) (taken : Bool) (a b c d : Standing) → taken ≡ true → Looked taken a b (by_character is_ncname_start) → Ran v b c (read_one qname) → Gave test_made o c d (reading (behind_test_name v))
       → Gave test_made o a d (reading (node_test (place_in text)))
   node_named v None taken a b c d t h k g = (g.0, λ w. named_read v w taken a b c d t h k (g.1 w))
   node_named v (Some o) taken a b c d t h k g = named_read v (test_made o) taken a b c d t h k g
 
   -- no name was read
-  pub node_done : (taken : Bool) (a b c : Standing) → taken ≡ true → Looked taken a b (by_character is_name_start) → IsDone c → Ran nothing b c (read_one qname) → Ran nothing c c (reading (behind_test_name nothing)) → Gave test_made None a c (reading (node_test (place_in text)))
+  pub node_done : (taken : Bool) (a b c : Standing) → taken ≡ true → Looked taken a b (by_character is_ncname_start) → IsDone c → Ran nothing b c (read_one qname) → Ran nothing c c (reading (behind_test_name nothing)) → Gave test_made None a c (reading (node_test (place_in text)))
   node_done taken a b c t h d k l = (d, λ w. ran_any nothing w a c (reading (node_test (place_in text))) d (named_read nothing nothing taken a b c c t h k l))
 
   axis_reads : (x v : Made) (a b c : Standing) → Ran x a b (reading (lexeme (word_of word.Colons))) → Ran v b c (reading (node_test (place_in text))) → Ran v a c (reading (axis_test (place_in text)))

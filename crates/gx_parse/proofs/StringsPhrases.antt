@@ -10,52 +10,27 @@ use Rattle.gx_grammar.specs.Reading.{State, Reading, taken}
 use Rattle.gx_grammar.specs.Ran.{Standing, Going, GaveUp, Lost, Ran, Looked, Loses, left_of}
 use Rattle.gx_grammar.proofs.PublicLaws.{ran_full, ran_item, ran_none}
 use Rattle.gx_grammar.specs.Words.{IsOneOf}
-use Rattle.gx_parse.specs.declared.word.Word.{Word}
-use Rattle.gx_parse.specs.declared.word.WordSet.TheVariants as set
+use Rattle.gx_syntax.specs.declared.word.Word.{Word}
+use Rattle.gx_syntax.specs.declared.word.WordSet.TheVariants as set
 use Rattle.gx_grammar.specs.Tokens.{seen_word}
-use Rattle.gx_parse.specs.Words.{letters_of, words_of}
-use Rattle.gx_parse.specs.declared.runs.Quote.{Quote}
-use Rattle.gx_parse.specs.declared.runs.Quote.TheVariants as quote
-use Rattle.gx_parse.specs.declared.runs.Run.TheVariants as run
-use Rattle.gx_parse.specs.Nodes.{Made, Found, tree}
-use Rattle.gx_parse.specs.References.{quote_of}
-use Rattle.gx_parse.specs.Tokens.{text_run, reference, gap, entries, scan, seen, faults, reference_fault, reference_code}
-use Rattle.gx_parse.specs.Grammar.{Phrase, word_of, at_tokens, numeral, literal, place_in}
-use Rattle.gx_parse.specs.Reading.{read_one, read_in}
-use Rattle.gx_parse.specs.Parsing.{Added, KeepsTree}
-use Rattle.gx_parse.specs.Strings.{opening_of, closing_of, doubled_of, part_text, texts_in, text_in, string_value, string_part, parts_of, string_parts, quoted, string_of}
+use Rattle.gx_syntax.specs.Words.{letters_of, words_of}
+use Rattle.gx_syntax.specs.declared.runs.Quote.{Quote}
+use Rattle.gx_syntax.specs.declared.runs.Quote.TheVariants as quote
+use Rattle.gx_syntax.specs.declared.runs.Run.TheVariants as run
+use Rattle.gx_syntax.specs.Nodes.{Made, Found, tree}
+use Rattle.gx_syntax.specs.References.{quote_of}
+use Rattle.gx_syntax.specs.Tokens.{text_run, reference, gap, entries, scan, seen, faults, reference_fault, reference_code}
+use Rattle.gx_syntax.specs.Grammar.{Phrase, word_of, at_tokens, numeral, literal, place_in}
+use Rattle.gx_scan.specs.Reading.{read_one, read_in}
+use Rattle.gx_parse.specs.Parsing.{KeepsTree}
+use Rattle.gx_scan.specs.Reading.{Added}
+use Rattle.gx_syntax.specs.Strings.{opening_of, closing_of, doubled_of, part_text, texts_in, text_in, string_value, string_part, parts_of, string_parts, quoted, string_of}
 use Rattle.gx_parse.specs.TextReading.{TextRead, read_part, read_parts, PartsRead, Pushes}
-use Rattle.gx_parse.proofs.Tokens.{token_lawful}
+use Rattle.gx_syntax.proofs.Tokens.{token_lawful}
 use Rattle.gx_parse.proofs.Chains.{ran_any, ran_keeps}
 use Rattle.gx_parse.proofs.Phrases.{in_token, in_both, in_left, in_right, in_made, loses_done}
 
 -- what was found
-
-or_four : (a b c d : Bool) → (((a || b) || c) || d) ≡ (a || (b || (c || (d || false))))
-or_four true b c d = refl
-or_four false true c d = refl
-or_four false false true d = refl
-or_four false false false true = refl
-or_four false false false false = refl
-
-fault_bad : (x : List ℕ) (bad : Bool) → reference_fault x ≡ (if bad then (Some reference_code) else None) → bad ≡ is_some (reference_fault x)
-fault_bad x true e = sym (ap is_some e)
-fault_bad x false e = sym (ap is_some e)
-
-pub part_stands : (q : Quote) (x : List ℕ) (a b c bad : Bool) → a ≡ is_some (scan (text_run (run.String q)) x) → b ≡ is_some (scan (word_of (doubled_of q)) x) → c ≡ is_some (scan reference x)
-    → reference_fault x ≡ (if bad then (Some reference_code) else None) → (((a || b) || c) || bad) ≡ scans_any scan faults (parts_of q) x
-part_stands q x a b c bad e f g h =
-    ap₂ (λ p r. p || r) (ap₂ (λ p r. p || r) (ap₂ (λ p r. p || r) e f) g) (fault_bad x bad h)
-    ∙ or_four (is_some (scan (text_run (run.String q)) x)) (is_some (scan (word_of (doubled_of q)) x)) (is_some (scan reference x)) (is_some (reference_fault x))
-
-pub word_found : {b : Bool} (q : Quote) (k : Word) (x : List ℕ) → b ≡ is_some (scan (word_of k) x) → k ≡ doubled_of q → b ≡ is_some (scan (word_of (doubled_of q)) x)
-word_found q k x e f = e ∙ ap (λ w. is_some (scan (word_of w) x)) f
-
-least : (a b c : ℕ) → min (min a c) b ≡ min (min a c) (min b c)
-least a b c = omega arith
-
-pub part_seen : (q : Quote) (x : List ℕ) (k : Word) (all behind a b c : ℕ) → all ≡ min a behind → behind ≡ min b c → a ≡ seen (text_run (run.String q)) x → b ≡ seen (word_of k) x → k ≡ doubled_of q → c ≡ seen reference x → all ≡ seen_any seen (parts_of q) x
-part_seen q x k all behind a b c e f g h i j = e ∙ ap₂ (λ p r. min p r) g (f ∙ ap₂ (λ p r. min p r) (h ∙ ap (λ w. seen (word_of w) x) i) j ∙ least (seen_word (letters_of (doubled_of q)) x) (seen reference x) (length x))
 
 -- a step behind which memory did not suffice
 ran_lost : {A : Type 0} (v : A) (a b d : Standing) (read : State → Reading A) → Ran v a b read → Loses b d → Ran v a d read

@@ -10,17 +10,17 @@ use Rattle.gx_grammar.specs.Grammar.{empty, ◌&◌, rule, made as made_of}
 use Rattle.gx_grammar.specs.Value.{node, nothing, pair}
 use Rattle.gx_grammar.specs.Reading.{State, Reading, go_on, repeat}
 use Rattle.gx_grammar.specs.Ran.{Standing, Loses, Ran}
-use Rattle.gx_parse.specs.declared.word.Barrier.{Barrier}
-use Rattle.gx_parse.specs.declared.word.Barrier.TheVariants as barrier
-use Rattle.gx_parse.specs.declared.word.Word.TheVariants as word
-use Rattle.gx_parse.specs.declared.word.WordSet.{WordSet}
-use Rattle.gx_parse.specs.declared.word.WordSet.TheVariants as set
+use Rattle.gx_syntax.specs.declared.word.Barrier.{Barrier}
+use Rattle.gx_syntax.specs.declared.word.Barrier.TheVariants as barrier
+use Rattle.gx_syntax.specs.declared.word.Word.TheVariants as word
+use Rattle.gx_syntax.specs.declared.word.WordSet.{WordSet}
+use Rattle.gx_syntax.specs.declared.word.WordSet.TheVariants as set
 use Rattle.gx_parse.specs.declared.parts.Sign.{Sign}
 use Rattle.gx_parse.specs.declared.members.Members.{Members}
 use Rattle.gx_parse.specs.declared.members.Members.TheVariants.{Singles, Operands, Steps}
-use Rattle.gx_parse.specs.Nodes.{Made, Operator, Join, join_binary, join_path, join_comma, joined_to, chain_value, is_minus, trees_in, tree, place_of}
-use Rattle.gx_parse.specs.Grammar.{Phrase, word_of, lexeme, at_tokens, single, level_at, is_single, more, stop, step, filtered_step, signed_path, ladder, place_in}
-use Rattle.gx_parse.specs.Reading.{read_in}
+use Rattle.gx_syntax.specs.Nodes.{Made, Operator, Join, join_binary, join_path, join_comma, joined_to, chain_value, is_minus, trees_in, tree, place_of}
+use Rattle.gx_syntax.specs.Grammar.{Phrase, word_of, lexeme, at_tokens, single, level_at, is_single, more, stop, step, filtered_step, signed_path, ladder, place_in}
+use Rattle.gx_scan.specs.Reading.{read_in}
 
 -- of the members of a chain: the words between them, how they are joined, what each is, what stands behind the last
 -- one that may stand, and how many may stand behind the first
@@ -94,12 +94,6 @@ signs_made xs = signs_before xs nothing
 abbrev pub wrapped : List Sign → SyntaxTree → SyntaxTree
 wrapped [] t = t
 wrapped (x ∷ xs) t = located x.place (signed (is_minus x.word) (wrapped xs t))
-
--- what was added behind a list holds
-pub record Added {A : Type 0} (before after : List A) (Holds : List A → Type 0) : Type 0 where
-  pub others : List A
-  pub is : after ≡ before ++ others
-  pub holds : Holds others
 
 -- a step that is a name, and a call
 abbrev pub named_tree : QName → SyntaxTree

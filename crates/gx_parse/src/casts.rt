@@ -3,68 +3,21 @@
 ghost use Rattle.std.specs.Prelude.{◌≡◌, ℕ, IfOk};
 ghost use Rattle.gx_ast.specs.SyntaxTree.{at};
 ghost use Rattle.gx_grammar.specs.Ran.{Ran, Standing};
-ghost use Rattle.gx_parse.specs.Casts.{cast_form, cast_test, cast_word, casts, test_form, test_second, test_word, type_test};
-ghost use Rattle.gx_parse.specs.Grammar.{Phrase, place_in};
-ghost use Rattle.gx_parse.specs.Nodes.{tree};
-ghost use Rattle.gx_parse.specs.Reading.{read_in};
+ghost use Rattle.gx_syntax.specs.Casts.{cast_form, cast_test, casts, test_form, type_test};
+ghost use Rattle.gx_syntax.specs.Grammar.{Phrase, place_in};
+ghost use Rattle.gx_syntax.specs.Nodes.{tree};
+ghost use Rattle.gx_scan.specs.Reading.{read_in};
 
 use crate::parts::{keep, lexeme, operator};
-use crate::reader::Reader;
-use crate::source::Source;
 use crate::types::{sequence_type, single_type};
-use crate::word::{Word, WordSet};
 use gx_ast::expression::{Expr, ExprNode};
 use gx_ast::sequence_type::{SequenceType, SingleType};
 use gx_base::place::Place;
+use gx_scan::reader::Reader;
+use gx_scan::source::Source;
+use gx_syntax::casts::{CastTest, TypeTest};
+use gx_syntax::word::{Word, WordSet};
 use std::alloc::{AllocError, Global};
-
-/// The operators with a sequence type (XQuery 1.0, sections 3.12.1 and 3.12.5).
-#[derive(Clone, Copy, Debug, PartialEq, Eq)]
-pub enum TypeTest {
-    InstanceOf,
-    TreatAs,
-}
-
-/// The operators with the type of a cast (XQuery 1.0, sections 3.12.3 and 3.12.4).
-#[derive(Clone, Copy, Debug, PartialEq, Eq)]
-pub enum CastTest {
-    CastableAs,
-    CastAs,
-}
-
-impl TypeTest {
-    // The first word of the operator.
-    fn word(self) -> Word
-        ensures { result ≡ test_word self }
-    {
-        match self {
-            TypeTest::InstanceOf => Word::Instance,
-            TypeTest::TreatAs => Word::Treat,
-        }
-    }
-
-    // The second one.
-    fn second(self) -> Word
-        ensures { result ≡ test_second self }
-    {
-        match self {
-            TypeTest::InstanceOf => Word::Of,
-            TypeTest::TreatAs => Word::As,
-        }
-    }
-}
-
-impl CastTest {
-    // The first word of the operator.
-    fn word(self) -> Word
-        ensures { result ≡ cast_word self }
-    {
-        match self {
-            CastTest::CastableAs => Word::Castable,
-            CastTest::CastAs => Word::Cast,
-        }
-    }
-}
 
 // The tree of an operator with a sequence type.
 fn tested(

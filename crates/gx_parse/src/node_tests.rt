@@ -2,33 +2,27 @@
 
 ghost use Rattle.std.specs.Prelude.{◌≡◌, ◌+◌, ℕ};
 ghost use Rattle.gx_grammar.specs.Ran.{Ran, left_of};
-ghost use Rattle.gx_parse.specs.Grammar.{place_in, test_or_literal};
-ghost use Rattle.gx_parse.specs.Names.{name_made};
-ghost use Rattle.gx_parse.specs.NodeTests.{any_step, any_test, attribute_step, axis_test, axis_word, behind_test, in_namespace, kind_content, maybe_content, node_test, test_made, test_of, wildcard, wildcard_step};
-ghost use Rattle.gx_parse.specs.Nodes.{name_length, tree};
-ghost use Rattle.gx_parse.specs.Reading.{read_in};
-ghost use Rattle.gx_parse.specs.Types.{Gave};
+ghost use Rattle.gx_syntax.specs.Grammar.{place_in, test_or_literal};
+ghost use Rattle.gx_scan.specs.Names.{name_made};
+ghost use Rattle.gx_syntax.specs.NodeTests.{any_step, any_test, attribute_step, axis_test, behind_test, in_namespace, kind_content, maybe_content, node_test, test_made, test_of, wildcard, wildcard_step};
+ghost use Rattle.gx_syntax.specs.Nodes.{name_length, tree};
+ghost use Rattle.gx_scan.specs.Reading.{read_in};
+ghost use Rattle.gx_syntax.specs.Types.{Gave};
 
-use crate::kind_words::{KindWord, TestContent, kind_test, kind_word};
-use crate::names::ReadName;
 use crate::parts::lexeme;
-use crate::reader::Reader;
-use crate::source::Source;
 use crate::strings::literal;
 use crate::trees;
 use crate::types::content;
-use crate::word::{Word, WordSet};
 use gx_ast::expression::Expr;
 use gx_ast::name::{Axis, NameTest, QName};
 use gx_ast::sequence_type::NodeTest;
 use gx_base::place::Place;
-
-/// The axis that the name says (XQuery 1.0, section 3.2.1.1).
-pub fn axis_word(name: &ReadName) -> Option<Axis>
-    ensures { result ≡ axis_word (name_made name.now) }
-{
-    name.among(&AXES)
-}
+use gx_scan::kind_words::{kind_test, kind_word};
+use gx_scan::names::ReadName;
+use gx_scan::reader::Reader;
+use gx_scan::source::Source;
+use gx_syntax::kind_words::{KindWord, TestContent};
+use gx_syntax::word::{Word, WordSet};
 
 /// The test of a name, with what stands in parentheses behind the name of a kind test (XQuery 1.0, section 3.2.1.2).
 pub fn test_of(kind: Option<KindWord>, name: QName, content: Option<TestContent>) -> NodeTest
@@ -203,15 +197,3 @@ pub fn test_or_literal(reader: &mut Reader<'_>, source: &Source<'_>) -> Expr
     }
     literal(reader, source)
 }
-
-// The names of axes.
-const AXES: [(&str, Axis); 8] = [
-    ("child", Axis::Child),
-    ("descendant", Axis::Descendant),
-    ("descendant-or-self", Axis::DescendantOrSelf),
-    ("self", Axis::Itself),
-    ("attribute", Axis::Attribute),
-    ("parent", Axis::Parent),
-    ("ancestor", Axis::Ancestor),
-    ("ancestor-or-self", Axis::AncestorOrSelf),
-];

@@ -5,81 +5,44 @@ ghost use Rattle.gx_ast.specs.SyntaxView.{trees_of};
 ghost use Rattle.gx_grammar.specs.Value.{node, nothing};
 ghost use Rattle.gx_grammar.specs.Grammar.{◌&◌, rule};
 ghost use Rattle.gx_grammar.specs.Ran.{Looked, Ran, Standing, left_of};
-ghost use Rattle.gx_parse.specs.Binding.{clause, flwor, last_clause, more_bindings, more_clauses, opened, quantified};
-ghost use Rattle.gx_parse.specs.Grammar.{Phrase, after_name, arguments, arguments_in, at_tokens, begun, behind_any_name, behind_keyword, branched, condition, expression, filtered_step, ladder, more_arguments, more_predicates, named_single, other_operand, other_step, parenthesised_step, path_from, place_in, predicate, signed_path, single, step, step_of, typeswitch, word_of};
-ghost use Rattle.gx_parse.specs.Keys.{key, key_made, more_keys, order_clause, order_clause_made, ordered};
+ghost use Rattle.gx_syntax.specs.Binding.{clause, flwor, last_clause, more_bindings, more_clauses, opened, quantified};
+ghost use Rattle.gx_syntax.specs.Grammar.{Phrase, after_name, arguments, arguments_in, at_tokens, begun, behind_any_name, behind_keyword, branched, condition, expression, filtered_step, ladder, more_arguments, more_predicates, named_single, other_operand, other_step, parenthesised_step, path_from, place_in, predicate, signed_path, single, step, step_of, typeswitch, word_of};
+ghost use Rattle.gx_syntax.specs.Keys.{key, key_made, more_keys, order_clause, order_clause_made, ordered};
 ghost use Rattle.gx_parse.specs.Lists.{OneMore, binding_made, clause_made, head_made, items_before};
-ghost use Rattle.gx_parse.specs.Names.{name_made};
-ghost use Rattle.gx_parse.specs.Nodes.{Arguments, Made, name_length, tree};
-ghost use Rattle.gx_parse.specs.Parsing.{Added, Listed, Passes, chain_of, member_of, predicates_before};
-ghost use Rattle.gx_parse.specs.Query.{IsQuery, Parses, RefusesBytes, RefusesText, left_at, parsed, refusal_at, rule_of};
-ghost use Rattle.gx_parse.specs.Reading.{call, read_in};
-ghost use Rattle.gx_parse.specs.Types.{Gave};
-ghost use Rattle.gx_parse.specs.Typeswitch.{case, case_made, cases, more_cases};
-ghost use Rattle.gx_parse.specs.declared.word.Word.TheVariants as word;
+ghost use Rattle.gx_scan.specs.Names.{name_made};
+ghost use Rattle.gx_syntax.specs.Nodes.{Arguments, Made, name_length, tree};
+ghost use Rattle.gx_parse.specs.Parsing.{Listed, Passes, chain_of, member_of, predicates_before};
+ghost use Rattle.gx_scan.specs.Reading.{Added};
+ghost use Rattle.gx_parse.specs.Outcome.{left_at, refusal_at, rule_of};
+ghost use Rattle.gx_syntax.specs.Query.{IsQuery, Parses, RefusesBytes, RefusesText, parsed};
+ghost use Rattle.gx_scan.specs.Reading.{call, read_in};
+ghost use Rattle.gx_syntax.specs.Types.{Gave};
+ghost use Rattle.gx_syntax.specs.Typeswitch.{case, case_made, cases, more_cases};
+ghost use Rattle.gx_syntax.specs.declared.word.Word.TheVariants as word;
 
 use crate::binding::{clause_of, first_head, last_binding, next_head, with_binding, with_clause};
 use crate::bound::key_order;
 use crate::casts::casts;
 use crate::keys::{last_key, with_key};
-use crate::kind_words::kind_word;
 use crate::members::Members;
-use crate::names::ReadName;
-use crate::node_tests::{any_step, axis_test, axis_word, kind_content, test_or_literal};
+use crate::node_tests::{any_step, axis_test, kind_content, test_or_literal};
 use crate::parts::{dots, joined, keep, last, lexeme, more_signs, operator, variable, with_signs};
 use crate::prolog::query;
-use crate::reader::{End, Reader, Refused};
-use crate::source::Source;
 use crate::trees;
 use crate::typeswitch::{case_head, default_head, last_case, with_case};
-use crate::word::{Barrier, Binder, Branching, ClauseWord, Opening, Word, WordSet};
 use gx_ast::expression::{Binding, Case, Clause, Expr, ExprNode, Key};
 use gx_ast::query::Query;
 use gx_ast::sequence_type::BoundVariable;
 use gx_base::limits::{CHAIN_MEMBERS, FILE_BYTES};
 use gx_base::place::Place;
 use gx_grammar::decode::{DecodeError, decode};
-use std::alloc::{AllocError, Global};
-
-/// The rules by which a query is refused.
-#[derive(Clone, Copy, Debug, PartialEq, Eq)]
-pub enum SyntaxRule {
-    /// The bytes are not UTF-8. The place is that of the first character that cannot be read.
-    NotUtf8,
-    /// The text is outside the grammar. The place is that of the end of its longest front that a query may begin with.
-    Syntax,
-    /// An expression stands inside too many others, or a chain has too many members. The place is that of the first
-    /// character of the first such expression or member.
-    TooNested,
-    /// A numeric literal is too large or too precise. The place is that of its first character.
-    LiteralTooLarge,
-    /// A character reference names no character. The place is that of its `&`.
-    BadReference,
-}
-
-/// Why bytes have no syntax tree.
-#[derive(Clone, Copy, Debug, PartialEq, Eq)]
-pub enum SyntaxRefusal {
-    /// A rule refuses them.
-    Refused {
-        /// The rule.
-        rule: SyntaxRule,
-        /// Where.
-        place: Place,
-    },
-    /// Memory did not suffice.
-    Memory,
-}
-
-impl From<AllocError> for SyntaxRefusal {
-    ghost use Rattle.gx_parse.specs.declared.parser.SyntaxRefusal.TheVariants.{Memory};
-
-    ghost from_gives = { λ _ e. e ≡ Memory };
-
-    fn from(_e: AllocError) -> SyntaxRefusal {
-        SyntaxRefusal::Memory
-    }
-}
+use gx_scan::kind_words::{axis_word, kind_word};
+use gx_scan::names::ReadName;
+use gx_scan::reader::{End, Reader, Refused};
+use gx_scan::source::Source;
+use gx_syntax::refusal::{SyntaxRefusal, SyntaxRule};
+use gx_syntax::word::{Barrier, Binder, Branching, ClauseWord, Opening, Word, WordSet};
+use std::alloc::Global;
 
 // So many predicates may stand behind a step.
 const PREDICATES: u8 = 64;

@@ -3,19 +3,20 @@
 ghost use Rattle.std.specs.Prelude.{◌≡◌, ℕ, List, IfOk};
 ghost use Rattle.gx_grammar.specs.Value.{node, nothing, pair};
 ghost use Rattle.gx_grammar.specs.Ran.{Makes, Ran};
-ghost use Rattle.gx_parse.specs.Grammar.{dots, lexeme, more_signs, numeral, operator, place_in, variable_step};
-ghost use Rattle.gx_parse.specs.Nodes.{Found, Operator, tree};
-ghost use Rattle.gx_parse.specs.Parsing.{Added, KeepsTree, join_of, last_of, signs_made, wrapped};
-ghost use Rattle.gx_parse.specs.Reading.{read_in};
-ghost use Rattle.gx_parse.specs.Tokens.{one_of};
+ghost use Rattle.gx_syntax.specs.Grammar.{dots, lexeme, more_signs, numeral, operator, place_in, variable_step};
+ghost use Rattle.gx_syntax.specs.Nodes.{Found, Operator, tree};
+ghost use Rattle.gx_parse.specs.Parsing.{KeepsTree, join_of, last_of, signs_made, wrapped};
+ghost use Rattle.gx_scan.specs.Reading.{Added};
+ghost use Rattle.gx_scan.specs.Reading.{read_in};
+ghost use Rattle.gx_syntax.specs.Tokens.{one_of};
 
 use crate::members::Members;
-use crate::reader::Reader;
-use crate::source::Source;
 use crate::trees;
-use crate::word::{Barrier, Word, WordSet};
 use gx_ast::expression::{Expr, ExprNode};
 use gx_base::place::Place;
+use gx_scan::reader::Reader;
+use gx_scan::source::Source;
+use gx_syntax::word::{Barrier, Word, WordSet};
 use std::alloc::AllocError;
 
 /// A sign at its place.

@@ -2,22 +2,22 @@
 
 ghost use Rattle.std.specs.Prelude.{◌≡◌, IfOk, None, false};
 ghost use Rattle.gx_ast.specs.SyntaxTree.{at, binary as binary_form, comma, conditional, flwor as flwor_form, parenthesised as parenthesised_form, path as path_form, quantified as quantified_form, signed as signed_form, string as string_form, typeswitch as typeswitch_form, variable};
-ghost use Rattle.gx_parse.specs.Nodes.{Found, binary_of, dots_value, is_minus, is_slashes, join_binary, join_comma, join_path, name_at, tree};
-ghost use Rattle.gx_parse.specs.NodeTests.{step_tree, test_of};
+ghost use Rattle.gx_syntax.specs.Nodes.{Found, binary_of, dots_value, is_minus, is_slashes, join_binary, join_comma, join_path, name_at, tree};
+ghost use Rattle.gx_syntax.specs.NodeTests.{step_tree, test_of};
 ghost use Rattle.gx_parse.specs.Parsing.{called_tree, filtered_tree, named_tree};
-ghost use Rattle.gx_parse.specs.Names.{name_made};
+ghost use Rattle.gx_scan.specs.Names.{name_made};
 ghost use Rattle.gx_grammar.specs.Value.{node, nothing, pair};
 ghost use Rattle.gx_ast.specs.SyntaxView.{bindings_of, cases_of, clauses_of, keys_of, trees_of};
 
-use crate::kind_words::{KindWord, TestContent};
-use crate::names::ReadName;
 use crate::node_tests::test_of;
-use crate::word::Word;
 use gx_ast::expression::{BinaryOperator, Binding, Case, Clause, Expr, ExprNode, Key};
 use gx_ast::name::{Axis, NameTest};
 use gx_ast::sequence_type::{AxisStep, DefaultHead, NodeTest};
 use gx_base::place::Place;
 use gx_base::text_builder::TextBuilder;
+use gx_scan::names::ReadName;
+use gx_syntax::kind_words::{KindWord, TestContent};
+use gx_syntax::word::Word;
 use std::alloc::{AllocError, Global};
 
 /// An expression that stands for none, and takes no memory.

@@ -17,8 +17,8 @@ use Rattle.gx_io.specs.Load.{file_of}
 use Rattle.gx_processor.specs.declared.status.Status.TheVariants.{Query}
 use Rattle.gx_base.specs.declared.place.Place.{Place}
 use Rattle.gx_ast.specs.declared.query.Query.{Query as SyntaxQuery}
-use Rattle.gx_parse.specs.Query.{Parsing, parsed, refused, Parses}
-use Rattle.gx_parse.proofs.OneParsing.{one_parsing}
+use Rattle.gx_syntax.specs.Query.{Parsing, parsed, refused, Parses}
+use Rattle.gx_syntax.proofs.OneParsing.{one_parsing}
 use Rattle.gx_normal.specs.Unbuilt.{unbuilt_query}
 use Rattle.gx_processor.specs.Command.{Command, run_file, check_file, query_file, command_of}
 use Rattle.gx_processor.specs.Query.{HoldsQuery}

@@ -12,7 +12,7 @@ use Rattle.gx_static.specs.QueryJudgement.{QueryJudgement, query_typed, query_ju
 use Rattle.gx_io.specs.Load.{file_of}
 use Rattle.gx_ast.specs.declared.query.Query.{Query as SyntaxQuery}
 use Rattle.gx_base.specs.declared.place.Place.{Place}
-use Rattle.gx_parse.specs.Query.{Parses, parsed}
+use Rattle.gx_syntax.specs.Query.{Parses, parsed}
 use Rattle.gx_normal.specs.Unbuilt.{unbuilt_query}
 use Rattle.gx_processor.specs.declared.refusal.Refusal.{Refusal}
 use Rattle.gx_processor.specs.declared.refusal.Refusal.TheVariants.{ReadFault, TooLong, Query, Dynamic, Memory}

@@ -5,7 +5,7 @@ use Rattle.gx_types.specs.SchemaSet.{no_declarations}
 use Rattle.gx_core.specs.declared.expression.Core.{Core}
 use Rattle.gx_io.specs.Load.{file_of}
 use Rattle.gx_ast.specs.declared.query.Query.{Query}
-use Rattle.gx_parse.specs.Query.{Parses, parsed}
+use Rattle.gx_syntax.specs.Query.{Parses, parsed}
 use Rattle.gx_normal.specs.Unbuilt.{unbuilt_query}
 use Rattle.gx_normal.specs.Normalisation.{named_query, query_named}
 

@@ -6,7 +6,8 @@
 mod prolog;
 mod show;
 
-use gx_parse::parser::{SyntaxRefusal, parse};
+use gx_parse::parser::parse;
+use gx_syntax::refusal::SyntaxRefusal;
 use std::alloc::{AllocError, Global};
 use std::io;
 

@@ -9,13 +9,13 @@ use Rattle.gx_xml.specs.declared.source.SourceChild.{SourceChild}
 use Rattle.gx_xml.specs.declared.source.SourceChild.TheVariants.{Element, Text}
 use Rattle.gx_xml.specs.SourceTree.{SourceTree, SourceContents, source, no_content, a_child, a_text}
 
-abbrev pub untyped_attribute : SourceAttribute → Attribute
-untyped_attribute a = record { name = a.name; kind = Builtin UntypedAtomic; value = a.value }
+abbrev pub attribute_as_untyped : SourceAttribute → Attribute
+attribute_as_untyped a = record { name = a.name; kind = Builtin UntypedAtomic; value = a.value }
 
 -- the element with xs:untyped on every element and xs:untypedAtomic on every attribute
 abbrev mutual
   pub untyped_element : SourceTree → PlainTree
-  untyped_element (source name declarations attributes cs) = element name (Builtin Untyped) (map untyped_attribute attributes) (untyped_contents cs)
+  untyped_element (source name declarations attributes cs) = element name (Builtin Untyped) (map attribute_as_untyped attributes) (untyped_contents cs)
 
   pub untyped_contents : SourceContents → PlainTrees
   untyped_contents no_content = no_trees

@@ -1,6 +1,6 @@
 // Documents without types.
 
-ghost use Rattle.gx_xml.specs.Untyped.{untyped_attribute, untyped_child, untyped_document, untyped_element};
+ghost use Rattle.gx_xml.specs.Untyped.{attribute_as_untyped, untyped_child, untyped_document, untyped_element};
 ghost use Rattle.std.specs.Prelude.{◌≡◌, IfOk, map};
 
 use crate::source::{Source, SourceAttribute, SourceChild, SourceElement};
@@ -63,7 +63,7 @@ fn untyped_attributes(
     alloc: Global,
     attributes: &Vec<SourceAttribute>,
 ) -> Result<Vec<Attribute>, AllocError>
-    ensures { IfOk result (λ copies. copies.items ≡ map untyped_attribute attributes.now.items) }
+    ensures { IfOk result (λ copies. copies.items ≡ map attribute_as_untyped attributes.now.items) }
 {
     let mut copies = Vec::with_capacity(alloc, attributes.len())?;
     for attribute in attributes {

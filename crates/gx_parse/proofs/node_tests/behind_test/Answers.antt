@@ -1,11 +1,11 @@
 use Rattle.std.proofs.Common.{Some, ap, subst, sym, ◌∙◌}
 use Rattle.gx_grammar.specs.Value.{nothing, pair}
-use Rattle.gx_parse.specs.Names.{name_made}
-use Rattle.gx_parse.specs.Nodes.{name_at}
-use Rattle.gx_parse.specs.Grammar.{place_in}
-use Rattle.gx_parse.specs.Reading.{read_in}
+use Rattle.gx_scan.specs.Names.{name_made}
+use Rattle.gx_syntax.specs.Nodes.{name_at}
+use Rattle.gx_syntax.specs.Grammar.{place_in}
+use Rattle.gx_scan.specs.Reading.{read_in}
 use Rattle.gx_grammar.specs.Ran.{Ran}
-use Rattle.gx_parse.specs.NodeTests.{behind_test, maybe_content, test_made, test_of, test_value}
+use Rattle.gx_syntax.specs.NodeTests.{behind_test, maybe_content, test_made, test_of, test_value}
 use Rattle.gx_parse.proofs.TypesPhrases.{gave_none, loses_ended, ran_loses}
 use Rattle.gx_parse.proofs.NodeTestsPhrases.{test_read, test_value_is}
 use Rattle.gx_parse.proofs.node_tests.behind_test.Goals as goal

@@ -1,9 +1,9 @@
 use Rattle.std.proofs.Common.{Some, ap, ◌∙◌}
 use Rattle.gx_grammar.specs.Value.{nothing, characters}
-use Rattle.gx_parse.specs.Grammar.{place_in}
-use Rattle.gx_parse.specs.Reading.{read_in, read_one}
-use Rattle.gx_parse.specs.Tokens.{gap}
-use Rattle.gx_parse.specs.NodeTests.{test_made, wildcard}
+use Rattle.gx_syntax.specs.Grammar.{place_in}
+use Rattle.gx_scan.specs.Reading.{read_in, read_one}
+use Rattle.gx_syntax.specs.Tokens.{gap}
+use Rattle.gx_syntax.specs.NodeTests.{test_made, wildcard}
 use Rattle.gx_grammar.proofs.PublicLaws.{ran_idle}
 use Rattle.gx_parse.proofs.TypesPhrases.{gave_none}
 use Rattle.gx_parse.proofs.NodeTestsPhrases.{any_read, local_read}

@@ -4,25 +4,26 @@ use Rattle.gx_ast.specs.declared.expression.Clause.TheVariants.{Where}
 use Rattle.gx_grammar.specs.Value.{node, nothing, pair}
 use Rattle.gx_grammar.specs.Grammar.{rule, token, ◌&◌}
 use Rattle.gx_grammar.specs.Ran.{Ran, Makes}
-use Rattle.gx_parse.specs.Nodes.{Arguments, Made, name_at, name_length, tree}
-use Rattle.gx_parse.specs.Bound.{bound}
-use Rattle.gx_parse.specs.Binding.{clause, first_bound, flwor, head, last_clause, more_bindings, more_clauses, quantified}
-use Rattle.gx_parse.specs.declared.word.Binder.TheVariants as binder
-use Rattle.gx_parse.specs.Keys.{key, key_made, more_keys}
-use Rattle.gx_parse.specs.Typeswitch.{case, case_made, more_cases}
+use Rattle.gx_syntax.specs.Nodes.{Arguments, Made, name_at, name_length, tree}
+use Rattle.gx_syntax.specs.Bound.{bound}
+use Rattle.gx_syntax.specs.Binding.{clause, first_bound, flwor, head, last_clause, more_bindings, more_clauses, quantified}
+use Rattle.gx_syntax.specs.declared.word.Binder.TheVariants as binder
+use Rattle.gx_syntax.specs.Keys.{key, key_made, more_keys}
+use Rattle.gx_syntax.specs.Typeswitch.{case, case_made, more_cases}
 use Rattle.gx_parse.proofs.TypeswitchPhrases.{case_read, cases_none, cases_more, cases_read, typeswitch_read, branched_condition, branched_typeswitch}
 use Rattle.gx_parse.specs.Lists.{Grown, binding_made, clause_made, head_made, items_before}
-use Rattle.gx_parse.specs.Names.{name_made}
-use Rattle.gx_parse.specs.Grammar.{after_axis, filtered_step, more_predicates, path_from, step_of, step_value, is_name, behind_keyword, named_single, more_arguments, other_step, at_tokens, begun, behind_any_name, behind_plain_name, condition, ladder, other_operand, parenthesised_step, place_in, single, step, typeswitch}
-use Rattle.gx_parse.specs.Tokens.{gap, gap_then_open, gap_not_open, gap_then_dollar}
+use Rattle.gx_scan.specs.Names.{name_made}
+use Rattle.gx_syntax.specs.Grammar.{after_axis, filtered_step, more_predicates, path_from, step_of, step_value, is_name, behind_keyword, named_single, more_arguments, other_step, at_tokens, begun, behind_any_name, behind_plain_name, condition, ladder, other_operand, parenthesised_step, place_in, single, step, typeswitch}
+use Rattle.gx_syntax.specs.Tokens.{gap, gap_then_open, gap_not_open, gap_then_dollar}
 use Rattle.gx_parse.specs.declared.members.Members.TheVariants.{Steps}
 use Rattle.gx_ast.specs.SyntaxTree.{at, conditional, flwor as flwor_form, parenthesised, quantified as quantified_form, typeswitch as typeswitch_form}
 use Rattle.gx_grammar.proofs.PublicLaws.{ran_idle}
-use Rattle.gx_parse.specs.Reading.{call, read_in}
-use Rattle.gx_parse.specs.Parsing.{Added, Listed, filtered_tree, named_tree, called_tree, most_of, read_chain, chain_of, member_of, wrapped}
+use Rattle.gx_scan.specs.Reading.{call, read_in}
+use Rattle.gx_parse.specs.Parsing.{Listed, filtered_tree, named_tree, called_tree, most_of, read_chain, chain_of, member_of, wrapped}
+use Rattle.gx_scan.specs.Reading.{Added}
 use Rattle.gx_parse.proofs.Chains.{ran_any, ran_keeps, chain_full}
 use Rattle.gx_parse.proofs.Phrases.{in_rule}
-use Rattle.gx_parse.specs.NodeTests.{any_step, axis_word, maybe_content, step_tree, test_made, test_of}
+use Rattle.gx_syntax.specs.NodeTests.{any_step, axis_word, maybe_content, step_tree, test_made, test_of}
 use Rattle.gx_parse.proofs.Phrases.{loses_done, loses_ran}
 use Rattle.std.proofs.lemmas.List.{append_assoc}
 use Rattle.gx_parse.proofs.NodeTestsPhrases.{wildcard_stands, no_wildcard}

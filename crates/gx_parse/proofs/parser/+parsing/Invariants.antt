@@ -3,13 +3,14 @@ use Rattle.gx_ast.specs.SyntaxTree.{SyntaxTree}
 use Rattle.gx_grammar.specs.Ran.{Standing, Ran, left_of}
 use Rattle.gx_parse.specs.declared.members.Members.{Members}
 use Rattle.gx_parse.specs.declared.members.Members.TheVariants.{Singles, Operands, Steps}
-use Rattle.gx_parse.specs.Nodes.{Made, tree}
-use Rattle.gx_parse.specs.Grammar.{Phrase, ladder, more_predicates, place_in}
-use Rattle.gx_parse.specs.Reading.{read_in}
-use Rattle.gx_parse.specs.Parsing.{Added, Passed, predicates_before, most_of, read_chain, read_items}
-use Rattle.gx_parse.specs.Binding.{more_bindings, more_clauses}
-use Rattle.gx_parse.specs.Keys.{key_made, more_keys}
-use Rattle.gx_parse.specs.Typeswitch.{case_made, more_cases}
+use Rattle.gx_syntax.specs.Nodes.{Made, tree}
+use Rattle.gx_syntax.specs.Grammar.{Phrase, ladder, more_predicates, place_in}
+use Rattle.gx_scan.specs.Reading.{read_in}
+use Rattle.gx_parse.specs.Parsing.{Passed, predicates_before, most_of, read_chain, read_items}
+use Rattle.gx_scan.specs.Reading.{Added}
+use Rattle.gx_syntax.specs.Binding.{more_bindings, more_clauses}
+use Rattle.gx_syntax.specs.Keys.{key_made, more_keys}
+use Rattle.gx_syntax.specs.Typeswitch.{case_made, more_cases}
 use Rattle.gx_parse.specs.Lists.{Gone, binding_made, clause_made}
 use Rattle.gx_parse.proofs.parser.+parsing.Given as goal
 

@@ -1,6 +1,6 @@
 use Rattle.std.proofs.Common.{ℕ, List, subst}
 use Rattle.gx_types.specs.SchemaSet.{no_declarations}
-use Rattle.gx_parse.specs.Query.{Parses, parsed}
+use Rattle.gx_syntax.specs.Query.{Parses, parsed}
 use Rattle.gx_processor.specs.Answer.{AnswersBytes}
 use Rattle.gx_processor.specs.Command.{Command}
 use Rattle.gx_processor.specs.Replies.{RefusesSo}

@@ -1,6 +1,0 @@
-use Rattle.gx_parse.proofs.PrologSorted.{definition_sorted}
-use Rattle.gx_parse.proofs.Ahead.{declarations_avoided}
-use Rattle.gx_parse.proofs.laws.expressions_are_no_declarations.Goals as goal
-
-pub returns : goal.returns
-returns c = λ at. declarations_avoided at

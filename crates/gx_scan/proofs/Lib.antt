@@ -1,0 +1,6 @@
+pub mod Finding
+pub mod GapSteps
+pub mod NameScans
+pub mod NameTables
+pub mod NumberScans
+pub mod ReferenceScans

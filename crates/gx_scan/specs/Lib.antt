@@ -1,0 +1,5 @@
+pub mod GapSteps
+pub mod Indications
+pub mod Names
+pub mod Numbers
+pub mod Reading

@@ -1,0 +1,43 @@
+-- What the parts of the grammar are made of.
+use Rattle.std.specs.Prelude.{ℕ, List, Bool, false, nat_eq}
+use Rattle.std.specs.Cmp.Lexicographic.{pointwise}
+use Rattle.gx_base.specs.declared.place.Place.{Place}
+use Rattle.gx_grammar.specs.Grammar.{Grammar, Guard, token, ◌&◌, made}
+use Rattle.gx_grammar.specs.Value.{nothing, characters, pair}
+use Rattle.gx_grammar.specs.First.{by_tokens}
+use Rattle.gx_syntax.specs.declared.word.Word.{Word}
+use Rattle.gx_syntax.specs.declared.word.WordSet.{WordSet}
+use Rattle.gx_syntax.specs.declared.word.WordSet.TheVariants as set
+use Rattle.gx_syntax.specs.Tokens.{Token, one_of, qname, gap, scan, seen, faults}
+use Rattle.gx_syntax.specs.Nodes.{Node, Made, operator_value, name_value}
+
+pub data Production : Type 0 where
+  -- a Single, where that many Singles may stand one inside another, itself among them
+  single : ℕ → Production
+
+abbrev pub Phrase : Type 0
+Phrase = Grammar Token Production Node
+
+-- a token, and the white space and comments behind it
+abbrev pub lexeme : Token → Phrase
+lexeme t = token t & token gap
+
+abbrev pub word_of : Word → Token
+word_of w = one_of (set.Only w)
+
+-- one of the tokens stands there
+abbrev pub at_tokens : List Token → Guard
+at_tokens ts = by_tokens scan faults seen ts
+
+-- the name is this one, without a prefix
+abbrev pub is_name : List ℕ → Made → Bool
+is_name cs (pair (characters local) nothing) = pointwise nat_eq cs local
+is_name cs _ = false
+
+-- The place of a token is `at` of the number of characters that are left there.
+module _ (at : ℕ → Place) where
+  unfoldable pub operator : WordSet → Phrase
+  operator ws = made (λ left v. operator_value (at left) v) (lexeme (one_of ws))
+
+  unfoldable pub name : Phrase
+  name = made (λ left v. name_value (at left) v) (token qname)
