@@ -2,12 +2,14 @@
 
 ghost use Rattle.gx_steptype.specs.StepLaws.{StepsKeepTheirTypes, DataKeepsItsType};
 
-/// From a node of a type, a step to a child, an attribute, the node itself or the parent gives nodes of the step's type.
+/// In an honest forest, which has no types of its nodes as yet, and where no two attributes of an element have equal names: from a
+/// node of a type, a step to a child, an attribute, the node itself or the parent gives nodes of the step's type. The types of the
+/// schemas end at built-in ones.
 pub fn steps_keep_their_types()
     ensures { StepsKeepTheirTypes }
 {}
 
-/// The items of a type have typed values of the type of its data.
+/// The typed values of the items of a type, nodes without a type or atomic values, are of the type of its data.
 pub fn data_keeps_its_type()
     ensures { DataKeepsItsType }
 {}
