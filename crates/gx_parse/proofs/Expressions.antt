@@ -23,6 +23,7 @@ use Rattle.gx_base.specs.NameCharacters.{is_ncname_start}
 use Rattle.gx_scan.specs.Names.{name_made}
 use Rattle.gx_syntax.specs.Nodes.{Node, Made, Arguments, Found, Operator, Tree, name_at, name_length, named_value, second_value, signed_value, condition_value, parenthesised_value, arguments_value, trees_in, is_minus, tree, chain_value, joined_to}
 use Rattle.gx_syntax.specs.Tokens.{Token, one_of, gap, gap_then_open, gap_not_open, gap_then_dollar, gap_then_neither, barred, qname}
+use Rattle.gx_syntax.specs.Direct.{direct_step}
 use Rattle.gx_syntax.specs.Grammar.{Phrase, word_of, lexeme, at_tokens, operator, more, more_signs, single, rules, expression, ladder, other_operand, other_step, step, dots, literal, variable_step, parenthesised_step, more_arguments, arguments_in, arguments, behind_plain_name, behind_any_name, filtered_step, test_or_literal, path_from, signed_path, condition, branched, branched_or_name, begun, behind_keyword, opened_or_name, named_single, is_name, is_reserved, is_single, level_at, two, chain, query_language, place_in}
 use Rattle.gx_syntax.specs.Casts.{casts}
 use Rattle.gx_syntax.specs.declared.word.Opening.{Opening}
@@ -132,31 +133,46 @@ module _ (text : List ℕ) (n : ℕ) where
         (chain_goes_on text n m j t u v place w kept result taken a b c d e z f (subst (λ s. Looked taken a b (at_tokens (one_of s ∷ []))) g h) (subst (λ s. Ran (node (Operator place w)) b c (read_in text n (operator (place_in text) s))) g i) r o q x)
 
   -- steps that do not begin with a name
+
+  abbrev no_tag : Phrase
+  no_tag = choose (at_tokens (one_of set.Dots ∷ [])) (dots (place_in text)) (test_or_literal (place_in text))
+
+  abbrev no_parenthesis : Phrase
+  no_parenthesis = choose (by_character (is 60)) (direct_step (place_in text) n) no_tag
+
+  abbrev no_variable : Phrase
+  no_variable = choose (by_character (is 40)) (parenthesised_step (place_in text) n) no_parenthesis
+
   pub step_variable : (v : Made) (taken : Bool) (a b c : Standing) → taken ≡ true → Looked taken a b (by_character (is 36)) → Ran v b c (read_in text n (variable_step (place_in text))) → Ran v a c (read_in text n (other_step (place_in text) n))
   unfolding other_step
-  step_variable v taken a b c e h k = in_left text n (by_character (is 36)) (variable_step (place_in text)) (choose (by_character (is 40)) (parenthesised_step (place_in text) n) (choose (at_tokens (one_of set.Dots ∷ [])) (dots (place_in text)) (test_or_literal (place_in text)))) v taken a b c e h k
+  step_variable v taken a b c e h k = in_left text n (by_character (is 36)) (variable_step (place_in text)) no_variable v taken a b c e h k
 
   pub step_parenthesised : (v : Made) (taken one : Bool) (a b c d : Standing) → taken ≡ false → Looked taken a b (by_character (is 36)) → one ≡ true → Looked one b c (by_character (is 40)) → Ran v c d (read_in text n (parenthesised_step (place_in text) n)) → Ran v a d (read_in text n (other_step (place_in text) n))
   unfolding other_step
   step_parenthesised v taken one a b c d e h f i k =
-      in_right text n (by_character (is 36)) (variable_step (place_in text)) (choose (by_character (is 40)) (parenthesised_step (place_in text) n) (choose (at_tokens (one_of set.Dots ∷ [])) (dots (place_in text)) (test_or_literal (place_in text)))) v taken a b d e h
-      (in_left text n (by_character (is 40)) (parenthesised_step (place_in text) n) (choose (at_tokens (one_of set.Dots ∷ [])) (dots (place_in text)) (test_or_literal (place_in text))) v one b c d f i k)
+      in_right text n (by_character (is 36)) (variable_step (place_in text)) no_variable v taken a b d e h (in_left text n (by_character (is 40)) (parenthesised_step (place_in text) n) no_parenthesis v one b c d f i k)
 
-  pub step_dots : (v : Made) (taken one two_dots : Bool) (a b c d e : Standing) → taken ≡ false → Looked taken a b (by_character (is 36)) → one ≡ false → Looked one b c (by_character (is 40)) → two_dots ≡ true → Looked two_dots c d (at_tokens (one_of set.Dots ∷ []))
-      → Ran v d e (read_in text n (dots (place_in text))) → Ran v a e (read_in text n (other_step (place_in text) n))
+  -- neither `$` nor `(` stands first
+  behind_two : (v : Made) (taken one : Bool) (a b c e : Standing) → taken ≡ false → Looked taken a b (by_character (is 36)) → one ≡ false → Looked one b c (by_character (is 40)) → Ran v c e (read_in text n no_parenthesis) → Ran v a e (read_in text n (other_step (place_in text) n))
   unfolding other_step
-  step_dots v taken one two_dots a b c d e f h g i l j k =
-      in_right text n (by_character (is 36)) (variable_step (place_in text)) (choose (by_character (is 40)) (parenthesised_step (place_in text) n) (choose (at_tokens (one_of set.Dots ∷ [])) (dots (place_in text)) (test_or_literal (place_in text)))) v taken a b e f h
-      (in_right text n (by_character (is 40)) (parenthesised_step (place_in text) n) (choose (at_tokens (one_of set.Dots ∷ [])) (dots (place_in text)) (test_or_literal (place_in text))) v one b c e g i
-      (in_left text n (at_tokens (one_of set.Dots ∷ [])) (dots (place_in text)) (test_or_literal (place_in text)) v two_dots c d e l j k))
+  behind_two v taken one a b c e f h g i k =
+      in_right text n (by_character (is 36)) (variable_step (place_in text)) no_variable v taken a b e f h (in_right text n (by_character (is 40)) (parenthesised_step (place_in text) n) no_parenthesis v one b c e g i k)
 
-  pub step_literal : (v : Made) (taken one two_dots : Bool) (a b c d e : Standing) → taken ≡ false → Looked taken a b (by_character (is 36)) → one ≡ false → Looked one b c (by_character (is 40)) → two_dots ≡ false → Looked two_dots c d (at_tokens (one_of set.Dots ∷ []))
-      → Ran v d e (read_in text n (test_or_literal (place_in text))) → Ran v a e (read_in text n (other_step (place_in text) n))
-  unfolding other_step
-  step_literal v taken one two_dots a b c d e f h g i l j k =
-      in_right text n (by_character (is 36)) (variable_step (place_in text)) (choose (by_character (is 40)) (parenthesised_step (place_in text) n) (choose (at_tokens (one_of set.Dots ∷ [])) (dots (place_in text)) (test_or_literal (place_in text)))) v taken a b e f h
-      (in_right text n (by_character (is 40)) (parenthesised_step (place_in text) n) (choose (at_tokens (one_of set.Dots ∷ [])) (dots (place_in text)) (test_or_literal (place_in text))) v one b c e g i
-      (in_right text n (at_tokens (one_of set.Dots ∷ [])) (dots (place_in text)) (test_or_literal (place_in text)) v two_dots c d e l j k))
+  pub step_direct : (v : Made) (taken one less : Bool) (a b c d e : Standing) → taken ≡ false → Looked taken a b (by_character (is 36)) → one ≡ false → Looked one b c (by_character (is 40)) → less ≡ true → Looked less c d (by_character (is 60))
+      → Ran v d e (read_in text n (direct_step (place_in text) n)) → Ran v a e (read_in text n (other_step (place_in text) n))
+  step_direct v taken one less a b c d e f h g i l j k = behind_two v taken one a b c e f h g i (in_left text n (by_character (is 60)) (direct_step (place_in text) n) no_tag v less c d e l j k)
+
+  pub step_dots : (v : Made) (taken one less two_dots : Bool) (a b c d e z : Standing) → taken ≡ false → Looked taken a b (by_character (is 36)) → one ≡ false → Looked one b c (by_character (is 40)) → less ≡ false → Looked less c d (by_character (is 60))
+      → two_dots ≡ true → Looked two_dots d e (at_tokens (one_of set.Dots ∷ [])) → Ran v e z (read_in text n (dots (place_in text))) → Ran v a z (read_in text n (other_step (place_in text) n))
+  step_dots v taken one less two_dots a b c d e z f h g i l j m o k =
+      behind_two v taken one a b c z f h g i
+      (in_right text n (by_character (is 60)) (direct_step (place_in text) n) no_tag v less c d z l j (in_left text n (at_tokens (one_of set.Dots ∷ [])) (dots (place_in text)) (test_or_literal (place_in text)) v two_dots d e z m o k))
+
+  pub step_literal : (v : Made) (taken one less two_dots : Bool) (a b c d e z : Standing) → taken ≡ false → Looked taken a b (by_character (is 36)) → one ≡ false → Looked one b c (by_character (is 40)) → less ≡ false → Looked less c d (by_character (is 60))
+      → two_dots ≡ false → Looked two_dots d e (at_tokens (one_of set.Dots ∷ [])) → Ran v e z (read_in text n (test_or_literal (place_in text))) → Ran v a z (read_in text n (other_step (place_in text) n))
+  step_literal v taken one less two_dots a b c d e z f h g i l j m o k =
+      behind_two v taken one a b c z f h g i
+      (in_right text n (by_character (is 60)) (direct_step (place_in text) n) no_tag v less c d z l j (in_right text n (at_tokens (one_of set.Dots ∷ [])) (dots (place_in text)) (test_or_literal (place_in text)) v two_dots d e z m o k))
 
   -- a Single whose name was read
   abbrev plain_path : Made → Phrase

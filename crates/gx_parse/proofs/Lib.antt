@@ -3,6 +3,7 @@ pub mod BoundPhrases
 pub mod Calls
 pub mod CastsPhrases
 pub mod Chains
+pub mod DirectPhrases
 pub mod Ended
 pub mod Expressions
 pub mod KeysPhrases
@@ -15,3 +16,4 @@ pub mod Steps
 pub mod StringsPhrases
 pub mod TypesPhrases
 pub mod TypeswitchPhrases
+pub mod ComputedPhrases

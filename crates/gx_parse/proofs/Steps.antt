@@ -85,36 +85,6 @@ module _ (text : List ℕ) (n : ℕ) where
   call_after v u taken a b c e t h k =
       subst (λ q. Ran u a c (reading (if q then (kind_content (place_in text) (kind_word v)) else call_part))) (sym e) (in_left text n (by_character (is 40)) (arguments (place_in text) n) empty u taken a b c t h k)
 
-  -- names
-
-  abbrev behind_gap : Made → Phrase
-  behind_gap v = token gap & after_axis (place_in text) n (axis_word v) v
-
-  pub any_name_is : (v u : Made) (a b : Standing) → Ran u a b (reading (step_of (place_in text) v (behind_gap v))) → Ran u a b (reading (behind_any_name (place_in text) n v))
-  unfolding behind_any_name
-  any_name_is v u a b h = h
-
-  pub no_axis : (v : Made) (a b : Standing) → axis_word v ≡ None → Ran nothing a b (read_one gap) → Passes b a (reading (after_name (place_in text) n v)) (reading (behind_gap v))
-  unfolding after_axis
-  no_axis v a b e h = λ u z k.
-      in_both text n (token gap) (after_axis (place_in text) n (axis_word v) v) nothing u a b z (in_token text n gap nothing a b h) (subst (λ o. Ran u b z (reading (after_axis (place_in text) n o v))) (sym e) k)
-
-  pub no_colons : (v : Made) (x : Axis) (taken : Bool) (a b c : Standing) → axis_word v ≡ Some x → Ran nothing a b (read_one gap) → taken ≡ false → Looked taken b c (at_tokens (word_of word.Colons ∷ []))
-      → Passes c a (reading (after_name (place_in text) n v)) (reading (behind_gap v))
-  unfolding after_axis
-  no_colons v x taken a b c e h t l = λ u z k.
-      in_both text n (token gap) (after_axis (place_in text) n (axis_word v) v) nothing u a b z (in_token text n gap nothing a b h)
-      (subst (λ o. Ran u b z (reading (after_axis (place_in text) n o v))) (sym e) (in_right text n (at_tokens (word_of word.Colons ∷ [])) (axis_test (place_in text)) (after_name (place_in text) n v) u taken b c z t l k))
-
-  pub axis_step_read : (v u : Made) (x : Axis) (place : Place) (taken : Bool) (a b c d : Standing) → place ≡ place_in text (left_of a + name_length v) → axis_word v ≡ Some x → Ran nothing a b (read_one gap) → taken ≡ true → Looked taken b c (at_tokens (word_of word.Colons ∷ []))
-      → Ran u c d (reading (axis_test (place_in text))) → Ran (step_value v (name_at place v) (pair nothing u)) a d (reading (behind_any_name (place_in text) n v))
-  unfolding behind_any_name step_of after_axis
-  axis_step_read v u x place taken a b c d p e h t l k =
-      subst (λ q. Ran (step_value v (name_at q v) (pair nothing u)) a d (reading (behind_any_name (place_in text) n v))) (sym p)
-      (in_made text n (λ left u. step_value v (name_at (place_in text (left + name_length v)) v) u) (behind_gap v) (pair nothing u) a d
-      (in_both text n (token gap) (after_axis (place_in text) n (axis_word v) v) nothing u a b d (in_token text n gap nothing a b h)
-      (subst (λ o. Ran u b d (reading (after_axis (place_in text) n o v))) (sym e) (in_left text n (at_tokens (word_of word.Colons ∷ [])) (axis_test (place_in text)) (after_name (place_in text) n v) u taken b c d t l k))))
-
   -- predicates
 
   pub predicate_read : (x v y : Made) (a b c d : Standing) → Ran x a b (reading (lexeme (word_of word.OpenBracket))) → Ran v b c (reading (expression (place_in text) n)) → Ran y c d (reading (lexeme (word_of word.CloseBracket))) → Ran v a d (reading (predicate (place_in text) n))

@@ -33,7 +33,7 @@ use Rattle.gx_parse.proofs.Phrases.{in_token, in_both, in_left, in_right, in_mad
 -- what was found
 
 -- a step behind which memory did not suffice
-ran_lost : {A : Type 0} (v : A) (a b d : Standing) (read : State → Reading A) → Ran v a b read → Loses b d → Ran v a d read
+pub ran_lost : {A : Type 0} (v : A) (a b d : Standing) (read : State → Reading A) → Ran v a b read → Loses b d → Ran v a d read
 ran_lost v (Going s) (Going t) d read h l = subst (λ z. Ran v (Going s) z read) (sym l) tt
 ran_lost v (Going s) (GaveUp e) d read h l = subst (λ z. Ran v (Going s) z read) (sym l) h
 ran_lost v (Going s) Lost d read h l = subst (λ z. Ran v (Going s) z read) (sym l) tt

@@ -1,3 +1,4 @@
+pub mod DirectReading
 pub mod Lists
 pub mod Outcome
 pub mod Parsing

@@ -5,6 +5,7 @@ ghost use Rattle.gx_grammar.specs.Value.{node, nothing, pair};
 ghost use Rattle.gx_grammar.specs.Ran.{Makes, Ran};
 ghost use Rattle.gx_syntax.specs.Grammar.{dots, lexeme, more_signs, numeral, operator, place_in, variable_step};
 ghost use Rattle.gx_syntax.specs.Nodes.{Found, Operator, tree};
+ghost use Rattle.gx_parse.specs.Lists.{Grown};
 ghost use Rattle.gx_parse.specs.Parsing.{KeepsTree, join_of, last_of, signs_made, wrapped};
 ghost use Rattle.gx_scan.specs.Reading.{Added};
 ghost use Rattle.gx_scan.specs.Reading.{read_in};
@@ -168,4 +169,16 @@ pub fn dots(reader: &mut Reader<'_>, source: &Source<'_>) -> Expr
     let place = source.place(reader.left());
     let word = lexeme(reader, WordSet::Dots);
     trees::dots(place, word)
+}
+
+/// The items with one more; the same where memory does not suffice.
+pub fn with_item<T: Drop>(reader: &mut Reader<'_>, items: Vec<T>, item: T) -> Vec<T>
+    ensures { Grown items.items item result.items reader.old reader.new }
+{
+    let mut list = items;
+    if list.push(item).is_err() {
+        reader.lose();
+        return list;
+    }
+    list
 }

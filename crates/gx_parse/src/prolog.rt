@@ -4,7 +4,7 @@ ghost use Rattle.std.specs.Prelude.{◌≡◌, ℕ, List, IfSome, MatchOption};
 ghost use Rattle.gx_grammar.specs.Value.{characters, node, no_item};
 ghost use Rattle.gx_grammar.specs.Ran.{Loses, Ran};
 ghost use Rattle.gx_syntax.specs.Grammar.{lexeme, place_in, word_of};
-ghost use Rattle.gx_parse.specs.Lists.{Grown, OneMore};
+ghost use Rattle.gx_parse.specs.Lists.{OneMore};
 ghost use Rattle.gx_syntax.specs.Nodes.{MaybeVersion, Whole};
 ghost use Rattle.gx_scan.specs.Reading.{Added};
 ghost use Rattle.gx_syntax.specs.Prolog.{boundary_space_setter, construction_setter, copy_setter, default_namespace, default_schema, default_setter, definer, definition, definitions, empty_order_setter, encoding, function_definer, initialiser, maybe_version, more_locations, more_parameters, named_schema, namespace_setter, empty_order_of, ordering_setter, parameter, parameters, prefix, preserves, query, schema_import, schema_prefix, setter, setting, settings, text_literal, text_of, variable_definer, version};
@@ -15,8 +15,9 @@ ghost use Rattle.gx_syntax.specs.Types.{Gave};
 
 use crate::binding::kind_of;
 use crate::bound::bound;
-use crate::parser::{expression, single};
-use crate::parts::lexeme;
+use crate::operators::expression;
+use crate::parts::{lexeme, with_item};
+use crate::singles::single;
 use crate::strings::quoted;
 use crate::types::written_name;
 use gx_ast::items::Items;
@@ -255,18 +256,6 @@ fn more_locations(reader: &mut Reader<'_>, source: &Source<'_>, locations: Vec<T
             return list;
         }
         left -= 1;
-    }
-    list
-}
-
-// The items with one more; the same where memory does not suffice.
-fn with_item<T: Drop>(reader: &mut Reader<'_>, items: Vec<T>, item: T) -> Vec<T>
-    ensures { Grown items.items item result.items reader.old reader.new }
-{
-    let mut list = items;
-    if list.push(item).is_err() {
-        reader.lose();
-        return list;
     }
     list
 }

@@ -19,8 +19,8 @@ use gx_syntax::runs::{Quote, Run};
 use gx_syntax::word::WordSet;
 use std::alloc::Global;
 
-// Adds a character.
-fn push(reader: &mut Reader<'_>, text: &mut TextBuilder, character: char)
+/// Adds a character.
+pub fn push(reader: &mut Reader<'_>, text: &mut TextBuilder, character: char)
     ensures { Added text.old text.new (λ cs. Pushes character cs reader.old reader.new) }
 {
     if text.push(character).is_err() {

@@ -1,23 +1,27 @@
 // Trees of their parts.
 
 ghost use Rattle.std.specs.Prelude.{◌≡◌, IfOk, None, false};
-ghost use Rattle.gx_ast.specs.SyntaxTree.{at, binary as binary_form, comma, conditional, flwor as flwor_form, parenthesised as parenthesised_form, path as path_form, quantified as quantified_form, signed as signed_form, string as string_form, typeswitch as typeswitch_form, variable};
+ghost use Rattle.gx_ast.specs.SyntaxTree.{at, binary as binary_form, comma, conditional, direct as direct_form, flwor as flwor_form, parenthesised as parenthesised_form, path as path_form, quantified as quantified_form, signed as signed_form, string as string_form, typeswitch as typeswitch_form, variable};
 ghost use Rattle.gx_syntax.specs.Nodes.{Found, binary_of, dots_value, is_minus, is_slashes, join_binary, join_comma, join_path, name_at, tree};
+ghost use Rattle.gx_syntax.specs.Computed.{computed_form, empty_form, named_form};
 ghost use Rattle.gx_syntax.specs.NodeTests.{step_tree, test_of};
 ghost use Rattle.gx_parse.specs.Parsing.{called_tree, filtered_tree, named_tree};
 ghost use Rattle.gx_scan.specs.Names.{name_made};
 ghost use Rattle.gx_grammar.specs.Value.{node, nothing, pair};
-ghost use Rattle.gx_ast.specs.SyntaxView.{bindings_of, cases_of, clauses_of, keys_of, trees_of};
+ghost use Rattle.gx_ast.specs.SyntaxView.{attributes_of, bindings_of, cases_of, clauses_of, keys_of, parts_of, trees_of};
 
 use crate::node_tests::test_of;
-use gx_ast::expression::{BinaryOperator, Binding, Case, Clause, Expr, ExprNode, Key};
-use gx_ast::name::{Axis, NameTest};
+use gx_ast::expression::{
+    BinaryOperator, Binding, Case, Clause, DirectAttribute, DirectElement, Expr, ExprNode, Key,
+    Part,
+};
+use gx_ast::name::{Axis, NameTest, QName};
 use gx_ast::sequence_type::{AxisStep, DefaultHead, NodeTest};
 use gx_base::place::Place;
 use gx_base::text_builder::TextBuilder;
 use gx_scan::names::ReadName;
 use gx_syntax::kind_words::{KindWord, TestContent};
-use gx_syntax::word::Word;
+use gx_syntax::word::{ComputedNode, NamedNode, Word};
 use std::alloc::{AllocError, Global};
 
 /// An expression that stands for none, and takes no memory.
@@ -288,4 +292,70 @@ pub fn string(place: Place, text: TextBuilder) -> Result<Expr, AllocError>
 {
     let node = ExprNode::String(text.finish()?);
     Ok(Expr { place, node })
+}
+
+/// A direct element, whose name stands at a place of its own.
+pub fn direct(
+    alloc: Global,
+    place: Place,
+    name_place: Place,
+    name: ReadName,
+    attributes: Vec<DirectAttribute>,
+    content: Vec<Part>,
+) -> Result<Expr, AllocError>
+    ensures { IfOk result (λ e. e ≡ at place (direct_form (name_at name_place (name_made name)) (attributes_of attributes.items) (parts_of content.items))) }
+{
+    let name = name.at(alloc, name_place)?;
+    let node = ExprNode::Direct(DirectElement {
+        name,
+        attributes,
+        content,
+    });
+    Ok(Expr { place, node })
+}
+
+/// A computed document or text node.
+pub fn computed(
+    alloc: Global,
+    place: Place,
+    word: ComputedNode,
+    content: Expr,
+) -> Result<Expr, AllocError>
+    ensures { IfOk result (λ e. e ≡ at place (computed_form word content)) }
+{
+    let content = Box::new(alloc, content)?;
+    let node = match word {
+        ComputedNode::Document => ExprNode::Document(content),
+        ComputedNode::Text => ExprNode::TextNode(content),
+    };
+    Ok(Expr { place, node })
+}
+
+/// A computed element or attribute with an expression in its braces.
+pub fn named_node(
+    alloc: Global,
+    place: Place,
+    word: NamedNode,
+    name: QName,
+    content: Expr,
+) -> Result<Expr, AllocError>
+    ensures { IfOk result (λ e. e ≡ at place (named_form word name content)) }
+{
+    let content = Box::new(alloc, content)?;
+    let node = match word {
+        NamedNode::Element => ExprNode::Element(name, content),
+        NamedNode::Attribute => ExprNode::Attribute(name, content),
+    };
+    Ok(Expr { place, node })
+}
+
+/// A computed element or attribute with nothing in its braces.
+pub fn empty_node(place: Place, word: NamedNode, name: QName) -> Expr
+    ensures { result ≡ at place (empty_form word name) }
+{
+    let node = match word {
+        NamedNode::Element => ExprNode::EmptyElement(name),
+        NamedNode::Attribute => ExprNode::EmptyAttribute(name),
+    };
+    Expr { place, node }
 }

@@ -1,5 +1,6 @@
 pub mod Finding
 pub mod GapSteps
+pub mod MarkupScans
 pub mod NameScans
 pub mod NameTables
 pub mod NumberScans

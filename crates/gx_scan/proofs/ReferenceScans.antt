@@ -191,7 +191,7 @@ or_four false false true d = refl
 or_four false false false true = refl
 or_four false false false false = refl
 
-fault_bad : (x : List ℕ) (bad : Bool) → reference_fault x ≡ (if bad then (Some reference_code) else None) → bad ≡ is_some (reference_fault x)
+pub fault_bad : (x : List ℕ) (bad : Bool) → reference_fault x ≡ (if bad then (Some reference_code) else None) → bad ≡ is_some (reference_fault x)
 fault_bad x true e = sym (ap is_some e)
 fault_bad x false e = sym (ap is_some e)
 

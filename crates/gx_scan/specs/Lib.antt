@@ -1,5 +1,6 @@
 pub mod GapSteps
 pub mod Indications
+pub mod Markup
 pub mod Names
 pub mod Numbers
 pub mod Reading

@@ -3,10 +3,10 @@
 ghost use Rattle.std.specs.Prelude.{◌≡◌};
 ghost use Rattle.gx_base.specs.NameCharacters.{lies_between};
 ghost use Rattle.gx_syntax.specs.Characters.{is_digit, is_word_character};
-ghost use Rattle.gx_syntax.specs.Tokens.{begins_at, begins_sign, begins_step};
+ghost use Rattle.gx_syntax.specs.Tokens.{begins_at, begins_attribute, begins_sign, begins_step};
 ghost use Rattle.gx_syntax.specs.Words.{ends_at};
 
-use gx_base::characters::is_name_start;
+use gx_base::characters::{is_name_start, is_white_space};
 use gx_syntax::word::{Barrier, Ending};
 
 // Whether the character lies between two, which count as well.
@@ -68,6 +68,7 @@ fn begins_step(c: char) -> bool
         || c == '\''
         || c == '@'
         || c == '*'
+        || c == '<'
 }
 
 /// Whether what may not begin at a limit would begin with the character.
@@ -80,4 +81,11 @@ pub fn begins_at(barrier: Barrier, c: char) -> bool
         Barrier::Sign => begins_sign(c),
         Barrier::Predicate => c == '[',
     }
+}
+
+/// Whether an attribute, or white space in front of one, begins with the character.
+pub fn begins_attribute(c: char) -> bool
+    ensures { result ≡ begins_attribute c }
+{
+    is_name_start(c) || is_white_space(c)
 }

@@ -5,7 +5,7 @@ ghost use Rattle.gx_grammar.specs.Gaps.{begins_comment, behind_gap, ends_comment
 ghost use Rattle.gx_base.specs.NameCharacters.{is_xml_character};
 ghost use Rattle.gx_grammar.specs.Value.{nothing};
 ghost use Rattle.gx_scan.specs.GapSteps.{GoesOn, Stops};
-ghost use Rattle.gx_syntax.specs.Tokens.{gap_not_open, gap_then_dollar, gap_then_neither, gap_then_open, scan, seen};
+ghost use Rattle.gx_syntax.specs.Tokens.{gap_not_open, gap_then_dollar, gap_then_neither, gap_then_open, scan, seen, scan_gap_brace, seen_gap_brace};
 
 use gx_base::characters::{is_char, is_white_space};
 
@@ -185,6 +185,27 @@ pub fn dollar(text: &[char]) -> GapFound<'_>
     };
     match rest {
         ['$', tail @ ..] => GapFound {
+            behind: Some(tail),
+            seen: found.seen.min(tail.len()),
+        },
+        _ => GapFound {
+            behind: None,
+            seen: found.seen.min(rest.len()),
+        },
+    }
+}
+
+/// Goes past white space and comments with a `{` behind them.
+pub fn brace(text: &[char]) -> GapFound<'_>
+    ensures behind { MatchOption result.behind (scan_gap_brace text.now ≡ None) (λ rest. scan_gap_brace text.now ≡ Some (nothing, rest.now)) }
+    ensures seen { result.seen ≡ seen_gap_brace text.now }
+{
+    let found = gap(text);
+    let Some(rest) = found.behind else {
+        return found;
+    };
+    match rest {
+        ['{', tail @ ..] => GapFound {
             behind: Some(tail),
             seen: found.seen.min(tail.len()),
         },

@@ -2,10 +2,12 @@
 #![tactic(auto)]
 
 pub mod characters;
+pub mod constructor;
 pub mod gap;
 pub mod indication;
 pub mod kind_words;
 pub mod leading;
+pub mod markup;
 pub mod names;
 pub mod numbers;
 pub mod reader;

@@ -6,19 +6,21 @@ ghost use Rattle.gx_grammar.specs.Tokens.{behind_run, run_of, seen_name, seen_wo
 ghost use Rattle.gx_grammar.specs.Value.{characters};
 ghost use Rattle.gx_syntax.specs.Binding.{opening_named};
 ghost use Rattle.gx_base.specs.NameCharacters.{is_ncname_character, is_ncname_start};
+ghost use Rattle.gx_syntax.specs.Direct.{letters_in};
 ghost use Rattle.gx_syntax.specs.Grammar.{is_element_test, is_kind_test, is_name, is_reserved};
 ghost use Rattle.gx_scan.specs.Names.{colon_seen, name_made, named_in};
-ghost use Rattle.gx_syntax.specs.Nodes.{has_prefix, name_at, name_length};
+ghost use Rattle.gx_syntax.specs.Nodes.{has_prefix, name_at, name_length, Made};
 ghost use Rattle.gx_syntax.specs.Typeswitch.{branching_named};
+ghost use Rattle.gx_syntax.specs.Computed.{computed_named, node_named};
 ghost use Rattle.std.specs.Str.{chars};
-ghost use Rattle.gx_syntax.specs.Tokens.{scan_ncname, scan_qname, seen_qname, starts_local_part, starts_local_wildcard, wildcard_letters};
+ghost use Rattle.gx_syntax.specs.Tokens.{scan_ncname, scan_qname, seen_qname, starts_local_part, starts_local_wildcard, wildcard_letters, begins_no_word, has_join};
 
 use gx_ast::name::QName;
 use gx_base::characters::{is_name_character, is_name_start};
 use gx_base::place::Place;
 use gx_base::text::Text;
 use gx_base::text_builder::TextBuilder;
-use gx_syntax::word::{Branching, ClauseWord, Opening};
+use gx_syntax::word::{Branching, ClauseWord, ComputedNode, NamedNode, Opening};
 use std::alloc::{AllocError, Global};
 
 /// A QName: its only part, or the prefix and the local part.
@@ -181,6 +183,92 @@ pub fn find_name(alloc: Global, text: &[char]) -> Result<NameFound<'_>, AllocErr
     })
 }
 
+// What is behind the characters of names at the front.
+fn behind_name(text: &[char]) -> &[char]
+    ensures { result.now ≡ behind_run is_ncname_character text.now }
+{
+    let mut rest = text;
+    while let [character, tail @ ..] = rest {
+        if !is_name_character(*character) {
+            break;
+        }
+        rest = tail;
+    }
+    rest
+}
+
+/// What is behind the QName at the front of a text, if one stands there.
+#[derive(Clone, Copy)]
+pub struct NameEnd<'a> {
+    pub behind: Option<&'a [char]>,
+    /// What is left behind the longest front that opens a name.
+    pub seen: usize,
+}
+
+/// Goes past the QName at the front.
+pub fn find_name_end(text: &[char]) -> NameEnd<'_>
+    ensures behind { MatchOption result.behind (scan_qname text.now ≡ None) (λ rest. (v : Made) × (scan_qname text.now ≡ Some (v, rest.now))) }
+    ensures seen { result.seen ≡ seen_qname text.now }
+{
+    if !begins_name(text) {
+        return NameEnd {
+            behind: None,
+            seen: text.len(),
+        };
+    }
+    let behind = behind_name(text);
+    let Some(tail) = local_part(behind) else {
+        return NameEnd {
+            behind: Some(behind),
+            seen: colon_seen(behind),
+        };
+    };
+    let rest = behind_name(tail);
+    NameEnd {
+        behind: Some(rest),
+        seen: rest.len(),
+    }
+}
+
+/// Whether a name with a `-` or a `.` stands at the front.
+pub fn begins_no_word(text: &[char]) -> bool
+    ensures { result ≡ begins_no_word text.now }
+{
+    begins_name(text) && has_join(text)
+}
+
+// Whether one of the characters of names at the front is `-` or `.`.
+fn has_join(text: &[char]) -> bool
+    ensures { result ≡ has_join text.now }
+{
+    let mut rest = text;
+    while let [character, tail @ ..] = rest {
+        if !is_name_character(*character) {
+            return false;
+        }
+        if *character == '-' || *character == '.' {
+            return true;
+        }
+        rest = tail;
+    }
+    false
+}
+
+// The characters of a string.
+fn characters(alloc: Global, text: &str) -> Result<Vec<char>, AllocError>
+    ensures { IfOk result (λ v. v.items ≡ chars text.now) }
+{
+    text.chars().collect(alloc)
+}
+
+// The characters of a text.
+fn characters_of(alloc: Global, text: &Text) -> Result<Vec<char>, AllocError>
+    ensures { IfOk result (λ v. v.items ≡ text.now) }
+{
+    let list = characters(alloc, text.as_str())?;
+    Ok(list)
+}
+
 impl ReadName {
     /// The value of the first word of the table that is the name, without a prefix.
     #[tactic(auto, unfolding(crate::specs::Names::named_in))]
@@ -221,6 +309,32 @@ impl ReadName {
             | self.is("node")
             | self.is("processing-instruction")
             | self.is("text")
+    }
+
+    /// What the name begins where a `{` stands behind it (XQuery 1.0, section 3.7.3).
+    pub fn computed(&self) -> Option<ComputedNode>
+        ensures { result ≡ computed_named (name_made self.now) }
+    {
+        if self.is("document") {
+            return Some(ComputedNode::Document);
+        }
+        if self.is("text") {
+            return Some(ComputedNode::Text);
+        }
+        None
+    }
+
+    /// What the name begins where a name and a `{` stand behind it (XQuery 1.0, section 3.7.3).
+    pub fn named_node(&self) -> Option<NamedNode>
+        ensures { result ≡ node_named (name_made self.now) }
+    {
+        if self.is("element") {
+            return Some(NamedNode::Element);
+        }
+        if self.is("attribute") {
+            return Some(NamedNode::Attribute);
+        }
+        None
     }
 
     /// Whether the name has a prefix.
@@ -272,6 +386,28 @@ impl ReadName {
             return Some(Branching::Typeswitch);
         }
         None
+    }
+
+    // The name as it is written.
+    fn written(&self, alloc: Global) -> Result<Text, AllocError>
+        ensures { IfOk result (λ text. text ≡ letters_in (name_made self.now)) }
+    {
+        let Some(local) = &self.second else {
+            return self.first.clone();
+        };
+        let mut text = TextBuilder::new(alloc);
+        text.push_text(&self.first)?;
+        text.push(':')?;
+        text.push_text(local)?;
+        text.finish()
+    }
+
+    /// The characters of the name as it is written.
+    pub fn letters(&self, alloc: Global) -> Result<Vec<char>, AllocError>
+        ensures { IfOk result (λ list. list.items ≡ letters_in (name_made self.now)) }
+    {
+        let text = self.written(alloc)?;
+        characters_of(alloc, &text)
     }
 
     /// The name at a place.

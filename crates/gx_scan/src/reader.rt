@@ -12,22 +12,28 @@ ghost use Rattle.gx_syntax.specs.Nodes.{Found, name_length};
 ghost use Rattle.gx_scan.specs.Indications.{found_made};
 ghost use Rattle.gx_scan.specs.Names.{name_made};
 ghost use Rattle.gx_scan.specs.Reading.{Ended, NameRead, read_number, read_one};
-ghost use Rattle.gx_syntax.specs.Tokens.{barred, barred_words, gap, gap_not_open, gap_then_dollar, gap_then_neither, gap_then_open, indication, local_wildcard, ncname, number_end, one_of, reference, text_run, leading};
+ghost use Rattle.gx_syntax.specs.Tokens.{barred, barred_words, gap, gap_not_open, gap_then_dollar, gap_then_neither, gap_then_open, indication, local_wildcard, ncname, number_end, one_of, reference, text_run, leading, constructor, no_constructor};
 ghost use Rattle.gx_scan.specs.Reading.{Added};
-ghost use Rattle.gx_syntax.specs.Tokens.{import_words, setter_words};
+ghost use Rattle.gx_syntax.specs.Direct.{content_pieces_of, start_of, value_pieces_of};
+ghost use Rattle.gx_syntax.specs.Tokens.{blank, cdata_text, import_words, no_attribute, no_element, setter_words, tag_name, white};
 ghost use Rattle.gx_syntax.specs.Strings.{parts_of};
 ghost use Rattle.gx_syntax.specs.NodeTests.{wildcard_made};
 ghost use Rattle.gx_syntax.specs.Types.{Gave};
 
-use crate::characters::begins_at;
+use crate::characters::{begins_at, begins_attribute};
+use crate::constructor::{find_constructor, look_at_constructor, starts_constructor};
 use crate::gap;
 use crate::indication::find_indication;
 use crate::leading::find_leading;
+use crate::markup::{
+    behind_cdata, behind_white, find_tag_name, find_white, look_at_content_piece,
+    look_at_value_piece, look_at_white, starts_element,
+};
 use crate::names::{ReadName, find_local_wildcard, find_name, find_ncname};
 use crate::numbers::{LiteralFound, find_number};
 use crate::references::{find_part, find_reference};
-use crate::runs::{find_text, push_text};
-use crate::scan::find;
+use crate::runs::{find_text, push_characters, push_text};
+use crate::scan::{find, find_only};
 use gx_base::characters::is_name_start;
 use gx_base::text::Text;
 use gx_base::text_builder::TextBuilder;
@@ -592,6 +598,193 @@ impl Reader<'_> {
                 self.end = Some(End::GaveUp(Refused::Unfit(self.far)));
                 '?'
             }
+        }
+    }
+
+    /// Whether white space stands first.
+    pub fn looks_at_white(&mut self) -> bool
+        ensures { Looked result self.old self.new (at_tokens (white ∷ [])) }
+    {
+        if self.end.is_some() {
+            return false;
+        }
+        let looked = look_at_white(self.rest);
+        self.far = self.far.min(looked.seen);
+        looked.stands
+    }
+
+    /// Reads white space, of at least one character.
+    #[tactic(auto, unfolding(crate::specs::Reading::read_one))]
+    pub fn white(&mut self)
+        ensures { Ran nothing self.old self.new (read_one white) }
+    {
+        if self.end.is_some() {
+            return;
+        }
+        let found = find_white(self.rest);
+        self.far = self.far.min(found.seen);
+        match found.behind {
+            Some(behind) => self.rest = behind,
+            None => self.end = Some(End::GaveUp(Refused::Unfit(self.far))),
+        }
+    }
+
+    /// Reads white space of any number of characters.
+    #[tactic(auto, unfolding(crate::specs::Reading::read_one))]
+    pub fn blank(&mut self)
+        ensures { Ran nothing self.old self.new (read_one blank) }
+    {
+        if self.end.is_some() {
+            return;
+        }
+        self.rest = behind_white(self.rest);
+        self.far = self.far.min(self.rest.len());
+    }
+
+    /// Reads nothing, where neither a name begins nor white space stands.
+    #[tactic(auto, unfolding(crate::specs::Reading::read_one))]
+    pub fn no_attribute(&mut self)
+        ensures { Ran nothing self.old self.new (read_one no_attribute) }
+    {
+        if self.end.is_some() {
+            return;
+        }
+        self.far = self.far.min(self.rest.len());
+        if let [character, ..] = self.rest {
+            if begins_attribute(*character) {
+                self.end = Some(End::GaveUp(Refused::Unfit(self.far)));
+            }
+        }
+    }
+
+    /// Reads the name of an end tag, which has these characters.
+    #[tactic(auto, unfolding(crate::specs::Reading::read_one))]
+    pub fn tag_name(&mut self, letters: &[char])
+        ensures { Ran nothing self.old self.new (read_one (tag_name letters.now)) }
+    {
+        if self.end.is_some() {
+            return;
+        }
+        let found = find_tag_name(letters, self.rest);
+        self.far = self.far.min(found.seen);
+        match found.behind {
+            Some(behind) => self.rest = behind,
+            None => self.end = Some(End::GaveUp(Refused::Unfit(self.far))),
+        }
+    }
+
+    /// Reads a `<` with the start of a name, which may not stand.
+    #[tactic(auto, unfolding(crate::specs::Reading::read_one))]
+    pub fn no_element(&mut self)
+        ensures read { Ran nothing self.old self.new (read_one no_element) }
+        ensures ended { IsDone self.new }
+    {
+        if self.end.is_some() {
+            return;
+        }
+        let seen = find_only(Word::TagOpen, self.rest).seen;
+        self.far = self.far.min(seen);
+        let refused = if starts_element(self.rest) {
+            Refused::Limit(self.rest.len())
+        } else {
+            Refused::Unfit(self.far)
+        };
+        self.end = Some(End::GaveUp(refused));
+    }
+
+    /// Reads the characters of a CDATA section with the two `]` behind them, and adds them without these.
+    pub fn cdata(&mut self, builder: &mut TextBuilder)
+        ensures { Added builder.old builder.new (λ cs. Ran (characters cs) self.old self.new (read_one cdata_text)) }
+    {
+        if self.end.is_some() {
+            return;
+        }
+        let behind = behind_cdata(self.rest);
+        self.far = self.far.min(behind.len());
+        let count = self.rest.len().saturating_sub(behind.len());
+        if count == 0 {
+            self.end = Some(End::GaveUp(Refused::Unfit(self.far)));
+            return;
+        }
+        match push_characters(builder, &self.rest[..count.saturating_sub(2)]) {
+            Ok(_) => self.rest = behind,
+            Err(_) => self.end = Some(End::Lost),
+        }
+    }
+
+    /// Whether a piece of an attribute value with these quotes stands first.
+    pub fn looks_at_value_piece(&mut self, quote: Quote) -> bool
+        ensures { Looked result self.old self.new (at_tokens (value_pieces_of quote)) }
+    {
+        if self.end.is_some() {
+            return false;
+        }
+        let looked = look_at_value_piece(quote, self.rest);
+        self.far = self.far.min(looked.seen);
+        looked.stands
+    }
+
+    /// Whether a piece of the content of an element at that level stands first.
+    pub fn looks_at_content_piece(&mut self, levels: u8) -> bool
+        ensures { Looked result self.old self.new (at_tokens (content_pieces_of (start_of levels))) }
+    {
+        if self.end.is_some() {
+            return false;
+        }
+        let looked = look_at_content_piece(levels, self.rest);
+        self.far = self.far.min(looked.seen);
+        looked.stands
+    }
+
+    /// Whether a name with a `{` behind its gap stands first.
+    pub fn looks_at_constructor(&mut self) -> bool
+        ensures { Looked result self.old self.new (at_tokens (constructor ∷ [])) }
+    {
+        if self.end.is_some() {
+            return false;
+        }
+        let looked = look_at_constructor(self.rest);
+        self.far = self.far.min(looked.seen);
+        looked.stands
+    }
+
+    /// Reads a name with the `{` behind its gap.
+    #[tactic(auto, unfolding(crate::specs::Reading::read_one))]
+    pub fn constructor(&mut self, alloc: Global) -> Option<ReadName>
+        ensures { Gave name_made result self.old self.new (read_one constructor) }
+    {
+        if self.end.is_some() {
+            return None;
+        }
+        let Ok(found) = find_constructor(alloc, self.rest) else {
+            self.end = Some(End::Lost);
+            return None;
+        };
+        self.far = self.far.min(found.seen);
+        match found.name {
+            Some((name, behind)) => {
+                self.rest = behind;
+                Some(name)
+            }
+            None => {
+                self.end = Some(End::GaveUp(Refused::Unfit(self.far)));
+                None
+            }
+        }
+    }
+
+    /// Reads nothing, where neither such a name stands nor one that is no keyword.
+    #[tactic(auto, unfolding(crate::specs::Reading::read_one))]
+    pub fn no_constructor(&mut self)
+        ensures { Ran nothing self.old self.new (read_one no_constructor) }
+    {
+        if self.end.is_some() {
+            return;
+        }
+        let looked = look_at_constructor(self.rest);
+        self.far = self.far.min(looked.seen);
+        if starts_constructor(self.rest) {
+            self.end = Some(End::GaveUp(Refused::Unfit(self.far)));
         }
     }
 }

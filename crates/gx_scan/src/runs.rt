@@ -4,6 +4,7 @@ ghost use Rattle.std.specs.Prelude.{◌≡◌, ◌++◌, false, IfOk, MatchOptio
 ghost use Rattle.gx_grammar.specs.Tokens.{behind_run, run_of};
 ghost use Rattle.gx_syntax.specs.References.{is_text, shown, shown_at, text_of, text_value};
 ghost use Rattle.gx_syntax.specs.Tokens.{scan, seen, text_run};
+ghost use Rattle.gx_syntax.specs.declared.runs.Run.TheVariants as runs;
 
 use gx_base::characters::is_char;
 use gx_base::text_builder::TextBuilder;
@@ -82,6 +83,19 @@ pub fn push_text<'a>(
         rest = tail;
     }
     Ok(rest)
+}
+
+/// Adds all characters of the content of an element, with their line ends as line feeds. An `Err` may have added some of them.
+pub fn push_characters(builder: &mut TextBuilder, text: &[char]) -> Result<(), AllocError>
+    ensures text { OnOk result (builder.new ≡ builder.old ++ text_of runs.Content false text.now) }
+    ensures some { OnErr result ((cs : List ℕ) × (builder.new ≡ builder.old ++ cs)) }
+{
+    let mut after = false;
+    for character in text {
+        push_shown(builder, Run::Content, after, *character)?;
+        after = *character == '\r';
+    }
+    Ok(())
 }
 
 /// Literal text at the front of a text.

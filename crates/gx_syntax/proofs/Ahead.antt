@@ -34,7 +34,7 @@ use Rattle.gx_syntax.specs.Characters.{is_word_character, no_character}
 use Rattle.gx_syntax.specs.Words.{letters_of, ends_at, ending_of, words_of}
 use Rattle.gx_syntax.specs.Nodes.{Node, Made, Found, join_binary, join_path, join_comma, second_value}
 use Rattle.gx_syntax.specs.Tokens.{Token, one_of, qname, ncname, gap, leading, local_wildcard, IsGapHere, scan_gap_here, IsQName, IsNCName, scan_ncname, seen_local_part, starts_local_part, HasLocalPart, IsTheWord, IsGapWith, OpensGapWith, second_of_two, scan_colon, entries, derives, opens, scan, seen, faults, shape_of}
-use Rattle.gx_syntax.specs.Grammar.{Phrase, word_of, single, is_single, level_at, operator, more, chain, two, expression, step_of, after_name, after_axis, arguments, behind_any_name, path_from, filtered_step, more_predicates, predicate, signed_path, other_operand, ladder, begun, branched_or_name, opened_or_name, named_single, rules, behind_single, query_language}
+use Rattle.gx_syntax.specs.Grammar.{Phrase, word_of, single, is_single, level_at, operator, more, chain, two, expression, step_of, after_name, after_axis, arguments, behind_any_name, path_from, filtered_step, more_predicates, predicate, signed_path, other_operand, ladder, begun, branched_or_name, opened_or_name, named_single, rules, behind_single, query_language, constructed, constructed_by}
 use Rattle.gx_syntax.specs.NodeTests.{if_wildcard, wildcard_or, any_step}
 use Rattle.gx_syntax.specs.Casts.{casts, type_test, cast_test, behind_cast}
 use Rattle.gx_syntax.specs.Fronts.{fronts}
@@ -159,15 +159,15 @@ module _ (at : ℕ → Place) where
 
   -- behind a name that is no keyword stand a gap and then one of these
   declare_leftmost : (n : ℕ) → Leftmost (query_language at) (fronts at) (token gap) (named_single at n (pair (characters (codes "declare")) nothing)) (word_of word.Comma ∷ []) behind_step
-  unfolding named_single opened_or_name begun branched_or_name behind_any_name step_of after_axis after_name arguments
+  unfolding named_single opened_or_name begun branched_or_name behind_any_name step_of constructed constructed_by after_axis after_name arguments
   declare_leftmost n = step_leftmost n (pair (characters (codes "declare")) nothing) (leftmost_made (leftmost_both leftmost_here))
 
   import_leftmost : (n : ℕ) → Leftmost (query_language at) (fronts at) (token gap) (named_single at n (pair (characters (codes "import")) nothing)) (word_of word.Comma ∷ []) behind_step
-  unfolding named_single opened_or_name begun branched_or_name behind_any_name step_of after_axis after_name arguments
+  unfolding named_single opened_or_name begun branched_or_name behind_any_name step_of constructed constructed_by after_axis after_name arguments
   import_leftmost n = step_leftmost n (pair (characters (codes "import")) nothing) (leftmost_made (leftmost_both leftmost_here))
 
   xquery_leftmost : (n : ℕ) → Leftmost (query_language at) (fronts at) (token gap) (named_single at n (pair (characters (codes "xquery")) nothing)) (word_of word.Comma ∷ []) behind_step
-  unfolding named_single opened_or_name begun branched_or_name behind_any_name step_of after_axis after_name arguments
+  unfolding named_single opened_or_name begun branched_or_name behind_any_name step_of constructed constructed_by after_axis after_name arguments
   xquery_leftmost n = step_leftmost n (pair (characters (codes "xquery")) nothing) (leftmost_made (leftmost_both leftmost_here))
 
   -- a word with one of others behind it, where a name that is the word may stand

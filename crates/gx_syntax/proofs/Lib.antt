@@ -1,3 +1,5 @@
+pub mod NoConstructor
+pub mod ConstructorTokens
 pub mod Ahead
 pub mod BindingRanks
 pub mod BindingSorted
@@ -10,6 +12,7 @@ pub mod KeysRanks
 pub mod KeysSorted
 pub mod NodeTestsSorted
 pub mod OneParsing
+pub mod PieceLemmas
 pub mod PrologRanks
 pub mod PrologSorted
 pub mod Ranks

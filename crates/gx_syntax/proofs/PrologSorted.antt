@@ -28,7 +28,7 @@ use Rattle.gx_syntax.specs.Characters.{is_word_character}
 use Rattle.gx_syntax.specs.Words.{letters_of, words_of}
 use Rattle.gx_syntax.specs.Nodes.{Node, Made}
 use Rattle.gx_syntax.specs.Tokens.{Token, one_of, gap, leading, begins_word, IsTheWord, OpensTheWord, scan_the_word, IsGapHere, scan_gap_here, IsGapWith, OpensGapWith, second_of_two, derives, opens, seen, faults, shape_of}
-use Rattle.gx_syntax.specs.Grammar.{Phrase, word_of, lexeme, single, rules, behind_single, expression, query_language}
+use Rattle.gx_syntax.specs.Grammar.{Phrase, word_of, lexeme, single, rules, behind, behind_single, expression, query_language}
 use Rattle.gx_syntax.specs.Strings.{quoted, string_of}
 use Rattle.gx_syntax.specs.Bound.{bound}
 use Rattle.gx_syntax.specs.Fronts.{fronts}
@@ -357,5 +357,5 @@ module _ (at : ℕ → Place) where
   readable = record { tokens = lawful at; productions = productions; top = query_decides }
     where
       productions : AllDecide (query_language at)
-      productions = λ p. decides_less (query_language at) (rules at p) (EndsOrStarts derives faults (behind_single at)) (BeginsWith derives opens (behind_single at)) ((query_language at).follows p) ((query_language at).follows_cut p) (λ y k. k) (λ y c. c)
-          (sorted_decides (query_language at) (lawful at) (fronts at) (right at) (rules at p) (behind_single at) (production_sorted at p))
+      productions = λ p. decides_less (query_language at) (rules at p) (EndsOrStarts derives faults (behind at p)) (BeginsWith derives opens (behind at p)) ((query_language at).follows p) ((query_language at).follows_cut p) (λ y k. k) (λ y c. c)
+          (sorted_decides (query_language at) (lawful at) (fronts at) (right at) (rules at p) (behind at p) (production_sorted at p))

@@ -11,8 +11,11 @@ use Rattle.gx_syntax.specs.declared.word.WordSet.{WordSet}
 use Rattle.gx_syntax.specs.declared.word.WordSet.TheVariants as set
 use Rattle.gx_syntax.specs.Nodes.{Made, Join, join_binary, join_path, join_comma}
 use Rattle.gx_syntax.specs.Tokens.{Token, gap, gap_then_open, gap_not_open, gap_then_neither}
-use Rattle.gx_syntax.specs.Grammar.{Production, single, Phrase, at_tokens, is_single, level_at, is_name, is_reserved, operator, more, stop, chain, two, expression, numeral, literal, name, variable_step, dots, parenthesised_step, more_arguments, arguments_in, arguments, after_name, after_axis, step_of, behind_plain_name, behind_any_name, test_or_literal, other_step, step, predicate, more_predicates, filtered_step, path_from, more_signs, signed_path, other_operand, ladder, condition, typeswitch, branched, branched_or_name, begun, behind_keyword, opened_or_name, named_single, rules, query_language}
+use Rattle.gx_syntax.specs.Grammar.{Production, single, within, nested, Phrase, at_tokens, is_single, level_at, is_name, is_reserved, operator, more, stop, chain, two, expression, numeral, literal, name, variable_step, dots, parenthesised_step, more_arguments, arguments_in, arguments, after_name, after_axis, step_of, behind_plain_name, behind_any_name, test_or_literal, other_step, step, predicate, more_predicates, filtered_step, path_from, more_signs, signed_path, other_operand, ladder, condition, typeswitch, branched, branched_or_name, begun, behind_keyword, opened_or_name, named_single, rules, query_language, computed, braced, constructor_name, named_node, no_node, constructed, constructed_by}
 use Rattle.gx_syntax.specs.declared.word.Opening.{Opening}
+use Rattle.gx_syntax.specs.Computed.{computed_named, node_named}
+use Rattle.gx_syntax.specs.declared.word.ComputedNode.{ComputedNode}
+use Rattle.gx_syntax.specs.declared.word.NamedNode.{NamedNode}
 use Rattle.gx_syntax.specs.Binding.{opening_named, opened}
 use Rattle.gx_syntax.proofs.BindingRanks.{flwor_low, quantified_low}
 use Rattle.gx_syntax.specs.declared.word.Branching.{Branching}
@@ -20,6 +23,11 @@ use Rattle.gx_syntax.specs.Typeswitch.{branching_named}
 use Rattle.gx_syntax.proofs.TypeswitchRanks.{cases_low, default_head_low}
 use Rattle.gx_syntax.specs.declared.word.Opening.TheVariants as opening_is
 use Rattle.gx_syntax.specs.declared.word.Branching.TheVariants as branching_is
+use Rattle.gx_syntax.specs.declared.runs.Quote.{Quote}
+use Rattle.gx_syntax.specs.declared.runs.Quote.TheVariants as quote
+use Rattle.gx_syntax.specs.declared.runs.Run.{Run}
+use Rattle.gx_syntax.specs.declared.runs.Run.TheVariants as run
+use Rattle.gx_syntax.specs.Direct.{start_of, symbol_piece, text_piece, reference_piece, cdata, enclosed, brace_piece, plain_piece, value_piece, value_pieces, value_in, attribute_value, behind_attribute, attribute, attributes, content_piece, content_pieces, content, end_tag, no_content, filled, content_if_any, behind_tag, element_of, element_at, direct_step}
 use Rattle.gx_syntax.specs.Strings.{string_part, string_parts, quoted, string_of}
 use Rattle.gx_grammar.specs.Grammar.{empty}
 use Rattle.gx_grammar.specs.Value.{nothing, characters, node, pair, no_item, an_item}
@@ -149,13 +157,61 @@ module _ (at : ℕ → Place) where
   unfolding behind_plain_name
   plain_name_low n t v = tt
 
+  computed_low : (n : ℕ) (c : ComputedNode) → Low (suc n) (computed at n c)
+  unfolding computed
+  computed_low n c = ((tt, tt), (expression_low n, (tt, tt)))
+
+  named_node_low : (n : ℕ) (k : NamedNode) → Low (suc n) (named_node at n k)
+  unfolding named_node constructor_name braced
+  named_node_low n k = ((tt, tt), ((tt, (tt, tt)), (expression_low n, (tt, tt))))
+
+  constructed_by_low : (n : ℕ) (v : Made) (c : Option ComputedNode) (k : Option NamedNode) → Low (suc n) (constructed_by at n v c k)
+  unfolding constructed_by no_node
+  constructed_by_low n v (Some c) k = (computed_low n c, after_name_low n v)
+  constructed_by_low n v None (Some k) = (named_node_low n k, (tt, after_axis_low n (axis_word v) v))
+  constructed_by_low n v None None = after_axis_low n (axis_word v) v
+
   any_name_low : (n : ℕ) (v : Made) → Low (suc n) (behind_any_name at n v)
-  unfolding behind_any_name step_of
-  any_name_low n v = (tt, after_axis_low n (axis_word v) v)
+  unfolding behind_any_name step_of constructed
+  any_name_low n v = (tt, constructed_by_low n v (computed_named v) (node_named v))
+
+  -- direct constructors
+
+  enclosed_low : (n : ℕ) → Low (suc n) (brace_piece (rule (within n)))
+  unfolding brace_piece enclosed symbol_piece
+  enclosed_low n = (tt, (tt, (tt, (below n, tt))))
+
+  plain_piece_low : (n : ℕ) (r : Run) → Low (suc n) (plain_piece (rule (within n)) r)
+  unfolding plain_piece symbol_piece text_piece
+  plain_piece_low n r = (enclosed_low n, (tt, tt))
+
+  value_in_low : (n : ℕ) (q : Quote) → Low (suc n) (value_in (rule (within n)) q)
+  unfolding value_in value_pieces value_piece reference_piece symbol_piece
+  value_in_low n q = (tt, ((tt, (tt, plain_piece_low n (run.Attribute q))), tt))
+
+  attributes_low : (n : ℕ) → Low (suc n) (attributes at (rule (within n)))
+  unfolding attributes attribute name attribute_value behind_attribute
+  attributes_low n = (tt, (tt, (tt, (tt, (tt, ((value_in_low n quote.Double, value_in_low n quote.Single), (tt, tt)))))))
+
+  content_low_of : (n : ℕ) → Low (suc n) (content_pieces (rule (within n)) (rule (nested n)) (start_of n))
+  unfolding content_pieces content_piece reference_piece cdata
+  content_low_of n = (tt, (((tt, (tt, tt)), below n), plain_piece_low n run.Content))
+
+  if_any_low : (n : ℕ) (v : Made) → Low (suc n) (content_if_any (rule (within n)) (rule (nested n)) (start_of n) v)
+  unfolding content_if_any no_content filled content end_tag
+  if_any_low n v = (tt, (tt, (content_low_of n, (tt, (tt, (tt, tt))))))
+
+  element_low : (n : ℕ) → Low (suc n) (element_at at n)
+  unfolding element_at element_of behind_tag
+  element_low n = (tt, (λ v. (attributes_low n, if_any_low n v)))
+
+  direct_low : (n : ℕ) → Low (suc n) (direct_step at n)
+  unfolding direct_step
+  direct_low n = (element_low n, tt)
 
   other_step_low : (n : ℕ) → Low (suc n) (other_step at n)
   unfolding other_step
-  other_step_low n = (variable_low (suc n), (parenthesised_low n, (dots_low (suc n), test_or_literal_low (suc n))))
+  other_step_low n = (variable_low (suc n), (parenthesised_low n, (direct_low n, (dots_low (suc n), test_or_literal_low (suc n)))))
 
   step_low : (n : ℕ) → Low (suc n) (step at n)
   unfolding step
@@ -255,6 +311,11 @@ module _ (at : ℕ → Place) where
   pub production_shielded : (p : Production) → IsShielded (query_language at) (fronts at).takings rank (rank p) (rules at p)
   production_shielded (single zero) = tt
   production_shielded (single (suc n)) = below_shields (query_language at) (fronts at).takings rank (suc n) (rules at (single (suc n))) ((λ v. wildcard_or_low (suc n) v (ladder at 8 n (path_from at n (any_step at v))) (named_single at n v) (any_single_low n v) (named_low n v)), ladder_low 8 n (other_operand at n) (other_operand_low n))
+  production_shielded (within zero) = tt
+  production_shielded (within (suc n)) = below_shields (query_language at) (fronts at).takings rank (suc n) (rules at (within (suc n))) (expression_low n)
+  production_shielded (nested zero) = tt
+  production_shielded (nested (suc zero)) = tt
+  production_shielded (nested (suc (suc n))) = below_shields (query_language at) (fronts at).takings rank (suc (suc n)) (rules at (nested (suc (suc n)))) (element_low (suc n))
 
   unfoldable pub levelled : IsLevelled (query_language at) (fronts at).takings
   levelled = record { takings = taken at; rank = rank; shielded = production_shielded }

@@ -1,5 +1,5 @@
 -- How the tokens look.
-use Rattle.std.proofs.Common.{◌≡◌, ◌≢◌, ℕ, zero, suc, ◌<◌, ◌==◌, ◌||◌, ◌&&◌, Bool, true, false, if◌then◌else◌, List, [], ◌∷◌, ◌++◌, ◌⊎◌, inl, inr, length, length-append, refl, sym, ap, subst, ◌∙◌, Option, Some, None, arith}
+use Rattle.std.proofs.Common.{◌≡◌, ◌≢◌, ℕ, zero, suc, ◌<◌, ◌==◌, ◌||◌, ◌&&◌, Bool, true, false, if◌then◌else◌, List, [], ◌∷◌, ◌++◌, ◌⊎◌, inl, inr, length, length-append, refl, sym, ap, subst, ◌∙◌, eqb-true, Option, Some, None, arith}
 use Rattle.gx_base.specs.declared.place.Place.{Place}
 use Rattle.gx_base.specs.WhiteSpace.{is_white_space}
 use Rattle.gx_grammar.specs.Value.{Value, nothing, characters}
@@ -17,12 +17,13 @@ use Rattle.gx_grammar.proofs.Tokens.{equal_self}
 use Rattle.gx_syntax.specs.declared.word.WordSet.{WordSet}
 use Rattle.gx_base.specs.NameCharacters.{is_ncname_start, is_ncname_character, is_xml_character}
 use Rattle.gx_syntax.specs.Characters.{is_digit, no_character}
-use Rattle.gx_syntax.specs.Words.{letters_of, words_of}
+use Rattle.gx_syntax.specs.Words.{letters_of, words_of, ends_at}
+use Rattle.gx_syntax.specs.declared.word.Ending.TheVariants as end
 use Rattle.gx_syntax.specs.declared.word.Word.{Word}
 use Rattle.gx_syntax.specs.Nodes.{Node, Made}
 use Rattle.gx_syntax.specs.Numeral.{IsDigits, OpensNumeral, is_small, scan_literal}
 use Rattle.gx_syntax.specs.declared.word.Barrier.{Barrier}
-use Rattle.gx_syntax.specs.Tokens.{Token, one_of, qname, number, number_end, gap, gap_then_open, gap_not_open, barred, indication, entries, IsNCName, IsGapHere, begins_at, barrier_fault, limit_code, number_code, derives, opens, faults, begins_gap, begins_number, shape_of, text_run, reference, white, blank, no_attribute, tag_name, cdata_text, ncname, local_wildcard, gap_then_dollar, gap_then_neither, barred_words, begins_dollar, leading, begins_word}
+use Rattle.gx_syntax.specs.Tokens.{Token, one_of, constructor, no_constructor, qname, number, number_end, gap, gap_then_open, gap_not_open, barred, indication, entries, IsNCName, IsGapHere, begins_at, barrier_fault, limit_code, number_code, derives, opens, faults, begins_gap, begins_number, shape_of, text_run, reference, white, blank, no_attribute, no_element, tag_open, tag_name, cdata_text, ncname, local_wildcard, gap_then_dollar, gap_then_neither, barred_words, begins_dollar, leading, begins_word}
 use Rattle.gx_syntax.specs.declared.runs.Run.{Run}
 use Rattle.gx_syntax.specs.References.{is_text}
 use Rattle.gx_syntax.proofs.ReferenceTokens.{reference_begins, fault_begins, reference_opened}
@@ -164,6 +165,28 @@ barred_stand ws x (inr f) = go (scan_one_of (entries (words_of ws)) x) refl f.1
     go None e g = absurd (cc g)
     go (Some r) e g = one_of_spells (entries (words_of ws)) r.0 x r.1 ((token_lawful (one_of ws)).sound r.0 x r.1 e)
 
+-- a `<` with the start of a name
+
+starts_tag : (c : ℕ) → is_ncname_start c ≡ true → ends_at end.Tag c ≡ false
+unfolding is_ncname_start
+starts_tag c e = go (c == 47) (c == 33) refl refl
+  where
+    go : (p q : Bool) → (c == 47) ≡ p → (c == 33) ≡ q → (p || q) ≡ false
+    go true q f g = absurd (let h : is_ncname_start 47 ≡ true = subst (λ d. is_ncname_start d ≡ true) (eqb-true c 47 f) e in cc h)
+    go false true f g = absurd (let h : is_ncname_start 33 ≡ true = subst (λ d. is_ncname_start d ≡ true) (eqb-true c 33 g) e in cc h)
+    go false false f g = refl
+
+elements_stand : (x : List ℕ) → Stood no_element x → Spells (spellings tag_open) x
+elements_stand x (inl d) = absurd d.2
+elements_stand [] (inr f) = absurd (let e = f.1 in cc e)
+elements_stand (c ∷ []) (inr f) = absurd (let e = f.1 in cc e)
+elements_stand (c ∷ d ∷ x) (inr f) = go (c == 60) (is_ncname_start d) refl refl f.1
+  where
+    go : (p q : Bool) → (c == 60) ≡ p → is_ncname_start d ≡ q → (if p && q then (Some limit_code) else None) ≡ Some f.0 → Spells (spellings tag_open) (c ∷ d ∷ x)
+    go true true g h e = inl (d ∷ x, ap (λ a. a ∷ d ∷ x) (eqb-true c 60 g), starts_tag d h)
+    go true false g h e = absurd (cc e)
+    go false q g h e = absurd (cc e)
+
 -- two words
 
 letters_begin : (cs x y : List ℕ) → is_full cs ≡ true → x ≡ cs ++ y → (x ≢ []) × (head_passes (λ c. word_begins (is c) true cs) x ≡ true)
@@ -204,6 +227,16 @@ whites_open : (x : List ℕ) → opens_name is_white_space is_white_space x → 
 whites_open [] o n = absurd (n refl)
 whites_open (c ∷ x) o n = o.0
 
+-- constructors
+
+constructors_stand : (x : List ℕ) → Stood constructor x → (x ≢ []) × (head_passes is_ncname_start x ≡ true)
+constructors_stand x (inl d) = let j = d.2 in names_stand x (inl (j.front, j.between, j.begins))
+constructors_stand x (inr f) = absurd (let e = f.1 in cc e)
+
+constructors_open : (x : List ℕ) → opens constructor x → x ≢ [] → head_passes is_ncname_start x ≡ true
+constructors_open x (inl o) n = names_open x o n
+constructors_open x (inr o) n = (names_stand x (inl (o.0, o.1, o.2))).1
+
 module _ (at : ℕ → Place) where
   pub lawful : LawfulTokens (query_language at)
   lawful = lawful_tokens (query_language at) token_lawful
@@ -223,6 +256,7 @@ module _ (at : ℕ → Place) where
   shaped white = (whites_stand, whites_open)
   shaped blank = tt
   shaped no_attribute = tt
+  shaped no_element = (elements_stand, (λ x o. one_of_opened tag_open x o), (λ x o. one_of_opening tag_open x o))
   shaped (tag_name cs) = tt
   shaped cdata_text = tt
   shaped ncname = (ncnames_stand, name_opened)
@@ -231,3 +265,5 @@ module _ (at : ℕ → Place) where
   shaped gap_then_neither = tt
   shaped (barred_words ws) = (barred_stand ws, (λ x o. one_of_opened (entries (words_of ws)) x o), (λ x o. one_of_opening (entries (words_of ws)) x o))
   shaped (leading w ws) = (leading_stand w ws, leading_open w ws)
+  shaped constructor = (constructors_stand, constructors_open)
+  shaped no_constructor = tt

@@ -23,7 +23,7 @@ use Rattle.gx_syntax.specs.Numeral.{is_small, scan_literal}
 use Rattle.gx_syntax.specs.References.{closes}
 use Rattle.gx_syntax.specs.Words.{words_of}
 use Rattle.gx_syntax.specs.Nodes.{Node, Made, Whole}
-use Rattle.gx_syntax.specs.Tokens.{Token, one_of, qname, number, number_end, gap, gap_then_open, gap_not_open, barred, indication, text_run, reference, white, blank, no_attribute, tag_name, cdata_text, ncname, local_wildcard, gap_then_dollar, gap_then_neither, barred_words, entries, faults, begins_at, scan_reference, limit_code, number_code, reference_code, leading}
+use Rattle.gx_syntax.specs.Tokens.{Token, one_of, qname, number, number_end, gap, gap_then_open, gap_not_open, barred, indication, text_run, reference, white, blank, no_attribute, no_element, starts_element, constructor, no_constructor, tag_name, cdata_text, ncname, local_wildcard, gap_then_dollar, gap_then_neither, barred_words, entries, faults, begins_at, scan_reference, limit_code, number_code, reference_code, leading}
 use Rattle.gx_syntax.specs.Grammar.{Phrase, query_language, place_in}
 use Rattle.gx_syntax.specs.Prolog.{query, query_in}
 use Rattle.gx_syntax.specs.Levels.{more_than}
@@ -77,6 +77,7 @@ token_codes reference x code e = inr (inr (reference_codes (is_some (scan_refere
 token_codes white x code e = absurd (not_none code e)
 token_codes blank x code e = absurd (not_none code e)
 token_codes no_attribute x code e = absurd (not_none code e)
+token_codes no_element x code e = inl (barrier_codes (starts_element x) code e)
 token_codes (tag_name cs) x code e = absurd (not_none code e)
 token_codes cdata_text x code e = absurd (not_none code e)
 token_codes ncname x code e = absurd (not_none code e)
@@ -85,6 +86,8 @@ token_codes gap_then_dollar x code e = absurd (not_none code e)
 token_codes gap_then_neither x code e = absurd (not_none code e)
 token_codes (barred_words ws) x code e = inl (word_codes (scan_one_of (entries (words_of ws)) x) code e)
 token_codes (leading w ws) x code e = absurd (not_none code e)
+token_codes constructor x code e = absurd (not_none code e)
+token_codes no_constructor x code e = absurd (not_none code e)
 
 module _ (at : ℕ → Place) where
   codes_of : {A : Phrase} {x z : List ℕ} {code : ℕ} → Halts (query_language at) A x code z → IsCode code

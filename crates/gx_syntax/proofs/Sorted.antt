@@ -20,10 +20,10 @@ use Rattle.gx_syntax.specs.declared.word.WordSet.TheVariants as set
 use Rattle.gx_base.specs.NameCharacters.{is_ncname_start}
 use Rattle.gx_syntax.specs.Characters.{is_digit, is_word_character}
 use Rattle.gx_grammar.specs.Value.{nothing}
-use Rattle.gx_syntax.specs.Nodes.{Node, Made, Join, join_binary, join_path, join_comma}
+use Rattle.gx_syntax.specs.Nodes.{Node, Made, Join, join_binary, join_path, join_comma, second_value}
 use Rattle.gx_syntax.specs.declared.word.Barrier.{Barrier}
-use Rattle.gx_syntax.specs.Tokens.{Token, one_of, qname, number, number_end, gap, gap_then_open, gap_not_open, gap_then_dollar, barred, begins_sign, shape_of, takes, derives, faults}
-use Rattle.gx_syntax.specs.Grammar.{Production, single, Phrase, lexeme, word_of, at_tokens, is_single, level_at, is_name, is_reserved, operator, more, stop, chain, two, expression, numeral, literal, name, variable_step, dots, parenthesised_step, more_arguments, arguments_in, arguments, after_name, after_axis, step_of, behind_plain_name, behind_any_name, test_or_literal, other_step, step, predicate, more_predicates, filtered_step, path_from, more_signs, signed_path, other_operand, ladder, condition, typeswitch, branched, branched_or_name, begun, behind_keyword, opened_or_name, named_single, rules, behind_single, query_language}
+use Rattle.gx_syntax.specs.Tokens.{Token, one_of, qname, number, number_end, gap, gap_then_open, gap_not_open, gap_then_dollar, barred, begins_sign, shape_of, takes, derives, faults, constructor}
+use Rattle.gx_syntax.specs.Grammar.{Production, single, within, nested, behind, Phrase, lexeme, word_of, at_tokens, is_single, level_at, is_name, is_reserved, operator, more, stop, chain, two, expression, numeral, literal, name, variable_step, dots, parenthesised_step, more_arguments, arguments_in, arguments, after_name, after_axis, step_of, behind_plain_name, behind_any_name, test_or_literal, other_step, step, predicate, more_predicates, filtered_step, path_from, more_signs, signed_path, other_operand, ladder, condition, typeswitch, branched, branched_or_name, begun, behind_keyword, opened_or_name, named_single, rules, behind_single, query_language, computed, braced, constructor_name, named_node, no_node, constructed, constructed_by}
 use Rattle.gx_syntax.specs.Casts.{casts, type_test, cast_test, casts_fit, behind_cast}
 use Rattle.gx_syntax.specs.Fronts.{fronts}
 use Rattle.gx_syntax.specs.declared.word.Opening.{Opening}
@@ -31,10 +31,17 @@ use Rattle.gx_syntax.specs.declared.word.Opening.TheVariants as opening_is
 use Rattle.gx_syntax.specs.Binding.{opening_named, opened, flwor, quantified}
 use Rattle.gx_syntax.proofs.Tokens.{tokens_taken}
 use Rattle.gx_syntax.proofs.Shapes.{lawful, shaped}
+use Rattle.gx_grammar.proofs.ByTokens.{avoided_choose}
+use Rattle.gx_syntax.proofs.NoConstructor.{constructors_avoided}
+use Rattle.gx_syntax.specs.Computed.{computed_named, node_named}
+use Rattle.gx_syntax.specs.declared.word.ComputedNode.{ComputedNode}
+use Rattle.gx_syntax.specs.declared.word.NamedNode.{NamedNode}
 use Rattle.gx_syntax.proofs.CastsSorted.{casts_sorted}
 use Rattle.gx_syntax.specs.declared.runs.Quote.TheVariants as quote
 use Rattle.gx_syntax.specs.Strings.{quoted, string_of}
 use Rattle.gx_syntax.proofs.StringsSorted.{string_sorted}
+use Rattle.gx_syntax.specs.Direct.{element_of, element_at, direct_step}
+use Rattle.gx_syntax.proofs.DirectSorted.{element_sorted, direct_sorted}
 use Rattle.gx_ast.specs.declared.name.Axis.{Axis}
 use Rattle.gx_syntax.specs.Types.{kind_word, nothing_inside, document, tested, declared, content, named_content, declared_content}
 use Rattle.gx_syntax.specs.declared.kind_words.KindWord.{KindWord}
@@ -63,18 +70,29 @@ module _ (at : ℕ → Place) where
   apart ts us e = computed_apart (query_language at) shape_of (shaped at) ts us e
 
   production_takes : (p : Production) → (fronts at).takings.production_takes p ≡ true → Takes (rules at p) ≡ true
-  unfolding ladder casts type_test cast_test chain two other_operand operator path_from filtered_step other_step variable_step parenthesised_step dots test_or_literal attribute_step wildcard_step wildcard literal string_of quoted numeral
+  unfolding ladder casts type_test cast_test chain two expression other_operand operator path_from filtered_step other_step variable_step parenthesised_step direct_step element_at element_of dots test_or_literal attribute_step wildcard_step wildcard literal string_of quoted numeral
   production_takes (single zero) e = refl
   production_takes (single (suc n)) e = refl
+  production_takes (within zero) e = refl
+  production_takes (within (suc n)) e = refl
+  production_takes (nested zero) e = refl
+  production_takes (nested (suc zero)) e = refl
+  production_takes (nested (suc (suc n))) e = refl
 
   pub taken : AreTakings (query_language at) (fronts at).takings
   taken = record { tokens = tokens_taken; productions = production_takes }
 
   firsts : (p : Production) → AllOf (IsIn ((fronts at).first p)) (first_of (query_language at) (fronts at) (rules at p))
-  unfolding ladder casts type_test cast_test chain two other_operand operator path_from filtered_step other_step variable_step parenthesised_step dots test_or_literal attribute_step wildcard_step wildcard literal string_of quoted numeral
-  firsts (single zero) = (inr (inr (inr (inr (inr (inr (inr (inr (inr (inr (inr (inl refl))))))))))), tt)
+  unfolding ladder casts type_test cast_test chain two expression other_operand operator path_from filtered_step other_step variable_step parenthesised_step direct_step element_at element_of dots test_or_literal attribute_step wildcard_step wildcard literal string_of quoted numeral
+  firsts (single zero) = (inr (inr (inr (inr (inr (inr (inr (inr (inr (inr (inr (inr (inl refl)))))))))))), tt)
   firsts (single (suc n)) =
-      (inl refl, (inr (inl refl), (inr (inr (inl refl)), (inr (inr (inr (inl refl))), (inr (inr (inr (inr (inl refl)))), (inr (inr (inr (inr (inr (inl refl))))), (inr (inr (inr (inr (inr (inr (inl refl)))))), (inr (inr (inr (inr (inr (inr (inr (inl refl))))))), (inr (inr (inr (inr (inr (inr (inr (inr (inl refl)))))))), (inr (inr (inr (inr (inr (inr (inr (inr (inr (inl refl))))))))), (inr (inr (inr (inr (inr (inr (inr (inr (inr (inr (inl refl)))))))))), tt)))))))))))
+      (inl refl, (inr (inl refl), (inr (inr (inl refl)), (inr (inr (inr (inl refl))), (inr (inr (inr (inr (inl refl)))), (inr (inr (inr (inr (inr (inl refl))))), (inr (inr (inr (inr (inr (inr (inl refl)))))), (inr (inr (inr (inr (inr (inr (inr (inl refl))))))), (inr (inr (inr (inr (inr (inr (inr (inr (inl refl)))))))), (inr (inr (inr (inr (inr (inr (inr (inr (inr (inl refl))))))))), (inr (inr (inr (inr (inr (inr (inr (inr (inr (inr (inl refl)))))))))), (inr (inr (inr (inr (inr (inr (inr (inr (inr (inr (inr (inl refl))))))))))), tt))))))))))))
+  firsts (within zero) = (inr (inr (inr (inr (inr (inr (inr (inr (inr (inr (inr (inr (inl refl)))))))))))), tt)
+  firsts (within (suc n)) =
+      (inl refl, (inr (inl refl), (inr (inr (inl refl)), (inr (inr (inr (inl refl))), (inr (inr (inr (inr (inl refl)))), (inr (inr (inr (inr (inr (inl refl))))), (inr (inr (inr (inr (inr (inr (inl refl)))))), (inr (inr (inr (inr (inr (inr (inr (inl refl))))))), (inr (inr (inr (inr (inr (inr (inr (inr (inl refl)))))))), (inr (inr (inr (inr (inr (inr (inr (inr (inr (inl refl))))))))), (inr (inr (inr (inr (inr (inr (inr (inr (inr (inr (inl refl)))))))))), (inr (inr (inr (inr (inr (inr (inr (inr (inr (inr (inr (inl refl))))))))))), (inr (inr (inr (inr (inr (inr (inr (inr (inr (inr (inr (inr (inl refl)))))))))))), tt)))))))))))))
+  firsts (nested zero) = (inl refl, tt)
+  firsts (nested (suc zero)) = (inl refl, tt)
+  firsts (nested (suc (suc n))) = (inl refl, tt)
 
   pub right : AreFronts (query_language at) (fronts at)
   right = record { taken = taken; firsts = firsts; follows = λ p y. ((λ h. h), (λ h. h)); follows_cut = λ p y. ((λ h. h), (λ h. h)) }
@@ -128,9 +146,19 @@ module _ (at : ℕ → Place) where
 
   -- steps
 
+  abbrev not_brace : List Token → Bool
+  not_brace us = list_all (λ t. shape_begins 123 false (shape_of t)) us
+
   -- neither `(` nor `::` begins these
+  abbrev axis_fits : List Token → Bool
+  axis_fits us = not_open us && all_apart shape_of (word_of word.Colons ∷ []) us
+
+  -- nor `{`
   abbrev name_fits : List Token → Bool
-  name_fits us = not_open us && all_apart shape_of (word_of word.Colons ∷ []) us
+  name_fits us = axis_fits us && not_brace us
+
+  bare_fits : (us : List Token) → name_fits us ≡ true → not_open us ≡ true
+  bare_fits us e = (both (not_open us) (all_apart shape_of (word_of word.Colons ∷ []) us) (both (axis_fits us) (not_brace us) e).0).0
 
   variable_sorted : (us : List Token) → Sorts (variable_step at) us
   unfolding variable_step name
@@ -172,7 +200,7 @@ module _ (at : ℕ → Place) where
   dots_sorted us = (tt, tt)
 
   abbrev singles : List Token
-  singles = qname ∷ one_of set.Signs ∷ word_of word.Dollar ∷ word_of word.Open ∷ one_of set.Dots ∷ word_of word.AtSign ∷ word_of word.AnyPrefix ∷ word_of word.AnyName ∷ word_of word.Quote ∷ word_of word.Apostrophe ∷ number ∷ barred barrier.Single ∷ []
+  singles = qname ∷ one_of set.Signs ∷ word_of word.Dollar ∷ word_of word.Open ∷ word_of word.TagOpen ∷ one_of set.Dots ∷ word_of word.AtSign ∷ word_of word.AnyPrefix ∷ word_of word.AnyName ∷ word_of word.Quote ∷ word_of word.Apostrophe ∷ number ∷ barred barrier.Single ∷ []
 
   singles_pass : AllOf (HasHead (query_language at) (is 41) false) singles
   unfolding is_ncname_start
@@ -243,7 +271,7 @@ module _ (at : ℕ → Place) where
       elim (is_reserved v) as (λ b. AllOf (λ u. AllOf (λ t. AreApart (query_language at) t u) (word_of word.Colons ∷ [])) (first_behind (query_language at) (fronts at) (if b then (kind_content at (kind_word v)) else (choose (by_character (is 40)) (arguments at n) empty)) us))
       [ true ↦ kind_content_apart (kind_word v) us e | false ↦ apart (word_of word.Colons ∷ []) (word_of word.Open ∷ us) e ]
 
-  after_axis_sorted : (n : ℕ) (a : Option Axis) (v : Made) (us : List Token) → name_fits us ≡ true → Sorts (after_axis at n a v) us
+  after_axis_sorted : (n : ℕ) (a : Option Axis) (v : Made) (us : List Token) → axis_fits us ≡ true → Sorts (after_axis at n a v) us
   unfolding after_axis axis_test
   after_axis_sorted n (Some a) v us e =
       let p = both (not_open us) (all_apart shape_of (word_of word.Colons ∷ []) us) e in (
@@ -258,9 +286,68 @@ module _ (at : ℕ → Place) where
   unfolding behind_plain_name
   plain_name_sorted t v us = tt
 
+  -- computed constructors
+
+  computed_sorted : (n : ℕ) (c : ComputedNode) (us : List Token) → Sorts (computed at n c) us
+  unfolding computed
+  computed_sorted n c us = ((tt, tt), (expression_sorted n (word_of word.CloseBrace ∷ []) refl (inr (inr (inr (inr (inr (inl refl))))), tt), (tt, tt)))
+
+  singles_close : AllOf (HasHead (query_language at) (is 125) false) singles
+  unfolding is_ncname_start
+  singles_close = computed_heads (query_language at) shape_of (shaped at) 125 false singles refl
+
+  braced_sorted : (n : ℕ) (us : List Token) → Sorts (braced at n) us
+  unfolding braced expression chain
+  braced_sorted n us = (
+    character_chooses (query_language at) (is 125) (fronts at) right _ _ us
+        (record { takes = refl; passes = computed_heads (query_language at) shape_of (shaped at) 125 true (word_of word.CloseBrace ∷ []) refl; fails = singles_close }),
+    (tt, (tt, tt)),
+    (expression_sorted n (word_of word.CloseBrace ∷ []) refl (inr (inr (inr (inr (inr (inl refl))))), tt), (tt, tt)),
+  )
+
+  named_node_sorted : (n : ℕ) (k : NamedNode) (us : List Token) → Sorts (named_node at n k) us
+  unfolding named_node constructor_name
+  named_node_sorted n k us = ((tt, tt), braced_sorted n us)
+
+  kind_content_heads : (k : Option KindWord) (us : List Token) → not_brace us ≡ true → AllOf (HasHead (query_language at) (is 123) false) (first_behind (query_language at) (fronts at) (kind_content at k) us)
+  unfolding kind_content content named_content declared_content nothing_inside document tested declared
+  kind_content_heads (Some kind.Node) us e = computed_heads (query_language at) shape_of (shaped at) 123 false (word_of word.Open ∷ us) e
+  kind_content_heads (Some kind.Text) us e = computed_heads (query_language at) shape_of (shaped at) 123 false (word_of word.Open ∷ us) e
+  kind_content_heads (Some kind.Document) us e = computed_heads (query_language at) shape_of (shaped at) 123 false (word_of word.Open ∷ us) e
+  kind_content_heads (Some kind.Element) us e = computed_heads (query_language at) shape_of (shaped at) 123 false (word_of word.Open ∷ us) e
+  kind_content_heads (Some kind.Attribute) us e = computed_heads (query_language at) shape_of (shaped at) 123 false (word_of word.Open ∷ us) e
+  kind_content_heads (Some kind.SchemaElement) us e = computed_heads (query_language at) shape_of (shaped at) 123 false (word_of word.Open ∷ us) e
+  kind_content_heads None us e = computed_heads (query_language at) shape_of (shaped at) 123 false us e
+
+  after_name_heads : (n : ℕ) (v : Made) (us : List Token) → not_brace us ≡ true → AllOf (HasHead (query_language at) (is 123) false) (first_behind (query_language at) (fronts at) (after_name at n v) us)
+  unfolding after_name arguments
+  after_name_heads n v us e =
+      elim (is_reserved v) as (λ b. AllOf (HasHead (query_language at) (is 123) false) (first_behind (query_language at) (fronts at) (if b then (kind_content at (kind_word v)) else (choose (by_character (is 40)) (arguments at n) empty)) us))
+      [ true ↦ kind_content_heads (kind_word v) us e | false ↦ computed_heads (query_language at) shape_of (shaped at) 123 false (word_of word.Open ∷ us) e ]
+
+  no_node_sorted : (n : ℕ) (v : Made) (us : List Token) → axis_fits us ≡ true → Sorts (no_node at n v) us
+  unfolding no_node
+  no_node_sorted n v us e = (tt, after_axis_sorted n (axis_word v) v us e)
+
+  constructed_by_sorted : (n : ℕ) (v : Made) (c : Option ComputedNode) (k : Option NamedNode) (us : List Token) → name_fits us ≡ true → Sorts (constructed_by at n v c k) us
+  unfolding constructed_by computed named_node constructor_name no_node
+  constructed_by_sorted n v (Some c) k us e = (
+    character_chooses (query_language at) (is 123) (fronts at) right _ _ us
+        (record { takes = refl; passes = computed_heads (query_language at) shape_of (shaped at) 123 true (word_of word.BraceOpen ∷ []) refl; fails = after_name_heads n v us (both (axis_fits us) (not_brace us) e).1 }),
+    computed_sorted n c us,
+    after_name_sorted n v us (bare_fits us e),
+  )
+  constructed_by_sorted n v None (Some k) us e = (
+    avoided_choose (query_language at) (lawful at) (fronts at) right (constructor ∷ []) (named_node at n k) refl (inl refl, tt) ((λ x o. open_made (open_first (open_made (open_first (open_token o))))), tt) _ _ _
+        (constructors_avoided at (λ left u. second_value u) (after_axis at n (axis_word v) v) _ _),
+    named_node_sorted n k us,
+    no_node_sorted n v us (both (axis_fits us) (not_brace us) e).0,
+  )
+  constructed_by_sorted n v None None us e = after_axis_sorted n (axis_word v) v us (both (axis_fits us) (not_brace us) e).0
+
   any_name_sorted : (n : ℕ) (v : Made) (us : List Token) → name_fits us ≡ true → Sorts (behind_any_name at n v) us
-  unfolding behind_any_name step_of
-  any_name_sorted n v us e = (tt, after_axis_sorted n (axis_word v) v us e)
+  unfolding behind_any_name step_of constructed
+  any_name_sorted n v us e = (tt, constructed_by_sorted n v (computed_named v) (node_named v) us e)
 
   test_or_literal_sorted : (us : List Token) → not_open us ≡ true → Sorts (test_or_literal at) us
   unfolding test_or_literal attribute_step wildcard_step wildcard literal string_of quoted numeral
@@ -285,13 +372,13 @@ module _ (at : ℕ → Place) where
   )
 
   other_step_sorted : (n : ℕ) (us : List Token) → not_open us ≡ true → Sorts (other_step at n) us
-  unfolding other_step variable_step parenthesised_step dots test_or_literal attribute_step wildcard_step wildcard literal string_of quoted numeral
+  unfolding other_step variable_step parenthesised_step direct_step element_at element_of dots test_or_literal attribute_step wildcard_step wildcard literal string_of quoted numeral
   other_step_sorted n us e = (
     character_chooses (query_language at) (is 36) (fronts at) right _ _ us
         (record {
           takes = refl;
           passes = computed_heads (query_language at) shape_of (shaped at) 36 true (word_of word.Dollar ∷ []) refl;
-          fails = computed_heads (query_language at) shape_of (shaped at) 36 false (word_of word.Open ∷ one_of set.Dots ∷ word_of word.AtSign ∷ word_of word.AnyPrefix ∷ word_of word.AnyName ∷ word_of word.Quote ∷ word_of word.Apostrophe ∷ number ∷ []) refl;
+          fails = computed_heads (query_language at) shape_of (shaped at) 36 false (word_of word.Open ∷ word_of word.TagOpen ∷ one_of set.Dots ∷ word_of word.AtSign ∷ word_of word.AnyPrefix ∷ word_of word.AnyName ∷ word_of word.Quote ∷ word_of word.Apostrophe ∷ number ∷ []) refl;
         }),
     variable_sorted us,
     (
@@ -299,14 +386,23 @@ module _ (at : ℕ → Place) where
           (record {
             takes = refl;
             passes = computed_heads (query_language at) shape_of (shaped at) 40 true (word_of word.Open ∷ []) refl;
-            fails = computed_heads (query_language at) shape_of (shaped at) 40 false (one_of set.Dots ∷ word_of word.AtSign ∷ word_of word.AnyPrefix ∷ word_of word.AnyName ∷ word_of word.Quote ∷ word_of word.Apostrophe ∷ number ∷ []) refl;
+            fails = computed_heads (query_language at) shape_of (shaped at) 40 false (word_of word.TagOpen ∷ one_of set.Dots ∷ word_of word.AtSign ∷ word_of word.AnyPrefix ∷ word_of word.AnyName ∷ word_of word.Quote ∷ word_of word.Apostrophe ∷ number ∷ []) refl;
           }),
       parenthesised_sorted n us,
       (
-        tokens_choose (query_language at) (lawful at) (fronts at) right (one_of set.Dots ∷ []) _ _ us
-            (record { takes = refl; first = (inl refl, tt); full = (refl, tt); opening = ((λ x o. open_made (open_first (open_token o))), tt); apart = quotes_apart }),
-        dots_sorted us,
-        test_or_literal_sorted us e,
+        character_chooses (query_language at) (is 60) (fronts at) right _ _ us
+            (record {
+              takes = refl;
+              passes = computed_heads (query_language at) shape_of (shaped at) 60 true (word_of word.TagOpen ∷ []) refl;
+              fails = computed_heads (query_language at) shape_of (shaped at) 60 false (one_of set.Dots ∷ word_of word.AtSign ∷ word_of word.AnyPrefix ∷ word_of word.AnyName ∷ word_of word.Quote ∷ word_of word.Apostrophe ∷ number ∷ []) refl;
+            }),
+        direct_sorted at right n us,
+        (
+          tokens_choose (query_language at) (lawful at) (fronts at) right (one_of set.Dots ∷ []) _ _ us
+              (record { takes = refl; first = (inl refl, tt); full = (refl, tt); opening = ((λ x o. open_made (open_first (open_token o))), tt); apart = quotes_apart }),
+          dots_sorted us,
+          test_or_literal_sorted us e,
+        ),
       ),
     ),
   )
@@ -316,11 +412,11 @@ module _ (at : ℕ → Place) where
   words_no_name : (ts : List Token) → list_all (λ t. words_begin is_ncname_start false (shape_of t)) ts ≡ true → AllOf (HasHead (query_language at) is_ncname_start false) ts
   words_no_name ts e = computed_words (query_language at) shape_of (shaped at) is_ncname_start false ts e
 
-  step_fails : AllOf (HasHead (query_language at) is_ncname_start false) (word_of word.Dollar ∷ word_of word.Open ∷ one_of set.Dots ∷ word_of word.AtSign ∷ word_of word.AnyPrefix ∷ word_of word.AnyName ∷ word_of word.Quote ∷ word_of word.Apostrophe ∷ number ∷ [])
+  step_fails : AllOf (HasHead (query_language at) is_ncname_start false) (word_of word.Dollar ∷ word_of word.Open ∷ word_of word.TagOpen ∷ one_of set.Dots ∷ word_of word.AtSign ∷ word_of word.AnyPrefix ∷ word_of word.AnyName ∷ word_of word.Quote ∷ word_of word.Apostrophe ∷ number ∷ [])
   unfolding is_ncname_start
   step_fails =
-      let w = words_no_name (word_of word.Dollar ∷ word_of word.Open ∷ one_of set.Dots ∷ word_of word.AtSign ∷ word_of word.AnyPrefix ∷ word_of word.AnyName ∷ word_of word.Quote ∷ word_of word.Apostrophe ∷ []) refl in
-      (w.0, (w.1.0, (w.1.1.0, (w.1.1.1.0, (w.1.1.1.1.0, (w.1.1.1.1.1.0, (w.1.1.1.1.1.1.0, (w.1.1.1.1.1.1.1.0, (number_no_name at, tt)))))))))
+      let w = words_no_name (word_of word.Dollar ∷ word_of word.Open ∷ word_of word.TagOpen ∷ one_of set.Dots ∷ word_of word.AtSign ∷ word_of word.AnyPrefix ∷ word_of word.AnyName ∷ word_of word.Quote ∷ word_of word.Apostrophe ∷ []) refl in
+      (w.0, (w.1.0, (w.1.1.0, (w.1.1.1.0, (w.1.1.1.1.0, (w.1.1.1.1.1.0, (w.1.1.1.1.1.1.0, (w.1.1.1.1.1.1.1.0, (w.1.1.1.1.1.1.1.1.0, (number_no_name at, tt))))))))))
 
   name_passes : HasHead (query_language at) is_ncname_start true qname
   name_passes = record { stands = (shaped at qname).0; opened = (shaped at qname).1 }
@@ -330,11 +426,11 @@ module _ (at : ℕ → Place) where
   any_step_sorted v us = any_test_sorted at right v us
 
   step_sorted : (n : ℕ) (us : List Token) → name_fits us ≡ true → Sorts (step at n) us
-  unfolding step other_step variable_step parenthesised_step dots test_or_literal attribute_step wildcard_step wildcard literal string_of quoted numeral
+  unfolding step other_step variable_step parenthesised_step direct_step element_at element_of dots test_or_literal attribute_step wildcard_step wildcard literal string_of quoted numeral
   step_sorted n us e = (
     character_chooses (query_language at) is_ncname_start (fronts at) right _ (other_step at n) us (record { takes = refl; passes = (name_passes, tt); fails = step_fails }),
     (λ v. wildcard_or_sorted at right v (any_step at v) (behind_any_name at n v) us (any_step_sorted v us) (any_name_sorted n v us e)),
-    other_step_sorted n us (both (not_open us) (all_apart shape_of (word_of word.Colons ∷ []) us) e).0,
+    other_step_sorted n us (bare_fits us e),
   )
 
   -- paths and signs
@@ -392,7 +488,7 @@ module _ (at : ℕ → Place) where
   step_fits us e = (both (predicates_fit (one_of set.Slashes ∷ us)) _ (both (all_apart shape_of (one_of set.Slashes ∷ []) us) _ e).1).1
 
   abbrev steps : List Token
-  steps = qname ∷ word_of word.Dollar ∷ word_of word.Open ∷ one_of set.Dots ∷ word_of word.AtSign ∷ word_of word.AnyPrefix ∷ word_of word.AnyName ∷ word_of word.Quote ∷ word_of word.Apostrophe ∷ number ∷ []
+  steps = qname ∷ word_of word.Dollar ∷ word_of word.Open ∷ word_of word.TagOpen ∷ one_of set.Dots ∷ word_of word.AtSign ∷ word_of word.AnyPrefix ∷ word_of word.AnyName ∷ word_of word.Quote ∷ word_of word.Apostrophe ∷ number ∷ []
 
   signs_apart : AllOf (λ u. AllOf (λ t. AreApart (query_language at) t u) (one_of set.Signs ∷ [])) steps
   unfolding is_ncname_start
@@ -406,8 +502,8 @@ module _ (at : ℕ → Place) where
 
   no_sign_apart : AllOf (λ u. AllOf (λ t. AreApart (query_language at) t u) (barred barrier.Sign ∷ [])) steps
   no_sign_apart =
-      let w = apart (barred barrier.Sign ∷ []) (word_of word.Dollar ∷ word_of word.Open ∷ one_of set.Dots ∷ word_of word.AtSign ∷ word_of word.AnyPrefix ∷ word_of word.AnyName ∷ word_of word.Quote ∷ word_of word.Apostrophe ∷ []) refl in
-      ((sign_apart qname (name_no_sign at), tt), (w.0, (w.1.0, (w.1.1.0, (w.1.1.1.0, (w.1.1.1.1.0, (w.1.1.1.1.1.0, (w.1.1.1.1.1.1.0, (w.1.1.1.1.1.1.1.0, ((sign_apart number (number_no_sign at), tt), tt))))))))))
+      let w = apart (barred barrier.Sign ∷ []) (word_of word.Dollar ∷ word_of word.Open ∷ word_of word.TagOpen ∷ one_of set.Dots ∷ word_of word.AtSign ∷ word_of word.AnyPrefix ∷ word_of word.AnyName ∷ word_of word.Quote ∷ word_of word.Apostrophe ∷ []) refl in
+      ((sign_apart qname (name_no_sign at), tt), (w.0, (w.1.0, (w.1.1.0, (w.1.1.1.0, (w.1.1.1.1.0, (w.1.1.1.1.1.0, (w.1.1.1.1.1.1.0, (w.1.1.1.1.1.1.1.0, (w.1.1.1.1.1.1.1.1.0, ((sign_apart number (number_no_sign at), tt), tt)))))))))))
 
   more_signs_sorted : (k : ℕ) → Sorts (more_signs at k) steps
   unfolding more_signs operator
@@ -425,11 +521,11 @@ module _ (at : ℕ → Place) where
   )
 
   signed_sorted : (n k : ℕ) (us : List Token) → path_fits us ≡ true → Sorts (signed_path at n k) us
-  unfolding signed_path path_from filtered_step chain step other_step variable_step parenthesised_step dots test_or_literal attribute_step wildcard_step wildcard literal string_of quoted numeral
+  unfolding signed_path path_from filtered_step chain step other_step variable_step parenthesised_step direct_step element_at element_of dots test_or_literal attribute_step wildcard_step wildcard literal string_of quoted numeral
   signed_sorted n k us e = (more_signs_sorted k, path_sorted n (step at n) us e (step_sorted n (word_of word.OpenBracket ∷ one_of set.Slashes ∷ us) (step_fits us e)))
 
   other_operand_sorted : (n : ℕ) (us : List Token) → path_fits us ≡ true → Sorts (other_operand at n) us
-  unfolding other_operand operator path_from filtered_step chain step other_step variable_step parenthesised_step dots test_or_literal attribute_step wildcard_step wildcard literal string_of quoted numeral
+  unfolding other_operand operator path_from filtered_step chain step other_step variable_step parenthesised_step direct_step element_at element_of dots test_or_literal attribute_step wildcard_step wildcard literal string_of quoted numeral
   other_operand_sorted n us e = (
     tokens_choose (query_language at) (lawful at) (fronts at) right (one_of set.Signs ∷ []) _ _ us
         (record {
@@ -440,7 +536,7 @@ module _ (at : ℕ → Place) where
           apart = signs_apart.1;
         }),
     (((tt, tt), more_signs_sorted 63), path_sorted n (step at n) us e (step_sorted n (word_of word.OpenBracket ∷ one_of set.Slashes ∷ us) (step_fits us e))),
-    path_sorted n (other_step at n) us e (other_step_sorted n (word_of word.OpenBracket ∷ one_of set.Slashes ∷ us) (both (not_open us) _ (step_fits us e)).0),
+    path_sorted n (other_step at n) us e (other_step_sorted n (word_of word.OpenBracket ∷ one_of set.Slashes ∷ us) (bare_fits (word_of word.OpenBracket ∷ one_of set.Slashes ∷ us) (step_fits us e))),
   )
 
   -- the levels of operators, before these tokens
@@ -589,13 +685,18 @@ module _ (at : ℕ → Place) where
   named_sorted n v = opened_or_name_sorted n v (opening_named v)
 
   pub single_fails : (n : ℕ) → AllOf (HasHead (query_language at) is_ncname_start false) (first_behind (query_language at) (fronts at) (ladder at 8 n (other_operand at n)) (behind_single at))
-  unfolding ladder casts type_test cast_test two chain other_operand operator path_from filtered_step other_step variable_step parenthesised_step dots test_or_literal attribute_step wildcard_step wildcard literal string_of quoted numeral is_ncname_start
+  unfolding ladder casts type_test cast_test two chain other_operand operator path_from filtered_step other_step variable_step parenthesised_step direct_step element_at element_of dots test_or_literal attribute_step wildcard_step wildcard literal string_of quoted numeral is_ncname_start
   single_fails n = let w = words_no_name (one_of set.Signs ∷ []) refl in (w.0, step_fails)
 
-  pub production_sorted : (p : Production) → Sorts (rules at p) (behind_single at)
+  pub production_sorted : (p : Production) → Sorts (rules at p) (behind at p)
   production_sorted (single zero) = tt
   production_sorted (single (suc n)) = (
     character_chooses (query_language at) is_ncname_start (fronts at) right _ (ladder at 8 n (other_operand at n)) (behind_single at) (record { takes = refl; passes = (name_passes, tt); fails = single_fails n }),
     (λ v. wildcard_or_sorted at right v (ladder at 8 n (path_from at n (any_step at v))) (named_single at n v) (behind_single at) (begun_path_sorted n (any_step at v) (any_step_sorted v _)) (named_sorted n v)),
     ladder_sorted 8 n (other_operand at n) (behind_single at) levels_fit (other_operand_sorted n (innermost 8 (behind_single at)) inside_fits),
   )
+  production_sorted (within zero) = tt
+  production_sorted (within (suc n)) = expression_sorted n (word_of word.CloseBrace ∷ []) refl (inr (inr (inr (inr (inr (inl refl))))), tt)
+  production_sorted (nested zero) = tt
+  production_sorted (nested (suc zero)) = tt
+  production_sorted (nested (suc (suc n))) = element_sorted at right (suc n) (behind at (nested (suc (suc n))))

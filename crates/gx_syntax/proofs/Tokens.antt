@@ -23,9 +23,11 @@ use Rattle.gx_syntax.specs.Words.{letters_of, ends_at, ending_of, spelling_of, w
 use Rattle.gx_syntax.specs.Nodes.{Node, Made, Found}
 use Rattle.gx_syntax.specs.Numeral.{together, IsDigits, scan_digits, IsFraction, scan_fraction, starts_point, HasFraction, scan_with_fraction, IsPointed, OpensNumeral, scan_pointed, seen_numeral, has_digit, is_small, IsLiteral, scan_literal, IsNumeral, scan_numeral}
 use Rattle.gx_syntax.specs.declared.word.Barrier.{Barrier}
-use Rattle.gx_syntax.specs.Tokens.{Token, one_of, qname, number, number_end, gap, gap_then_open, gap_not_open, barred, indication, entry_of, entries, IsNCName, scan_ncname, behind_colon, IsColon, scan_colon, OpensColon, IsLocalPart, OpensLocalPart, scan_local_part, seen_local_part, starts_local_part, HasLocalPart, scan_has_local_part, IsQName, OpensQName, no_value, IsGapHere, scan_gap_here, IsParenthesis, scan_parenthesis, OpensParenthesis, scan_no_parenthesis, OpensNothing, indicators, first_of_two, IsIndicator, OpensIndicator, scan_indicator, seen_indicator, stops_type, IsNoIndicator, scan_no_indicator, begins_at, barrier_fault, limit_code, number_code, derives, opens, scan, seen, faults, takes, begins_gap, begins_number, text_run, reference, white, blank, no_attribute, tag_name, cdata_text, ncname, local_wildcard, wildcard_letters, IsLocalWildcard, scan_local_wildcard, starts_local_wildcard, no_characters, begins_attribute, cdata_value, cdata_walk, entity_words, gap_then_dollar, gap_then_neither, barred_words, IsDollar, scan_dollar, OpensDollar, stops_name, IsNeither, scan_neither, word_fault, leading, second_of_two, IsGapWith, OpensGapWith, scan_gap_with, seen_gap_with, IsTheWord, OpensTheWord, scan_the_word}
+use Rattle.gx_syntax.specs.Tokens.{Token, one_of, qname, number, number_end, gap, gap_then_open, gap_not_open, barred, indication, entry_of, entries, IsNCName, scan_ncname, behind_colon, IsColon, scan_colon, OpensColon, IsLocalPart, OpensLocalPart, scan_local_part, seen_local_part, starts_local_part, HasLocalPart, scan_has_local_part, IsQName, OpensQName, no_value, IsGapHere, scan_gap_here, IsParenthesis, scan_parenthesis, OpensParenthesis, scan_no_parenthesis, OpensNothing, indicators, first_of_two, IsIndicator, OpensIndicator, scan_indicator, seen_indicator, stops_type, IsNoIndicator, scan_no_indicator, begins_at, barrier_fault, limit_code, number_code, derives, opens, scan, seen, faults, takes, begins_gap, begins_number, text_run, reference, white, blank, no_attribute, no_element, tag_open, element_fault, tag_name, cdata_text, ncname, local_wildcard, wildcard_letters, IsLocalWildcard, scan_local_wildcard, starts_local_wildcard, no_characters, begins_attribute, cdata_value, cdata_walk, entity_words, gap_then_dollar, gap_then_neither, barred_words, IsDollar, scan_dollar, OpensDollar, stops_name, IsNeither, scan_neither, word_fault, leading, second_of_two, IsGapWith, OpensGapWith, scan_gap_with, seen_gap_with, IsTheWord, OpensTheWord, scan_the_word}
 use Rattle.gx_syntax.specs.References.{is_text, text_value}
 use Rattle.gx_syntax.proofs.ReferenceTokens.{reference_lawful, number_shorter}
+use Rattle.gx_syntax.specs.Tokens.{scan_qname, seen_qname, constructor, no_constructor, IsBrace, OpensBrace, scan_brace, IsGapBrace, OpensGapBrace, scan_gap_brace, seen_gap_brace, IsConstructor, OpensConstructor, scan_constructor, seen_constructor, front_of_two}
+use Rattle.gx_syntax.proofs.ConstructorTokens.{no_constructor_lawful}
 
 pub set_apart : (ws : WordSet) → all_words_apart (spellings (entries (words_of ws))) ≡ true
 set_apart (set.Only w) = refl
@@ -172,6 +174,16 @@ then_neither_lawful : LawfulToken (derives gap_then_neither) (opens gap_then_nei
 then_neither_lawful =
     lawful_joined IsGapHere (OpensGap is_xml_character 0) scan_gap_here (seen_gap is_xml_character 0) gap_lawful IsNeither OpensNothing scan_neither (seen_word [])
     (lawful_word nothing [] stops_name) no_value
+
+-- constructors
+
+gap_brace_lawful : LawfulToken IsGapBrace OpensGapBrace scan_gap_brace seen_gap_brace no_fault
+gap_brace_lawful =
+    lawful_joined IsGapHere (OpensGap is_xml_character 0) scan_gap_here (seen_gap is_xml_character 0) gap_lawful IsBrace OpensBrace scan_brace (seen_word (123 ∷ []))
+    (lawful_word nothing (123 ∷ []) no_character) no_value
+
+pub constructor_lawful : LawfulToken IsConstructor OpensConstructor scan_constructor seen_constructor no_fault
+constructor_lawful = lawful_joined IsQName OpensQName scan_qname seen_qname qname_lawful IsGapBrace OpensGapBrace scan_gap_brace seen_gap_brace gap_brace_lawful front_of_two
 
 -- two words
 
@@ -366,6 +378,7 @@ token_lawful reference = reference_lawful
 token_lawful white = lawful_name no_characters is_white_space is_white_space no_character
 token_lawful blank = lawful_run no_characters is_white_space no_character
 token_lawful no_attribute = lawful_word nothing [] begins_attribute
+token_lawful no_element = lawful_stop (IsOneOf tag_open) (OpensOneOf tag_open) (scan_one_of tag_open) (seen_one_of tag_open) no_fault (lawful_one_of tag_open refl) element_fault refl
 token_lawful (tag_name cs) = lawful_word nothing cs is_ncname_character
 token_lawful cdata_text = lawful_walk cdata_value cdata_walk 0
 token_lawful ncname = ncname_lawful
@@ -377,6 +390,8 @@ token_lawful (barred_words ws) =
     lawful_stop (IsOneOf (entries (words_of ws))) (OpensOneOf (entries (words_of ws))) (scan_one_of (entries (words_of ws))) (seen_one_of (entries (words_of ws))) no_fault (lawful_one_of (entries (words_of ws)) (set_apart ws)) (word_fault ws)
     (no_word_fault ws)
 token_lawful (leading w ws) = leading_lawful w ws
+token_lawful constructor = constructor_lawful
+token_lawful no_constructor = no_constructor_lawful constructor_lawful
 
 named_shorter : {value : List ℕ → Made} (first test stop : ℕ → Bool) (v : Made) (x y : List ℕ) → IsNamed value first test stop v x y → length y < length x
 named_shorter first test stop v x y d = omega (arith, ap length d.whole, ap length d.others.spelled, length-append d.others.run y)
@@ -418,12 +433,15 @@ pointed_begins v x y d e = go d.front d.begins.run d.begins.same d.begins.spelle
 gap_behind : (v : Made) (x y : List ℕ) → IsGapHere v x y → length y ≤ length x
 gap_behind v x y d = let a = gap_lawful.ends v x y d in omega (arith, ap length a.1, length-append a.0 y)
 
-pub tokens_taken : (t : Token) (v : Made) (x y : List ℕ) → takes t ≡ true → derives t v x y → length y < length x
-tokens_taken (one_of ws) v x y e d = word_shorter (words_of ws) v x y d
-tokens_taken qname v x y e d =
+qname_shorter : (v : Made) (x y : List ℕ) → IsQName v x y → length y < length x
+qname_shorter v x y d =
     let n = named_shorter is_ncname_start is_ncname_character no_character d.front x d.between d.begins in
     let a = has_local_lawful.ends d.back d.between y d.ends in
     omega (arith, n, ap length a.1, length-append a.0 y)
+
+pub tokens_taken : (t : Token) (v : Made) (x y : List ℕ) → takes t ≡ true → derives t v x y → length y < length x
+tokens_taken (one_of ws) v x y e d = word_shorter (words_of ws) v x y d
+tokens_taken qname v x y e d = qname_shorter v x y d
 tokens_taken number v x y e d = (pointed_begins v x y d.stands.stands d.stands.fits).shorter
 tokens_taken number_end v x y e d = absurd (cc)
 tokens_taken gap v x y e d = absurd (cc)
@@ -437,6 +455,7 @@ tokens_taken reference v x y e (inr d) = number_shorter v x y d
 tokens_taken white v x y e d = named_shorter is_white_space is_white_space no_character v x y d
 tokens_taken blank v x y e d = absurd (cc)
 tokens_taken no_attribute v x y e d = absurd (cc)
+tokens_taken no_element v x y e d = absurd d
 tokens_taken (tag_name cs) v x y e d = absurd (cc)
 tokens_taken cdata_text v x y e d = absurd (cc)
 tokens_taken ncname v x y e d = named_shorter is_ncname_start is_ncname_character no_character v x y d
@@ -447,3 +466,9 @@ tokens_taken (barred_words ws) v x y e d = absurd d
 tokens_taken (leading w ws) v x y e d =
     let j = d.ends in
     omega (arith, word_shorter (w ∷ []) d.front x d.between (inl d.begins), gap_behind j.front d.between j.between j.begins, word_shorter (words_of ws) j.back j.between y j.ends)
+tokens_taken constructor v x y e d =
+    let j = d.ends in
+    let n = qname_shorter d.front x d.between d.begins in
+    let g = gap_behind j.front d.between j.between j.begins in
+    omega (arith, n, g, ap length j.ends.spelled)
+tokens_taken no_constructor v x y e d = absurd (cc)

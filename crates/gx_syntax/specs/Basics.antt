@@ -14,6 +14,10 @@ use Rattle.gx_syntax.specs.Nodes.{Node, Made, operator_value, name_value}
 pub data Production : Type 0 where
   -- a Single, where that many Singles may stand one inside another, itself among them
   single : ℕ → Production
+  -- in a direct element that stands where so many Singles may stand one inside another: an expression in braces, and an
+  -- element in the content
+  within : ℕ → Production
+  nested : ℕ → Production
 
 abbrev pub Phrase : Type 0
 Phrase = Grammar Token Production Node

@@ -9,8 +9,9 @@
 --   Castable ::= Cast ("castable" "as" QName "?"?)?   Cast ::= Unary ("cast" "as" QName "?"?)?
 --   Unary ::= ("-" | "+")* Path            Path ::= Pred (("/" | "//") Pred)*
 --   Pred ::= Step ("[" Expr "]")*
---   Step ::= Literal | "$" QName | "(" Expr? ")" | "." | ".." | Forward | QName "(" (Single ("," Single)*)? ")"
--- A Single stands inside at most 39 others, each chain has at most 64 members, and each step at most 64 predicates.
+--   Step ::= Literal | "$" QName | "(" Expr? ")" | "." | ".." | Forward | QName "(" (Single ("," Single)*)? ")" | Direct
+-- A Single, and a direct element in the content of another, stands inside at most 39 Singles and direct elements; each chain
+-- has at most 64 members, and each step at most 64 predicates.
 use Rattle.std.specs.Prelude.{ℕ, zero, suc, ◌+◌, ◌-◌, List, [], ◌∷◌, ◌==◌, ◌&&◌, ◌||◌, Bool, true, false, Option, Some, None, if◌then◌else◌, length, codes, nat_eq}
 use Rattle.std.specs.Cmp.Lexicographic.{pointwise}
 use Rattle.gx_base.specs.declared.place.Place.{Place}
@@ -33,20 +34,25 @@ use Rattle.gx_syntax.specs.declared.word.WordSet.TheVariants as set
 use Rattle.gx_base.specs.NameCharacters.{is_ncname_start}
 use Rattle.gx_syntax.specs.Characters.{is_digit}
 use Rattle.gx_syntax.specs.declared.word.Barrier.{Barrier}
-use Rattle.gx_syntax.specs.Tokens.{Token, one_of, qname, number, number_end, gap, gap_then_open, gap_not_open, barred, gap_then_dollar, gap_then_neither, barred_words, derives, opens, scan, seen, faults}
-pub use Rattle.gx_syntax.specs.Basics.{Production, single, Phrase, lexeme, word_of, at_tokens, is_name}
+use Rattle.gx_syntax.specs.Tokens.{Token, one_of, qname, number, number_end, gap, gap_then_open, gap_not_open, barred, gap_then_dollar, gap_then_neither, barred_words, no_element, reference, text_run, derives, opens, scan, seen, faults, constructor, no_constructor}
+pub use Rattle.gx_syntax.specs.Basics.{Production, single, within, nested, Phrase, lexeme, word_of, at_tokens, is_name}
 unfoldable pub use Rattle.gx_syntax.specs.Basics.{operator, name}
 use Rattle.gx_syntax.specs.Casts.{casts}
+use Rattle.gx_syntax.specs.Computed.{computed_named, node_named, computed_value, constructor_value, named_node_value}
+use Rattle.gx_syntax.specs.declared.word.ComputedNode.{ComputedNode}
+use Rattle.gx_syntax.specs.declared.word.NamedNode.{NamedNode}
 use Rattle.gx_syntax.specs.declared.word.Opening.{Opening}
 use Rattle.gx_syntax.specs.declared.word.Branching.{Branching}
 use Rattle.gx_syntax.specs.declared.word.Branching.TheVariants as branching_is
 use Rattle.gx_syntax.specs.Binding.{opening_named, opened}
 use Rattle.gx_syntax.specs.Typeswitch.{branching_named, typeswitch_value, cases, default_head}
 use Rattle.gx_syntax.specs.declared.runs.Quote.TheVariants as quote
+use Rattle.gx_syntax.specs.declared.runs.Run.TheVariants as run
 use Rattle.gx_syntax.specs.Strings.{string_of}
+use Rattle.gx_syntax.specs.Direct.{start_of, element_at, direct_step}
 use Rattle.gx_syntax.specs.Types.{kind_word}
 use Rattle.gx_syntax.specs.NodeTests.{axis_word, test_of, step_tree, wildcard_or, any_step, axis_test, attribute_step, wildcard_step, kind_content}
-use Rattle.gx_syntax.specs.Nodes.{Node, Made, Arguments, Content, Test, predicate_value, filtered_value, Join, join_binary, join_path, join_comma, first_value, second_value, operator_value, chain_value, signed_value, number_value, name_at, name_length, name_value, variable_value, arguments_value, named_value, dots_value, parenthesised_value, condition_value, tree}
+use Rattle.gx_syntax.specs.Nodes.{Node, Made, Arguments, Constructs, Content, Test, predicate_value, filtered_value, Join, join_binary, join_path, join_comma, first_value, second_value, operator_value, chain_value, signed_value, number_value, name_at, name_length, name_value, variable_value, arguments_value, named_value, dots_value, parenthesised_value, condition_value, tree}
 
 -- an operand stands beside at most one other
 abbrev pub is_single : Level → Bool
@@ -75,10 +81,12 @@ is_kind_test v = is_name (codes "comment") v || (is_name (codes "document-node")
 abbrev pub is_reserved : Made → Bool
 is_reserved v = is_element_test v || (is_kind_test v || (is_name (codes "empty-sequence") v || (is_name (codes "if") v || (is_name (codes "item") v || is_name (codes "typeswitch") v))))
 
--- A name with what stands behind its gap: arguments, the parentheses of a kind test, a test behind `::`, or nothing.
+-- A name with what stands behind its gap: arguments, the parentheses of a kind test, a test behind `::`, the rest of a
+-- constructor, or nothing.
 abbrev pub step_value : Made → QName → Made → Made
 step_value v q (pair space (node (Arguments ts))) = tree (located q.place (call q ts))
 step_value v q (pair space (node (Content c))) = tree (step_tree q.place None (test_of (kind_word v) q (Some c)))
+step_value v q (pair space (node (Constructs f))) = tree (located q.place f)
 step_value v q (pair space (node (Test t))) = tree (step_tree q.place (axis_word v) t)
 step_value v q _ = tree (step_tree q.place None (test_of None q None))
 
@@ -142,6 +150,35 @@ module _ (at : ℕ → Place) where
   after_axis n (Some a) v = choose (at_tokens (word_of word.Colons ∷ [])) (axis_test at) (after_name n v)
   after_axis n None v = after_name n v
 
+  -- the rest of a document or text constructor
+  unfoldable pub computed : ℕ → ComputedNode → Phrase
+  computed n c = made (λ left v. computed_value c v) (lexeme (word_of word.BraceOpen) & expression n & lexeme (word_of word.CloseBrace))
+
+  -- an expression or nothing, and `}`
+  unfoldable pub braced : ℕ → Phrase
+  braced n = choose (by_character (is 125)) (empty & lexeme (word_of word.CloseBrace)) (expression n & lexeme (word_of word.CloseBrace))
+
+  -- the name of a node, and `{`
+  unfoldable pub constructor_name : Phrase
+  constructor_name = made (λ left v. constructor_value (at left) v) (token constructor & token gap)
+
+  -- the rest of an element or attribute constructor
+  unfoldable pub named_node : ℕ → NamedNode → Phrase
+  named_node n k = made (λ left v. named_node_value k v) (constructor_name & braced n)
+
+  -- what stands behind a name and its gap, where no constructor does
+  unfoldable pub no_node : ℕ → Made → Phrase
+  no_node n v = made (λ left u. second_value u) (token no_constructor & after_axis n (axis_word v) v)
+
+  unfoldable pub constructed_by : ℕ → Made → Option ComputedNode → Option NamedNode → Phrase
+  constructed_by n v (Some c) k = choose (by_character (is 123)) (computed n c) (after_name n v)
+  constructed_by n v None (Some k) = choose (at_tokens (constructor ∷ [])) (named_node n k) (no_node n v)
+  constructed_by n v None None = after_axis n (axis_word v) v
+
+  -- what stands behind a name and its gap
+  unfoldable pub constructed : ℕ → Made → Phrase
+  constructed n v = constructed_by n v (computed_named v) (node_named v)
+
   -- a step whose name was read, with what stands behind it
   unfoldable pub step_of : Made → Phrase → Phrase
   step_of v behind = made (λ left u. step_value v (name_at (at (left + name_length v)) v) u) behind
@@ -151,7 +188,7 @@ module _ (at : ℕ → Place) where
   behind_plain_name t v = made (λ left u. named_value (name_at (at (left + name_length v)) v) u) (token t)
 
   unfoldable pub behind_any_name : ℕ → Made → Phrase
-  behind_any_name n v = step_of v (token gap & after_axis n (axis_word v) v)
+  behind_any_name n v = step_of v (token gap & constructed n v)
 
   unfoldable pub test_or_literal : Phrase
   test_or_literal = choose (by_character (is 64)) (attribute_step at) (choose (by_character (is 42)) (wildcard_step at) literal)
@@ -159,7 +196,8 @@ module _ (at : ℕ → Place) where
   unfoldable pub other_step : ℕ → Phrase
   other_step n =
       choose (by_character (is 36)) variable_step
-      (choose (by_character (is 40)) (parenthesised_step n) (choose (at_tokens (one_of set.Dots ∷ [])) dots test_or_literal))
+      (choose (by_character (is 40)) (parenthesised_step n)
+      (choose (by_character (is 60)) (direct_step at n) (choose (at_tokens (one_of set.Dots ∷ [])) dots test_or_literal)))
 
   unfoldable pub step : ℕ → Phrase
   step n = choose (by_character is_ncname_start) (made (λ left v. second_value v) (keyed qname (λ v. wildcard_or v (any_step at v) (behind_any_name n v)))) (other_step n)
@@ -241,12 +279,27 @@ module _ (at : ℕ → Place) where
   abbrev pub rules : Production → Phrase
   rules (single zero) = token (barred barrier.Single)
   rules (single (suc n)) = choose (by_character is_ncname_start) (made (λ left v. second_value v) (keyed qname (λ v. wildcard_or v (ladder 8 n (path_from n (any_step at v))) (named_single n v)))) (ladder 8 n (other_operand n))
+  rules (within zero) = token (barred barrier.Single)
+  rules (within (suc n)) = expression n
+  rules (nested zero) = token no_element
+  rules (nested (suc zero)) = token no_element
+  rules (nested (suc (suc n))) = element_at at (suc n)
 
   -- what may stand behind a Single
   abbrev pub behind_single : List Token
   behind_single =
       word_of word.Comma ∷ word_of word.Close ∷ word_of word.Then ∷ word_of word.Else ∷ word_of word.CloseBracket ∷ word_of word.CloseBrace ∷ word_of word.Semicolon ∷ word_of word.Return ∷ word_of word.Satisfies ∷ word_of word.Case ∷ word_of word.Default
       ∷ word_of word.Order ∷ word_of word.Stable ∷ one_of set.Binders ∷ barred_words set.Binders ∷ word_of word.Where ∷ one_of set.Directions ∷ word_of word.Empty ∷ barred_words (set.Only word.Case) ∷ []
+
+  -- what may stand behind an element in the content of another
+  abbrev pub behind_nested : ℕ → List Token
+  behind_nested n =
+      reference ∷ word_of word.CdataOpen ∷ start_of n ∷ word_of word.TwoOpenBraces ∷ word_of word.BraceOpen ∷ word_of word.TwoCloseBraces ∷ text_run run.Content ∷ word_of word.EndTagOpen ∷ []
+
+  abbrev pub behind : Production → List Token
+  behind (single n) = behind_single
+  behind (within n) = word_of word.CloseBrace ∷ []
+  behind (nested n) = behind_nested n
 
   abbrev pub query_language : Language
   query_language = record {
@@ -259,8 +312,8 @@ module _ (at : ℕ → Place) where
     seen = seen;
     faults = faults;
     rules = rules;
-    follows = λ p y. EndsOrStarts {Node = Node} derives faults behind_single y;
-    follows_cut = λ p y. BeginsWith {Node = Node} derives opens behind_single y;
+    follows = λ p y. EndsOrStarts {Node = Node} derives faults (behind p) y;
+    follows_cut = λ p y. BeginsWith {Node = Node} derives opens (behind p) y;
   }
 
 -- the place of a token in a text, by the number of characters that are left there

@@ -3,6 +3,7 @@ pub mod Binding
 pub mod Bound
 pub mod Casts
 pub mod Characters
+pub mod Computed
 pub mod Direct
 pub mod Fronts
 pub mod Grammar
@@ -11,6 +12,7 @@ pub mod Levels
 pub mod NodeTests
 pub mod Nodes
 pub mod Numeral
+pub mod Pieces
 pub mod Prolog
 pub mod Query
 pub mod References

@@ -25,10 +25,11 @@ use Rattle.gx_ast.specs.declared.query.Definition.{Definition}
 use Rattle.gx_ast.specs.declared.query.Query.{Query}
 use Rattle.gx_ast.specs.declared.expression.BinaryOperator.{BinaryOperator}
 use Rattle.gx_ast.specs.declared.expression.BinaryOperator.TheVariants as binary_operator
-use Rattle.gx_ast.specs.SyntaxTree.{SyntaxTree, SyntaxForm, SyntaxTrees, Bindings, at, number, variable, parenthesised, empty_sequence, context_item, call, comma, conditional, binary, signed, path, axis_step, parent_step, filtered, no_tree, a_tree}
+use Rattle.gx_ast.specs.SyntaxTree.{SyntaxTree, SyntaxForm, SyntaxTrees, Bindings, Attributes, AttributeParts, Parts, at, number, variable, parenthesised, empty_sequence, context_item, call, comma, conditional, binary, signed, path, axis_step, parent_step, filtered, no_tree, a_tree}
 use Rattle.gx_grammar.specs.Value.{Value, nothing, characters, node, pair, no_item, an_item}
 use Rattle.gx_syntax.specs.declared.word.Word.{Word}
 use Rattle.gx_syntax.specs.declared.word.ClauseWord.{ClauseWord}
+use Rattle.gx_syntax.specs.declared.pieces.Piece.{Piece}
 use Rattle.gx_syntax.specs.declared.kind_words.TestContent.{TestContent}
 use Rattle.gx_syntax.specs.declared.kind_words.TypeTail.{TypeTail}
 use Rattle.gx_syntax.specs.declared.word.Word.TheVariants as word
@@ -62,6 +63,14 @@ pub data Node : Type 0 where
   -- of typeswitches: what stands in front of the expression of a case, and of the default
   HeadOfCase : CaseHead → Node
   HeadOfDefault : DefaultHead → Node
+  -- of computed constructors: what one is
+  Constructs : SyntaxForm → Node
+  -- of direct constructors: a piece as it is written, the value of an attribute, an attribute, attributes, and content
+  PieceOf : Piece → Node
+  ValueIs : AttributeParts → Node
+  AttributeIs : QName → AttributeParts → Node
+  AttributesAre : Attributes → Node
+  PartsAre : Parts → Node
   -- of prologs: the encoding or none, the version or none, a prefix, what a schema's namespace is bound to, what a setting
   -- says, a setting, the value of a variable, a parameter, what a definition says, a definition, and a whole query
   Encoding : Option (List ℕ) → Node

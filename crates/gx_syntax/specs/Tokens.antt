@@ -54,6 +54,8 @@ pub data Token : Type 0 where
   blank : Token
   -- no characters, behind which neither a name begins nor white space stands
   no_attribute : Token
+  -- a `<` and the start of a name, which may not stand
+  no_element : Token
   -- the name of an end tag
   tag_name : List ℕ → Token
   -- the characters of a CDATA section, with the two `]` behind them
@@ -69,6 +71,10 @@ pub data Token : Type 0 where
   barred_words : WordSet → Token
   -- a word, white space and comments, and one of the words
   leading : Word → WordSet → Token
+  -- a QName, white space and comments, and a `{`
+  constructor : Token
+  -- no characters, where that does not stand, nor a name with a `-` or a `.`, which is no keyword
+  no_constructor : Token
 
 abbrev pub entry_of : Word → Entry Made
 entry_of w = record { spelling = spelling_of w; value = node (Found w) }
@@ -197,6 +203,63 @@ IsNeither = IsWord nothing [] stops_name
 
 abbrev pub scan_neither : List ℕ → Option (Made × List ℕ)
 scan_neither x = scan_word nothing [] stops_name x
+
+-- constructors
+
+abbrev pub IsBrace : Made → List ℕ → List ℕ → Type 0
+IsBrace = IsWord nothing (123 ∷ []) no_character
+
+abbrev pub scan_brace : List ℕ → Option (Made × List ℕ)
+scan_brace x = scan_word nothing (123 ∷ []) no_character x
+
+abbrev pub OpensBrace : List ℕ → Type 0
+OpensBrace x = IsFrontOf x (123 ∷ [])
+
+abbrev pub IsGapBrace : Made → List ℕ → List ℕ → Type 0
+IsGapBrace = AreJoined IsGapHere IsBrace no_value
+
+abbrev pub OpensGapBrace : List ℕ → Type 0
+OpensGapBrace = OpensJoined IsGapHere (OpensGap is_xml_character 0) OpensBrace
+
+abbrev pub scan_gap_brace : List ℕ → Option (Made × List ℕ)
+scan_gap_brace x = scan_joined scan_gap_here scan_brace no_value x
+
+abbrev pub seen_gap_brace : List ℕ → ℕ
+seen_gap_brace x = seen_joined scan_gap_here (seen_gap is_xml_character 0) (seen_word (123 ∷ [])) x
+
+abbrev pub front_of_two : Made → Made → Made
+front_of_two a b = a
+
+abbrev pub IsConstructor : Made → List ℕ → List ℕ → Type 0
+IsConstructor = AreJoined IsQName IsGapBrace front_of_two
+
+abbrev pub OpensConstructor : List ℕ → Type 0
+OpensConstructor = OpensJoined IsQName OpensQName OpensGapBrace
+
+abbrev pub scan_constructor : List ℕ → Option (Made × List ℕ)
+scan_constructor x = scan_joined scan_qname scan_gap_brace front_of_two x
+
+abbrev pub seen_constructor : List ℕ → ℕ
+seen_constructor x = seen_joined scan_qname seen_qname seen_gap_brace x
+
+-- `-` or `.`
+abbrev pub joins_words : ℕ → Bool
+joins_words c = c == 45 || c == 46
+
+-- one of the characters of a name is `-` or `.`
+abbrev pub has_join : List ℕ → Bool
+has_join [] = false
+has_join (c ∷ x) = is_ncname_character c && (joins_words c || has_join x)
+
+-- a name with `-` or `.` stands at the front
+abbrev pub begins_no_word : List ℕ → Bool
+begins_no_word x = head_passes is_ncname_start x && has_join x
+
+abbrev pub starts_constructor : List ℕ → Bool
+starts_constructor x = is_some (scan_constructor x) || begins_no_word x
+
+abbrev pub NoConstructor : Made → List ℕ → List ℕ → Type 0
+NoConstructor = IsOptional Never starts_constructor nothing
 
 -- two words
 
@@ -333,7 +396,7 @@ cdata_walk = record { goes = λ n c. not ((n == 2) && (c == 62)) && is_xml_chara
 
 -- the first characters of expressions, of steps, and of signs
 abbrev pub begins_step : ℕ → Bool
-begins_step c = is_ncname_start c || (is_digit c || (c == 46 || (c == 36 || (c == 40 || (c == 34 || (c == 39 || (c == 64 || c == 42)))))))
+begins_step c = is_ncname_start c || (is_digit c || (c == 46 || (c == 36 || (c == 40 || (c == 34 || (c == 39 || (c == 64 || (c == 42 || c == 60))))))))
 
 abbrev pub begins_sign : ℕ → Bool
 begins_sign c = c == 43 || c == 45
@@ -361,6 +424,18 @@ word_fault ws x = fault_where limit_code (scan_one_of (entries (words_of ws)) x)
 abbrev pub barrier_fault : Barrier → List ℕ → Option ℕ
 barrier_fault b x = if head_passes (begins_at b) x then (Some limit_code) else None
 
+abbrev pub tag_open : List (Entry Made)
+tag_open = entries (word.TagOpen ∷ [])
+
+-- a `<` with the start of a name stands at the front
+abbrev pub starts_element : List ℕ → Bool
+starts_element [] = false
+starts_element (c ∷ []) = false
+starts_element (c ∷ d ∷ x) = (c == 60) && is_ncname_start d
+
+abbrev pub element_fault : List ℕ → Option ℕ
+element_fault x = if starts_element x then (Some limit_code) else None
+
 -- A reference is written there and names no Char.
 abbrev pub reference_fault : List ℕ → Option ℕ
 reference_fault x = if is_some (scan_reference x) then None else (if closes radix.Decimal x || closes radix.Hexadecimal x then (Some reference_code) else None)
@@ -382,6 +457,7 @@ derives reference = IsReference
 derives white = IsNamed no_characters is_white_space is_white_space no_character
 derives blank = IsRun no_characters is_white_space no_character
 derives no_attribute = IsWord nothing [] begins_attribute
+derives no_element = Never
 derives (tag_name cs) = IsWord nothing cs is_ncname_character
 derives cdata_text = IsWalk cdata_value cdata_walk 0
 derives ncname = IsNCName
@@ -391,6 +467,8 @@ derives gap_then_dollar = AreJoined IsGapHere IsDollar no_value
 derives gap_then_neither = AreJoined IsGapHere IsNeither no_value
 derives (barred_words ws) = Never
 derives (leading w ws) = AreJoined (IsTheWord w) (IsGapWith ws) second_of_two
+derives constructor = IsConstructor
+derives no_constructor = NoConstructor
 
 abbrev pub opens : Token → List ℕ → Type 0
 opens (one_of ws) = OpensOneOf (entries (words_of ws))
@@ -407,6 +485,7 @@ opens reference = OpensReference
 opens white = opens_name is_white_space is_white_space
 opens blank = opens_run is_white_space
 opens no_attribute = OpensNothing
+opens no_element = OpensOneOf tag_open
 opens (tag_name cs) = λ x. IsFrontOf x cs
 opens cdata_text = opens_walk cdata_walk 0
 opens ncname = opens_name is_ncname_start is_ncname_character
@@ -416,6 +495,8 @@ opens gap_then_dollar = OpensJoined IsGapHere (OpensGap is_xml_character 0) Open
 opens gap_then_neither = OpensJoined IsGapHere (OpensGap is_xml_character 0) OpensNothing
 opens (barred_words ws) = OpensOneOf (entries (words_of ws))
 opens (leading w ws) = OpensJoined (IsTheWord w) (OpensTheWord w) (OpensGapWith ws)
+opens constructor = OpensConstructor
+opens no_constructor = OpensConstructor
 
 abbrev pub scan : Token → List ℕ → Option (Made × List ℕ)
 scan (one_of ws) = scan_one_of (entries (words_of ws))
@@ -432,6 +513,7 @@ scan reference = scan_reference
 scan white = scan_name no_characters is_white_space is_white_space no_character
 scan blank = scan_run no_characters is_white_space no_character
 scan no_attribute = scan_word nothing [] begins_attribute
+scan no_element = scan_never
 scan (tag_name cs) = scan_word nothing cs is_ncname_character
 scan cdata_text = scan_walk cdata_value cdata_walk 0
 scan ncname = scan_ncname
@@ -441,6 +523,8 @@ scan gap_then_dollar = scan_joined scan_gap_here scan_dollar no_value
 scan gap_then_neither = scan_joined scan_gap_here scan_neither no_value
 scan (barred_words ws) = scan_never
 scan (leading w ws) = scan_joined (scan_the_word w) (scan_gap_with ws) second_of_two
+scan constructor = scan_constructor
+scan no_constructor = scan_optional scan_never starts_constructor nothing
 
 abbrev pub seen : Token → List ℕ → ℕ
 seen (one_of ws) = seen_one_of (entries (words_of ws))
@@ -457,6 +541,7 @@ seen reference = seen_reference
 seen white = seen_name is_white_space is_white_space
 seen blank = seen_run is_white_space
 seen no_attribute = seen_word []
+seen no_element = seen_one_of tag_open
 seen (tag_name cs) = seen_word cs
 seen cdata_text = seen_walk cdata_walk 0
 seen ncname = seen_name is_ncname_start is_ncname_character
@@ -466,12 +551,15 @@ seen gap_then_dollar = seen_joined scan_gap_here (seen_gap is_xml_character 0) (
 seen gap_then_neither = seen_joined scan_gap_here (seen_gap is_xml_character 0) (seen_word [])
 seen (barred_words ws) = seen_one_of (entries (words_of ws))
 seen (leading w ws) = seen_joined (scan_the_word w) (seen_word (letters_of w)) (seen_gap_with ws)
+seen constructor = seen_constructor
+seen no_constructor = seen_constructor
 
 abbrev pub faults : Token → List ℕ → Option ℕ
 faults number = λ x. fault_of {V = Made} number_code is_small (scan_literal x)
 faults (barred b) = barrier_fault b
 faults reference = reference_fault
 faults (barred_words ws) = word_fault ws
+faults no_element = element_fault
 faults _ = no_fault
 
 -- a token that never stands for the empty text
@@ -486,6 +574,7 @@ takes (tag_name cs) = false
 takes cdata_text = false
 takes gap_then_neither = false
 takes (local_wildcard b) = false
+takes no_constructor = false
 takes _ = true
 
 -- the characters that begin a gap with a `(` behind it
@@ -515,6 +604,7 @@ shape_of reference = headed (is 38)
 shape_of white = headed is_white_space
 shape_of blank = shapeless
 shape_of no_attribute = shapeless
+shape_of no_element = spelled (spellings tag_open)
 shape_of (tag_name cs) = shapeless
 shape_of cdata_text = shapeless
 shape_of ncname = headed is_ncname_start
@@ -523,6 +613,8 @@ shape_of gap_then_dollar = headed begins_dollar
 shape_of gap_then_neither = shapeless
 shape_of (barred_words ws) = spelled (spellings (entries (words_of ws)))
 shape_of (leading w ws) = headed (begins_word w)
+shape_of constructor = headed is_ncname_start
+shape_of no_constructor = shapeless
 
 -- the words that begin a declaration
 abbrev pub version_words : Token

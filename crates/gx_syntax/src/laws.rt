@@ -5,20 +5,16 @@ ghost use Rattle.gx_grammar.specs.Avoiding.{Avoids};
 ghost use Rattle.gx_grammar.specs.Decision.{BeforeCut, Until};
 ghost use Rattle.gx_grammar.specs.Text.{AtEnd, IsVerdict, Nowhere, read_text};
 ghost use Rattle.gx_grammar.specs.Tokens.{LawfulToken};
-ghost use Rattle.gx_grammar.specs.First.{AllOf, IsIn, IsSorted, first_of};
-ghost use Rattle.gx_grammar.specs.Levels.{takes_some};
-ghost use Rattle.gx_grammar.specs.Opening.{Opens};
+ghost use Rattle.gx_grammar.specs.First.{IsSorted};
 ghost use Rattle.gx_syntax.specs.Fronts.{fronts};
-ghost use Rattle.gx_syntax.specs.Direct.{element_of};
-ghost use Rattle.gx_syntax.specs.Grammar.{Phrase, expression, place_in, query_language, word_of};
+ghost use Rattle.gx_syntax.specs.Grammar.{expression, place_in, query_language};
 ghost use Rattle.gx_syntax.specs.Levels.{more_than};
 ghost use Rattle.gx_syntax.specs.Nodes.{Made};
 ghost use Rattle.gx_syntax.specs.Prolog.{query};
-ghost use Rattle.gx_syntax.specs.declared.word.Word.TheVariants.{CloseBrace, TagOpen};
+ghost use Rattle.gx_syntax.specs.Tokens.{Token, declaration_words, derives, faults, opens, scan, seen};
 ghost use Rattle.gx_syntax.specs.Strings.{string_of};
 ghost use Rattle.gx_syntax.specs.declared.runs.Quote.{Quote};
-ghost use Rattle.gx_syntax.specs.Tokens.{Token, declaration_words, derives, faults, opens, scan, seen};
-ghost use Rattle.std.specs.Prelude.{◌≡◌, true, [], ◌∷◌, ℕ, List, length};
+ghost use Rattle.std.specs.Prelude.{◌≡◌, ℕ, List, length};
 ghost use Rattle.gx_ast.specs.declared.query.Query.{Query};
 ghost use Rattle.gx_syntax.specs.Query.{IsQuery, Parses, Parsing};
 
@@ -40,15 +36,6 @@ pub fn a_parsing_exists()
 /// Whatever follows a string literal, its first characters decide how it is read.
 pub fn string_literals_decide()
     ensures { (at : ℕ → Place) (q : Quote) (us : List Token) → IsSorted (query_language at) (fronts at) (string_of at q) us }
-{}
-
-/// Whatever follows a direct element, first characters decide how it is read, where those of the expressions in it do in front
-/// of a `}`, and those of the elements in it do.
-pub fn direct_elements_decide()
-    ensures { (at : ℕ → Place) (expr element : Phrase) → IsSorted (query_language at) (fronts at) expr (word_of CloseBrace ∷ [])
-        → takes_some (query_language at) (fronts at).takings element ≡ true → AllOf (IsIn (word_of TagOpen ∷ [])) (first_of (query_language at) (fronts at) element)
-        → ((x : List ℕ) → opens (word_of TagOpen) x → Opens (query_language at) element x) → ((us : List Token) → IsSorted (query_language at) (fronts at) element us)
-        → (us : List Token) → IsSorted (query_language at) (fronts at) (element_of at expr element (word_of TagOpen)) us }
 {}
 
 /// No expression begins as a declaration of a prolog does, nor as a version declaration: the words that begin one decide.

@@ -4,6 +4,7 @@
 pub mod casts;
 pub mod kind_words;
 pub mod laws;
+pub mod pieces;
 pub mod refusal;
 pub mod runs;
 pub mod word;

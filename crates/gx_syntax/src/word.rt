@@ -594,3 +594,17 @@ const SETTERS: [Word; 6] = [
     Word::Ordering,
     Word::CopyNamespaces,
 ];
+
+/// What a name begins where a `{` stands behind it (XQuery 1.0, section 3.7.3).
+#[derive(Clone, Copy, Debug, PartialEq, Eq)]
+pub enum ComputedNode {
+    Document,
+    Text,
+}
+
+/// What a name begins where a name and a `{` stand behind it (XQuery 1.0, section 3.7.3).
+#[derive(Clone, Copy, Debug, PartialEq, Eq)]
+pub enum NamedNode {
+    Element,
+    Attribute,
+}

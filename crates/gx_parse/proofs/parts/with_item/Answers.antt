@@ -9,7 +9,7 @@ use Rattle.gx_syntax.specs.Nodes.{Found, Whole, tree}
 use Rattle.gx_syntax.specs.Bound.{bound, bound_type, bound_made, kind_made}
 use Rattle.gx_syntax.specs.declared.word.Word.TheVariants as word
 use Rattle.gx_syntax.specs.declared.word.WordSet.TheVariants as set
-use Rattle.gx_parse.proofs.prolog.with_item.Goals as goal
+use Rattle.gx_parse.proofs.parts.with_item.Goals as goal
 
 pub returns-then-is_err : goal.returns-then-is_err
 returns-then-is_err g c = inr (c.push.ensures.items ∙ ap (λ b. if b then (c.args.items.items ++ c.args.item ∷ []) else c.args.items.items) c.if-is_err.ensures.negation, c.lose.ensures)

@@ -1,0 +1,393 @@
+// The reader of direct constructors (XQuery 1.0, section 3.7.1).
+
+ghost use Rattle.std.specs.Prelude.{ℕ, List, suc};
+ghost use Rattle.gx_ast.specs.SyntaxView.{attribute_parts_of, attributes_of, parts_of};
+ghost use Rattle.gx_grammar.specs.Grammar.{rule};
+ghost use Rattle.gx_grammar.specs.Ran.{Ran};
+ghost use Rattle.gx_grammar.specs.Value.{no_item, node, nothing};
+ghost use Rattle.gx_syntax.specs.Basics.{name, nested, within};
+ghost use Rattle.gx_syntax.specs.Direct.{attribute, attribute_value, attributes, behind_attribute, brace_piece, cdata, content, content_if_any, content_piece, content_pieces, direct_step, element_at, end_tag, piece_made, plain_piece, reference_piece, start_of, symbol_piece, text_piece, value_in, value_piece, value_pieces};
+ghost use Rattle.gx_parse.specs.DirectReading.{MadeOrLost, attribute_made};
+ghost use Rattle.gx_syntax.specs.Grammar.{place_in};
+ghost use Rattle.gx_parse.specs.Lists.{OneMore};
+ghost use Rattle.gx_scan.specs.Names.{name_made};
+ghost use Rattle.gx_syntax.specs.Nodes.{AttributesAre, Made, PartsAre, ValueIs, tree};
+ghost use Rattle.gx_syntax.specs.Pieces.{content_of, attribute_value_of};
+ghost use Rattle.gx_scan.specs.Reading.{call, read_in};
+ghost use Rattle.gx_parse.specs.Repeated.{listed_before};
+ghost use Rattle.gx_syntax.specs.Types.{Gave, named};
+
+use crate::operators::expression;
+use crate::parts::{keep, with_item};
+use crate::strings::push;
+use crate::trees;
+use gx_ast::expression::{AttributePart, DirectAttribute, Expr, Part};
+use gx_ast::name::QName;
+use gx_base::text_builder::TextBuilder;
+use gx_scan::names::ReadName;
+use gx_scan::reader::Reader;
+use gx_scan::source::Source;
+use gx_syntax::pieces::{Piece, attribute_value_of, content_of};
+use gx_syntax::runs::{Quote, Run};
+use gx_syntax::word::{Barrier, Word, WordSet};
+
+/// Reads a direct element with the gap behind it.
+#[cycle(parsing)]
+pub fn direct_step(reader: &mut Reader<'_>, source: &Source<'_>, levels: u8) -> Expr
+    ensures { Ran (tree result) reader.old reader.new (read_in source.now levels (direct_step (place_in source.now) levels)) }
+{
+    let element = element(reader, source, levels);
+    reader.gap();
+    element
+}
+
+// Reads a direct element.
+#[cycle(parsing)]
+fn element(reader: &mut Reader<'_>, source: &Source<'_>, levels: u8) -> Expr
+    ensures { Ran (tree result) reader.old reader.new (read_in source.now levels (element_at (place_in source.now) levels)) }
+{
+    let left = reader.left();
+    let place = source.place(left);
+    let name_place = source.place(left.saturating_sub(1));
+    reader.word(WordSet::Only(Word::TagOpen));
+    let Some(name) = reader.name(source.alloc()) else {
+        return trees::missing();
+    };
+    let attributes = attributes(reader, source, levels);
+    let content = content_if_any(reader, source, levels, &name);
+    let made = trees::direct(source.alloc(), place, name_place, name, attributes, content);
+    keep(reader, made)
+}
+
+// Reads the attributes of an element.
+#[cycle(parsing)]
+fn attributes(reader: &mut Reader<'_>, source: &Source<'_>, levels: u8) -> Vec<DirectAttribute>
+    ensures { Ran (node (AttributesAre (attributes_of result.items))) reader.old reader.new (read_in source.now levels (attributes (place_in source.now) (rule (within levels)))) }
+{
+    reader.blank();
+    let mut list = Vec::new(source.alloc());
+    let mut left = reader.left();
+    while reader.starts_name() {
+        list = attribute(reader, source, levels, list);
+        if left == 0 {
+            return list;
+        }
+        left -= 1;
+    }
+    list
+}
+
+// Reads an attribute with what stands behind it, and adds it.
+#[cycle(parsing)]
+fn attribute(
+    reader: &mut Reader<'_>,
+    source: &Source<'_>,
+    levels: u8,
+    list: Vec<DirectAttribute>,
+) -> Vec<DirectAttribute>
+    ensures { OneMore attribute_made list.items result.items reader.old reader.new (read_in source.now levels (attribute (place_in source.now) (rule (within levels)))) }
+{
+    let Some(name) = bare_name(reader, source) else {
+        return list;
+    };
+    reader.blank();
+    reader.word(WordSet::Only(Word::Equals));
+    reader.blank();
+    let value = attribute_value(reader, source, levels);
+    behind_attribute(reader);
+    with_item(reader, list, DirectAttribute { name, value })
+}
+
+// Reads a name.
+fn bare_name(reader: &mut Reader<'_>, source: &Source<'_>) -> Option<QName>
+    ensures { (n : ℕ) → Gave named result reader.old reader.new (read_in source.now n (name (place_in source.now))) }
+{
+    let place = source.place(reader.left());
+    let Some(name) = reader.name(source.alloc()) else {
+        return None;
+    };
+    match name.at(source.alloc(), place) {
+        Ok(written) => Some(written),
+        Err(_) => {
+            reader.lose();
+            None
+        }
+    }
+}
+
+// Reads what stands behind an attribute.
+fn behind_attribute(reader: &mut Reader<'_>)
+    ensures { (text : List ℕ) (n : ℕ) → Ran nothing reader.old reader.new (read_in text n behind_attribute) }
+{
+    if reader.looks_at_white() {
+        reader.white();
+    } else {
+        reader.no_attribute();
+    }
+}
+
+// Reads the value of an attribute.
+#[cycle(parsing)]
+fn attribute_value(reader: &mut Reader<'_>, source: &Source<'_>, levels: u8) -> Vec<AttributePart>
+    ensures { Ran (node (ValueIs (attribute_parts_of result.items))) reader.old reader.new (read_in source.now levels (attribute_value (rule (within levels)))) }
+{
+    if reader.starts_with('"') {
+        return value_in(reader, source, levels, Quote::Double);
+    }
+    value_in(reader, source, levels, Quote::Single)
+}
+
+// Reads the value of an attribute in these quotes.
+#[cycle(parsing)]
+fn value_in(
+    reader: &mut Reader<'_>,
+    source: &Source<'_>,
+    levels: u8,
+    quote: Quote,
+) -> Vec<AttributePart>
+    ensures { Ran (node (ValueIs (attribute_parts_of result.items))) reader.old reader.new (read_in source.now levels (value_in (rule (within levels)) quote)) }
+{
+    reader.word(WordSet::Only(quote.opening()));
+    let pieces = value_pieces(reader, source, levels, quote);
+    reader.word(WordSet::Only(quote.closing()));
+    value_parts(reader, source, pieces)
+}
+
+// The parts of an attribute value; none where memory does not suffice.
+fn value_parts(
+    reader: &mut Reader<'_>,
+    source: &Source<'_>,
+    pieces: Vec<Piece>,
+) -> Vec<AttributePart>
+    ensures { MadeOrLost result.items (attribute_value_of pieces.items) reader.old reader.new }
+{
+    match attribute_value_of(source.alloc(), pieces) {
+        Ok(parts) => parts,
+        Err(_) => {
+            reader.lose();
+            Vec::new(source.alloc())
+        }
+    }
+}
+
+// Reads the pieces of an attribute value.
+#[cycle(parsing)]
+fn value_pieces(
+    reader: &mut Reader<'_>,
+    source: &Source<'_>,
+    levels: u8,
+    quote: Quote,
+) -> Vec<Piece>
+    ensures { Ran (listed_before piece_made result.items no_item) reader.old reader.new (read_in source.now levels (value_pieces (rule (within levels)) quote)) }
+{
+    let mut list = Vec::new(source.alloc());
+    let mut left = reader.left();
+    while reader.looks_at_value_piece(quote) {
+        let piece = value_piece(reader, source, levels, quote);
+        list = with_item(reader, list, piece);
+        if left == 0 {
+            return list;
+        }
+        left -= 1;
+    }
+    list
+}
+
+// Reads a piece of an attribute value.
+#[cycle(parsing)]
+fn value_piece(reader: &mut Reader<'_>, source: &Source<'_>, levels: u8, quote: Quote) -> Piece
+    ensures { Ran (piece_made result) reader.old reader.new (read_in source.now levels (value_piece (rule (within levels)) quote)) }
+{
+    if reader.starts_with('&') {
+        return reference_piece(reader, source);
+    }
+    if reader.starts_with(quote.symbol()) {
+        return symbol_piece(reader, source, quote.doubled(), quote.symbol());
+    }
+    plain_piece(reader, source, levels, Run::Attribute(quote))
+}
+
+// Reads a piece that is a reference.
+fn reference_piece(reader: &mut Reader<'_>, source: &Source<'_>) -> Piece
+    ensures { (n : ℕ) → Ran (piece_made result) reader.old reader.new (read_in source.now n reference_piece) }
+{
+    let mut text = TextBuilder::new(source.alloc());
+    let character = reader.reference();
+    push(reader, &mut text, character);
+    Piece::Kept(text)
+}
+
+// Reads a word that stands for a character.
+fn symbol_piece(reader: &mut Reader<'_>, source: &Source<'_>, word: Word, symbol: char) -> Piece
+    ensures { (n : ℕ) → Ran (piece_made result) reader.old reader.new (read_in source.now n (symbol_piece word symbol)) }
+{
+    let mut text = TextBuilder::new(source.alloc());
+    reader.word(WordSet::Only(word));
+    push(reader, &mut text, symbol);
+    Piece::Literal(text)
+}
+
+// Reads literal text.
+fn text_piece(reader: &mut Reader<'_>, source: &Source<'_>, run: Run) -> Piece
+    ensures { (n : ℕ) → Ran (piece_made result) reader.old reader.new (read_in source.now n (text_piece run)) }
+{
+    let mut text = TextBuilder::new(source.alloc());
+    reader.text(run, &mut text);
+    Piece::Literal(text)
+}
+
+// Reads a CDATA section.
+fn cdata(reader: &mut Reader<'_>, source: &Source<'_>) -> Piece
+    ensures { (n : ℕ) → Ran (piece_made result) reader.old reader.new (read_in source.now n cdata) }
+{
+    let mut text = TextBuilder::new(source.alloc());
+    reader.word(WordSet::Only(Word::CdataOpen));
+    reader.cdata(&mut text);
+    reader.word(WordSet::Only(Word::TagEnd));
+    Piece::Kept(text)
+}
+
+// Reads braces or literal text.
+#[cycle(parsing)]
+fn plain_piece(reader: &mut Reader<'_>, source: &Source<'_>, levels: u8, run: Run) -> Piece
+    ensures { Ran (piece_made result) reader.old reader.new (read_in source.now levels (plain_piece (rule (within levels)) run)) }
+{
+    if reader.starts_with('{') {
+        return brace_piece(reader, source, levels);
+    }
+    if reader.starts_with('}') {
+        return symbol_piece(reader, source, Word::TwoCloseBraces, '}');
+    }
+    text_piece(reader, source, run)
+}
+
+// Reads two opening braces, or an enclosed expression.
+#[cycle(parsing)]
+fn brace_piece(reader: &mut Reader<'_>, source: &Source<'_>, levels: u8) -> Piece
+    ensures { Ran (piece_made result) reader.old reader.new (read_in source.now levels (brace_piece (rule (within levels)))) }
+{
+    if reader.looks_at(WordSet::Only(Word::TwoOpenBraces)) {
+        return symbol_piece(reader, source, Word::TwoOpenBraces, '{');
+    }
+    reader.word(WordSet::Only(Word::BraceOpen));
+    reader.gap();
+    let value = within(reader, source, levels);
+    reader.word(WordSet::Only(Word::CloseBrace));
+    Piece::Enclosed(value)
+}
+
+// Reads the expression in the braces of an element at that level.
+#[cycle(parsing)]
+fn within(reader: &mut Reader<'_>, source: &Source<'_>, levels: u8) -> Expr
+    ensures { Ran (tree result) reader.old reader.new (call source.now (suc levels) (within levels)) }
+{
+    if levels == 0 {
+        reader.barrier(Barrier::Single);
+        return trees::missing();
+    }
+    expression(reader, source, levels - 1)
+}
+
+// Reads what stands behind the attributes of the element with that name.
+#[cycle(parsing)]
+fn content_if_any(
+    reader: &mut Reader<'_>,
+    source: &Source<'_>,
+    levels: u8,
+    name: &ReadName,
+) -> Vec<Part>
+    ensures { Ran (node (PartsAre (parts_of result.items))) reader.old reader.new (read_in source.now levels (content_if_any (rule (within levels)) (rule (nested levels)) (start_of levels) (name_made name.now))) }
+{
+    if reader.starts_with('/') {
+        reader.word(WordSet::Only(Word::EmptyTagEnd));
+        return Vec::new(source.alloc());
+    }
+    reader.word(WordSet::Only(Word::TagEnd));
+    let parts = content(reader, source, levels);
+    end_tag(reader, source, name);
+    parts
+}
+
+// Reads the end tag of the element with that name.
+fn end_tag(reader: &mut Reader<'_>, source: &Source<'_>, name: &ReadName)
+    ensures { (n : ℕ) → (v : Made) × Ran v reader.old reader.new (read_in source.now n (end_tag (name_made name.now))) }
+{
+    reader.word(WordSet::Only(Word::EndTagOpen));
+    let Ok(letters) = name.letters(source.alloc()) else {
+        reader.lose();
+        return;
+    };
+    reader.tag_name(letters.as_slice());
+    reader.blank();
+    reader.word(WordSet::Only(Word::TagEnd));
+}
+
+// Reads the content of an element.
+#[cycle(parsing)]
+fn content(reader: &mut Reader<'_>, source: &Source<'_>, levels: u8) -> Vec<Part>
+    ensures { Ran (node (PartsAre (parts_of result.items))) reader.old reader.new (read_in source.now levels (content (rule (within levels)) (rule (nested levels)) (start_of levels))) }
+{
+    let pieces = content_pieces(reader, source, levels);
+    content_parts(reader, source, pieces)
+}
+
+// The parts of content; none where memory does not suffice.
+fn content_parts(reader: &mut Reader<'_>, source: &Source<'_>, pieces: Vec<Piece>) -> Vec<Part>
+    ensures { MadeOrLost result.items (content_of pieces.items) reader.old reader.new }
+{
+    match content_of(source.alloc(), pieces) {
+        Ok(parts) => parts,
+        Err(_) => {
+            reader.lose();
+            Vec::new(source.alloc())
+        }
+    }
+}
+
+// Reads the pieces of the content of an element.
+#[cycle(parsing)]
+fn content_pieces(reader: &mut Reader<'_>, source: &Source<'_>, levels: u8) -> Vec<Piece>
+    ensures { Ran (listed_before piece_made result.items no_item) reader.old reader.new (read_in source.now levels (content_pieces (rule (within levels)) (rule (nested levels)) (start_of levels))) }
+{
+    let mut list = Vec::new(source.alloc());
+    let mut left = reader.left();
+    while reader.looks_at_content_piece(levels) {
+        let piece = content_piece(reader, source, levels);
+        list = with_item(reader, list, piece);
+        if left == 0 {
+            return list;
+        }
+        left -= 1;
+    }
+    list
+}
+
+// Reads a piece of the content of an element.
+#[cycle(parsing)]
+fn content_piece(reader: &mut Reader<'_>, source: &Source<'_>, levels: u8) -> Piece
+    ensures { Ran (piece_made result) reader.old reader.new (read_in source.now levels (content_piece (rule (within levels)) (rule (nested levels)))) }
+{
+    if reader.starts_with('&') {
+        return reference_piece(reader, source);
+    }
+    if !reader.starts_with('<') {
+        return plain_piece(reader, source, levels, Run::Content);
+    }
+    if reader.looks_at(WordSet::Only(Word::CdataOpen)) {
+        return cdata(reader, source);
+    }
+    let element = nested(reader, source, levels);
+    Piece::Element(element)
+}
+
+// Reads an element in the content of one at that level.
+#[cycle(parsing)]
+fn nested(reader: &mut Reader<'_>, source: &Source<'_>, levels: u8) -> Expr
+    ensures { Ran (tree result) reader.old reader.new (call source.now (suc levels) (nested levels)) }
+{
+    if levels < 2 {
+        reader.no_element();
+        return trees::missing();
+    }
+    element(reader, source, levels - 1)
+}
