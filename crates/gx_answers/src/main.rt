@@ -1,9 +1,9 @@
-//! Rows of answers. A row of the input has words, a query and a fault, with `#` between them; the row of the output has
-//! them again, and the status, the output and the fault line with which the public call answers.
+//! Rows of answers. A row of the input has words, a query, a fault and documents, with `#` between them; the row of the output
+//! has them again, and the status, the output and the fault line with which the public call answers.
 //!
 //! The library holds the query as `q.xq`. A line break, a carriage return and any other byte of it are written `\n`, `\r`
 //! and `\x` with two digits, and the word without letters `""`. The fault is a load or a put that fails, or the length of
-//! the file, which then has spaces in front of the query.
+//! the file, which then has spaces in front of the query. A document is the name of its file and its text.
 #![tactic(auto)]
 
 use gx_io::{MemoryLibrary, MemorySink};
@@ -21,27 +21,43 @@ fn main(rt: HostRuntime) -> io::Result<()> {
 }
 
 fn row_answer(alloc: Global, row: &str) -> Result<String, AllocError> {
-    let mut parts = row.splitn(3, " # ");
+    let mut parts = row.split(" # ");
     let words = parts.next().unwrap_or("");
     let query = parts.next().unwrap_or("");
     let fault = parts.next().unwrap_or("").trim();
-    answer_text(alloc, words, query, fault)
+    let mut library = MemoryLibrary::new(alloc);
+    let bytes = file_of(alloc, query, fault.parse::<usize>().unwrap_or(0))?;
+    library.add("q.xq", bytes.as_slice())?;
+    for document in parts {
+        add_document(alloc, document, &mut library)?;
+    }
+    answer_text(alloc, words, &mut library, fault)
 }
 
-fn answer_text(alloc: Global, words: &str, query: &str, fault: &str) -> Result<String, AllocError> {
+// A file with a document.
+fn add_document(alloc: Global, text: &str, library: &mut MemoryLibrary) -> Result<(), AllocError> {
+    let (name, document) = text.split_once(' ').unwrap_or((text, ""));
+    let bytes = bytes_of(alloc, document)?;
+    library.add(name, bytes.as_slice())
+}
+
+fn answer_text(
+    alloc: Global,
+    words: &str,
+    library: &mut MemoryLibrary,
+    fault: &str,
+) -> Result<String, AllocError> {
     let words = words_of(alloc, words)?;
-    let bytes = file_of(alloc, query, fault.parse::<usize>().unwrap_or(0))?;
-    let mut library = MemoryLibrary::new(alloc);
     let mut out = MemorySink::new(alloc);
     let mut err = MemorySink::new(alloc);
-    library.add("q.xq", bytes.as_slice())?;
     match fault {
         "load fails" => library.fail_at(1)?,
+        "second load fails" => library.fail_at(2)?,
         "out fails" => out.fail_at(1)?,
         "err fails" => err.fail_at(1)?,
         _ => {}
     }
-    let status = galax(alloc, words.as_slice(), &mut library, &mut out, &mut err);
+    let status = galax(alloc, words.as_slice(), library, &mut out, &mut err);
     format!(in alloc;
         "{status:?} {:?} {:?}",
         shown(out.bytes()),
@@ -89,8 +105,17 @@ fn escaped(piece: &[u8]) -> (u8, &[u8]) {
     match piece {
         [b'n', rest @ ..] => (b'\n', rest),
         [b'r', rest @ ..] => (b'\r', rest),
-        [b'x', b'f', b'f', rest @ ..] => (0xff, rest),
+        [b'x', high, low, rest @ ..] => ((hex_digit(*high) << 4) | hex_digit(*low), rest),
         _ => (b'\\', piece),
+    }
+}
+
+// The value of a hexadecimal digit.
+fn hex_digit(digit: u8) -> u8 {
+    match digit {
+        b'0'..=b'9' => digit - b'0',
+        b'a'..=b'f' => digit - b'a' + 10,
+        _ => 0,
     }
 }
 

@@ -1,5 +1,5 @@
 -- What a query that is sound comes to.
-use Rattle.std.proofs.Common.{◌≡◌, List, [], ◌∷◌, ◌++◌, map, Option, None, Some, sym, subst}
+use Rattle.std.proofs.Common.{List, [], ◌∷◌, ◌++◌, map, Option, None, Some, sym, subst}
 use Rattle.gx_types.specs.SchemaSet.{SchemaSet}
 use Rattle.gx_types.specs.SequenceType.{SequenceType}
 use Rattle.gx_model.specs.Forest.{PlainNode, Forest, IsHonest}
@@ -17,7 +17,7 @@ use Rattle.gx_core.specs.Bindings.{Types}
 use Rattle.gx_core.specs.Outcome.{Outcome}
 use Rattle.gx_core.specs.Meaning.{Bindings, meaning}
 use Rattle.gx_core.specs.Soundness.{TypedExpression, Setting, typed_setting, context_of, KeepsFact, IsOfType, Keeps, Fits, Situation, KeepsItsType, IsSound}
-use Rattle.gx_core.specs.QueryMeaning.{plain_declaration, globals_bound, external_types, types_declared, ValuesAreSound, IsDeclaredSo, DocumentsFit, HasNoExternal, NoneNeedsNoDocument, SoundQueriesKeepTheirTypes}
+use Rattle.gx_core.specs.QueryMeaning.{plain_declaration, globals_bound, external_types, types_declared, ValuesAreSound, IsDeclaredSo, DocumentsFit, NoneNeedsNoDocument, SoundQueriesKeepTheirTypes}
 use Rattle.gx_core.proofs.KeptFacts.{fact_after, fact_at_once, bindings_fit_still, binding_fits}
 use Rattle.gx_core.proofs.PlainMeaning.{meaning_looks_at_no_type}
 

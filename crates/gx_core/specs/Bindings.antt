@@ -1,6 +1,7 @@
 -- Variables, by their numbers, and which operators bind them.
-use Rattle.std.specs.Prelude.{ℕ, List, [], ◌∷◌, map, Option, Some, None, nat_eq, if◌then◌else◌}
+use Rattle.std.specs.Prelude.{ℕ, List, [], ◌∷◌, Option, Some, None, nat_eq, if◌then◌else◌}
 use Rattle.gx_types.specs.SequenceType.{SequenceType}
+use Rattle.gx_types.specs.Prime.{prime_of}
 use Rattle.gx_core.specs.declared.operator.Operator.{Operator}
 use Rattle.gx_core.specs.declared.operator.Operator.TheVariants as operators
 
@@ -9,18 +10,18 @@ abbrev pub look_up : {A : Type 0} → List (ℕ × A) → ℕ → Option A
 look_up [] number = None
 look_up (binding ∷ bindings) number = if nat_eq binding.0 number then Some binding.1 else look_up bindings number
 
--- what an operator binds for its next part, from the parts before that one
-abbrev pub bound_by : {V : Type 0} → Operator → (before : List V) → List (ℕ × V)
-bound_by (operators.Let binder) (value ∷ []) = (binder.variable, value) ∷ []
-bound_by _ _ = []
-
 -- the type of each variable in scope, the innermost first
 abbrev pub Types : Type 0
 Types = List (ℕ × SequenceType)
 
+-- what an operator binds for its next part, from the types of the parts before that one: `for` an item of its operand at a time
 abbrev pub types_bound : Operator → (before : List SequenceType) → Types
-types_bound = bound_by
+types_bound (operators.For binder) (source ∷ []) = (binder.variable, prime_of source) ∷ []
+types_bound (operators.Let binder) (value ∷ []) = (binder.variable, value) ∷ []
+types_bound _ _ = []
 
 -- the numbers that an operator binds for its next part; of the parts before that one, only how many there are counts
 abbrev pub numbers_bound_by : Operator → (before : List (Unit {0})) → List ℕ
-numbers_bound_by operator before = map (λ bound. bound.0) (bound_by operator before)
+numbers_bound_by (operators.For binder) (source ∷ []) = binder.variable ∷ []
+numbers_bound_by (operators.Let binder) (value ∷ []) = binder.variable ∷ []
+numbers_bound_by _ _ = []

@@ -2,7 +2,7 @@
 use Rattle.gx_core.specs.declared.operator.Operator.{Operator}
 use Rattle.gx_core.specs.declared.operator.Operator.TheVariants as operators
 use Rattle.gx_core.specs.declared.expression.CoreForm.{CoreForm}
-use Rattle.gx_core.specs.declared.expression.CoreForm.TheVariants.{Lit, Var, Empty, Seq, Let, If, Cast, Castable, DataOf, Call, Neg, Binary}
+use Rattle.gx_core.specs.declared.expression.CoreForm.TheVariants.{Lit, Var, Empty, Seq, For, Let, If, Cast, Castable, Step, Nodes, Order, DataOf, NoContext, Call, Neg, Binary}
 use Rattle.gx_core.specs.declared.expression.CoreExpr.TheInside.{Inside}
 use Rattle.gx_core.specs.Expression.{Parts, no_parts, one_part, two_parts, three_parts, all_parts, CoreExpression, core_at}
 
@@ -11,11 +11,16 @@ operator_of (Lit a) = operators.Lit a
 operator_of (Var n) = operators.Var n
 operator_of Empty = operators.Empty
 operator_of (Seq a b) = operators.Seq
+operator_of (For v a b) = operators.For v
 operator_of (Let v a b) = operators.Let v
 operator_of (If a b c) = operators.If
 operator_of (Cast a kind optional) = operators.Cast kind optional
 operator_of (Castable a kind optional) = operators.Castable kind optional
+operator_of (Step axis t n) = operators.Step axis t n
+operator_of (Nodes a) = operators.Nodes
+operator_of (Order a) = operators.Order
 operator_of (DataOf a) = operators.DataOf
+operator_of NoContext = operators.NoContext
 operator_of (Call function es) = operators.Call function
 operator_of (Neg a) = operators.Neg
 operator_of (Binary o a b) = operators.Binary o
@@ -25,11 +30,16 @@ parts_of (Lit a) = no_parts
 parts_of (Var n) = no_parts
 parts_of Empty = no_parts
 parts_of (Seq a b) = two_parts a.value b.value
+parts_of (For v a b) = two_parts a.value b.value
 parts_of (Let v a b) = two_parts a.value b.value
 parts_of (If a b c) = three_parts a.value b.value c.value
 parts_of (Cast a kind optional) = one_part a.value
 parts_of (Castable a kind optional) = one_part a.value
+parts_of (Step axis t n) = no_parts
+parts_of (Nodes a) = one_part a.value
+parts_of (Order a) = one_part a.value
 parts_of (DataOf a) = one_part a.value
+parts_of NoContext = no_parts
 parts_of (Call function es) = all_parts es.items
 parts_of (Neg a) = one_part a.value
 parts_of (Binary o a b) = two_parts a.value b.value

@@ -16,6 +16,7 @@ is_among numbers number = list_any (λ other. nat_eq other number) numbers
 -- an operator that is a variable is one of those in scope
 abbrev pub IsInScope : List ℕ → Operator → Type 0
 IsInScope scope (operators.Var number) = is_among scope number ≡ true
+IsInScope scope (operators.Step axis asks number) = is_among scope number ≡ true
 IsInScope scope _ = Unit {0}
 
 -- each variable is one of those in scope, or stands in the scope of its binder

@@ -14,6 +14,7 @@ pub mod Comparing
 pub mod Ranging
 pub mod Casting
 pub mod Calling
+pub mod Paths
 pub mod Meaning
 pub mod Soundness
 pub mod QueryMeaning

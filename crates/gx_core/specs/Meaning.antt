@@ -1,8 +1,9 @@
 -- What a Core expression means (XQuery 1.0 and XPath 2.0 Formal Semantics, section 4; XQuery 1.0, section 3).
-use Rattle.std.specs.Prelude.{ℕ, Bool, true, false, List, [], ◌∷◌, ◌++◌, Option, Some, None}
+use Rattle.std.specs.Prelude.{ℕ, Bool, true, false, List, [], ◌∷◌, ◌++◌, Option, Some, None, option_map}
 use Rattle.gx_types.specs.SchemaSet.{SchemaSet}
-use Rattle.gx_model.specs.Forest.{Forest}
-use Rattle.gx_model.specs.Item.{Item, atom, node, Items}
+use Rattle.gx_model.specs.Forest.{Forest, then_found, node_in}
+use Rattle.gx_model.specs.Item.{Item, atom, node, Items, atoms}
+use Rattle.gx_model.specs.TypedValue.{typed_value_of}
 use Rattle.gx_core.specs.declared.operator.Operator.{Operator}
 use Rattle.gx_core.specs.declared.operator.Operator.TheVariants as operators
 use Rattle.gx_core.specs.Expression.{Expression, At, Parts, no_parts, a_part}
@@ -16,6 +17,7 @@ use Rattle.gx_core.specs.Comparing.{condition_of, value_compared, generally_comp
 use Rattle.gx_core.specs.Ranging.{range}
 use Rattle.gx_core.specs.Casting.{cast_items, castable_items}
 use Rattle.gx_core.specs.Calling.{called}
+use Rattle.gx_core.specs.Paths.{stepped, nodes_alone, put_in_order}
 
 -- what an expression stands in
 pub record Context : Type 0 where
@@ -28,15 +30,20 @@ Bindings = List (ℕ × Items)
 abbrev pub Denotation : Type 0
 Denotation = Bindings → Forest → Outcome Items
 
-abbrev with_more : Item → Option Items → Option Items
-with_more item None = None
-with_more item (Some items) = Some (item ∷ items)
+-- the typed values of an item, if it has any: an atomic value is its own
+abbrev pub values_of_item : Forest → Item → Option Items
+values_of_item forest (atom a) = Some (atom a ∷ [])
+values_of_item forest (node place) = option_map atoms (then_found (node_in forest place) typed_value_of)
 
--- the atomic values of items, if there are any: an atomic value is its own
+abbrev pub joined_values : Option Items → Option Items → Option Items
+joined_values None others = None
+joined_values (Some items) None = None
+joined_values (Some items) (Some others) = Some (items ++ others)
+
+-- the typed values of items one behind another, where each item has some
 abbrev pub atomized : Forest → Items → Option Items
 atomized forest [] = Some []
-atomized forest (atom a ∷ items) = with_more (atom a) (atomized forest items)
-atomized forest (node place ∷ items) = None
+atomized forest (item ∷ items) = joined_values (values_of_item forest item) (atomized forest items)
 
 -- what an operator makes of its two operands
 abbrev pub binary_meaning : BinaryClass → Items → Items → Forest → Outcome Items
@@ -50,6 +57,8 @@ abbrev pub acts : Context → Operator → List Items → Forest → Outcome Ite
 acts context (operators.Lit value) [] forest = gives (atom value ∷ []) forest
 acts context operators.Empty [] forest = gives [] forest
 acts context operators.Seq (xs ∷ ys ∷ []) forest = gives (xs ++ ys) forest
+acts context operators.Nodes (xs ∷ []) forest = nodes_alone xs forest
+acts context operators.Order (xs ∷ []) forest = put_in_order xs forest
 acts context operators.DataOf (xs ∷ []) forest = given (atomized forest xs) (λ ys. gives ys forest)
 acts context (operators.Cast kind optional) (xs ∷ []) forest = cast_items context.schemas kind optional xs forest
 acts context (operators.Castable kind optional) (xs ∷ []) forest = castable_items context.schemas kind optional xs forest
@@ -64,6 +73,11 @@ all_of [] bindings forest = gives [] forest
 all_of (part ∷ parts) bindings forest =
     after (part bindings forest) (λ value left. after (all_of parts bindings left) (λ values last. gives (value ∷ values) last))
 
+-- a part for each item, in order, each in the forest that the one before it leaves; `done` is what there is so far
+abbrev pub for_each : (Item → Forest → Outcome Items) → (done : Items) → Items → Forest → Outcome Items
+for_each next done [] forest = gives done forest
+for_each next done (x ∷ xs) forest = after (next x forest) (λ more left. for_each next (done ++ more) xs left)
+
 -- the branch of a conditional
 abbrev pub branch : Bool → (chosen otherwise : Denotation) → Denotation
 branch true chosen otherwise = chosen
@@ -72,6 +86,9 @@ branch false chosen otherwise = otherwise
 -- an operator over its parts: those that choose, bind or repeat have a line each, and all others are strict
 abbrev pub denoted : Context → Operator → List Denotation → Bindings → Forest → Outcome Items
 denoted context (operators.Var number) [] bindings forest = given (look_up bindings number) (λ value. gives value forest)
+denoted context (operators.For binder) (source ∷ body ∷ []) bindings forest =
+    after (source bindings forest) (λ xs left. for_each (λ x now. body ((binder.variable, x ∷ []) ∷ bindings) now) [] xs left)
+denoted context (operators.Step axis asks number) [] bindings forest = given (look_up bindings number) (λ value. stepped context.schemas axis asks value forest)
 denoted context (operators.Let binder) (value ∷ body ∷ []) bindings forest =
     after (value bindings forest) (λ xs left. body ((binder.variable, xs) ∷ bindings) left)
 denoted context operators.If (condition ∷ chosen ∷ otherwise ∷ []) bindings forest =

@@ -49,8 +49,12 @@ pub fn dismantle_query(alloc: Global, query: TypedCore) {
 
 fn set_aside(alloc: Global, form: CoreForm, parts: &mut Vec<E>) {
     match form {
-        CoreForm::Lit(_) | CoreForm::Var(_) | CoreForm::Empty => {}
-        CoreForm::DataOf(operand) | CoreForm::Neg(operand) => {
+        CoreForm::Lit(_) | CoreForm::Var(_) | CoreForm::Empty | CoreForm::NoContext => {}
+        CoreForm::Step(_, _test, _) => {}
+        CoreForm::DataOf(operand)
+        | CoreForm::Neg(operand)
+        | CoreForm::Nodes(operand)
+        | CoreForm::Order(operand) => {
             let _kept = parts.push(operand);
         }
         CoreForm::Cast(operand, _target, _) | CoreForm::Castable(operand, _target, _) => {
@@ -60,7 +64,7 @@ fn set_aside(alloc: Global, form: CoreForm, parts: &mut Vec<E>) {
             let _first_kept = parts.push(first);
             let _second_kept = parts.push(second);
         }
-        CoreForm::Let(_binder, value, body) => {
+        CoreForm::For(_binder, value, body) | CoreForm::Let(_binder, value, body) => {
             let _value_kept = parts.push(value);
             let _body_kept = parts.push(body);
         }
@@ -85,8 +89,12 @@ fn set_arguments_aside(alloc: Global, mut arguments: Vec<CoreExpr>, parts: &mut 
 
 fn set_typed_aside(alloc: Global, form: TypedForm, parts: &mut Vec<T>) {
     match form {
-        TypedForm::Lit(_) | TypedForm::Var(_) | TypedForm::Empty => {}
-        TypedForm::DataOf(operand) | TypedForm::Neg(operand) => {
+        TypedForm::Lit(_) | TypedForm::Var(_) | TypedForm::Empty | TypedForm::NoContext => {}
+        TypedForm::Step(_, _test, _) => {}
+        TypedForm::DataOf(operand)
+        | TypedForm::Neg(operand)
+        | TypedForm::Nodes(operand)
+        | TypedForm::Order(operand) => {
             let _kept = parts.push(operand);
         }
         TypedForm::Cast(operand, _target, _) | TypedForm::Castable(operand, _target, _) => {
@@ -96,7 +104,7 @@ fn set_typed_aside(alloc: Global, form: TypedForm, parts: &mut Vec<T>) {
             let _first_kept = parts.push(first);
             let _second_kept = parts.push(second);
         }
-        TypedForm::Let(_binder, value, body) => {
+        TypedForm::For(_binder, value, body) | TypedForm::Let(_binder, value, body) => {
             let _value_kept = parts.push(value);
             let _body_kept = parts.push(body);
         }

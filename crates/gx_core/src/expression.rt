@@ -11,6 +11,7 @@ use gx_base::type_name::TypeName;
 use gx_facets::Atomic;
 use gx_funcs::function::Function;
 use gx_types::sequence_type::Ty;
+use gx_types::step::{Axis, Test};
 use std::marker::Model;
 
 /// A Core expression inside another one.
@@ -128,9 +129,10 @@ pub struct CoreExpr {
     pub form: CoreForm,
 }
 
-/// What a Core expression is: a literal, a variable by its number, the empty sequence, a sequence of two parts, a `let`, a
-/// conditional, a cast or a test whether there is one, to a type and of an empty operand where that is true, the atomization of
-/// its operand, a call of a built-in function, the negation of a number, or an operator of two operands.
+/// What a Core expression is: a literal, a variable by its number, the empty sequence, a sequence of two parts, a `for`, a
+/// `let`, a conditional, a cast or a test whether there is one, to a type and of an empty operand where that is true, a step along
+/// an axis with a test from the node of a variable, an operand of nodes alone, an operand in document order, the atomization of
+/// its operand, what looks at a context where there is none, a call of a built-in function, the negation of a number, or an operator of two operands.
 #[cycle(core_tree)]
 #[derive(Debug, Drop)]
 pub enum CoreForm {
@@ -138,11 +140,16 @@ pub enum CoreForm {
     Var(u32),
     Empty,
     Seq(E, E),
+    For(Binder, E, E),
     Let(Binder, E, E),
     If(E, E, E),
     Cast(E, TypeName, bool),
     Castable(E, TypeName, bool),
+    Step(Axis, Test, u32),
+    Nodes(E),
+    Order(E),
     DataOf(E),
+    NoContext,
     Call(Function, Vec<CoreExpr>),
     Neg(E),
     Binary(BinaryOp, E, E),

@@ -4,6 +4,7 @@ use crate::expression::{BinaryOp, Binder};
 use gx_base::type_name::TypeName;
 use gx_facets::Atomic;
 use gx_funcs::function::Function;
+use gx_types::step::{Axis, Test};
 
 /// One operator of Core, with what it has beside its parts: one variant for each form of an expression. The parts of an
 /// operator are its expressions in the order written.
@@ -13,11 +14,16 @@ pub enum Operator {
     Var(u32),
     Empty,
     Seq,
+    For(Binder),
     Let(Binder),
     If,
     Cast(TypeName, bool),
     Castable(TypeName, bool),
+    Step(Axis, Test, u32),
+    Nodes,
+    Order,
     DataOf,
+    NoContext,
     Call(Function),
     Neg,
     Binary(BinaryOp),

@@ -8,6 +8,7 @@ use gx_base::type_name::TypeName;
 use gx_facets::Atomic;
 use gx_funcs::function::Function;
 use gx_types::sequence_type::Ty;
+use gx_types::step::{Axis, Test};
 use std::marker::Model;
 
 /// A typed expression inside another one.
@@ -41,9 +42,10 @@ pub struct TypedExpr {
     pub form: TypedForm,
 }
 
-/// What a typed expression is: a literal, a variable by its number, the empty sequence, a sequence of two parts, a `let`, a
-/// conditional, a cast or a test whether there is one, to a type and of an empty operand where that is true, the atomization of
-/// its operand, a call of a built-in function, the negation of a number, or an operator of two operands.
+/// What a typed expression is: a literal, a variable by its number, the empty sequence, a sequence of two parts, a `for`, a
+/// `let`, a conditional, a cast or a test whether there is one, to a type and of an empty operand where that is true, a step along
+/// an axis with a test from the node of a variable, an operand of nodes alone, an operand in document order, the atomization of
+/// its operand, what looks at a context where there is none, a call of a built-in function, the negation of a number, or an operator of two operands.
 #[cycle(typed_tree)]
 #[derive(Debug, Drop)]
 pub enum TypedForm {
@@ -51,11 +53,16 @@ pub enum TypedForm {
     Var(u32),
     Empty,
     Seq(T, T),
+    For(Binder, T, T),
     Let(Binder, T, T),
     If(T, T, T),
     Cast(T, TypeName, bool),
     Castable(T, TypeName, bool),
+    Step(Axis, Test, u32),
+    Nodes(T),
+    Order(T),
     DataOf(T),
+    NoContext,
     Call(Function, Vec<TypedExpr>),
     Neg(T),
     Binary(BinaryOp, T, T),

@@ -1,4 +1,5 @@
 pub mod Operands
+pub mod NodeOperators
 pub mod Resuming
 pub mod Ranges
 pub mod Globals

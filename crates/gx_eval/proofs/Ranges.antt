@@ -1,16 +1,17 @@
 -- Ranges of integers.
-use Rattle.std.proofs.Common.{◌≡◌, ◌+◌, ◌++◌, append_assoc, List, [], ◌∷◌, Option, Some, ◌<◌, ◌≤◌, ℕ, ℤ, Bool, true, sym, ◌∙◌, ap, arith, if◌then◌else◌}
+use Rattle.std.proofs.Common.{◌≡◌, ◌+◌, ◌++◌, append_assoc, [], ◌∷◌, Option, Some, ◌<◌, ◌≤◌, ℕ, ℤ, Bool, true, sym, ◌∙◌, ap, arith, if◌then◌else◌}
 use Rattle.std.specs.Prelude.{◌+ℤ◌, pos, nat_le, FitsSigned}
 use Rattle.std.specs.Int.{w128, cast_signed, cast_unsigned}
 use Rattle.std.proofs.lemmas.Int.{to_z-of_z}
 use Rattle.std.proofs.lemmas.List.FromFn.{map-range_with_len_more}
 use Rattle.std.proofs.lemmas.Bool.{le-leb, lt-leb}
+use Rattle.std.proofs.lemmas.List.{map-append}
 use Rattle.gx_base.specs.declared.code.Code.TheVariants.{GLXD0002}
 use Rattle.gx_base.specs.declared.limits.TheConstants.{RANGE_ITEMS}
 use Rattle.gx_num.specs.declared.Number.TheVariants.{Int}
 use Rattle.gx_facets.specs.declared.Atomic.{Atomic}
 use Rattle.gx_model.specs.Forest.{Forest}
-use Rattle.gx_model.specs.Item.{Item, atoms}
+use Rattle.gx_model.specs.Item.{Item, atom, Items, atoms}
 use Rattle.gx_core.specs.Outcome.{gives, raises, given}
 use Rattle.gx_core.specs.Arithmetic.{number_atom}
 use Rattle.gx_core.specs.Ranging.{integer_of_item, range_of_items, integers_from, range_length, range_between}
@@ -38,7 +39,7 @@ range_is x y first last forest f g p q =
 integers_more : (first : ℤ) (n : ℕ) → integers_from first (n + 1) ≡ integers_from first n ++ (number_atom (Int (first +ℤ pos n)) ∷ [])
 integers_more first n = map-range_with_len_more (λ k. number_atom (Int (first +ℤ pos k))) 0 n n (omega arith)
 
-pub integers_pushed : (before values : List Atomic) (first : ℤ) (n : ℕ) (a : Atomic) → before ≡ values ++ integers_from first n → a ≡ number_atom (Int (first +ℤ pos n)) → before ++ (a ∷ []) ≡ values ++ integers_from first (n + 1)
+pub integers_pushed : (before values : Items) (first : ℤ) (n : ℕ) (a : Atomic) → before ≡ values ++ atoms (integers_from first n) → a ≡ number_atom (Int (first +ℤ pos n)) → before ++ (atom a ∷ []) ≡ values ++ atoms (integers_from first (n + 1))
 integers_pushed before values first n a e f =
-    ap (λ (v : List Atomic). v ++ (a ∷ [])) e ∙ append_assoc values (integers_from first n) (a ∷ []) ∙ ap (λ (x : Atomic). values ++ (integers_from first n ++ (x ∷ []))) f
-    ∙ ap (λ (v : List Atomic). values ++ v) (sym (integers_more first n))
+    ap (λ (v : Items). v ++ (atom a ∷ [])) e ∙ append_assoc values (atoms (integers_from first n)) (atom a ∷ []) ∙ ap (λ (x : Atomic). values ++ (atoms (integers_from first n) ++ (atom x ∷ []))) f
+    ∙ ap (λ (v : Items). values ++ v) (sym (map-append atom (integers_from first n) (number_atom (Int (first +ℤ pos n)) ∷ [])) ∙ ap atoms (sym (integers_more first n)))

@@ -1,12 +1,11 @@
--- What a strict operator makes of operands of atomic values.
-use Rattle.std.specs.Prelude.{ℕ, ◌<◌, ℤ, ◌+ℤ◌, pos, FitsSigned, List, [], ◌∷◌}
+-- What a strict operator makes of its operands.
+use Rattle.std.specs.Prelude.{ℕ, ◌<◌, ℤ, ◌+ℤ◌, pos, FitsSigned, [], ◌∷◌}
 use Rattle.std.specs.Int.{w128}
 use Rattle.gx_base.specs.declared.code.Code.TheVariants as codes
-use Rattle.gx_facets.specs.declared.Atomic.{Atomic}
 use Rattle.gx_atomic.specs.declared.casting.CastError.{CastError}
 use Rattle.gx_atomic.specs.declared.casting.CastError.TheVariants as casts
 use Rattle.gx_model.specs.Forest.{Forest}
-use Rattle.gx_model.specs.Item.{Item, Items}
+use Rattle.gx_model.specs.Item.{Item, atom, Items, atoms}
 use Rattle.gx_core.specs.Outcome.{Outcome}
 use Rattle.gx_core.specs.Arithmetic.{computed_of_items}
 use Rattle.gx_core.specs.Comparing.{compared_items}
@@ -18,10 +17,10 @@ use Rattle.gx_eval.specs.declared.answer.Answer.TheVariants.{Nothing, One, Integ
 use Rattle.gx_eval.specs.declared.answer.Paired.{Paired}
 use Rattle.gx_eval.specs.declared.answer.Paired.TheVariants.{Arithmetic, Value, Range}
 
-abbrev pub answer_items : Answer → List Atomic
+abbrev pub answer_items : Answer → Items
 answer_items Nothing = []
-answer_items (One a) = a ∷ []
-answer_items (Integers first count) = integers_from first count
+answer_items (One a) = atom a ∷ []
+answer_items (Integers first count) = atoms (integers_from first count)
 
 -- each of so many integers is within the limits of xs:integer
 abbrev pub IntegersFit : (first : ℤ) → (count : ℕ) → Type 0

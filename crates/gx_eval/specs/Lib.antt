@@ -1,4 +1,7 @@
 pub mod Failing
+pub mod OneItem
+pub mod OrderedItems
+pub mod BoundItems
 pub mod Answering
 pub mod Operators
 pub mod Resume

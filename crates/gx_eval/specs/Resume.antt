@@ -1,8 +1,9 @@
 -- What an evaluation in its midst comes to.
-use Rattle.std.specs.Prelude.{ℕ, zero, suc, ◌+◌, List, [], ◌∷◌, ◌++◌, length, take, drop, map, Option, None, Some, Vec}
-use Rattle.gx_facets.specs.declared.Atomic.{Atomic}
-use Rattle.gx_model.specs.Forest.{Forest}
-use Rattle.gx_model.specs.Item.{Items, atoms}
+use Rattle.std.specs.Prelude.{ℕ, zero, suc, ◌+◌, List, [], ◌∷◌, ◌++◌, length, take, drop, map, None, Some}
+use Rattle.gx_types.specs.SchemaSet.{SchemaSet}
+use Rattle.gx_model.specs.Forest.{Forest, PlainNode}
+use Rattle.gx_model.specs.Item.{Item, node, Items}
+use Rattle.gx_core.specs.declared.expression.BinaryOp.{BinaryOp}
 use Rattle.gx_core.specs.declared.operator.Operator.{Operator}
 use Rattle.gx_core.specs.declared.operator.Operator.TheVariants as operators
 use Rattle.gx_core.specs.declared.typed.TypedCore.{TypedCore}
@@ -10,19 +11,55 @@ use Rattle.gx_core.specs.declared.typed.TypedDeclaration.{TypedDeclaration}
 use Rattle.gx_core.specs.declared.typed.TypedDeclaration.TheVariants.{Global}
 use Rattle.gx_core.specs.Comparing.{condition_of}
 use Rattle.gx_core.specs.Outcome.{Outcome, gives, wrong, after, given}
-use Rattle.gx_core.specs.Meaning.{Context, Bindings, Denotation, acts, branch, meaning}
-use Rattle.gx_eval.specs.Operators.{single_operator}
+use Rattle.gx_core.specs.Meaning.{Context, Bindings, Denotation, acts, branch, for_each, meaning}
+use Rattle.gx_core.specs.Soundness.{TypedExpression}
+use Rattle.gx_eval.specs.BoundItems.{bound_items}
+use Rattle.gx_eval.specs.Operators.{single_operator, changing_operator}
+use Rattle.gx_eval.specs.declared.bound.Bound.{Bound}
 use Rattle.gx_eval.specs.declared.evaluation.Pending.{Pending}
-use Rattle.gx_eval.specs.declared.evaluation.Pending.TheVariants.{Evaluate, Data, Single as Operate, Right, Binary, Choose, Mark, Call, Bind, Unbind, Declare, External}
+use Rattle.gx_eval.specs.declared.evaluation.Pending.TheVariants.{Evaluate, Change, Single as Operate, Right, Binary, Choose, Mark, Call, Gather, Each, Bind, Unbind, Declare, External}
 use Rattle.gx_eval.specs.declared.evaluation.Evaluation.{Evaluation}
 
+-- what an expression of a query under these schemas stands in
+abbrev pub context_over : SchemaSet → Context
+context_over schemas = record { schemas = schemas }
+
 -- the values of each binding
-abbrev pub items_of : {A : Type 0} → List (ℕ × Vec Atomic A) → Bindings
-items_of = map (λ binding. (binding.0, atoms binding.1.items))
+abbrev pub items_of : List (ℕ × Bound) → Bindings
+items_of = map (λ binding. (binding.0, bound_items binding.1))
+
+-- what stands beside the values: the marks of operands, the items that loops go over, and the documents that no variable is
+-- bound to as yet
+pub record Stacks : Type 0 where
+  pub marks : List ℕ
+  pub sources : Items
+  pub documents : List PlainNode
+
+abbrev pub with_marks : Stacks → List ℕ → Stacks
+with_marks stacks marks = record { marks = marks; sources = stacks.sources; documents = stacks.documents }
+
+abbrev pub with_sources : Stacks → Items → Stacks
+with_sources stacks sources = record { marks = stacks.marks; sources = sources; documents = stacks.documents }
+
+abbrev pub with_documents : Stacks → List PlainNode → Stacks
+with_documents stacks documents = record { marks = stacks.marks; sources = stacks.sources; documents = documents }
+
+-- nothing but documents
+abbrev pub only_documents : List PlainNode → Stacks
+only_documents documents = record { marks = []; sources = []; documents = documents }
 
 -- what an operator makes of the operands goes behind the values
 abbrev pub operated : Context → Operator → (operands : List Items) → (values : Items) → Forest → (Items → Forest → Outcome Items) → Outcome Items
 operated k operator operands values forest next = after (acts k operator operands forest) (λ more left. next (values ++ more) left)
+
+-- what an operator makes of the values from a number of them on, behind those before it
+abbrev pub changed : Context → Operator → (first : ℕ) → (values : Items) → Forest → Outcome Items
+changed k operator first values forest = after (acts k operator (drop first values ∷ []) forest) (λ more left. gives (take first values ++ more) left)
+
+-- what an operator makes of the values from a number of them on and of its right operand
+abbrev pub right_meaning : Context → BinaryOp → (first : ℕ) → TypedExpression → (values : Items) → Bindings → Forest → Outcome Items
+right_meaning k operator first right values bindings forest =
+    after (meaning k right bindings forest) (λ ys left. acts k (operators.Binary operator) (drop first values ∷ ys ∷ []) left)
 
 -- the operands between so many last marks, in order, and the marks and values below them
 abbrev pub between_marks : ℕ → (marks : List ℕ) → (values : Items) → (operands : List Items) → (List Items → List ℕ → Items → Outcome Items) → Outcome Items
@@ -36,53 +73,80 @@ in_order [] next values marks bindings forest = next values marks bindings fores
 in_order (part ∷ parts) next values marks bindings forest =
     after (part bindings forest) (λ more left. in_order parts next (values ++ more) (length values ∷ marks) bindings left)
 
--- the globals in order, and then what follows them; no document is given for an external variable
-abbrev pub declared_then : Context → List TypedDeclaration → (Bindings → Forest → Outcome Items) → Bindings → Forest → Outcome Items
-declared_then k [] next bindings forest = next bindings forest
-declared_then k (Global name binder (Some value) ∷ others) next bindings forest =
-    after (meaning k value bindings forest) (λ items left. declared_then k others next ((binder.variable, items) ∷ bindings) left)
-declared_then k (Global name binder None ∷ others) next bindings forest = wrong
+-- a document for a variable, if there is one
+abbrev pub next_document : List PlainNode → (PlainNode → List PlainNode → Outcome Items) → Outcome Items
+next_document [] next = wrong
+next_document (document ∷ documents) next = next document documents
+
+-- the globals in order, and then what follows them with the documents that are left; an external variable is bound to the next
+-- document
+abbrev pub declared_then : Context → List TypedDeclaration → (List PlainNode → Bindings → Forest → Outcome Items) → List PlainNode → Bindings → Forest → Outcome Items
+declared_then k [] next documents bindings forest = next documents bindings forest
+declared_then k (Global name binder (Some value) ∷ others) next documents bindings forest =
+    after (meaning k value bindings forest) (λ items left. declared_then k others next documents ((binder.variable, items) ∷ bindings) left)
+declared_then k (Global name binder None ∷ others) next documents bindings forest =
+    next_document documents (λ document rest. declared_then k others next rest ((binder.variable, node document ∷ []) ∷ bindings) forest)
 
 -- what a query with its types comes to
-abbrev pub typed_outcome : Context → TypedCore → Forest → Outcome Items
-typed_outcome k core forest = declared_then k core.declarations (λ bindings left. meaning k core.body bindings left) [] forest
+abbrev pub typed_outcome : Context → TypedCore → List PlainNode → Forest → Outcome Items
+typed_outcome k core documents forest = declared_then k core.declarations (λ rest bindings left. meaning k core.body bindings left) documents [] forest
 
--- what is left to do, over the values and the marks that are there
-abbrev pub resume : Context → List Pending → (values : Items) → (marks : List ℕ) → Bindings → Forest → Outcome Items
-resume k [] values marks bindings forest = gives values forest
-resume k (Evaluate e ∷ work) values marks bindings forest =
-    after (meaning k e.now bindings forest) (λ more left. resume k work (values ++ more) marks bindings left)
-resume k (Data first ∷ work) values marks bindings forest =
-    operated k operators.DataOf (drop first values ∷ []) (take first values) forest (λ vs left. resume k work vs marks bindings left)
-resume k (Operate operator first ∷ work) values marks bindings forest =
-    operated k (single_operator operator) (drop first values ∷ []) (take first values) forest (λ vs left. resume k work vs marks bindings left)
-resume k (Right operator first right ∷ work) values marks bindings forest =
+-- a turn of a loop
+abbrev pub turn : Denotation → (variable : ℕ) → Bindings → Item → Forest → Outcome Items
+turn body variable bindings item forest = body ((variable, item ∷ []) ∷ bindings) forest
+
+-- what is left to do, over the values and the stacks that are there
+abbrev pub resume : Context → List Pending → (values : Items) → Stacks → Bindings → Forest → Outcome Items
+resume k [] values stacks bindings forest = gives values forest
+resume k (Evaluate e ∷ work) values stacks bindings forest =
+    after (meaning k e.now bindings forest) (λ more left. resume k work (values ++ more) stacks bindings left)
+resume k (Change operator first ∷ work) values stacks bindings forest =
+    operated k (changing_operator operator) (drop first values ∷ []) (take first values) forest (λ vs left. resume k work vs stacks bindings left)
+resume k (Operate operator first ∷ work) values stacks bindings forest =
+    operated k (single_operator operator) (drop first values ∷ []) (take first values) forest (λ vs left. resume k work vs stacks bindings left)
+resume k (Right operator first right ∷ work) values stacks bindings forest =
     after (meaning k right.now bindings forest)
-    (λ ys left. operated k (operators.Binary operator) (drop first values ∷ ys ∷ []) (take first values) left (λ vs last. resume k work vs marks bindings last))
-resume k (Binary operator first second ∷ work) values marks bindings forest =
+    (λ ys left. operated k (operators.Binary operator) (drop first values ∷ ys ∷ []) (take first values) left (λ vs last. resume k work vs stacks bindings last))
+resume k (Binary operator first second ∷ work) values stacks bindings forest =
     operated k (operators.Binary operator) (drop first (take second values) ∷ drop second values ∷ []) (take first (take second values)) forest
-    (λ vs left. resume k work vs marks bindings left)
-resume k (Choose first yes' no' ∷ work) values marks bindings forest =
+    (λ vs left. resume k work vs stacks bindings left)
+resume k (Choose first yes' no' ∷ work) values stacks bindings forest =
     given (condition_of (drop first values))
-    (λ truth. after (branch truth (meaning k yes'.now) (meaning k no'.now) bindings forest) (λ more left. resume k work (take first values ++ more) marks bindings left))
-resume k (Mark ∷ work) values marks bindings forest = resume k work values (length values ∷ marks) bindings forest
-resume k (Call function more ∷ work) values marks bindings forest =
-    between_marks (more + 2) marks values [] (λ operands below rest. operated k (operators.Call function) operands rest forest (λ vs left. resume k work vs below bindings left))
-resume k (Bind variable first body ∷ work) values marks bindings forest =
-    after (meaning k body.now ((variable, drop first values) ∷ bindings) forest) (λ more left. resume k work (take first values ++ more) marks bindings left)
-resume k (Unbind ∷ work) values marks bindings forest = resume k work values marks (drop 1 bindings) forest
-resume k (Declare variable ∷ work) values marks bindings forest = resume k work [] marks ((variable, values) ∷ bindings) forest
-resume k (External ∷ work) values marks bindings forest = wrong
+    (λ truth. after (branch truth (meaning k yes'.now) (meaning k no'.now) bindings forest) (λ more left. resume k work (take first values ++ more) stacks bindings left))
+resume k (Mark ∷ work) values stacks bindings forest = resume k work values (with_marks stacks (length values ∷ stacks.marks)) bindings forest
+resume k (Call function more ∷ work) values stacks bindings forest =
+    between_marks (more + 2) stacks.marks values []
+    (λ operands below rest. operated k (operators.Call function) operands rest forest (λ vs left. resume k work vs (with_marks stacks below) bindings left))
+resume k (Gather variable first body ∷ work) values stacks bindings forest =
+    after (for_each (turn (meaning k body.now) variable bindings) (take first values) (drop first values) forest) (λ vs left. resume k work vs stacks bindings left)
+resume k (Each variable next start body ∷ work) values stacks bindings forest =
+    after (for_each (turn (meaning k body.now) variable bindings) values (drop next stacks.sources) forest)
+    (λ vs left. resume k work vs (with_sources stacks (take start stacks.sources)) bindings left)
+resume k (Bind variable first body ∷ work) values stacks bindings forest =
+    after (meaning k body.now ((variable, drop first values) ∷ bindings) forest) (λ more left. resume k work (take first values ++ more) stacks bindings left)
+resume k (Unbind ∷ work) values stacks bindings forest = resume k work values stacks (drop 1 bindings) forest
+resume k (Declare variable ∷ work) values stacks bindings forest = resume k work [] stacks ((variable, values) ∷ bindings) forest
+resume k (External variable ∷ work) values stacks bindings forest =
+    next_document stacks.documents (λ document rest. resume k work values (with_documents stacks rest) ((variable, node document ∷ []) ∷ bindings) forest)
+
+abbrev pub stacks_of : Evaluation → Stacks
+stacks_of evaluation = record { marks = evaluation.marks; sources = evaluation.sources.items; documents = evaluation.documents.now }
 
 abbrev pub outcome_of : Context → Forest → Evaluation → Outcome Items
-outcome_of k forest evaluation = resume k evaluation.work (atoms evaluation.values.items) evaluation.marks (items_of evaluation.scope) forest
+outcome_of k forest evaluation = resume k evaluation.work evaluation.values.items (stacks_of evaluation) (items_of evaluation.scope) forest
 
 -- with one more piece of work that comes first
 abbrev pub outcome_with : Context → Forest → Pending → Evaluation → Outcome Items
 outcome_with k forest pending evaluation =
-    resume k (pending ∷ evaluation.work) (atoms evaluation.values.items) evaluation.marks (items_of evaluation.scope) forest
+    resume k (pending ∷ evaluation.work) evaluation.values.items (stacks_of evaluation) (items_of evaluation.scope) forest
 
 -- with a part that comes next, whose value goes behind the values that are there
 abbrev pub outcome_behind : Context → Forest → Outcome Items → Evaluation → Outcome Items
 outcome_behind k forest part evaluation =
-    after part (λ more left. resume k evaluation.work (atoms evaluation.values.items ++ more) evaluation.marks (items_of evaluation.scope) left)
+    after part (λ more left. resume k evaluation.work (evaluation.values.items ++ more) (stacks_of evaluation) (items_of evaluation.scope) left)
+
+-- with a part that comes next, and a piece of work behind it
+abbrev pub outcome_then : Context → Forest → TypedExpression → Pending → Evaluation → Outcome Items
+outcome_then k forest part behind evaluation =
+    after (meaning k part (items_of evaluation.scope) forest)
+    (λ more left. resume k (behind ∷ evaluation.work) (evaluation.values.items ++ more) (stacks_of evaluation) (items_of evaluation.scope) left)

@@ -2,7 +2,7 @@
 
 ghost use Rattle.std.specs.Prelude.{◌≡◌, ◌++◌, ◌∷◌, [], IfOk, IfErr, OnOk};
 ghost use Rattle.gx_model.specs.Forest.{Forest};
-ghost use Rattle.gx_model.specs.Item.{atom, atoms};
+ghost use Rattle.gx_model.specs.Item.{atom};
 ghost use Rattle.gx_core.specs.Outcome.{gives};
 ghost use Rattle.gx_core.specs.Operands.{on_two};
 ghost use Rattle.gx_core.specs.Meaning.{binary_meaning};
@@ -18,7 +18,8 @@ use gx_atomic::Op;
 use gx_base::code::Code;
 use gx_core::expression::{ArithmeticOp, BinaryClass};
 use gx_facets::Atomic;
-use std::alloc::AllocError;
+use gx_model::item::{ItemForm, ModelItem};
+use std::alloc::{AllocError, Global};
 
 // Nothing, one atomic value, or so many integers from the first on.
 #[derive(Drop)]
@@ -38,31 +39,32 @@ enum Paired {
 
 // What an operator of two operands makes of them.
 pub(crate) fn of_two(
+    alloc: Global,
     class: BinaryClass,
-    left: &[Atomic],
-    right: &[Atomic],
+    left: &[ModelItem],
+    right: &[ModelItem],
 ) -> Result<Answer, Failure>
-    ensures value { (forest : Forest) → IfOk result (λ r. binary_meaning class (atoms left.now) (atoms right.now) forest ≡ gives (atoms (answer_items r)) forest) }
+    ensures value { (forest : Forest) → IfOk result (λ r. binary_meaning class left.now right.now forest ≡ gives (answer_items r) forest) }
     ensures fits { IfOk result (λ r. AnswerFits r) }
-    ensures failed { (forest : Forest) → IfErr result (λ e. FailsSo e (binary_meaning class (atoms left.now) (atoms right.now) forest)) }
+    ensures failed { (forest : Forest) → IfErr result (λ e. FailsSo e (binary_meaning class left.now right.now forest)) }
 {
     match class {
         BinaryClass::Arithmetic(operation) => {
             Ok(on_two(Paired::Arithmetic(operation), left, right)?)
         }
         BinaryClass::Value(op) => Ok(on_two(Paired::Value(op), left, right)?),
-        BinaryClass::General(op) => Ok(Answer::One(generally_compared(op, left, right)?)),
+        BinaryClass::General(op) => Ok(Answer::One(generally_compared(alloc, op, left, right)?)),
         BinaryClass::Range => Ok(on_two(Paired::Range, left, right)?),
     }
 }
 
 // Nothing where an operand is empty.
 #[tactic(auto, using(crate::proofs::Operands::many_on_the_left, crate::proofs::Operands::many_on_the_right))]
-fn on_two(operation: Paired, left: &[Atomic], right: &[Atomic]) -> Result<Answer, Failure>
+fn on_two(operation: Paired, left: &[ModelItem], right: &[ModelItem]) -> Result<Answer, Failure>
     ensures value { (forest : Forest) → IfOk result (λ r.
-        on_two (atoms left.now) (atoms right.now) forest (paired_meaning operation) ≡ gives (atoms (answer_items r)) forest) }
+        on_two left.now right.now forest (paired_meaning operation) ≡ gives (answer_items r) forest) }
     ensures fits { IfOk result (λ r. AnswerFits r) }
-    ensures failed { (forest : Forest) → IfErr result (λ e. FailsSo e (on_two (atoms left.now) (atoms right.now) forest (paired_meaning operation))) }
+    ensures failed { (forest : Forest) → IfErr result (λ e. FailsSo e (on_two left.now right.now forest (paired_meaning operation))) }
 {
     match left {
         [] => match right {
@@ -79,9 +81,22 @@ fn on_two(operation: Paired, left: &[Atomic], right: &[Atomic]) -> Result<Answer
     }
 }
 
-fn of_pair(operation: Paired, left: &Atomic, right: &Atomic) -> Result<Answer, Failure>
+#[tactic(auto, using(crate::proofs::Operands::no_pair_on_the_left, crate::proofs::Operands::no_pair_on_the_right))]
+fn of_pair(operation: Paired, left: &ModelItem, right: &ModelItem) -> Result<Answer, Failure>
     ensures value { (forest : Forest) → IfOk result (λ r.
-        paired_meaning operation (atom left.now) (atom right.now) forest ≡ gives (atoms (answer_items r)) forest) }
+        paired_meaning operation left.now right.now forest ≡ gives (answer_items r) forest) }
+    ensures fits { IfOk result (λ r. AnswerFits r) }
+    ensures failed { (forest : Forest) → IfErr result (λ e. FailsSo e (paired_meaning operation left.now right.now forest)) }
+{
+    match (&left.form, &right.form) {
+        (ItemForm::Atom(left), ItemForm::Atom(right)) => of_atoms(operation, left, right),
+        _ => Err(Failure::Wrong),
+    }
+}
+
+fn of_atoms(operation: Paired, left: &Atomic, right: &Atomic) -> Result<Answer, Failure>
+    ensures value { (forest : Forest) → IfOk result (λ r.
+        paired_meaning operation (atom left.now) (atom right.now) forest ≡ gives (answer_items r) forest) }
     ensures fits { IfOk result (λ r. AnswerFits r) }
     ensures failed { (forest : Forest) → IfErr result (λ e. FailsSo e (paired_meaning operation (atom left.now) (atom right.now) forest)) }
 {
@@ -94,7 +109,7 @@ fn of_pair(operation: Paired, left: &Atomic, right: &Atomic) -> Result<Answer, F
 
 // All integers from one to another.
 fn ranged(left: &Atomic, right: &Atomic) -> Result<Answer, Failure>
-    ensures value { (forest : Forest) → IfOk result (λ r. range_of_items (atom left.now) (atom right.now) forest ≡ gives (atoms (answer_items r)) forest) }
+    ensures value { (forest : Forest) → IfOk result (λ r. range_of_items (atom left.now) (atom right.now) forest ≡ gives (answer_items r) forest) }
     ensures fits { IfOk result (λ r. AnswerFits r) }
     ensures failed { (forest : Forest) → IfErr result (λ e. FailsSo e (range_of_items (atom left.now) (atom right.now) forest)) }
 {
@@ -110,7 +125,7 @@ fn ranged(left: &Atomic, right: &Atomic) -> Result<Answer, Failure>
 // All integers from the first to the last.
 #[tactic(auto, using(crate::proofs::Ranges::few_between, crate::proofs::Ranges::many_between))]
 fn between(first: i128, last: i128) -> Result<Answer, Failure>
-    ensures value { (forest : Forest) → IfOk result (λ r. range_between first last forest ≡ gives (atoms (answer_items r)) forest) }
+    ensures value { (forest : Forest) → IfOk result (λ r. range_between first last forest ≡ gives (answer_items r) forest) }
     ensures fits { IfOk result (λ r. AnswerFits r) }
     ensures failed { (forest : Forest) → IfErr result (λ e. FailsSo e (range_between first last forest)) }
 {
@@ -121,13 +136,13 @@ fn between(first: i128, last: i128) -> Result<Answer, Failure>
 }
 
 // Puts an answer behind the values.
-pub(crate) fn put(answer: Answer, values: &mut Vec<Atomic>) -> Result<(), AllocError>
+pub(crate) fn put(answer: Answer, values: &mut Vec<ModelItem>) -> Result<(), AllocError>
     requires { AnswerFits answer }
     ensures { OnOk result (values.new.items ≡ values.old.items ++ answer_items answer) }
 {
     match answer {
         Answer::Nothing => Ok(()),
-        Answer::One(atomic) => Ok(values.push(atomic)?),
+        Answer::One(atomic) => Ok(values.push(ModelItem::atom(atomic))?),
         Answer::Integers(first, count) => put_integers(first, count, values),
     }
 }

@@ -13,6 +13,7 @@ use gx_base::code::Code;
 use gx_base::type_name::{Builtin, TypeName};
 use gx_core::expression::ArithmeticOp;
 use gx_facets::{AtomValue, Atomic};
+use gx_model::item::{ItemForm, ModelItem};
 use gx_num::{NumFault, Number, add, div, idiv, modulo, mul, negate, sub};
 
 // What an operation makes of two values.
@@ -34,7 +35,17 @@ pub(crate) fn computed(
 }
 
 // The negation of a value.
-pub(crate) fn negated(operand: &Atomic) -> Result<Atomic, Failure>
+pub(crate) fn negated(operand: &ModelItem) -> Result<Atomic, Failure>
+    ensures value { (forest : Forest) → IfOk result (λ r. negation_of_item operand.now forest ≡ gives (atom r ∷ []) forest) }
+    ensures failed { (forest : Forest) → IfErr result (λ e. FailsSo e (negation_of_item operand.now forest)) }
+{
+    match &operand.form {
+        ItemForm::Atom(operand) => negated_atom(operand),
+        ItemForm::Node(_) => Err(Failure::Wrong),
+    }
+}
+
+fn negated_atom(operand: &Atomic) -> Result<Atomic, Failure>
     ensures value { (forest : Forest) → IfOk result (λ r. negation_of_item (atom operand.now) forest ≡ gives (atom r ∷ []) forest) }
     ensures failed { (forest : Forest) → IfErr result (λ e. FailsSo e (negation_of_item (atom operand.now) forest)) }
 {

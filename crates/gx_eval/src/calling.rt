@@ -1,24 +1,29 @@
 // Calls of built-in functions.
 
 ghost use Rattle.std.specs.Prelude.{◌≡◌, ◌∷◌, [], IfOk, IfErr};
-ghost use Rattle.gx_model.specs.Forest.{Forest};
-ghost use Rattle.gx_model.specs.Item.{atoms};
-ghost use Rattle.gx_core.specs.Calling.{called};
+ghost use Rattle.gx_funcs.specs.Function.{effective_boolean as boolean_of_views, string_of_item as string_of_view, string_of_items as string_of_views};
+ghost use Rattle.gx_model.specs.Forest.{Forest as PlainForest};
+ghost use Rattle.gx_core.specs.Calling.{called, view_of, views_of};
 ghost use Rattle.gx_core.specs.Outcome.{gives};
 ghost use Rattle.gx_eval.specs.Answering.{answer_items, AnswerFits};
 ghost use Rattle.gx_eval.specs.Failing.{FailsSo};
 
 use crate::answer::Answer;
 use crate::failure::Failure;
-use gx_facets::Atomic;
-use gx_funcs::function::{Function, apply_to_none, apply_to_one};
-use std::alloc::Global;
+use gx_atomic::effective_boolean_value;
+use gx_base::text::Text;
+use gx_facets::print_value;
+use gx_funcs::function::{Function, apply_to_none, integer_atom, string_atom, truth_atom};
+use gx_model::forest::Forest;
+use gx_model::item::{ItemForm, ModelItem};
+use gx_model::typed_value::string_value_of;
+use std::alloc::{AllocError, Global};
 
 // What a function answers of no argument.
 pub(crate) fn called_with_none(function: Function) -> Result<Answer, Failure>
-    ensures value { (forest : Forest) → IfOk result (λ r. called function [] forest ≡ gives (atoms (answer_items r)) forest) }
+    ensures value { (forest : PlainForest) → IfOk result (λ r. called function [] forest ≡ gives (answer_items r) forest) }
     ensures fits { IfOk result (λ r. AnswerFits r) }
-    ensures failed { (forest : Forest) → IfErr result (λ e. FailsSo e (called function [] forest)) }
+    ensures failed { (forest : PlainForest) → IfErr result (λ e. FailsSo e (called function [] forest)) }
 {
     match apply_to_none(function) {
         Some(answer) => Ok(Answer::One(answer)),
@@ -27,18 +32,74 @@ pub(crate) fn called_with_none(function: Function) -> Result<Answer, Failure>
 }
 
 // What a function answers of one argument.
-#[tactic(auto, using(crate::proofs::Operands::atoms_are_viewed))]
 pub(crate) fn called_with_one(
     alloc: Global,
+    forest: &Forest,
     function: Function,
-    argument: &[Atomic],
+    argument: &[ModelItem],
 ) -> Result<Answer, Failure>
-    ensures value { (forest : Forest) → IfOk result (λ r. called function (atoms argument.now ∷ []) forest ≡ gives (atoms (answer_items r)) forest) }
+    ensures value { IfOk result (λ r. called function (argument.now ∷ []) forest.now ≡ gives (answer_items r) forest.now) }
     ensures fits { IfOk result (λ r. AnswerFits r) }
-    ensures failed { (forest : Forest) → IfErr result (λ e. FailsSo e (called function (atoms argument.now ∷ []) forest)) }
+    ensures failed { IfErr result (λ e. FailsSo e (called function (argument.now ∷ []) forest.now)) }
 {
-    match apply_to_one(alloc, function, argument)? {
-        Some(answer) => Ok(Answer::One(answer)),
-        None => Err(Failure::Wrong),
+    match function {
+        Function::Boolean => match effective_boolean(argument) {
+            Some(truth) => Ok(Answer::One(truth_atom(truth))),
+            None => Err(Failure::Wrong),
+        },
+        Function::Not => match effective_boolean(argument) {
+            Some(truth) => Ok(Answer::One(truth_atom(!truth))),
+            None => Err(Failure::Wrong),
+        },
+        Function::Count => Ok(Answer::One(integer_atom(argument.len() as i128))),
+        Function::Empty => Ok(Answer::One(truth_atom(argument.is_empty()))),
+        Function::Exists => Ok(Answer::One(truth_atom(!argument.is_empty()))),
+        Function::String => match string_of(alloc, forest, argument)? {
+            Some(text) => Ok(Answer::One(string_atom(text))),
+            None => Err(Failure::Wrong),
+        },
+        Function::True | Function::False | Function::Data => Err(Failure::Wrong),
+    }
+}
+
+// The effective boolean value: true where the first item is a node, and of one atomic value its own; there is none of more
+// atomic values (XQuery 1.0, section 2.4.3).
+fn effective_boolean(items: &[ModelItem]) -> Option<bool>
+    ensures { (forest : PlainForest) → result ≡ boolean_of_views (views_of forest items.now) }
+{
+    match items.split_first() {
+        None => Some(false),
+        Some((first, others)) => match &first.form {
+            ItemForm::Node(_) => Some(true),
+            ItemForm::Atom(value) if others.is_empty() => {
+                Some(effective_boolean_value(&value.value))
+            }
+            ItemForm::Atom(_) => None,
+        },
+    }
+}
+
+// The string value of at most one item.
+#[tactic(auto, using(crate::proofs::Operands::many_have_no_string))]
+fn string_of(
+    alloc: Global,
+    forest: &Forest,
+    items: &[ModelItem],
+) -> Result<Option<Text>, AllocError>
+    ensures { IfOk result (λ text. text ≡ string_of_views (views_of forest.now items.now)) }
+{
+    match items {
+        [] => Ok(Some(Text::empty(alloc)?)),
+        [single] => Ok(Some(string_of_item(alloc, forest, single)?)),
+        _ => Ok(None),
+    }
+}
+
+fn string_of_item(alloc: Global, forest: &Forest, item: &ModelItem) -> Result<Text, AllocError>
+    ensures { IfOk result (λ text. text ≡ string_of_view (view_of forest.now item.now)) }
+{
+    match &item.form {
+        ItemForm::Atom(value) => print_value(alloc, &value.value),
+        ItemForm::Node(place) => string_value_of(alloc, forest, place),
     }
 }

@@ -1,143 +1,258 @@
 // An evaluation in its midst: the work that is left, and the values that are there.
 
-ghost use Rattle.std.specs.Prelude.{◌≡◌, ◌++◌, ◌+◌, ◌≤◌, ◌∷◌, [], length, map, IfOk, OnOk, IfErr, IfSome, take, drop};
-ghost use Rattle.gx_facets.specs.declared.Atomic.{Atomic};
-ghost use Rattle.gx_model.specs.Forest.{Forest};
-ghost use Rattle.gx_model.specs.Item.{atoms};
+ghost use Rattle.std.specs.Prelude.{◌≡◌, ◌++◌, ◌+◌, ◌≤◌, ◌∷◌, [], List, length, map, IfOk, OnOk, IfErr, IfSome, take, drop};
+ghost use Rattle.gx_model.specs.Forest.{Forest as PlainForest, PlainNode};
 ghost use Rattle.gx_core.specs.declared.operator.Operator.TheVariants as operators;
 ghost use Rattle.gx_core.specs.Bindings.{look_up};
-ghost use Rattle.gx_core.specs.Comparing.{condition_of};
 ghost use Rattle.gx_core.specs.Outcome.{gives, after, given};
 ghost use Rattle.gx_core.specs.Meaning.{Context, Bindings, denoted, meaning};
+ghost use Rattle.gx_core.specs.Paths.{stepped as step_meaning};
+ghost use Rattle.gx_eval.specs.Answering.{answer_items, AnswerFits};
 ghost use Rattle.gx_eval.specs.Failing.{FailsSo};
-ghost use Rattle.gx_eval.specs.Operators.{single_operator};
-ghost use Rattle.gx_eval.specs.Resume.{resume, declared_then, typed_outcome, in_order, outcome_of, outcome_with, outcome_behind, items_of};
+ghost use Rattle.gx_eval.specs.Operators.{single_operator, changing_operator};
+ghost use Rattle.gx_eval.specs.Resume.{resume, context_over, declared_then, only_documents, typed_outcome, in_order, outcome_of, outcome_with, outcome_behind, outcome_then, items_of, right_meaning};
 ghost use Rattle.gx_eval.specs.declared.evaluation.Pending.TheVariants as work;
 
-use crate::answer::{of_two, put};
+use crate::answer::{Answer, of_two, put};
+use crate::bound::Bound;
 use crate::calling::called_with_none;
+use crate::change::{Change, change_values};
 use crate::failure::Failure;
+use crate::hand::at_hand;
+use crate::nodes::{append_nodes, stepped};
+use crate::operand::{append_all, condition_of, cut_at, split_at};
 use crate::single::{Single, of_one};
 use gx_core::expression::BinaryOp;
 use gx_core::scope::Scope;
 use gx_core::stack::Stack;
 use gx_core::typed::{TypedCore, TypedDeclaration, TypedExpr, TypedForm};
-use gx_facets::{AtomValue, Atomic};
 use gx_funcs::function::Function;
+use gx_model::forest::Forest;
+use gx_model::item::ModelItem;
+use gx_model::node::Node;
+use gx_types::schemas::Schemas;
+use gx_types::step::{Axis, Test};
 use std::alloc::{AllocError, Global};
-use std::{mem, slice};
+use std::mem;
 
 // A piece of work. A number is that of the values before an operand: to evaluate an expression, behind the values that are
-// there; to atomize an operand; to apply an operator of one operand; to evaluate the right operand of an operator, whose left one is
-// there; to apply an operator of two operands; to choose the first of two branches where the operand is true, and else the
-// second; to mark where an argument begins; to call a function of two arguments and so many more, behind the last marks; to bind a
-// variable to an operand in the body of a `let`; to take the innermost binding away; to bind a global variable to all values that
-// are there; or to find the document of an external variable, of which none is given.
+// there; to change an operand where it stands; to apply an operator of one operand; to evaluate the right operand of an operator,
+// whose left one is there; to apply an operator of two operands; to choose the first of two branches where the operand is true,
+// and else the second; to mark where an argument begins; to call a function of two arguments and so many more, behind the last
+// marks; to put the items of an operand aside for a loop; to evaluate the body of a loop for each item that was put aside from the
+// first number on, where the items of this loop begin at the second; to bind a variable to an operand in the body of a `let`; to take
+// the innermost binding away; to bind a global variable to all values that are there; or to bind an external variable to the next
+// document.
 #[derive(Drop)]
 pub(crate) enum Pending<'a> {
     Evaluate(&'a TypedExpr),
-    Data(usize),
+    Change(Change, usize),
     Single(Single<'a>, usize),
     Right(BinaryOp, usize, &'a TypedExpr),
     Binary(BinaryOp, usize, usize),
     Choose(usize, &'a TypedExpr, &'a TypedExpr),
     Mark,
     Call(Function, usize),
+    Gather(u32, usize, &'a TypedExpr),
+    Each(u32, usize, usize, &'a TypedExpr),
     Bind(u32, usize, &'a TypedExpr),
     Unbind,
     Declare(u32),
-    External,
+    External(u32),
 }
 
 #[derive(Drop)]
 pub(crate) struct Evaluation<'a> {
     pub(crate) work: Stack<Pending<'a>>,
-    pub(crate) values: Vec<Atomic>,
+    pub(crate) values: Vec<ModelItem>,
     marks: Stack<usize>,
-    scope: Scope<Vec<Atomic>>,
+    sources: Vec<ModelItem>,
+    documents: &'a [Node],
+    scope: Scope<Bound>,
 }
 
 impl<'a> Evaluation<'a> {
-    // The evaluation of a query.
-    pub(crate) fn new(alloc: Global, core: &'a TypedCore) -> Result<Evaluation<'a>, AllocError>
-        ensures { (k : Context) (forest : Forest) → IfOk result (λ e. outcome_of k forest e ≡ typed_outcome k core.now forest) }
+    // The evaluation of a query with these documents.
+    pub(crate) fn new(
+        alloc: Global,
+        core: &'a TypedCore,
+        documents: &'a [Node],
+    ) -> Result<Evaluation<'a>, AllocError>
+        ensures { (k : Context) (forest : PlainForest) → IfOk result (λ e. outcome_of k forest e ≡ typed_outcome k core.now documents.now forest) }
     {
         let work = work_of(alloc, core)?;
         Ok(Evaluation {
             work,
             values: Vec::new(alloc),
             marks: Stack::new(alloc),
+            sources: Vec::new(alloc),
+            documents,
             scope: Scope::new(alloc),
         })
     }
 
     // Does a piece of work.
-    #[tactic(auto, using(crate::proofs::Resuming::data_applies))]
-    pub(crate) fn step(&mut self, alloc: Global, pending: Pending<'a>) -> Result<(), Failure>
-        ensures value { (k : Context) (forest : Forest) → OnOk result (outcome_of k forest self.new ≡ outcome_with k forest pending.entry self.old) }
-        ensures failed { (k : Context) (forest : Forest) → IfErr result (λ e. FailsSo e (outcome_with k forest pending.entry self.old)) }
+    pub(crate) fn step(
+        &mut self,
+        alloc: Global,
+        schemas: &Schemas,
+        forest: &Forest,
+        pending: Pending<'a>,
+    ) -> Result<(), Failure>
+        ensures value { OnOk result (outcome_of (context_over schemas.now) forest.now self.new ≡ outcome_with (context_over schemas.now) forest.now pending.entry self.old) }
+        ensures failed { IfErr result (λ e. FailsSo e (outcome_with (context_over schemas.now) forest.now pending.entry self.old)) }
     {
         match pending {
-            Pending::Evaluate(expression) => self.open(alloc, expression),
-            Pending::Data(_) => Ok(()),
-            Pending::Single(operator, first) => self.apply_single(alloc, operator, first),
-            Pending::Right(operator, first, right) => self.open_right(operator, first, right),
-            Pending::Binary(operator, first, second) => self.apply_binary(operator, first, second),
+            Pending::Evaluate(expression) => self.open(alloc, schemas, forest, expression),
+            Pending::Change(operator, first) => self.apply_change(alloc, forest, operator, first),
+            Pending::Single(operator, first) => self.apply_single(alloc, forest, operator, first),
+            Pending::Right(operator, first, right) => {
+                self.open_right(alloc, operator, first, right)
+            }
+            Pending::Binary(operator, first, second) => {
+                self.apply_binary(alloc, operator, first, second)
+            }
             Pending::Choose(first, chosen, otherwise) => self.choose(first, chosen, otherwise),
             Pending::Mark => Ok(self.marks.push(self.values.len())?),
             Pending::Call(function, more) => self.apply_call(function, more),
+            Pending::Gather(variable, first, body) => {
+                Ok(self.gather(alloc, variable, first, body)?)
+            }
+            Pending::Each(variable, next, start, body) => {
+                Ok(self.turn(variable, next, start, body)?)
+            }
             Pending::Bind(variable, first, body) => Ok(self.bind(alloc, variable, first, body)?),
             Pending::Unbind => {
                 self.scope.unbind();
                 Ok(())
             }
             Pending::Declare(variable) => Ok(self.declare(alloc, variable)?),
-            Pending::External => Err(Failure::Wrong),
+            Pending::External(variable) => self.bind_document(variable),
         }
     }
 
     // Puts the parts of an expression to the work, with what is to be made of them.
-    fn open(&mut self, alloc: Global, expression: &'a TypedExpr) -> Result<(), Failure>
-        ensures value { (k : Context) (forest : Forest) → OnOk result (outcome_of k forest self.new ≡ outcome_with k forest (work.Evaluate expression.entry) self.old) }
-        ensures failed { (k : Context) (forest : Forest) → IfErr result (λ e. FailsSo e (outcome_with k forest (work.Evaluate expression.entry) self.old)) }
+    fn open(
+        &mut self,
+        alloc: Global,
+        schemas: &Schemas,
+        forest: &Forest,
+        expression: &'a TypedExpr,
+    ) -> Result<(), Failure>
+        ensures value { OnOk result (outcome_of (context_over schemas.now) forest.now self.new ≡ outcome_with (context_over schemas.now) forest.now (work.Evaluate expression.entry) self.old) }
+        ensures failed { IfErr result (λ e. FailsSo e (outcome_with (context_over schemas.now) forest.now (work.Evaluate expression.entry) self.old)) }
     {
+        let first = self.values.len();
         match &expression.form {
-            TypedForm::Lit(value) => Ok(self.values.push(value.clone()?)?),
+            TypedForm::Lit(value) => Ok(self.values.push(ModelItem::atom(value.clone()?))?),
             TypedForm::Var(number) => self.append_variable(*number),
             TypedForm::Empty => Ok(()),
-            TypedForm::Seq(first, second) => {
-                self.work.push(Pending::Evaluate(second))?;
-                Ok(self.work.push(Pending::Evaluate(first))?)
+            TypedForm::Seq(left, right) => Ok(self.open_part(left, Pending::Evaluate(right))?),
+            TypedForm::For(binder, source, body) => {
+                Ok(self.open_part(source, Pending::Gather(binder.variable, first, body))?)
             }
             TypedForm::Let(binder, value, body) => {
-                let first = self.values.len();
-                self.work.push(Pending::Bind(binder.variable, first, body))?;
-                Ok(self.work.push(Pending::Evaluate(value))?)
+                Ok(self.open_part(value, Pending::Bind(binder.variable, first, body))?)
             }
             TypedForm::If(condition, chosen, otherwise) => {
-                let first = self.values.len();
-                self.work.push(Pending::Choose(first, chosen, otherwise))?;
-                Ok(self.work.push(Pending::Evaluate(condition))?)
+                Ok(self.open_part(condition, Pending::Choose(first, chosen, otherwise))?)
             }
             TypedForm::Cast(operand, kind, allows_empty) => {
-                self.open_single(alloc, Single::Cast(kind, *allows_empty), operand)
+                self.open_single(alloc, forest, Single::Cast(kind, *allows_empty), operand)
             }
             TypedForm::Castable(operand, kind, allows_empty) => {
-                self.open_single(alloc, Single::Castable(kind, *allows_empty), operand)
+                let castable = Single::Castable(kind, *allows_empty);
+                self.open_single(alloc, forest, castable, operand)
             }
-            TypedForm::DataOf(operand) => {
-                self.work.push(Pending::Data(self.values.len()))?;
-                Ok(self.work.push(Pending::Evaluate(operand))?)
+            TypedForm::Step(axis, test, number) => {
+                self.append_step(alloc, schemas, forest, *axis, test, *number)
             }
+            TypedForm::Nodes(operand) => Ok(self.open_change(Change::Nodes, operand)?),
+            TypedForm::Order(operand) => Ok(self.open_change(Change::Order, operand)?),
+            TypedForm::DataOf(operand) => Ok(self.open_change(Change::Data, operand)?),
+            TypedForm::NoContext => Err(Failure::Wrong),
             TypedForm::Call(function, arguments) => {
-                self.open_call(alloc, *function, arguments.as_slice())
+                self.open_call(alloc, forest, *function, arguments.as_slice())
             }
-            TypedForm::Neg(operand) => self.open_single(alloc, Single::Neg, operand),
+            TypedForm::Neg(operand) => self.open_single(alloc, forest, Single::Neg, operand),
             TypedForm::Binary(operator, left, right) => {
-                let first = self.values.len();
-                self.work.push(Pending::Right(*operator, first, right))?;
-                Ok(self.work.push(Pending::Evaluate(left))?)
+                Ok(self.open_part(left, Pending::Right(*operator, first, right))?)
             }
+        }
+    }
+
+    // A part that is evaluated first, and what is done behind it.
+    fn open_part(&mut self, part: &'a TypedExpr, behind: Pending<'a>) -> Result<(), AllocError>
+        ensures { (k : Context) (forest : PlainForest) → OnOk result (outcome_of k forest self.new ≡ outcome_then k forest part.now behind.entry self.old) }
+    {
+        self.work.push(behind)?;
+        self.work.push(Pending::Evaluate(part))
+    }
+
+    // An operand that is to be changed where it stands.
+    #[tactic(auto, using(crate::proofs::Resuming::change_opens))]
+    fn open_change(&mut self, operator: Change, operand: &'a TypedExpr) -> Result<(), AllocError>
+        ensures { (k : Context) (forest : PlainForest) → OnOk result (outcome_of k forest self.new
+            ≡ outcome_behind k forest (denoted k (changing_operator operator) (meaning k operand.now ∷ []) (items_of self.old.scope) forest) self.old) }
+    {
+        self.work
+            .push(Pending::Change(operator, self.values.len()))?;
+        self.work.push(Pending::Evaluate(operand))
+    }
+
+    // Changes the values from the number on.
+    #[tactic(auto, using(crate::proofs::Resuming::change_applies, crate::proofs::Resuming::change_fails))]
+    fn apply_change(
+        &mut self,
+        alloc: Global,
+        forest: &Forest,
+        operator: Change,
+        first: usize,
+    ) -> Result<(), Failure>
+        ensures value { (k : Context) → OnOk result (outcome_of k forest.now self.new ≡ outcome_with k forest.now (work.Change operator first) self.old) }
+        ensures failed { (k : Context) → IfErr result (λ e. FailsSo e (outcome_with k forest.now (work.Change operator first) self.old)) }
+    {
+        change_values(alloc, forest, operator, first, &mut self.values)?;
+        Ok(())
+    }
+
+    // What an operator makes of its operand, where that is at hand.
+    #[tactic(auto, using(crate::proofs::Resuming::one_at_hand, crate::proofs::Resuming::one_fails_at_hand))]
+    fn single_at_hand(
+        &self,
+        alloc: Global,
+        forest: &Forest,
+        operator: Single<'a>,
+        operand: &TypedExpr,
+    ) -> Result<Option<Answer>, Failure>
+        ensures value { (k : Context) → IfOk result (λ found. IfSome found (λ r.
+            denoted k (single_operator operator.entry) (meaning k operand.now ∷ []) (items_of self.now.scope) forest.now ≡ gives (answer_items r) forest.now)) }
+        ensures fits { IfOk result (λ found. IfSome found AnswerFits) }
+        ensures failed { (k : Context) → IfErr result (λ e. FailsSo e (denoted k (single_operator operator.entry) (meaning k operand.now ∷ []) (items_of self.now.scope) forest.now)) }
+    {
+        match at_hand(&self.scope, operand)? {
+            Some(hand) => Ok(Some(of_one(alloc, forest, operator, hand.as_slice())?)),
+            None => Ok(None),
+        }
+    }
+
+    // What an operator makes of a left operand that is there, where the right one is at hand.
+    fn right_at_hand(
+        &self,
+        alloc: Global,
+        operator: BinaryOp,
+        first: usize,
+        right: &TypedExpr,
+    ) -> Result<Option<Answer>, Failure>
+        ensures value { (k : Context) (forest : PlainForest) → IfOk result (λ found. IfSome found (λ r.
+            right_meaning k operator first right.now self.now.values.items (items_of self.now.scope) forest ≡ gives (answer_items r) forest)) }
+        ensures fits { IfOk result (λ found. IfSome found AnswerFits) }
+        ensures failed { (k : Context) (forest : PlainForest) → IfErr result (λ e. FailsSo e (right_meaning k operator first right.now self.now.values.items (items_of self.now.scope) forest)) }
+    {
+        let (_, left) = cut_at(self.values.as_slice(), first);
+        match at_hand(&self.scope, right)? {
+            Some(hand) => Ok(Some(of_two(alloc, operator.class(), left, hand.as_slice())?)),
+            None => Ok(None),
         }
     }
 
@@ -146,16 +261,16 @@ impl<'a> Evaluation<'a> {
     fn open_single(
         &mut self,
         alloc: Global,
+        forest: &Forest,
         operator: Single<'a>,
         operand: &'a TypedExpr,
     ) -> Result<(), Failure>
-        ensures value { (k : Context) (forest : Forest) → OnOk result (outcome_of k forest self.new
-            ≡ outcome_behind k forest (denoted k (single_operator operator.entry) (meaning k operand.now ∷ []) (items_of self.old.scope) forest) self.old) }
-        ensures failed { (k : Context) (forest : Forest) → IfErr result (λ e. FailsSo e
-            (outcome_behind k forest (denoted k (single_operator operator.entry) (meaning k operand.now ∷ []) (items_of self.old.scope) forest) self.old)) }
+        ensures value { (k : Context) → OnOk result (outcome_of k forest.now self.new
+            ≡ outcome_behind k forest.now (denoted k (single_operator operator.entry) (meaning k operand.now ∷ []) (items_of self.old.scope) forest.now) self.old) }
+        ensures failed { (k : Context) → IfErr result (λ e. FailsSo e
+            (outcome_behind k forest.now (denoted k (single_operator operator.entry) (meaning k operand.now ∷ []) (items_of self.old.scope) forest.now) self.old)) }
     {
-        if let Some(items) = at_hand(&self.scope, operand) {
-            let answer = of_one(alloc, operator, items)?;
+        if let Some(answer) = self.single_at_hand(alloc, forest, operator, operand)? {
             return Ok(put(answer, &mut self.values)?);
         }
         let first = self.values.len();
@@ -167,16 +282,15 @@ impl<'a> Evaluation<'a> {
     #[tactic(auto, using(crate::proofs::Resuming::right_opens))]
     fn open_right(
         &mut self,
+        alloc: Global,
         operator: BinaryOp,
         first: usize,
         right: &'a TypedExpr,
     ) -> Result<(), Failure>
-        ensures value { (k : Context) (forest : Forest) → OnOk result (outcome_of k forest self.new ≡ outcome_with k forest (work.Right operator first right.entry) self.old) }
-        ensures failed { (k : Context) (forest : Forest) → IfErr result (λ e. FailsSo e (outcome_with k forest (work.Right operator first right.entry) self.old)) }
+        ensures value { (k : Context) (forest : PlainForest) → OnOk result (outcome_of k forest self.new ≡ outcome_with k forest (work.Right operator first right.entry) self.old) }
+        ensures failed { (k : Context) (forest : PlainForest) → IfErr result (λ e. FailsSo e (outcome_with k forest (work.Right operator first right.entry) self.old)) }
     {
-        if let Some(items) = at_hand(&self.scope, right) {
-            let (_, left) = cut_at(self.values.as_slice(), first);
-            let answer = of_two(operator.class(), left, items)?;
+        if let Some(answer) = self.right_at_hand(alloc, operator, first, right)? {
             self.values.truncate(first);
             return Ok(put(answer, &mut self.values)?);
         }
@@ -190,20 +304,21 @@ impl<'a> Evaluation<'a> {
     fn open_call(
         &mut self,
         alloc: Global,
+        forest: &Forest,
         function: Function,
         arguments: &'a [TypedExpr],
     ) -> Result<(), Failure>
-        ensures value { (k : Context) (forest : Forest) → OnOk result (outcome_of k forest self.new
-            ≡ outcome_behind k forest (denoted k (operators.Call function) (map (meaning k) arguments.now) (items_of self.old.scope) forest) self.old) }
-        ensures failed { (k : Context) (forest : Forest) → IfErr result (λ e. FailsSo e
-            (outcome_behind k forest (denoted k (operators.Call function) (map (meaning k) arguments.now) (items_of self.old.scope) forest) self.old)) }
+        ensures value { (k : Context) → OnOk result (outcome_of k forest.now self.new
+            ≡ outcome_behind k forest.now (denoted k (operators.Call function) (map (meaning k) arguments.now) (items_of self.old.scope) forest.now) self.old) }
+        ensures failed { (k : Context) → IfErr result (λ e. FailsSo e
+            (outcome_behind k forest.now (denoted k (operators.Call function) (map (meaning k) arguments.now) (items_of self.old.scope) forest.now) self.old)) }
     {
         match arguments {
             [] => {
                 let answer = called_with_none(function)?;
                 Ok(put(answer, &mut self.values)?)
             }
-            [argument] => self.open_single(alloc, Single::Call(function), argument),
+            [argument] => self.open_single(alloc, forest, Single::Call(function), argument),
             _ => Ok(self.open_arguments(function, arguments)?),
         }
     }
@@ -214,7 +329,7 @@ impl<'a> Evaluation<'a> {
         arguments: &'a [TypedExpr],
     ) -> Result<(), AllocError>
         requires { 2 ≤ length arguments.now }
-        ensures { (k : Context) (forest : Forest) → OnOk result (outcome_of k forest self.new
+        ensures { (k : Context) (forest : PlainForest) → OnOk result (outcome_of k forest self.new
             ≡ outcome_behind k forest (denoted k (operators.Call function) (map (meaning k) arguments.now) (items_of self.old.scope) forest) self.old) }
     {
         self.work
@@ -231,15 +346,89 @@ impl<'a> Evaluation<'a> {
     // Adds the value of a variable behind those that are there.
     #[tactic(auto, using(crate::proofs::Resuming::look_up_items))]
     fn append_variable(&mut self, number: u32) -> Result<(), Failure>
-        ensures value { (k : Context) (forest : Forest) → OnOk result (outcome_of k forest self.new
+        ensures value { (k : Context) (forest : PlainForest) → OnOk result (outcome_of k forest self.new
             ≡ outcome_behind k forest (given (look_up (items_of self.old.scope) number) (λ xs. gives xs forest)) self.old) }
-        ensures failed { (k : Context) (forest : Forest) → IfErr result (λ e. FailsSo e
+        ensures failed { (k : Context) (forest : PlainForest) → IfErr result (λ e. FailsSo e
             (outcome_behind k forest (given (look_up (items_of self.old.scope) number) (λ xs. gives xs forest)) self.old)) }
     {
         match self.scope.find(number) {
             Some(bound) => Ok(append_all(bound.as_slice(), &mut self.values)?),
             None => Err(Failure::Wrong),
         }
+    }
+
+    // Adds the nodes of a step from the node of a variable.
+    #[tactic(auto, using(crate::proofs::Resuming::look_up_items))]
+    fn append_step(
+        &mut self,
+        alloc: Global,
+        schemas: &Schemas,
+        forest: &Forest,
+        axis: Axis,
+        test: &Test,
+        number: u32,
+    ) -> Result<(), Failure>
+        ensures value { OnOk result (outcome_of (context_over schemas.now) forest.now self.new
+            ≡ outcome_behind (context_over schemas.now) forest.now (given (look_up (items_of self.old.scope) number) (λ xs. step_meaning schemas.now axis test.now xs forest.now)) self.old) }
+        ensures failed { IfErr result (λ e. FailsSo e
+            (outcome_behind (context_over schemas.now) forest.now (given (look_up (items_of self.old.scope) number) (λ xs. step_meaning schemas.now axis test.now xs forest.now)) self.old)) }
+    {
+        let Some(bound) = self.scope.find(number) else {
+            return Err(Failure::Wrong);
+        };
+        let found = stepped(alloc, schemas, forest, axis, test, bound.as_slice())?;
+        Ok(append_nodes(found.as_slice(), &mut self.values)?)
+    }
+
+    // Puts the items from the number on aside, for a loop over them.
+    fn gather(
+        &mut self,
+        alloc: Global,
+        variable: u32,
+        first: usize,
+        body: &'a TypedExpr,
+    ) -> Result<(), AllocError>
+        ensures { (k : Context) (forest : PlainForest) → OnOk result (outcome_of k forest self.new ≡ outcome_with k forest (work.Gather variable first body.entry) self.old) }
+    {
+        let start = self.sources.len();
+        let mut source = split_at(alloc, &mut self.values, first)?;
+        self.sources.append(&mut source)?;
+        self.work.push(Pending::Each(variable, start, start, body))
+    }
+
+    // Evaluates the body of a loop for the next item, or ends the loop.
+    fn turn(
+        &mut self,
+        variable: u32,
+        next: usize,
+        start: usize,
+        body: &'a TypedExpr,
+    ) -> Result<(), AllocError>
+        ensures { (k : Context) (forest : PlainForest) → OnOk result (outcome_of k forest self.new ≡ outcome_with k forest (work.Each variable next start body.entry) self.old) }
+    {
+        if next >= self.sources.len() {
+            self.sources.truncate(start);
+            return Ok(());
+        }
+        let item = self.sources[next].clone()?;
+        self.scope.bind(variable, Bound::One(item))?;
+        self.work
+            .push(Pending::Each(variable, next + 1, start, body))?;
+        self.work.push(Pending::Unbind)?;
+        self.work.push(Pending::Evaluate(body))
+    }
+
+    // Binds an external variable to the next document.
+    fn bind_document(&mut self, variable: u32) -> Result<(), Failure>
+        ensures value { (k : Context) (forest : PlainForest) → OnOk result (outcome_of k forest self.new ≡ outcome_with k forest (work.External variable) self.old) }
+        ensures failed { (k : Context) (forest : PlainForest) → IfErr result (λ e. FailsSo e (outcome_with k forest (work.External variable) self.old)) }
+    {
+        let Some((document, others)) = self.documents.split_first() else {
+            return Err(Failure::Wrong);
+        };
+        let item = ModelItem::node(document.clone()?);
+        self.documents = others;
+        Ok(self.scope.bind(variable, Bound::One(item))?)
     }
 
     // Binds a variable to the values from the number on, in the body of a `let`.
@@ -250,10 +439,10 @@ impl<'a> Evaluation<'a> {
         first: usize,
         body: &'a TypedExpr,
     ) -> Result<(), AllocError>
-        ensures { (k : Context) (forest : Forest) → OnOk result (outcome_of k forest self.new ≡ outcome_with k forest (work.Bind variable first body.entry) self.old) }
+        ensures { (k : Context) (forest : PlainForest) → OnOk result (outcome_of k forest self.new ≡ outcome_with k forest (work.Bind variable first body.entry) self.old) }
     {
         let value = split_at(alloc, &mut self.values, first)?;
-        self.scope.bind(variable, value)?;
+        self.scope.bind(variable, Bound::Many(value))?;
         self.work.push(Pending::Unbind)?;
         self.work.push(Pending::Evaluate(body))?;
         Ok(())
@@ -261,10 +450,10 @@ impl<'a> Evaluation<'a> {
 
     // Binds a global variable to all values that are there.
     fn declare(&mut self, alloc: Global, variable: u32) -> Result<(), AllocError>
-        ensures { (k : Context) (forest : Forest) → OnOk result (outcome_of k forest self.new ≡ outcome_with k forest (work.Declare variable) self.old) }
+        ensures { (k : Context) (forest : PlainForest) → OnOk result (outcome_of k forest self.new ≡ outcome_with k forest (work.Declare variable) self.old) }
     {
         let value = mem::replace(&mut self.values, Vec::new(alloc));
-        self.scope.bind(variable, value)
+        self.scope.bind(variable, Bound::Many(value))
     }
 
     // Puts the branch to the work that the values from the number on choose.
@@ -275,8 +464,8 @@ impl<'a> Evaluation<'a> {
         chosen: &'a TypedExpr,
         otherwise: &'a TypedExpr,
     ) -> Result<(), Failure>
-        ensures value { (k : Context) (forest : Forest) → OnOk result (outcome_of k forest self.new ≡ outcome_with k forest (work.Choose first chosen.entry otherwise.entry) self.old) }
-        ensures failed { (k : Context) (forest : Forest) → IfErr result (λ e. FailsSo e (outcome_with k forest (work.Choose first chosen.entry otherwise.entry) self.old)) }
+        ensures value { (k : Context) (forest : PlainForest) → OnOk result (outcome_of k forest self.new ≡ outcome_with k forest (work.Choose first chosen.entry otherwise.entry) self.old) }
+        ensures failed { (k : Context) (forest : PlainForest) → IfErr result (λ e. FailsSo e (outcome_with k forest (work.Choose first chosen.entry otherwise.entry) self.old)) }
     {
         let (_, condition) = cut_at(self.values.as_slice(), first);
         let Some(truth) = condition_of(condition) else {
@@ -295,14 +484,15 @@ impl<'a> Evaluation<'a> {
     fn apply_single(
         &mut self,
         alloc: Global,
+        forest: &Forest,
         operator: Single<'a>,
         first: usize,
     ) -> Result<(), Failure>
-        ensures value { (k : Context) (forest : Forest) → OnOk result (outcome_of k forest self.new ≡ outcome_with k forest (work.Single operator.entry first) self.old) }
-        ensures failed { (k : Context) (forest : Forest) → IfErr result (λ e. FailsSo e (outcome_with k forest (work.Single operator.entry first) self.old)) }
+        ensures value { (k : Context) → OnOk result (outcome_of k forest.now self.new ≡ outcome_with k forest.now (work.Single operator.entry first) self.old) }
+        ensures failed { (k : Context) → IfErr result (λ e. FailsSo e (outcome_with k forest.now (work.Single operator.entry first) self.old)) }
     {
         let (_, operand) = cut_at(self.values.as_slice(), first);
-        let answer = of_one(alloc, operator, operand)?;
+        let answer = of_one(alloc, forest, operator, operand)?;
         self.values.truncate(first);
         Ok(put(answer, &mut self.values)?)
     }
@@ -311,16 +501,17 @@ impl<'a> Evaluation<'a> {
     #[tactic(auto, using(crate::proofs::Resuming::binary_applies, crate::proofs::Resuming::binary_fails))]
     fn apply_binary(
         &mut self,
+        alloc: Global,
         operator: BinaryOp,
         first: usize,
         second: usize,
     ) -> Result<(), Failure>
-        ensures value { (k : Context) (forest : Forest) → OnOk result (outcome_of k forest self.new ≡ outcome_with k forest (work.Binary operator first second) self.old) }
-        ensures failed { (k : Context) (forest : Forest) → IfErr result (λ e. FailsSo e (outcome_with k forest (work.Binary operator first second) self.old)) }
+        ensures value { (k : Context) (forest : PlainForest) → OnOk result (outcome_of k forest self.new ≡ outcome_with k forest (work.Binary operator first second) self.old) }
+        ensures failed { (k : Context) (forest : PlainForest) → IfErr result (λ e. FailsSo e (outcome_with k forest (work.Binary operator first second) self.old)) }
     {
         let (left, right) = cut_at(self.values.as_slice(), second);
         let (_, left) = cut_at(left, first);
-        let answer = of_two(operator.class(), left, right)?;
+        let answer = of_two(alloc, operator.class(), left, right)?;
         self.values.truncate(second);
         self.values.truncate(first);
         Ok(put(answer, &mut self.values)?)
@@ -329,8 +520,8 @@ impl<'a> Evaluation<'a> {
     // No function has more than one argument as yet.
     #[tactic(auto, using(crate::proofs::Resuming::more_are_wrong))]
     fn apply_call(&mut self, _function: Function, _more: usize) -> Result<(), Failure>
-        ensures value { (k : Context) (forest : Forest) → OnOk result (outcome_of k forest self.new ≡ outcome_with k forest (work.Call _function _more) self.old) }
-        ensures failed { (k : Context) (forest : Forest) → IfErr result (λ e. FailsSo e (outcome_with k forest (work.Call _function _more) self.old)) }
+        ensures value { (k : Context) (forest : PlainForest) → OnOk result (outcome_of k forest self.new ≡ outcome_with k forest (work.Call _function _more) self.old) }
+        ensures failed { (k : Context) (forest : PlainForest) → IfErr result (λ e. FailsSo e (outcome_with k forest (work.Call _function _more) self.old)) }
     {
         Err(Failure::Wrong)
     }
@@ -338,7 +529,7 @@ impl<'a> Evaluation<'a> {
 
 // The work of a query: its globals in order, and its body.
 fn work_of<'a>(alloc: Global, core: &'a TypedCore) -> Result<Stack<Pending<'a>>, AllocError>
-    ensures { (k : Context) (forest : Forest) → IfOk result (λ made. resume k made [] [] [] forest ≡ typed_outcome k core.now forest) }
+    ensures { (k : Context) (documents : List PlainNode) (forest : PlainForest) → IfOk result (λ made. resume k made [] (only_documents documents) [] forest ≡ typed_outcome k core.now documents forest) }
 {
     let mut work = Stack::new(alloc);
     work.push(Pending::Evaluate(&core.body))?;
@@ -355,8 +546,8 @@ fn put_down<'a>(
     declaration: &'a TypedDeclaration,
     work: &mut Stack<Pending<'a>>,
 ) -> Result<(), AllocError>
-    ensures { (k : Context) (bindings : Bindings) (forest : Forest) → OnOk result (resume k work.new [] [] bindings forest
-        ≡ declared_then k (declaration.now ∷ []) (λ bs left. resume k work.old [] [] bs left) bindings forest) }
+    ensures { (k : Context) (documents : List PlainNode) (bindings : Bindings) (forest : PlainForest) → OnOk result (resume k work.new [] (only_documents documents) bindings forest
+        ≡ declared_then k (declaration.now ∷ []) (λ ds bs left. resume k work.old [] (only_documents ds) bs left) documents bindings forest) }
 {
     match declaration {
         TypedDeclaration::Global { binder, value, .. } => match value {
@@ -364,91 +555,7 @@ fn put_down<'a>(
                 work.push(Pending::Declare(binder.variable))?;
                 work.push(Pending::Evaluate(value))
             }
-            None => work.push(Pending::External),
+            None => work.push(Pending::External(binder.variable)),
         },
     }
-}
-
-// The value of an expression that is at hand, with or without atomization: of a literal, a variable, or the empty sequence.
-#[tactic(auto, using(crate::proofs::Resuming::data_at_hand))]
-fn at_hand<'s>(scope: &'s Scope<Vec<Atomic>>, expression: &'s TypedExpr) -> Option<&'s [Atomic]>
-    ensures { (k : Context) (forest : Forest) → IfSome result (λ items. meaning k expression.now (items_of scope.now) forest ≡ gives (atoms items.now) forest) }
-{
-    match &expression.form {
-        TypedForm::DataOf(operand) => match value_at_hand(scope, operand) {
-            Some(items) => Some(items),
-            None => None,
-        },
-        _ => value_at_hand(scope, expression),
-    }
-}
-
-#[tactic(auto, using(crate::proofs::Resuming::look_up_items))]
-fn value_at_hand<'s>(
-    scope: &'s Scope<Vec<Atomic>>,
-    expression: &'s TypedExpr,
-) -> Option<&'s [Atomic]>
-    ensures { (k : Context) (forest : Forest) → IfSome result (λ items. meaning k expression.now (items_of scope.now) forest ≡ gives (atoms items.now) forest) }
-{
-    match &expression.form {
-        TypedForm::Lit(value) => Some(slice::from_ref(value)),
-        TypedForm::Var(number) => match scope.find(*number) {
-            Some(bound) => Some(bound.as_slice()),
-            None => None,
-        },
-        TypedForm::Empty => Some(&[]),
-        _ => None,
-    }
-}
-
-// The boolean that a value of one item is.
-#[tactic(auto, using(crate::proofs::Operands::many_are_no_condition))]
-fn condition_of(values: &[Atomic]) -> Option<bool>
-    ensures { result ≡ condition_of (atoms values.now) }
-{
-    match values {
-        [single] => match &single.value {
-            AtomValue::Truth(truth) => Some(*truth),
-            _ => None,
-        },
-        _ => None,
-    }
-}
-
-// The items before a number of them, and those from it on.
-fn cut_at(items: &[Atomic], number: usize) -> (&[Atomic], &[Atomic])
-    ensures front { result.0.now ≡ take number items.now }
-    ensures rest { result.1.now ≡ drop number items.now }
-{
-    if number <= items.len() {
-        items.split_at(number)
-    } else {
-        (items, &[])
-    }
-}
-
-// Takes the values from a number of them on.
-fn split_at(
-    alloc: Global,
-    values: &mut Vec<Atomic>,
-    number: usize,
-) -> Result<Vec<Atomic>, AllocError>
-    ensures front { OnOk result (values.new.items ≡ take number values.old.items) }
-    ensures rest { IfOk result (λ taken. taken.items ≡ drop number values.old.items) }
-{
-    if number <= values.len() {
-        values.split_off(number)
-    } else {
-        Ok(Vec::new(alloc))
-    }
-}
-
-// Adds copies of the items behind the values.
-fn append_all(items: &[Atomic], values: &mut Vec<Atomic>) -> Result<(), AllocError>
-    ensures { OnOk result (values.new.items ≡ values.old.items ++ items.now) }
-{
-    for item in items {
-        values.push(item.clone()?)?;
-    }
-    Ok(())
 }

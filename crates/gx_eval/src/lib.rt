@@ -3,10 +3,15 @@
 
 mod answer;
 mod arithmetic;
+mod bound;
 mod calling;
+mod change;
 mod comparison;
 mod evaluation;
 pub mod evaluator;
 mod failure;
+mod hand;
+mod nodes;
+mod operand;
 mod range;
 mod single;

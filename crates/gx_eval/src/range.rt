@@ -2,13 +2,14 @@
 
 ghost use Rattle.std.specs.Prelude.{◌≡◌, ◌<◌, ◌≤◌, ◌++◌, OnOk, MatchOption, IfSome};
 ghost use Rattle.gx_base.specs.declared.limits.TheConstants.{RANGE_ITEMS};
-ghost use Rattle.gx_model.specs.Item.{atom};
+ghost use Rattle.gx_model.specs.Item.{atom, atoms};
 ghost use Rattle.gx_core.specs.Ranging.{integer_of_item, integers_from, range_length};
 ghost use Rattle.gx_eval.specs.Answering.{IntegersFit};
 
 use crate::arithmetic::number_atom;
 use gx_base::limits::RANGE_ITEMS;
 use gx_facets::{AtomValue, Atomic};
+use gx_model::item::ModelItem;
 use gx_num::Number;
 use std::alloc::AllocError;
 
@@ -43,15 +44,15 @@ pub(crate) fn range_count(first: i128, last: i128) -> Option<u32>
 pub(crate) fn put_integers(
     first: i128,
     count: u32,
-    values: &mut Vec<Atomic>,
+    values: &mut Vec<ModelItem>,
 ) -> Result<(), AllocError>
     requires { IntegersFit first count }
-    ensures { OnOk result (values.new.items ≡ values.old.items ++ integers_from first count) }
+    ensures { OnOk result (values.new.items ≡ values.old.items ++ atoms (integers_from first count)) }
 {
     values.reserve(count as usize)?;
     for offset in 0..count {
         let integer = first + i128::from(offset);
-        values.push(number_atom(Number::Int(integer)))?;
+        values.push(ModelItem::atom(number_atom(Number::Int(integer))))?;
     }
     Ok(())
 }

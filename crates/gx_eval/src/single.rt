@@ -1,13 +1,13 @@
 // Operators of one operand.
 
-ghost use Rattle.std.specs.Prelude.{◌≡◌, ◌∷◌, [], Result, Err, IfOk, IfErr, is_ok, true};
+ghost use Rattle.std.specs.Prelude.{◌≡◌, ◌∷◌, [], Result, Err, IfOk, IfErr, is_ok, Bool, true};
 ghost use Rattle.gx_types.specs.SchemaSet.{SchemaSet};
 ghost use Rattle.gx_facets.specs.declared.Atomic.{Atomic};
 ghost use Rattle.gx_atomic.specs.declared.casting.CastError.{CastError};
 ghost use Rattle.gx_atomic.specs.Cast.{Casts, cast_of};
 ghost use Rattle.gx_funcs.specs.Function.{truth_atom};
-ghost use Rattle.gx_model.specs.Forest.{Forest};
-ghost use Rattle.gx_model.specs.Item.{atom, atoms};
+ghost use Rattle.gx_model.specs.Forest.{Forest as PlainForest};
+ghost use Rattle.gx_model.specs.Item.{atom};
 ghost use Rattle.gx_core.specs.Outcome.{gives};
 ghost use Rattle.gx_core.specs.Arithmetic.{negation};
 ghost use Rattle.gx_core.specs.Meaning.{Context, acts};
@@ -26,6 +26,8 @@ use gx_atomic::{CastError, cast_in_any_schemas};
 use gx_base::type_name::TypeName;
 use gx_facets::Atomic;
 use gx_funcs::function::{Function, truth_atom};
+use gx_model::forest::Forest;
+use gx_model::item::{ItemForm, ModelItem};
 use std::alloc::Global;
 
 // A strict operator of one operand, but for atomization.
@@ -40,27 +42,28 @@ pub(crate) enum Single<'a> {
 // What an operator of one operand makes of it.
 pub(crate) fn of_one(
     alloc: Global,
+    forest: &Forest,
     operator: Single<'_>,
-    operand: &[Atomic],
+    operand: &[ModelItem],
 ) -> Result<Answer, Failure>
-    ensures value { (k : Context) (forest : Forest) → IfOk result (λ r. acts k (single_operator operator.entry) (atoms operand.now ∷ []) forest ≡ gives (atoms (answer_items r)) forest) }
+    ensures value { (k : Context) → IfOk result (λ r. acts k (single_operator operator.entry) (operand.now ∷ []) forest.now ≡ gives (answer_items r) forest.now) }
     ensures fits { IfOk result (λ r. AnswerFits r) }
-    ensures failed { (k : Context) (forest : Forest) → IfErr result (λ e. FailsSo e (acts k (single_operator operator.entry) (atoms operand.now ∷ []) forest)) }
+    ensures failed { (k : Context) → IfErr result (λ e. FailsSo e (acts k (single_operator operator.entry) (operand.now ∷ []) forest.now)) }
 {
     match operator {
         Single::Neg => negation(operand),
         Single::Cast(kind, allows_empty) => cast(alloc, kind, allows_empty, operand),
         Single::Castable(kind, allows_empty) => castable(alloc, kind, allows_empty, operand),
-        Single::Call(function) => called_with_one(alloc, function, operand),
+        Single::Call(function) => called_with_one(alloc, forest, function, operand),
     }
 }
 
 // The negation of a number.
 #[tactic(auto, using(crate::proofs::Operands::many))]
-fn negation(operand: &[Atomic]) -> Result<Answer, Failure>
-    ensures value { (forest : Forest) → IfOk result (λ r. negation (atoms operand.now) forest ≡ gives (atoms (answer_items r)) forest) }
+fn negation(operand: &[ModelItem]) -> Result<Answer, Failure>
+    ensures value { (forest : PlainForest) → IfOk result (λ r. negation operand.now forest ≡ gives (answer_items r) forest) }
     ensures fits { IfOk result (λ r. AnswerFits r) }
-    ensures failed { (forest : Forest) → IfErr result (λ e. FailsSo e (negation (atoms operand.now) forest)) }
+    ensures failed { (forest : PlainForest) → IfErr result (λ e. FailsSo e (negation operand.now forest)) }
 {
     match operand {
         [] => Ok(Answer::Nothing),
@@ -75,11 +78,11 @@ fn cast(
     alloc: Global,
     kind: &TypeName,
     allows_empty: bool,
-    operand: &[Atomic],
+    operand: &[ModelItem],
 ) -> Result<Answer, Failure>
-    ensures value { (schemas : SchemaSet) (forest : Forest) → IfOk result (λ r. cast_items schemas kind.now allows_empty (atoms operand.now) forest ≡ gives (atoms (answer_items r)) forest) }
+    ensures value { (schemas : SchemaSet) (forest : PlainForest) → IfOk result (λ r. cast_items schemas kind.now allows_empty operand.now forest ≡ gives (answer_items r) forest) }
     ensures fits { IfOk result (λ r. AnswerFits r) }
-    ensures failed { (schemas : SchemaSet) (forest : Forest) → IfErr result (λ e. FailsSo e (cast_items schemas kind.now allows_empty (atoms operand.now) forest)) }
+    ensures failed { (schemas : SchemaSet) (forest : PlainForest) → IfErr result (λ e. FailsSo e (cast_items schemas kind.now allows_empty operand.now forest)) }
 {
     match operand {
         [] if allows_empty => Ok(Answer::Nothing),
@@ -97,22 +100,35 @@ fn castable(
     alloc: Global,
     kind: &TypeName,
     allows_empty: bool,
-    operand: &[Atomic],
+    operand: &[ModelItem],
 ) -> Result<Answer, Failure>
-    ensures value { (schemas : SchemaSet) (forest : Forest) → IfOk result (λ r. castable_items schemas kind.now allows_empty (atoms operand.now) forest ≡ gives (atoms (answer_items r)) forest) }
+    ensures value { (schemas : SchemaSet) (forest : PlainForest) → IfOk result (λ r. castable_items schemas kind.now allows_empty operand.now forest ≡ gives (answer_items r) forest) }
     ensures fits { IfOk result (λ r. AnswerFits r) }
-    ensures failed { (schemas : SchemaSet) (forest : Forest) → IfErr result (λ e. FailsSo e (castable_items schemas kind.now allows_empty (atoms operand.now) forest)) }
+    ensures failed { (schemas : SchemaSet) (forest : PlainForest) → IfErr result (λ e. FailsSo e (castable_items schemas kind.now allows_empty operand.now forest)) }
 {
     match operand {
         [] => Ok(Answer::One(truth_atom(allows_empty))),
-        [x] => Ok(Answer::One(castability(alloc, kind, x)?)),
+        [x] => match castability(alloc, kind, x) {
+            Ok(atomic) => Ok(Answer::One(atomic)),
+            Err(failure) => Err(failure),
+        },
         _ => Err(Failure::Wrong),
     }
 }
 
-fn cast_of(alloc: Global, kind: &TypeName, value: &Atomic) -> Result<Atomic, Failure>
-    ensures value { (schemas : SchemaSet) (forest : Forest) → IfOk result (λ r. cast_outcome (cast_of schemas value.now kind.now) forest ≡ gives (atom r ∷ []) forest) }
-    ensures failed { (schemas : SchemaSet) (forest : Forest) → IfErr result (λ e. FailsSo e (cast_outcome (cast_of schemas value.now kind.now) forest)) }
+fn cast_of(alloc: Global, kind: &TypeName, item: &ModelItem) -> Result<Atomic, Failure>
+    ensures value { (schemas : SchemaSet) (optional : Bool) (forest : PlainForest) → IfOk result (λ r. cast_items schemas kind.now optional (item.now ∷ []) forest ≡ gives (atom r ∷ []) forest) }
+    ensures failed { (schemas : SchemaSet) (optional : Bool) (forest : PlainForest) → IfErr result (λ e. FailsSo e (cast_items schemas kind.now optional (item.now ∷ []) forest)) }
+{
+    match &item.form {
+        ItemForm::Atom(value) => cast_of_atom(alloc, kind, value),
+        ItemForm::Node(_) => Err(Failure::Wrong),
+    }
+}
+
+fn cast_of_atom(alloc: Global, kind: &TypeName, value: &Atomic) -> Result<Atomic, Failure>
+    ensures value { (schemas : SchemaSet) (forest : PlainForest) → IfOk result (λ r. cast_outcome (cast_of schemas value.now kind.now) forest ≡ gives (atom r ∷ []) forest) }
+    ensures failed { (schemas : SchemaSet) (forest : PlainForest) → IfErr result (λ e. FailsSo e (cast_outcome (cast_of schemas value.now kind.now) forest)) }
 {
     match cast_in_any_schemas(alloc, value, kind) {
         Ok(atomic) => Ok(atomic),
@@ -120,7 +136,20 @@ fn cast_of(alloc: Global, kind: &TypeName, value: &Atomic) -> Result<Atomic, Fai
     }
 }
 
-fn castability(alloc: Global, kind: &TypeName, value: &Atomic) -> Result<Atomic, Failure>
+fn castability(alloc: Global, kind: &TypeName, item: &ModelItem) -> Result<Atomic, Failure>
+    ensures value { (schemas : SchemaSet) (optional : Bool) (forest : PlainForest) → IfOk result (λ a. castable_items schemas kind.now optional (item.now ∷ []) forest ≡ gives (atom a ∷ []) forest) }
+    ensures failed { (schemas : SchemaSet) (optional : Bool) (forest : PlainForest) → IfErr result (λ e. FailsSo e (castable_items schemas kind.now optional (item.now ∷ []) forest)) }
+{
+    match &item.form {
+        ItemForm::Atom(value) => match castability_of_atom(alloc, kind, value) {
+            Ok(atomic) => Ok(atomic),
+            Err(failure) => Err(failure),
+        },
+        ItemForm::Node(_) => Err(Failure::Wrong),
+    }
+}
+
+fn castability_of_atom(alloc: Global, kind: &TypeName, value: &Atomic) -> Result<Atomic, Failure>
     ensures value { (schemas : SchemaSet) → IfOk result (λ a. a ≡ truth_atom (is_ok (cast_of schemas value.now kind.now))) }
     ensures failed { IfErr result (λ e. e ≡ Memory) }
 {

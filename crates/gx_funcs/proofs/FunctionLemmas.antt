@@ -1,21 +1,10 @@
--- Functions by their names, and the values of lists of atomic values.
-use Rattle.std.proofs.Common.{◌≡◌, ◌≤◌, ℕ, Bool, true, false, List, [], ◌∷◌, length, map, None, Some, refl, arith, subst, if◌then◌else◌}
+-- Functions by their names.
+use Rattle.std.proofs.Common.{◌≡◌, ℕ, Bool, true, false, List, [], ◌∷◌, Some, refl, subst, if◌then◌else◌}
 use Rattle.std.specs.Char.{encode_utf8}
-use Rattle.gx_facets.specs.declared.Atomic.{Atomic}
 use Rattle.gx_funcs.specs.declared.function.Function.{Function}
 use Rattle.gx_funcs.specs.declared.function.Function.TheVariants as functions
-use Rattle.gx_funcs.specs.Function.{atomic_view, all_functions, function_name, arity_of, is_of_name, first_named, function_named, effective_boolean, string_of_items}
+use Rattle.gx_funcs.specs.Function.{all_functions, function_name, arity_of, is_of_name, first_named, function_named}
 use Rattle.gx_funcs.specs.Laws.{FunctionsAreFoundByName}
-
-pub many_have_no_truth : (xs : List Atomic) → 2 ≤ length xs → None ≡ effective_boolean (map atomic_view xs)
-many_have_no_truth [] h = absurd (omega (arith, h))
-many_have_no_truth (x ∷ []) h = absurd (omega (arith, h))
-many_have_no_truth (x ∷ y ∷ xs) h = refl
-
-pub many_have_no_string : (xs : List Atomic) → 2 ≤ length xs → None ≡ string_of_items (map atomic_view xs)
-many_have_no_string [] h = absurd (omega (arith, h))
-many_have_no_string (x ∷ []) h = absurd (omega (arith, h))
-many_have_no_string (x ∷ y ∷ xs) h = refl
 
 -- what is found has the name
 first_is_of_name : (fs : List Function) (local : List ℕ) (arity : ℕ) (function : Function) → first_named fs local arity ≡ Some function → is_of_name local arity function ≡ true

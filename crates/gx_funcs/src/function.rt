@@ -1,15 +1,13 @@
 // The table of built-in functions.
 
-ghost use Rattle.std.specs.Prelude.{◌≡◌, ◌∷◌, [], ℕ, List, encode_utf8_all, map, Some, None, Ok, IfOk, MatchOption};
-ghost use Rattle.gx_funcs.specs.Function.{applied, arity_of, atomic_view, effective_boolean, function_name, function_named, integer_atom, is_of_name, one_answer, parameters_of, answer_type_of, string_atom, string_of_items, truth_atom};
+ghost use Rattle.std.specs.Prelude.{◌≡◌, [], ℕ, List, encode_utf8_all, Some, None, MatchOption};
+ghost use Rattle.gx_funcs.specs.Function.{applied, arity_of, function_name, function_named, integer_atom, is_of_name, one_answer, parameters_of, answer_type_of, string_atom, truth_atom};
 
-use gx_atomic::effective_boolean_value;
 use gx_base::code::Code;
 use gx_base::text::Text;
 use gx_base::type_name::{Builtin, TypeName};
-use gx_facets::{AtomValue, Atomic, print_value};
+use gx_facets::{AtomValue, Atomic};
 use gx_num::Number;
-use std::alloc::{AllocError, Global};
 
 /// A built-in function: one variant for each name and number of arguments (Functions and Operators, sections 2.3, 2.4, 9.1,
 /// 9.3, 15.1 and 15.4).
@@ -159,19 +157,6 @@ pub fn find_local(local: &Text, arity: usize) -> Option<Function>
     None
 }
 
-/// The effective boolean value of atomic values: false of none, and of one its own; None exactly where there are more (XQuery
-/// 1.0, section 2.4.3).
-#[tactic(auto, using(crate::proofs::FunctionLemmas::many_have_no_truth))]
-pub fn effective_boolean(values: &[Atomic]) -> Option<bool>
-    ensures { result ≡ effective_boolean (map atomic_view values.now) }
-{
-    match values {
-        [] => Some(false),
-        [single] => Some(effective_boolean_value(&single.value)),
-        _ => None,
-    }
-}
-
 /// A boolean as an atomic value.
 pub fn truth_atom(truth: bool) -> Atomic
     ensures { result ≡ truth_atom truth }
@@ -202,18 +187,6 @@ pub fn string_atom(text: Text) -> Atomic
     }
 }
 
-// The string value of at most one atomic value.
-#[tactic(auto, using(crate::proofs::FunctionLemmas::many_have_no_string))]
-fn string_of(alloc: Global, values: &[Atomic]) -> Result<Option<Text>, AllocError>
-    ensures { IfOk result (λ text. text ≡ string_of_items (map atomic_view values.now)) }
-{
-    match values {
-        [] => Ok(Some(Text::empty(alloc)?)),
-        [single] => Ok(Some(print_value(alloc, &single.value)?)),
-        _ => Ok(None),
-    }
-}
-
 /// What a function answers of no argument; None exactly where it has parameters.
 pub fn apply_to_none(function: Function) -> Option<Atomic>
     ensures { MatchOption result (applied function [] ≡ None) (λ a. applied function [] ≡ Some (one_answer a)) }
@@ -222,26 +195,5 @@ pub fn apply_to_none(function: Function) -> Option<Atomic>
         Function::True => Some(truth_atom(true)),
         Function::False => Some(truth_atom(false)),
         _ => None,
-    }
-}
-
-/// What a function answers of one argument of atomic values; None exactly where it has not one parameter, or the argument is not
-/// of its type.
-pub fn apply_to_one(
-    alloc: Global,
-    function: Function,
-    argument: &[Atomic],
-) -> Result<Option<Atomic>, AllocError>
-    ensures { IfOk result (λ answer. MatchOption answer (applied function (map atomic_view argument.now ∷ []) ≡ None)
-        (λ a. applied function (map atomic_view argument.now ∷ []) ≡ Some (one_answer a))) }
-{
-    match function {
-        Function::Boolean => Ok(effective_boolean(argument).map(truth_atom)),
-        Function::Not => Ok(effective_boolean(argument).map(|truth| truth_atom(!truth))),
-        Function::Count => Ok(Some(integer_atom(argument.len() as i128))),
-        Function::Empty => Ok(Some(truth_atom(argument.is_empty()))),
-        Function::Exists => Ok(Some(truth_atom(!argument.is_empty()))),
-        Function::String => Ok(string_of(alloc, argument)?.map(string_atom)),
-        Function::True | Function::False | Function::Data => Ok(None),
     }
 }

@@ -1,6 +1,9 @@
 pub mod PublicLaws
 pub mod LookupLemmas
 pub mod ListLemmas
+pub mod OrderLemmas
+pub mod ListedNodes
+pub mod Ordering
 pub mod LocationLemmas
 pub mod AxisLemmas
 pub mod SearchLemmas

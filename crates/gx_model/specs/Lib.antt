@@ -1,9 +1,12 @@
 pub mod Forest
 pub mod Item
+pub mod ItemView
 pub mod Belongs
 pub mod Growth
 pub mod Location
 pub mod DocumentOrder
+pub mod NodeOrder
+pub mod OrderLaws
 pub mod NodeTest
 pub mod Axes
 pub mod TypedValue

@@ -9,8 +9,9 @@ ghost use Rattle.gx_model.specs.Stepping.{kept_if, passing_children, children_fo
 
 use crate::forest::Forest;
 use crate::lookup::{attributes, children, tree_below};
-use crate::node::{Node, keep};
+use crate::node::{Node, keep, keep_sharing};
 use crate::node_test::{passes_attribute, passes_test};
+use crate::path::Path;
 use crate::search::search;
 use gx_tree::attribute::Attribute;
 use gx_tree::tree::Tree;
@@ -82,7 +83,7 @@ fn child_step(
     if node.attribute.is_some() {
         return Ok(Vec::new(alloc));
     }
-    match tree_below(root, &node.path) {
+    match tree_below(root, node.path.as_slice()) {
         Some(parent) => children_passing(alloc, schemas, node, children(parent), test),
         None => Ok(Vec::new(alloc)),
     }
@@ -125,12 +126,13 @@ fn keep_child(
 fn child_of(alloc: Global, parent: &Node, position: usize) -> Result<Node, AllocError>
     ensures { IfOk result (λ node. node ≡ record { tree = parent.now.tree; path = parent.now.path ++ position ∷ []; attribute = None }) }
 {
-    let mut path = Vec::with_capacity(alloc, parent.path.len().saturating_add(1))?;
-    path.extend_from_slice(&parent.path)?;
-    path.push(position)?;
+    let above = parent.path.as_slice();
+    let mut positions = Vec::with_capacity(alloc, above.len().saturating_add(1))?;
+    positions.extend_from_slice(above)?;
+    positions.push(position)?;
     Ok(Node {
         tree: parent.tree,
-        path,
+        path: Path::from_vec(alloc, positions)?,
         attribute: None,
     })
 }
@@ -148,7 +150,7 @@ fn attribute_step(
     if node.attribute.is_some() {
         return Ok(Vec::new(alloc));
     }
-    match tree_below(root, &node.path) {
+    match tree_below(root, node.path.as_slice()) {
         Some(owner) => attributes_passing(alloc, schemas, node, attributes(owner), test),
         None => Ok(Vec::new(alloc)),
     }
@@ -165,13 +167,12 @@ fn attributes_passing(
 {
     let mut found = Vec::new(alloc);
     for (position, attribute) in attributes.iter().enumerate() {
-        keep_attribute(alloc, schemas, owner, position, attribute, test, &mut found)?;
+        keep_attribute(schemas, owner, position, attribute, test, &mut found)?;
     }
     Ok(found)
 }
 
 fn keep_attribute(
-    alloc: Global,
     schemas: &Schemas,
     owner: &Node,
     position: usize,
@@ -182,14 +183,7 @@ fn keep_attribute(
     ensures { OnOk result (found.new.items ≡ found.old.items ++ map (node_of_tree owner.now.tree) (passing_attributes (passes schemas.now axes.Attribute test.now) owner.now.path position (attribute.now ∷ []))) }
 {
     let passes = passes_attribute(schemas, true, test, attribute);
-    keep(
-        alloc,
-        passes,
-        owner.tree,
-        &owner.path,
-        Some(position),
-        found,
-    )
+    keep_sharing(passes, owner.tree, &owner.path, Some(position), found)
 }
 
 // The node itself.
@@ -202,11 +196,13 @@ fn self_step(
 ) -> Result<Vec<Node>, AllocError>
     ensures { IfOk result (λ found. found.items ≡ map (node_of_tree node.now.tree) (self_found (passes schemas.now axes.SelfAxis test.now) (location_of node.now) root.now)) }
 {
-    let passes = match tree_below(root, &node.path) {
+    let passes = match tree_below(root, node.path.as_slice()) {
         Some(tree) => passes_at(schemas, tree, node.attribute, test),
         None => false,
     };
-    only_if(alloc, passes, node.tree, &node.path, node.attribute)
+    let mut found = Vec::new(alloc);
+    keep_sharing(passes, node.tree, &node.path, node.attribute, &mut found)?;
+    Ok(found)
 }
 
 // Whether a node or its attribute at a position passes.
@@ -239,7 +235,9 @@ fn parent_step(
         Some(parent) => passes_test(schemas, false, test, parent),
         None => false,
     };
-    only_if(alloc, passes, node.tree, path, None)
+    let mut found = Vec::new(alloc);
+    keep(alloc, passes, node.tree, path, None, &mut found)?;
+    Ok(found)
 }
 
 // The path of the parent: that of the element of an attribute, and else the path without its last position.
@@ -247,9 +245,9 @@ fn parent_path(node: &Node) -> Option<&[usize]>
     ensures { option_copied result ≡ path_of_parent (location_of node.now) }
 {
     if node.attribute.is_some() {
-        return Some(&node.path);
+        return Some(node.path.as_slice());
     }
-    path_above(&node.path)
+    path_above(node.path.as_slice())
 }
 
 fn path_above(path: &[usize]) -> Option<&[usize]>
@@ -259,19 +257,4 @@ fn path_above(path: &[usize]) -> Option<&[usize]>
         Some((_, front)) => Some(front),
         None => None,
     }
-}
-
-// The node at a place of a tree, if it passes.
-fn only_if(
-    alloc: Global,
-    passes: bool,
-    tree: usize,
-    path: &[usize],
-    attribute: Option<usize>,
-) -> Result<Vec<Node>, AllocError>
-    ensures { IfOk result (λ found. found.items ≡ map (node_of_tree tree) (kept_if passes (record { path = path.now; attribute = attribute }))) }
-{
-    let mut found = Vec::new(alloc);
-    keep(alloc, passes, tree, path, attribute, &mut found)?;
-    Ok(found)
 }

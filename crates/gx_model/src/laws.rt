@@ -1,6 +1,7 @@
 // Laws over the definitions.
 
 ghost use Rattle.gx_model.specs.Growth.{GrowthIsAnOrder, ValuesStay};
+ghost use Rattle.gx_model.specs.OrderLaws.{DocumentOrderIsTotal, NodesAscend, OrderedNodesAscend};
 
 /// A forest extends itself, and what extends an extension extends the first.
 pub fn growth_is_an_order()
@@ -10,4 +11,15 @@ pub fn growth_is_an_order()
 /// A value that belongs to a type in a forest belongs to it in each forest that extends this one.
 pub fn values_stay()
     ensures { ValuesStay }
+{}
+
+/// Document order is a strict total order.
+pub fn document_order_is_total()
+    ensures { DocumentOrderIsTotal }
+{}
+
+/// The nodes of a forest are listed in document order, and so are nodes that are put in document order.
+pub fn nodes_ascend()
+    ensures listed { NodesAscend }
+    ensures ordered { OrderedNodesAscend }
 {}

@@ -2,12 +2,15 @@
 #![tactic(auto)]
 
 pub mod axis;
+pub mod copied;
 pub mod forest;
+pub mod item;
 pub mod laws;
 mod lookup;
 pub mod node;
 pub mod node_test;
 pub mod order;
+pub mod path;
 mod search;
 pub mod typed_value;
 mod way;

@@ -31,7 +31,7 @@ fn is_child(from: &Node, path: &[usize], attribute: Option<usize>) -> bool
     ensures { result ≡ leads_to Axis.Child (location_of from.now) (record { path = path.now; attribute = attribute }) }
 {
     from.attribute.is_none()
-        && match way_between(&from.path, path) {
+        && match way_between(from.path.as_slice(), path) {
             Some(way) => one_step(way) && attribute.is_none(),
             None => false,
         }
@@ -41,7 +41,7 @@ fn is_descendant(from: &Node, path: &[usize], attribute: Option<usize>) -> bool
     ensures { result ≡ descendant (location_of from.now) (record { path = path.now; attribute = attribute }) }
 {
     from.attribute.is_none()
-        && match way_between(&from.path, path) {
+        && match way_between(from.path.as_slice(), path) {
             Some(way) => !no_step(way) && attribute.is_none(),
             None => false,
         }
@@ -50,7 +50,7 @@ fn is_descendant(from: &Node, path: &[usize], attribute: Option<usize>) -> bool
 fn is_itself(from: &Node, path: &[usize], attribute: Option<usize>) -> bool
     ensures { result ≡ itself (location_of from.now) (record { path = path.now; attribute = attribute }) }
 {
-    match way_between(&from.path, path) {
+    match way_between(from.path.as_slice(), path) {
         Some(way) => no_step(way) && same_place(from.attribute, attribute),
         None => false,
     }
@@ -60,7 +60,7 @@ fn is_attribute(from: &Node, path: &[usize], attribute: Option<usize>) -> bool
     ensures { result ≡ leads_to Axis.Attribute (location_of from.now) (record { path = path.now; attribute = attribute }) }
 {
     from.attribute.is_none()
-        && match way_between(&from.path, path) {
+        && match way_between(from.path.as_slice(), path) {
             Some(way) => no_step(way) && attribute.is_some(),
             None => false,
         }
@@ -70,7 +70,7 @@ fn is_parent(from: &Node, path: &[usize], attribute: Option<usize>) -> bool
     ensures { result ≡ leads_to Axis.Parent (location_of from.now) (record { path = path.now; attribute = attribute }) }
 {
     attribute.is_none()
-        && match way_between(path, &from.path) {
+        && match way_between(path, from.path.as_slice()) {
             Some(way) if from.attribute.is_some() => no_step(way),
             Some(way) => one_step(way),
             None => false,
@@ -81,7 +81,7 @@ fn is_ancestor(from: &Node, path: &[usize], attribute: Option<usize>) -> bool
     ensures { result ≡ ancestor (location_of from.now) (record { path = path.now; attribute = attribute }) }
 {
     attribute.is_none()
-        && match way_between(path, &from.path) {
+        && match way_between(path, from.path.as_slice()) {
             Some(way) => from.attribute.is_some() || !no_step(way),
             None => false,
         }

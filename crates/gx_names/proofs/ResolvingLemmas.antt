@@ -1,20 +1,20 @@
 -- Refusals in front of others, and trees in the making.
-use Rattle.std.proofs.Common.{◌≡◌, ℕ, List, [], ◌∷◌, ◌++◌, length, Option, Some, Result, Ok, Err, refl, sym, ap, subst, ◌∙◌, arith}
+use Rattle.std.proofs.Common.{◌≡◌, ℕ, List, [], ◌∷◌, ◌++◌, length, Option, Some, None, Result, Ok, Err, refl, sym, ap, subst, ◌∙◌, arith}
 use Rattle.gx_base.specs.declared.place.Place.{Place}
 use Rattle.gx_ast.specs.declared.name.QName.{QName}
+use Rattle.gx_ast.specs.declared.name.Variable.{Variable}
+use Rattle.gx_ast.specs.declared.sequence_type.BoundVariable.{BoundVariable}
 use Rattle.gx_ast.specs.SyntaxTree.{SyntaxTree, call}
 use Rattle.gx_ast.specs.SyntaxView.{trees_of}
-use Rattle.gx_funcs.specs.declared.function.Function.{Function}
 use Rattle.gx_names.specs.declared.refusal.Refusal.{Refusal}
 use Rattle.gx_names.specs.declared.refusal.NameRefusal.{NameRefusal}
 use Rattle.gx_names.specs.declared.refusal.NameRefusal.TheVariants.{Refused, Memory}
 use Rattle.gx_names.specs.declared.tree.Construct.{Construct}
-use Rattle.gx_names.specs.declared.tree.Construct.TheVariants as constructs
 use Rattle.gx_names.specs.Refused.{IsFirstRefusal, Judges, Proceeds}
-use Rattle.gx_names.specs.Environment.{Environment, Variables}
-use Rattle.gx_names.specs.Refusals.{count_trees, call_refusals, form_refusals, trees_refusals}
-use Rattle.gx_names.specs.Resolution.{call_resolved, form_resolved, trees_resolved}
-use Rattle.gx_names.specs.ResolvedTree.{ResolvedTree, ResolvedTrees, resolved_at, no_resolved, a_resolved}
+use Rattle.gx_names.specs.Environment.{Environment, with_variable, with_optional, without_variable, without_optional}
+use Rattle.gx_names.specs.TreeRefusals.{count_trees, call_refusals, form_refusals, trees_refusals}
+use Rattle.gx_names.specs.TreeResolution.{call_resolved, form_resolved, trees_resolved}
+use Rattle.gx_names.specs.ResolvedTree.{ResolvedTree, ResolvedTrees, resolved_at, no_resolved, a_resolved, one_resolved, and_parts}
 use Rattle.gx_names.specs.ResolvedView.{resolved_parts}
 use Rattle.gx_names.specs.Resolving.{and_part, adopted, all_adopted, closed}
 
@@ -40,10 +40,6 @@ pub parts_with_one_more : (trees : List ResolvedTree) (tree : ResolvedTree) → 
 parts_with_one_more [] tree = refl
 parts_with_one_more (t ∷ ts) tree = ap (λ others. a_resolved t others) (parts_with_one_more ts tree)
 
-abbrev and_parts : ResolvedTrees → ResolvedTrees → ResolvedTrees
-and_parts no_resolved more = more
-and_parts (a_resolved first others) more = a_resolved first (and_parts others more)
-
 none_behind : (parts : ResolvedTrees) → and_parts parts no_resolved ≡ parts
 none_behind no_resolved = refl
 none_behind (a_resolved first others) = ap (a_resolved first) (none_behind others)
@@ -64,32 +60,55 @@ pub all_closed : (trees : ResolvedTrees) (place : Place) (construct : Construct)
     → closed (all_adopted trees (resolved_at place construct no_resolved ∷ outer)) ≡ adopted (resolved_at place construct trees) outer
 all_closed trees place construct outer = ap closed (adopted_in_turn trees no_resolved place construct outer)
 
+pub one_more_adopted : (trees : ResolvedTrees) (tree : ResolvedTree) (unfinished : List ResolvedTree)
+    → all_adopted (and_parts trees (one_resolved tree)) unfinished ≡ adopted tree (all_adopted trees unfinished)
+one_more_adopted no_resolved tree unfinished = refl
+one_more_adopted (a_resolved first others) tree unfinished = one_more_adopted others tree (adopted first unfinished)
+
+-- a typeswitch with its operand, its cases and its default
+pub branches_closed : (operand default : ResolvedTree) (cases : ResolvedTrees) (place : Place) (construct : Construct) (outer : List ResolvedTree)
+    → closed (adopted default (all_adopted cases (resolved_at place construct (one_resolved operand) ∷ outer)))
+    ≡ adopted (resolved_at place construct (a_resolved operand (and_parts cases (one_resolved default)))) outer
+branches_closed operand default cases place construct outer =
+    ap closed (sym (one_more_adopted cases default (resolved_at place construct (one_resolved operand) ∷ outer)))
+    ∙ all_closed (a_resolved operand (and_parts cases (one_resolved default))) place construct outer
+
+-- ---- scopes
+
+pub unbound_again : (binder : Option Variable) (environment : Environment) → without_optional binder (with_optional binder environment) ≡ environment
+unbound_again None environment = refl
+unbound_again (Some binder) environment = refl
+
+pub binding_gone : (bound : BoundVariable) (environment : Environment)
+    → without_variable (without_optional bound.position (with_optional bound.position (with_variable bound.variable environment))) ≡ environment
+binding_gone bound environment = ap without_variable (unbound_again bound.position (with_variable bound.variable environment))
+
 -- ---- calls
 
 counted : (trees : List SyntaxTree) → count_trees (trees_of trees) ≡ length trees
 counted [] = refl
 counted (t ∷ ts) = omega (arith, counted ts)
 
-pub call_refused : (refusal : NameRefusal) (environment : Environment) (place : Place) (name : QName) (arguments : List SyntaxTree) (variables : Variables) (rest : List Refusal)
+pub call_refused : (refusal : NameRefusal) (environment : Environment) (place : Place) (name : QName) (arguments : List SyntaxTree) (rest : List Refusal)
     → IsFirstRefusal refusal (call_refusals environment place name (length arguments))
-    → IsFirstRefusal refusal (form_refusals environment place (call name (trees_of arguments)) variables ++ rest)
-call_refused refusal environment place name arguments variables rest h =
-    refused_before refusal (form_refusals environment place (call name (trees_of arguments)) variables) rest
-    (refused_before refusal (call_refusals environment place name (count_trees (trees_of arguments))) (trees_refusals environment (trees_of arguments) variables)
+    → IsFirstRefusal refusal (form_refusals environment place (call name (trees_of arguments)) ++ rest)
+call_refused refusal environment place name arguments rest h =
+    refused_before refusal (form_refusals environment place (call name (trees_of arguments))) rest
+    (refused_before refusal (call_refusals environment place name (count_trees (trees_of arguments))) (trees_refusals environment (trees_of arguments))
     (subst (λ (n : ℕ). IsFirstRefusal refusal (call_refusals environment place name n)) (sym (counted arguments)) h))
 
-pub call_proceeds : (environment : Environment) (place : Place) (name : QName) (arguments : List SyntaxTree) (variables : Variables) (rest : List Refusal)
+pub call_proceeds : (environment : Environment) (place : Place) (name : QName) (arguments : List SyntaxTree) (rest : List Refusal)
     → call_refusals environment place name (length arguments) ≡ []
-    → trees_refusals environment (trees_of arguments) variables ++ rest ≡ form_refusals environment place (call name (trees_of arguments)) variables ++ rest
-call_proceeds environment place name arguments variables rest h =
-    ap (λ (refusals : List Refusal). (refusals ++ trees_refusals environment (trees_of arguments) variables) ++ rest)
+    → trees_refusals environment (trees_of arguments) ++ rest ≡ form_refusals environment place (call name (trees_of arguments)) ++ rest
+call_proceeds environment place name arguments rest h =
+    ap (λ (refusals : List Refusal). (refusals ++ trees_refusals environment (trees_of arguments)) ++ rest)
     (sym (ap (λ (n : ℕ). call_refusals environment place name n) (counted arguments) ∙ h))
 
-pub call_made : (environment : Environment) (place : Place) (name : QName) (arguments : List SyntaxTree) (variables : Variables) (outer : List ResolvedTree) (function : Function)
-    → constructs.Call function ≡ call_resolved environment name (length arguments)
-    → closed (all_adopted (trees_resolved environment (trees_of arguments) variables) (resolved_at place (constructs.Call function) no_resolved ∷ outer))
-    ≡ adopted (form_resolved environment place (call name (trees_of arguments)) variables) outer
-call_made environment place name arguments variables outer function h =
-    all_closed (trees_resolved environment (trees_of arguments) variables) place (constructs.Call function) outer
-    ∙ ap (λ (c : Construct). adopted (resolved_at place c (trees_resolved environment (trees_of arguments) variables)) outer)
+pub call_made : (environment : Environment) (place : Place) (name : QName) (arguments : List SyntaxTree) (outer : List ResolvedTree) (construct : Construct)
+    → construct ≡ call_resolved environment name (length arguments)
+    → closed (all_adopted (trees_resolved environment (trees_of arguments)) (resolved_at place construct no_resolved ∷ outer))
+    ≡ adopted (form_resolved environment place (call name (trees_of arguments))) outer
+call_made environment place name arguments outer construct h =
+    all_closed (trees_resolved environment (trees_of arguments)) place construct outer
+    ∙ ap (λ (c : Construct). adopted (resolved_at place c (trees_resolved environment (trees_of arguments))) outer)
     (h ∙ ap (λ (n : ℕ). call_resolved environment name n) (sym (counted arguments)))

@@ -1,174 +1,174 @@
 -- What is refused of a query, in the order of the text; at one place in the order of the rules (XQuery 1.0, sections 2.3.2 and 4).
-use Rattle.std.specs.Prelude.{ℕ, ◌+◌, Bool, ◌||◌, List, [], ◌∷◌, ◌++◌, codes, Option, None, Some, is_some, if◌then◌else◌}
-use Rattle.gx_base.specs.Text.{same_text}
+use Rattle.std.specs.Prelude.{ℕ, Bool, true, false, not, ◌||◌, List, [], ◌∷◌, ◌++◌, codes, length, Option, None, Some, is_some}
 use Rattle.gx_base.specs.declared.name.Name.{Name}
 use Rattle.gx_base.specs.declared.place.Place.{Place}
-use Rattle.gx_base.specs.declared.code.Code.{Code}
-use Rattle.gx_base.specs.declared.code.Code.TheVariants.{XPST0008, XPST0017, XPST0081, XQST0033, XQST0049, XQST0070}
+use Rattle.gx_base.specs.declared.code.Code.TheVariants.{XQST0034, XQST0039, XQST0045, XQST0049, GLXS0004}
+use Rattle.gx_base.specs.declared.type_name.Builtin.TheVariants as builtins
+use Rattle.gx_base.specs.declared.type_name.TypeName.{TypeName}
+use Rattle.gx_base.specs.declared.type_name.TypeName.TheVariants as names
 use Rattle.gx_ast.specs.declared.name.QName.{QName}
 use Rattle.gx_ast.specs.declared.name.Variable.{Variable}
-use Rattle.gx_ast.specs.declared.query.Setting.{Setting}
-use Rattle.gx_ast.specs.declared.query.SettingNode.{SettingNode}
-use Rattle.gx_ast.specs.declared.query.SettingNode.TheVariants as settings
 use Rattle.gx_ast.specs.declared.query.Definition.{Definition}
 use Rattle.gx_ast.specs.declared.query.DefinitionNode.{DefinitionNode}
 use Rattle.gx_ast.specs.declared.query.DefinitionNode.TheVariants as definitions
-use Rattle.gx_ast.specs.declared.query.Initialiser.{Initialiser}
 use Rattle.gx_ast.specs.declared.query.Initialiser.TheVariants as initial
+use Rattle.gx_ast.specs.declared.query.Parameter.{Parameter}
 use Rattle.gx_ast.specs.declared.query.Query.{Query}
-use Rattle.gx_ast.specs.declared.sequence_type.BoundVariable.{BoundVariable}
-use Rattle.gx_ast.specs.declared.sequence_type.SequenceType.{SequenceType}
-use Rattle.gx_ast.specs.SyntaxTree.{SyntaxTree, SyntaxForm, SyntaxTrees, Bindings, Clauses, at, number, string, variable, parenthesised, empty_sequence, call, comma, flwor, conditional, binary, castable_as, cast_as, signed, no_tree, a_tree, no_binding, a_binding, no_clause, let_clause, no_key}
-use Rattle.gx_types.specs.SchemaSet.{SchemaSet}
-use Rattle.gx_funcs.specs.declared.function.Function.{Function}
-use Rattle.gx_funcs.specs.Function.{function_named}
+use Rattle.gx_ast.specs.declared.sequence_type.Indicator.TheVariants as indicated
+use Rattle.gx_ast.specs.declared.sequence_type.KindTest.{KindTest}
+use Rattle.gx_ast.specs.declared.sequence_type.KindTest.TheVariants as kinds
+use Rattle.gx_ast.specs.declared.sequence_type.ItemType.TheVariants as written
+use Rattle.gx_ast.specs.declared.sequence_type.SequenceType.{SequenceType as WrittenType}
+use Rattle.gx_ast.specs.declared.sequence_type.SequenceType.TheVariants as sequences
+use Rattle.gx_ast.specs.SyntaxTree.{SyntaxTree}
+use Rattle.gx_types.specs.SameItemType.{same_type_name}
+use Rattle.gx_types.specs.SchemaSet.{SchemaSet, global_type}
 use Rattle.gx_names.specs.declared.refusal.Refusal.{Refusal}
-use Rattle.gx_names.specs.NestedMap.{bound_value}
-use Rattle.gx_names.specs.Environment.{Namespaces, Variables, Environment, is_word, function_uri, known_namespaces, plain_name, function_name, or_no_name, binder_of}
-use Rattle.gx_names.specs.TypeNames.{refused_at, where_named, unless_found, written_type_refusals, target_refusals}
+use Rattle.gx_names.specs.NestedMap.{innermost_value}
+use Rattle.gx_names.specs.declared.signature.Signature.{Signature}
+use Rattle.gx_names.specs.Signature.{same_signature}
+use Rattle.gx_names.specs.Environment.{Namespaces, Functions, Variables, Environment, is_word, plain_name, called_name, called_in, or_nameless, binder_of, with_variable, without_variable}
+use Rattle.gx_names.specs.TypeNames.{refused_if, prefix_refusals, written_type_refusals, element_tested}
+use Rattle.gx_names.specs.TreeRefusals.{binder_refusals, tree_refusals}
+use Rattle.gx_names.specs.SettingRefusals.{settings_refusals, prolog_environment}
 
--- ---- expressions
+-- ---- the functions that are declared, which are in scope everywhere
 
--- a use of a variable: its prefix is known, and it is in scope
-abbrev pub use_refusals : Environment → Variables → Place → QName → List Refusal
-use_refusals environment variables place name =
-    where_named (plain_name environment name) place (λ n. unless_found (binder_of variables n) place XPST0008)
+abbrev pub with_function : Option Name → (arity : ℕ) → Place → Functions → Functions
+with_function None arity place functions = functions
+with_function (Some name) arity place functions = (record { name = name; arity = arity }, place) ∷ functions
 
--- how many trees there are
-abbrev pub count_trees : SyntaxTrees → ℕ
-count_trees no_tree = 0
-count_trees (a_tree first others) = 1 + count_trees others
+abbrev pub with_signature : Option Signature → Place → Functions → Functions
+with_signature None place functions = functions
+with_signature (Some signature) place functions = (signature, place) ∷ functions
 
--- the built-in function of a name with so many parameters
-abbrev pub function_called : Name → (arity : ℕ) → Option Function
-function_called name arity = if same_text name.uri function_uri then (function_named name.local arity) else None
+abbrev pub functions_with : Namespaces → Place → DefinitionNode → Functions → Functions
+functions_with namespaces place (definitions.Function name parameters result body) functions =
+    with_function (called_in namespaces name) (length parameters) place functions
+functions_with namespaces place _ functions = functions
 
--- a call: the prefix is known, and there is a function of this name with so many parameters
-abbrev pub call_refusals : Environment → Place → QName → (arity : ℕ) → List Refusal
-call_refusals environment place name arity =
-    where_named (function_name environment name) place (λ n. unless_found (function_called n arity) place XPST0017)
+abbrev pub functions_after : Namespaces → List Definition → Functions → Functions
+functions_after namespaces [] functions = functions
+functions_after namespaces (definition ∷ others) functions =
+    functions_after namespaces others (functions_with namespaces definition.place definition.node functions)
 
--- the name of a variable that is bound, and its type
-abbrev pub binder_refusals : Environment → Variable → Option SequenceType → List Refusal
-binder_refusals environment binder kind = where_named (plain_name environment binder.name) binder.place (λ n. []) ++ written_type_refusals environment kind
+abbrev pub with_functions : List Definition → Environment → Environment
+with_functions definitions environment = record environment { functions = functions_after environment.namespaces definitions environment.functions }
 
--- with a variable that is bound inside
-abbrev pub with_variable : Environment → Variable → Variables → Variables
-with_variable environment binder variables = (or_no_name (plain_name environment binder.name), binder.place) ∷ variables
-
-abbrev mutual
-  pub tree_refusals : Environment → SyntaxTree → Variables → List Refusal
-  tree_refusals environment (at place form) variables = form_refusals environment place form variables
-
-  pub form_refusals : Environment → Place → SyntaxForm → Variables → List Refusal
-  form_refusals environment place (variable name) variables = use_refusals environment variables place name
-  form_refusals environment place (parenthesised inner) variables = tree_refusals environment inner variables
-  form_refusals environment place (call name arguments) variables = call_refusals environment place name (count_trees arguments) ++ trees_refusals environment arguments variables
-  form_refusals environment place (comma first second) variables = tree_refusals environment first variables ++ tree_refusals environment second variables
-  form_refusals environment place (flwor clauses stable keys returned) variables = clauses_refusals environment clauses (tree_refusals environment returned) variables
-  form_refusals environment place (conditional test chosen otherwise) variables =
-      tree_refusals environment test variables ++ (tree_refusals environment chosen variables ++ tree_refusals environment otherwise variables)
-  form_refusals environment place (binary operator left right) variables = tree_refusals environment left variables ++ tree_refusals environment right variables
-  form_refusals environment place (castable_as operand kind) variables = tree_refusals environment operand variables ++ target_refusals environment kind.name
-  form_refusals environment place (cast_as operand kind) variables = tree_refusals environment operand variables ++ target_refusals environment kind.name
-  form_refusals environment place (signed minus operand) variables = tree_refusals environment operand variables
-  form_refusals environment place _ variables = []
-
-  pub trees_refusals : Environment → SyntaxTrees → Variables → List Refusal
-  trees_refusals environment no_tree variables = []
-  trees_refusals environment (a_tree first others) variables = tree_refusals environment first variables ++ trees_refusals environment others variables
-
-  -- the bindings of a `let`, each in the scope of those before it, and then what follows them
-  pub bindings_refusals : Environment → Bindings → (Variables → List Refusal) → Variables → List Refusal
-  bindings_refusals environment no_binding next variables = next variables
-  bindings_refusals environment (a_binding bound value others) next variables =
-      binder_refusals environment bound.variable bound.kind
-      ++ (tree_refusals environment value variables ++ bindings_refusals environment others next (with_variable environment bound.variable variables))
-
-  pub clauses_refusals : Environment → Clauses → (Variables → List Refusal) → Variables → List Refusal
-  clauses_refusals environment no_clause next variables = next variables
-  clauses_refusals environment (let_clause place bindings others) next variables = bindings_refusals environment bindings (clauses_refusals environment others next) variables
-  clauses_refusals environment _ next variables = []
-
--- ---- the prolog
-
--- the prefixes `xml` and `xmlns` are not declared, and no other prefix is bound to the URI of either
-abbrev pub is_reserved_prefix : List ℕ → Bool
-is_reserved_prefix prefix = is_word prefix (codes "xml") || is_word prefix (codes "xmlns")
-
-abbrev pub is_reserved_uri : List ℕ → Bool
-is_reserved_uri uri = is_word uri (codes "http://www.w3.org/XML/1998/namespace") || is_word uri (codes "http://www.w3.org/2000/xmlns/")
-
-abbrev pub refused_if : Bool → Place → Code → List Refusal
-refused_if wrong place code = if wrong then refused_at place code else []
-
--- the prefixes that are declared, with the places of their declarations
-abbrev pub DeclaredPrefixes : Type 0
-DeclaredPrefixes = List (List ℕ × Place)
-
--- a declaration of the first part, behind declarations of these prefixes
-abbrev pub setting_refusals : DeclaredPrefixes → Place → SettingNode → List Refusal
-setting_refusals declared place (settings.Namespace prefix uri) =
-    refused_if (is_reserved_prefix prefix.name || is_reserved_uri uri) place XQST0070 ++ refused_if (is_some (bound_value same_text declared prefix.name)) place XQST0033
-setting_refusals declared place (settings.DefaultElementNamespace uri) = refused_if (is_reserved_uri uri) place XQST0070
-setting_refusals declared place _ = []
-
-abbrev pub declared_with : Place → SettingNode → DeclaredPrefixes → DeclaredPrefixes
-declared_with place (settings.Namespace prefix uri) declared = (prefix.name, place) ∷ declared
-declared_with place _ declared = declared
-
-abbrev pub settings_refusals : DeclaredPrefixes → List Setting → List Refusal
-settings_refusals declared [] = []
-settings_refusals declared (setting ∷ others) = setting_refusals declared setting.place setting.node ++ settings_refusals (declared_with setting.place setting.node declared) others
-
--- the prefixes in scope behind a declaration of the first part; the last declaration of the default element namespace counts
-abbrev pub namespaces_with : SettingNode → Namespaces → Namespaces
-namespaces_with (settings.Namespace prefix uri) namespaces = (prefix.name, uri) ∷ namespaces
-namespaces_with (settings.DefaultElementNamespace uri) namespaces = ([], uri) ∷ namespaces
-namespaces_with _ namespaces = namespaces
-
-abbrev pub namespaces_after : List Setting → Namespaces → Namespaces
-namespaces_after [] namespaces = namespaces
-namespaces_after (setting ∷ others) namespaces = namespaces_after others (namespaces_with setting.node namespaces)
-
--- what names stand for behind the first part of the prolog
-abbrev pub prolog_environment : SchemaSet → List Setting → Environment
-prolog_environment schemas settings = record { namespaces = namespaces_after settings known_namespaces; schemas = schemas }
+-- ---- variables
 
 -- a variable that is declared twice
 abbrev pub doubled_name : Place → Variables → Option Name → List Refusal
 doubled_name place variables None = []
 doubled_name place variables (Some name) = refused_if (is_some (binder_of variables name)) place XQST0049
 
-abbrev pub doubled_variable : Environment → Place → Variable → Variables → List Refusal
-doubled_variable environment place binder variables = doubled_name place variables (plain_name environment binder.name)
+abbrev pub doubled_variable : Environment → Place → Variable → List Refusal
+doubled_variable environment place binder = doubled_name place environment.variables (plain_name environment binder.name)
 
--- a declaration of the second part: the variables in scope are those that are declared before it
-abbrev pub definition_refusals : Environment → Place → DefinitionNode → Variables → List Refusal
-definition_refusals environment place (definitions.Variable binder kind (initial.Value value)) variables =
-    doubled_variable environment place binder variables ++ (binder_refusals environment binder kind ++ tree_refusals environment value variables)
-definition_refusals environment place _ variables = []
+-- an external variable is a document: one whose element is global and of its declared type, or untyped, or of any element
+abbrev pub is_declared_type : Option TypeName → TypeName → Bool
+is_declared_type None kind = false
+is_declared_type (Some declared) kind = same_type_name declared kind
 
-abbrev pub variables_with : Environment → DefinitionNode → Variables → Variables
-variables_with environment (definitions.Variable binder kind (initial.Value value)) variables = with_variable environment binder variables
-variables_with environment _ variables = variables
+abbrev pub is_document_element : Environment → Option Name × TypeName → Bool
+is_document_element environment (None, kind) = same_type_name kind (names.Builtin builtins.Untyped)
+is_document_element environment (Some name, kind) = is_declared_type (global_type environment.schemas name) kind
 
--- the variables in scope behind declarations
-abbrev pub variables_after : Environment → List Definition → Variables → Variables
-variables_after environment [] variables = variables
-variables_after environment (definition ∷ others) variables = variables_after environment others (variables_with environment definition.node variables)
+abbrev pub is_document_test : Environment → KindTest → Bool
+is_document_test environment (kinds.Document place) = true
+is_document_test environment (kinds.DocumentOf place inner tested) = is_document_element environment (element_tested environment tested)
+is_document_test environment (kinds.DocumentOfDeclared place inner name) = true
+is_document_test environment _ = false
 
-abbrev pub definitions_refusals : Environment → List Definition → Variables → List Refusal
-definitions_refusals environment [] variables = []
-definitions_refusals environment (definition ∷ others) variables =
-    definition_refusals environment definition.place definition.node variables
-    ++ definitions_refusals environment others (variables_with environment definition.node variables)
+abbrev pub is_document_type : Environment → Option WrittenType → Bool
+is_document_type environment (Some (sequences.Items (written.Kind test) indicated.Once)) = is_document_test environment test
+is_document_type environment _ = false
+
+abbrev pub external_refusals : Environment → Place → Variable → Option WrittenType → List Refusal
+external_refusals environment place binder kind =
+    doubled_variable environment place binder ++ refused_if (not (is_document_type environment kind)) place GLXS0004
+
+-- ---- functions
+
+-- the namespaces of schemas
+unfoldable pub is_schema_namespace : List ℕ → Bool
+is_schema_namespace uri = is_word uri (codes "http://www.w3.org/2001/XMLSchema") || is_word uri (codes "http://www.w3.org/2001/XMLSchema-instance")
+
+-- those of XML and of the functions of the standard
+unfoldable pub is_standard_namespace : List ℕ → Bool
+is_standard_namespace uri = is_word uri (codes "http://www.w3.org/XML/1998/namespace") || is_word uri (codes "http://www.w3.org/2005/xpath-functions")
+
+-- no function is declared in these namespaces
+unfoldable pub is_kept_namespace : List ℕ → Bool
+is_kept_namespace uri = is_schema_namespace uri || is_standard_namespace uri
+
+-- a function that is declared twice, or in one of these namespaces
+abbrev pub function_refusals : Functions → Place → Option Name → (arity : ℕ) → List Refusal
+function_refusals earlier place None arity = []
+function_refusals earlier place (Some name) arity =
+    refused_if (is_some (innermost_value same_signature earlier (record { name = name; arity = arity }))) place XQST0034
+    ++ refused_if (is_kept_namespace name.uri) place XQST0045
+
+-- a parameter that is declared twice
+abbrev pub doubled_parameter : Place → Variables → Option Name → List Refusal
+doubled_parameter place seen None = []
+doubled_parameter place seen (Some name) = refused_if (is_some (binder_of seen name)) place XQST0039
+
+abbrev pub seen_with : Environment → Variable → Variables → Variables
+seen_with environment binder seen = (or_nameless (plain_name environment binder.name), binder.place) ∷ seen
+
+abbrev pub parameters_refusals : Environment → Variables → List Parameter → List Refusal
+parameters_refusals environment seen [] = []
+parameters_refusals environment seen (p ∷ ps) =
+    (doubled_parameter p.variable.place seen (plain_name environment p.variable.name) ++ binder_refusals environment p.variable p.kind)
+    ++ parameters_refusals environment (seen_with environment p.variable seen) ps
+
+-- the name, the parameters and the type of the result
+abbrev pub heading_refusals : Environment → QName → List Parameter → Option WrittenType → List Refusal
+heading_refusals environment name parameters result =
+    prefix_refusals (called_name environment name) name.place ++ (parameters_refusals environment [] parameters ++ written_type_refusals environment result)
+
+abbrev pub with_parameters : List Parameter → Environment → Environment
+with_parameters [] environment = environment
+with_parameters (p ∷ ps) environment = with_parameters ps (with_variable p.variable environment)
+
+abbrev pub without_parameters : List Parameter → Environment → Environment
+without_parameters [] environment = environment
+without_parameters (p ∷ ps) environment = without_parameters ps (without_variable environment)
+
+-- ---- declarations of the second part: the variables in scope are those that are declared before
+
+abbrev pub definition_refusals : Environment → (earlier : Functions) → Place → DefinitionNode → List Refusal
+definition_refusals environment earlier place (definitions.Variable binder kind (initial.Value value)) =
+    (doubled_variable environment place binder ++ binder_refusals environment binder kind) ++ tree_refusals environment value
+definition_refusals environment earlier place (definitions.Variable binder kind initial.External) =
+    external_refusals environment place binder kind ++ binder_refusals environment binder kind
+definition_refusals environment earlier place (definitions.Function name parameters result body) =
+    function_refusals earlier place (called_name environment name) (length parameters)
+    ++ (heading_refusals environment name parameters result ++ tree_refusals (with_parameters parameters environment) body)
+
+-- what names stand for behind a declaration
+abbrev pub definition_scope : DefinitionNode → Environment → Environment
+definition_scope (definitions.Variable binder kind initialiser) environment = with_variable binder environment
+definition_scope (definitions.Function name parameters result body) environment = environment
+
+abbrev pub scope_after : List Definition → Environment → Environment
+scope_after [] environment = environment
+scope_after (definition ∷ others) environment = scope_after others (definition_scope definition.node environment)
+
+abbrev pub definitions_refusals : List Definition → (earlier : Functions) → Environment → List Refusal
+definitions_refusals [] earlier environment = []
+definitions_refusals (definition ∷ others) earlier environment =
+    definition_refusals environment earlier definition.place definition.node
+    ++ definitions_refusals others (functions_with environment.namespaces definition.place definition.node earlier) (definition_scope definition.node environment)
 
 -- the second part of the prolog, and then the body
 abbrev pub main_refusals : Environment → List Definition → SyntaxTree → List Refusal
 main_refusals environment definitions body =
-    definitions_refusals environment definitions [] ++ tree_refusals environment body (variables_after environment definitions [])
+    definitions_refusals definitions [] environment ++ tree_refusals (scope_after definitions environment) body
 
 -- a whole query
 abbrev pub query_refusals : SchemaSet → Query → List Refusal
-query_refusals schemas query = settings_refusals [] query.settings ++ main_refusals (prolog_environment schemas query.settings) query.definitions query.body
+query_refusals schemas query =
+    settings_refusals [] [] query.settings
+    ++ main_refusals (with_functions query.definitions (prolog_environment schemas query.settings)) query.definitions query.body

@@ -1,5 +1,5 @@
 -- What a part of the work says of the refusals that it looks for; want of memory says nothing.
-use Rattle.std.specs.Prelude.{◌≡◌, List, [], Option, None, Some, Result, Ok, Err}
+use Rattle.std.specs.Prelude.{◌≡◌, List, [], Some, Result, Ok, Err}
 use Rattle.gx_names.specs.declared.refusal.Refusal.{Refusal}
 use Rattle.gx_names.specs.declared.refusal.NameRefusal.{NameRefusal}
 use Rattle.gx_names.specs.declared.refusal.NameRefusal.TheVariants.{Refused, Memory}

@@ -1,5 +1,5 @@
 -- Queries in which each name is resolved, as plain trees: a construct over its parts.
-use Rattle.std.specs.Prelude.{ℕ, ◌+◌, List, [], ◌∷◌}
+use Rattle.std.specs.Prelude.{ℕ, ◌+◌}
 use Rattle.gx_base.specs.declared.place.Place.{Place}
 use Rattle.gx_names.specs.declared.tree.Construct.{Construct}
 
@@ -29,3 +29,8 @@ two_resolved a b = a_resolved a (one_resolved b)
 
 abbrev pub three_resolved : ResolvedTree → ResolvedTree → ResolvedTree → ResolvedTrees
 three_resolved a b c = a_resolved a (two_resolved b c)
+
+-- parts, and more behind them
+abbrev pub and_parts : ResolvedTrees → ResolvedTrees → ResolvedTrees
+and_parts no_resolved more = more
+and_parts (a_resolved first others) more = a_resolved first (and_parts others more)

@@ -1,21 +1,17 @@
 -- What a resolution in its midst comes to: the refusals that are left, and the trees.
-use Rattle.std.specs.Prelude.{◌≡◌, ℕ, List, [], ◌∷◌, ◌++◌, Option, None, Some, drop}
-use Rattle.gx_base.specs.declared.place.Place.{Place}
+use Rattle.std.specs.Prelude.{List, [], ◌∷◌, ◌++◌}
 use Rattle.gx_ast.specs.declared.expression.Binding.{Binding}
-use Rattle.gx_ast.specs.declared.expression.Clause.{Clause}
-use Rattle.gx_ast.specs.declared.name.Variable.{Variable}
-use Rattle.gx_ast.specs.declared.sequence_type.SequenceType.{SequenceType}
-use Rattle.gx_ast.specs.SyntaxTree.{SyntaxTree}
-use Rattle.gx_ast.specs.SyntaxView.{trees_of, bindings_of, clauses_of}
+use Rattle.gx_ast.specs.SyntaxView.{trees_of, bindings_of, clauses_of, keys_of, cases_of}
 use Rattle.gx_names.specs.declared.refusal.Refusal.{Refusal}
+use Rattle.gx_names.specs.declared.resolving.Rest.{Rest}
 use Rattle.gx_names.specs.declared.resolving.Task.{Task}
-use Rattle.gx_names.specs.declared.resolving.Task.TheVariants.{Tree, Trees, Clauses, Bind, Unbind, Target, Close}
+use Rattle.gx_names.specs.declared.resolving.Task.TheVariants.{Tree, Trees, Clauses, Keys, Cases, Default, Bind, BindOptional, Unbind, UnbindOptional, Written, Target, Close}
 use Rattle.gx_names.specs.declared.resolving.Resolving.{Resolving}
-use Rattle.gx_names.specs.ResolvedTree.{ResolvedTree, ResolvedTrees, resolved_at, no_resolved, a_resolved}
-use Rattle.gx_names.specs.Environment.{Environment, Variables}
-use Rattle.gx_names.specs.TypeNames.{target_refusals}
-use Rattle.gx_names.specs.Refusals.{with_variable, tree_refusals, trees_refusals, bindings_refusals, clauses_refusals}
-use Rattle.gx_names.specs.Resolution.{tree_resolved, trees_resolved, bindings_resolved, clauses_resolved}
+use Rattle.gx_names.specs.ResolvedTree.{ResolvedTree, ResolvedTrees, resolved_at, no_resolved, a_resolved, one_resolved, and_parts}
+use Rattle.gx_names.specs.Environment.{Environment, with_variable, with_optional, without_variable, without_optional}
+use Rattle.gx_names.specs.TypeNames.{type_refusals, target_refusals}
+use Rattle.gx_names.specs.TreeRefusals.{bound_refusals, with_bound, tree_refusals, trees_refusals, bindings_refusals, clauses_refusals, keys_refusals, cases_refusals, default_refusals}
+use Rattle.gx_names.specs.TreeResolution.{bound_resolved, tree_resolved, trees_resolved, bindings_resolved, clauses_resolved, keys_resolved, cases_resolved, default_resolved}
 
 -- ---- trees in the making, the innermost first: what is finished becomes the last part of the tree around it
 
@@ -23,9 +19,12 @@ abbrev pub and_part : ResolvedTrees → ResolvedTree → ResolvedTrees
 and_part no_resolved tree = a_resolved tree no_resolved
 and_part (a_resolved first others) tree = a_resolved first (and_part others tree)
 
+abbrev pub with_part : ResolvedTree → ResolvedTree → ResolvedTree
+with_part (resolved_at place construct parts) tree = resolved_at place construct (and_part parts tree)
+
 abbrev pub adopted : ResolvedTree → List ResolvedTree → List ResolvedTree
 adopted tree [] = tree ∷ []
-adopted tree (resolved_at place construct parts ∷ outer) = resolved_at place construct (and_part parts tree) ∷ outer
+adopted tree (around ∷ outer) = with_part around tree ∷ outer
 
 abbrev pub all_adopted : ResolvedTrees → List ResolvedTree → List ResolvedTree
 all_adopted no_resolved unfinished = unfinished
@@ -37,51 +36,73 @@ closed (tree ∷ outer) = adopted tree outer
 
 -- ---- what is left to do
 
--- the bindings and clauses that are left, and what is returned
-abbrev pub rest_refusals : Environment → List Binding → List Clause → SyntaxTree → Variables → List Refusal
-rest_refusals environment bindings clauses returned =
-    bindings_refusals environment (bindings_of bindings) (clauses_refusals environment (clauses_of clauses) (tree_refusals environment returned))
+-- the bindings, clauses and keys that are left, and what is returned
+abbrev pub rest_refusals : Environment → Rest → List Refusal
+rest_refusals environment rest =
+    bindings_refusals (bindings_of rest.bindings.now)
+    (clauses_refusals (clauses_of rest.clauses.now) (λ inner. keys_refusals inner (keys_of rest.keys.now) ++ tree_refusals inner rest.returned.now)) environment
 
-abbrev pub rest_resolved : Environment → List Binding → List Clause → SyntaxTree → Variables → ResolvedTrees
-rest_resolved environment bindings clauses returned =
-    bindings_resolved environment (bindings_of bindings)
-    (clauses_resolved environment (clauses_of clauses) (λ inner. a_resolved (tree_resolved environment returned inner) no_resolved))
+abbrev pub rest_resolved : Environment → Rest → ResolvedTrees
+rest_resolved environment rest =
+    bindings_resolved rest.word (bindings_of rest.bindings.now)
+    (clauses_resolved (clauses_of rest.clauses.now)
+    (λ inner. and_parts (keys_resolved inner (keys_of rest.keys.now)) (one_resolved (tree_resolved inner rest.returned.now)))) environment
 
-abbrev pub refusals_left : Environment → List Task → Variables → List Refusal
-refusals_left environment [] variables = []
-refusals_left environment (Tree tree ∷ tasks) variables = tree_refusals environment tree.now variables ++ refusals_left environment tasks variables
-refusals_left environment (Trees trees ∷ tasks) variables = trees_refusals environment (trees_of trees.now) variables ++ refusals_left environment tasks variables
-refusals_left environment (Clauses bindings clauses returned ∷ tasks) variables =
-    rest_refusals environment bindings.now clauses.now returned.now variables ++ refusals_left environment tasks variables
-refusals_left environment (Bind binder ∷ tasks) variables = refusals_left environment tasks (with_variable environment binder.now variables)
-refusals_left environment (Unbind ∷ tasks) variables = refusals_left environment tasks (drop 1 variables)
-refusals_left environment (Target target ∷ tasks) variables = target_refusals environment target.now ++ refusals_left environment tasks variables
-refusals_left environment (Close ∷ tasks) variables = refusals_left environment tasks variables
+-- a binding, and what follows it
+abbrev pub bound_rest_refusals : Environment → Binding → Rest → List Refusal
+bound_rest_refusals environment first rest =
+    bound_refusals environment first.bound ++ (tree_refusals environment first.value ++ rest_refusals (with_bound first.bound environment) rest)
 
--- the trees and the variables behind it
-abbrev pub trees_left : Environment → List Task → List ResolvedTree → Variables → List ResolvedTree × Variables
-trees_left environment [] unfinished variables = (unfinished, variables)
-trees_left environment (Tree tree ∷ tasks) unfinished variables = trees_left environment tasks (adopted (tree_resolved environment tree.now variables) unfinished) variables
-trees_left environment (Trees trees ∷ tasks) unfinished variables = trees_left environment tasks (all_adopted (trees_resolved environment (trees_of trees.now) variables) unfinished) variables
-trees_left environment (Clauses bindings clauses returned ∷ tasks) unfinished variables =
-    trees_left environment tasks (all_adopted (rest_resolved environment bindings.now clauses.now returned.now variables) unfinished) variables
-trees_left environment (Bind binder ∷ tasks) unfinished variables = trees_left environment tasks unfinished (with_variable environment binder.now variables)
-trees_left environment (Unbind ∷ tasks) unfinished variables = trees_left environment tasks unfinished (drop 1 variables)
-trees_left environment (Target target ∷ tasks) unfinished variables = trees_left environment tasks unfinished variables
-trees_left environment (Close ∷ tasks) unfinished variables = trees_left environment tasks (closed unfinished) variables
+abbrev pub bound_rest_resolved : Environment → Binding → Rest → ResolvedTrees
+bound_rest_resolved environment first rest =
+    a_resolved (resolved_at first.bound.variable.place (bound_resolved environment rest.word first.bound) (one_resolved (tree_resolved environment first.value)))
+    (rest_resolved (with_bound first.bound environment) rest)
+
+abbrev pub refusals_left : Environment → List Task → List Refusal
+refusals_left environment [] = []
+refusals_left environment (Tree tree ∷ tasks) = tree_refusals environment tree.now ++ refusals_left environment tasks
+refusals_left environment (Trees trees ∷ tasks) = trees_refusals environment (trees_of trees.now) ++ refusals_left environment tasks
+refusals_left environment (Clauses rest ∷ tasks) = rest_refusals environment rest ++ refusals_left environment tasks
+refusals_left environment (Keys keys ∷ tasks) = keys_refusals environment (keys_of keys.now) ++ refusals_left environment tasks
+refusals_left environment (Cases cases ∷ tasks) = cases_refusals environment (cases_of cases.now) ++ refusals_left environment tasks
+refusals_left environment (Default heading otherwise ∷ tasks) = default_refusals environment heading.now otherwise.now ++ refusals_left environment tasks
+refusals_left environment (Bind binder ∷ tasks) = refusals_left (with_variable binder.now environment) tasks
+refusals_left environment (BindOptional binder ∷ tasks) = refusals_left (with_optional binder.now environment) tasks
+refusals_left environment (Unbind ∷ tasks) = refusals_left (without_variable environment) tasks
+refusals_left environment (UnbindOptional binder ∷ tasks) = refusals_left (without_optional binder.now environment) tasks
+refusals_left environment (Written kind ∷ tasks) = type_refusals environment kind.now ++ refusals_left environment tasks
+refusals_left environment (Target target ∷ tasks) = target_refusals environment target.now ++ refusals_left environment tasks
+refusals_left environment (Close ∷ tasks) = refusals_left environment tasks
+
+-- the trees, and what names stand for behind them
+abbrev pub trees_left : Environment → List Task → List ResolvedTree → List ResolvedTree × Environment
+trees_left environment [] unfinished = (unfinished, environment)
+trees_left environment (Tree tree ∷ tasks) unfinished = trees_left environment tasks (adopted (tree_resolved environment tree.now) unfinished)
+trees_left environment (Trees trees ∷ tasks) unfinished = trees_left environment tasks (all_adopted (trees_resolved environment (trees_of trees.now)) unfinished)
+trees_left environment (Clauses rest ∷ tasks) unfinished = trees_left environment tasks (all_adopted (rest_resolved environment rest) unfinished)
+trees_left environment (Keys keys ∷ tasks) unfinished = trees_left environment tasks (all_adopted (keys_resolved environment (keys_of keys.now)) unfinished)
+trees_left environment (Cases cases ∷ tasks) unfinished = trees_left environment tasks (all_adopted (cases_resolved environment (cases_of cases.now)) unfinished)
+trees_left environment (Default heading otherwise ∷ tasks) unfinished = trees_left environment tasks (adopted (default_resolved environment heading.now otherwise.now) unfinished)
+trees_left environment (Bind binder ∷ tasks) unfinished = trees_left (with_variable binder.now environment) tasks unfinished
+trees_left environment (BindOptional binder ∷ tasks) unfinished = trees_left (with_optional binder.now environment) tasks unfinished
+trees_left environment (Unbind ∷ tasks) unfinished = trees_left (without_variable environment) tasks unfinished
+trees_left environment (UnbindOptional binder ∷ tasks) unfinished = trees_left (without_optional binder.now environment) tasks unfinished
+trees_left environment (Written kind ∷ tasks) unfinished = trees_left environment tasks unfinished
+trees_left environment (Target target ∷ tasks) unfinished = trees_left environment tasks unfinished
+trees_left environment (Close ∷ tasks) unfinished = trees_left environment tasks (closed unfinished)
 
 abbrev pub refusals_of_rest : Resolving → List Refusal
-refusals_of_rest r = refusals_left r.names.now r.tasks r.variables
+refusals_of_rest r = refusals_left r.names r.tasks
 
 abbrev pub refusals_with : Task → Resolving → List Refusal
-refusals_with task r = refusals_left r.names.now (task ∷ r.tasks) r.variables
+refusals_with task r = refusals_left r.names (task ∷ r.tasks)
 
-abbrev pub trees_of_rest : Resolving → List ResolvedTree × Variables
-trees_of_rest r = trees_left r.names.now r.tasks r.unfinished r.variables
+abbrev pub trees_of_rest : Resolving → List ResolvedTree × Environment
+trees_of_rest r = trees_left r.names r.tasks r.unfinished
 
-abbrev pub trees_with : Task → Resolving → List ResolvedTree × Variables
-trees_with task r = trees_left r.names.now (task ∷ r.tasks) r.unfinished r.variables
+abbrev pub trees_with : Task → Resolving → List ResolvedTree × Environment
+trees_with task r = trees_left r.names (task ∷ r.tasks) r.unfinished
 
 -- with a tree that is finished
-abbrev pub trees_behind : ResolvedTree → Resolving → List ResolvedTree × Variables
-trees_behind tree r = trees_left r.names.now r.tasks (adopted tree r.unfinished) r.variables
+abbrev pub trees_behind : ResolvedTree → Resolving → List ResolvedTree × Environment
+trees_behind tree r = trees_left r.names r.tasks (adopted tree r.unfinished)

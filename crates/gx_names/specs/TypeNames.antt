@@ -1,5 +1,5 @@
 -- Types as they are written, with their names resolved (XQuery 1.0, sections 2.5.3 and 2.5.4).
-use Rattle.std.specs.Prelude.{◌≡◌, ℕ, Bool, true, false, List, [], ◌∷◌, ◌++◌, Option, None, Some, unwrap_or, if◌then◌else◌}
+use Rattle.std.specs.Prelude.{ℕ, Bool, false, List, [], ◌∷◌, ◌++◌, Option, None, Some, unwrap_or, if◌then◌else◌}
 use Rattle.std.specs.Option.{option_map}
 use Rattle.gx_base.specs.declared.name.Name.{Name}
 use Rattle.gx_base.specs.declared.place.Place.{Place}
@@ -20,19 +20,22 @@ use Rattle.gx_ast.specs.declared.sequence_type.ItemType.TheVariants as written
 use Rattle.gx_ast.specs.declared.sequence_type.SequenceType.{SequenceType as WrittenType}
 use Rattle.gx_ast.specs.declared.sequence_type.SequenceType.TheVariants as sequences
 use Rattle.gx_types.specs.declared.item_type.ItemType.TheVariants as items
-use Rattle.gx_types.specs.SchemaSet.{SchemaSet, global_type}
+use Rattle.gx_types.specs.SchemaSet.{global_type}
 use Rattle.gx_types.specs.SameItemType.{same_type_name}
 use Rattle.gx_types.specs.Choice.{choice_among}
 use Rattle.gx_types.specs.Indicator.{optional_of, star_of, plus_of}
 use Rattle.gx_types.specs.SequenceType.{SequenceType, nothing, item}
 use Rattle.gx_typetext.specs.KnownNames.{type_with_name, atomic_with_name, node_types, item_types}
 use Rattle.gx_names.specs.declared.refusal.Refusal.{Refusal}
-use Rattle.gx_names.specs.Environment.{Environment, element_name, plain_name, or_no_name}
+use Rattle.gx_names.specs.Environment.{Environment, element_name, plain_name, or_nameless}
 
 -- ---- refusals
 
 abbrev pub refused_at : Place → Code → List Refusal
 refused_at place code = (record { code = code; place = place }) ∷ []
+
+abbrev pub refused_if : Bool → Place → Code → List Refusal
+refused_if wrong place code = if wrong then refused_at place code else []
 
 -- a name whose prefix is unknown; and else what is refused of the name
 abbrev pub where_named : Option Name → Place → (Name → List Refusal) → List Refusal
@@ -51,6 +54,11 @@ kind_refusals environment (Some kind) =
 
 abbrev pub prefix_refusals : Option Name → Place → List Refusal
 prefix_refusals name place = where_named name place (λ n. [])
+
+-- a prefix by itself
+abbrev pub uri_refusals : Option (List ℕ) → Place → List Refusal
+uri_refusals None place = refused_at place XPST0081
+uri_refusals (Some uri) place = []
 
 abbrev pub tested_element_refusals : Environment → Option QName → List Refusal
 tested_element_refusals environment None = []
@@ -114,13 +122,13 @@ target_refusals environment target =
 -- the type in a test: where none is written any type
 abbrev pub tested_type : Environment → Builtin → Option QName → TypeName
 tested_type environment any None = names.Builtin any
-tested_type environment any (Some kind) = unwrap_or (type_with_name environment.schemas (or_no_name (element_name environment kind))) (names.Builtin any)
+tested_type environment any (Some kind) = unwrap_or (type_with_name environment.schemas (or_nameless (element_name environment kind))) (names.Builtin any)
 
 abbrev pub element_test_name : Environment → TestedName → Option Name
-element_test_name environment tested = option_map (λ name. or_no_name (element_name environment name)) tested.name
+element_test_name environment tested = option_map (λ name. or_nameless (element_name environment name)) tested.name
 
 abbrev pub attribute_test_name : Environment → TestedName → Option Name
-attribute_test_name environment tested = option_map (λ name. or_no_name (plain_name environment name)) tested.name
+attribute_test_name environment tested = option_map (λ name. or_nameless (plain_name environment name)) tested.name
 
 -- the name and the type that an element test asks for
 abbrev pub element_tested : Environment → Option TestedName → Option Name × TypeName
@@ -134,7 +142,7 @@ attribute_tested environment (Some tested) = (attribute_test_name environment te
 -- the name and the type of a global element
 abbrev pub element_declared : Environment → QName → Option Name × TypeName
 element_declared environment name =
-    let n = or_no_name (element_name environment name) in
+    let n = or_nameless (element_name environment name) in
     (Some n, unwrap_or (global_type environment.schemas n) (names.Builtin builtins.AnyType))
 
 abbrev pub element_item : Option Name × TypeName → SequenceType
@@ -157,19 +165,19 @@ test_type environment (kinds.Attribute place tested) = attribute_item (attribute
 test_type environment (kinds.Declared place name) = element_item (element_declared environment name)
 
 abbrev pub atomic_named : Environment → QName → TypeName
-atomic_named environment name = unwrap_or (atomic_with_name environment.schemas (or_no_name (element_name environment name))) (names.Builtin builtins.AnyAtomic)
+atomic_named environment name = unwrap_or (atomic_with_name environment.schemas (or_nameless (element_name environment name))) (names.Builtin builtins.AnyAtomic)
 
 abbrev pub item_type_of : Environment → ItemType → SequenceType
 item_type_of environment (written.Item place) = choice_among item_types
 item_type_of environment (written.Kind test) = test_type environment test
 item_type_of environment (written.Atomic name) = item (items.Atom (atomic_named environment name))
 
-abbrev pub with_indicator : Indicator → SequenceType → SequenceType
-with_indicator indicated.Once t = t
-with_indicator indicated.Optional t = optional_of t
-with_indicator indicated.Star t = star_of t
-with_indicator indicated.Plus t = plus_of t
+abbrev pub indicated_type : Indicator → SequenceType → SequenceType
+indicated_type indicated.Once t = t
+indicated_type indicated.Optional t = optional_of t
+indicated_type indicated.Star t = star_of t
+indicated_type indicated.Plus t = plus_of t
 
 abbrev pub type_written : Environment → WrittenType → SequenceType
 type_written environment (sequences.Empty place) = nothing
-type_written environment (sequences.Items kind indicator) = with_indicator indicator (item_type_of environment kind)
+type_written environment (sequences.Items kind indicator) = indicated_type indicator (item_type_of environment kind)

@@ -16,12 +16,11 @@ pub fn dismantle(alloc: Global, tree: ResolvedExpr) {
 }
 
 fn set_aside(tree: ResolvedExpr, aside: &mut Vec<ResolvedExpr>) {
-    let ResolvedExpr {
-        place: _,
-        construct: _,
-        parts,
-    } = tree;
-    for part in parts {
+    for part in parts_of(tree) {
         let _kept = aside.push(part);
     }
+}
+
+fn parts_of(tree: ResolvedExpr) -> Vec<ResolvedExpr> {
+    tree.parts
 }

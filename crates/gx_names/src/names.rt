@@ -1,21 +1,27 @@
 // Expanded names.
 
-ghost use Rattle.std.specs.Prelude.{◌≡◌, ◌∷◌, IfOk, OnOk, option_copied};
+ghost use Rattle.std.specs.Prelude.{◌≡◌, [], ◌∷◌, IfOk, OnOk, option_copied};
 ghost use Rattle.std.specs.Str.{chars};
 ghost use Rattle.gx_names.specs.Environment.{expanded, known_namespaces};
 
 use crate::nested_map::NestedMap;
-use gx_ast::name::QName;
-use gx_base::name::Name;
+use crate::signature::Signature;
+use crate::type_names::or_nameless;
+use gx_ast::name::{QName, Variable};
+use gx_base::name::{Name, SharedName};
+use gx_base::place::Place;
 use gx_base::text::Text;
 use gx_types::schemas::Schemas;
 use std::alloc::{AllocError, Global};
 use std::marker::Model;
 
-/// The namespaces in scope, with the schemas (XQuery 1.0, section 2.1.1).
+/// What names stand for at a point of a query: the namespaces and the variables in scope, the declared functions, and the schemas
+/// (XQuery 1.0, section 2.1.1).
 #[derive(Drop)]
 pub struct Names<'s> {
     namespaces: NestedMap<Text, Text>,
+    declared: NestedMap<Signature, Place>,
+    variables: NestedMap<SharedName, Place>,
     nowhere: Text,
     functions: Text,
     pub(crate) schemas: &'s Schemas,
@@ -31,21 +37,24 @@ impl<'s> Model for Names<'s> {
 
     ghost coded = { Prim.hlevel (codes, kinds.the_row.coded) };
 
-    ghost view = { λ n. record { namespaces = n.namespaces; schemas = n.schemas.now } };
+    ghost view = { λ n. record { namespaces = n.namespaces; functions = n.declared; variables = n.variables; schemas = n.schemas.now } };
 
     ghost invariant = { λ n. (n.nowhere ≡ []) × (n.functions ≡ function_uri) };
 }
 
 impl<'s> Names<'s> {
     ghost use Rattle.gx_base.specs.Text.{same_text};
-    ghost use Rattle.gx_names.specs.Environment.{element_name, function_name, function_uri, known_namespaces, plain_name, uri_of, default_element_uri};
+    ghost use Rattle.gx_names.specs.Environment.{binder_of, called_name, default_element_uri, element_name, function_uri, is_declared_function, known_namespaces, plain_name, uri_of, with_optional, with_variable, without_optional, without_variable};
 
     /// What is known without a declaration.
+    #[tactic(auto, unfolding(crate::specs::Environment::function_uri))]
     pub fn new(alloc: Global, schemas: &'s Schemas) -> Result<Names<'s>, AllocError>
-        ensures { IfOk result (λ n. n ≡ record { namespaces = known_namespaces; schemas = schemas.now }) }
+        ensures { IfOk result (λ n. n ≡ record { namespaces = known_namespaces; functions = []; variables = []; schemas = schemas.now }) }
     {
         Ok(Names {
             namespaces: known_namespaces(alloc)?,
+            declared: NestedMap::new(alloc),
+            variables: NestedMap::new(alloc),
             nowhere: Text::empty(alloc)?,
             functions: Text::from_str(alloc, FUNCTIONS)?,
             schemas,
@@ -104,10 +113,78 @@ impl<'s> Names<'s> {
     }
 
     /// The name of a function; None exactly where its prefix is unknown.
-    pub fn function_name(&self, name: &QName) -> Result<Option<Name>, AllocError>
-        ensures { IfOk result (λ n. n ≡ function_name self.now name.now) }
+    pub fn called_name(&self, name: &QName) -> Result<Option<Name>, AllocError>
+        ensures { IfOk result (λ n. n ≡ called_name self.now name.now) }
     {
         expanded(name, self.uri_of(&self.functions, &name.prefix))
+    }
+
+    /// The URI of a prefix by itself; None exactly where it is unknown.
+    pub fn prefix_uri(&self, prefix: &Text) -> Option<&Text>
+        ensures { option_copied result ≡ uri_of self.now.namespaces [] prefix.now }
+    {
+        self.uri_of(&self.nowhere, prefix)
+    }
+
+    /// Declares a function.
+    pub fn declare(&mut self, signature: Signature, place: Place) -> Result<(), AllocError>
+        ensures { OnOk result (self.new ≡ record self.old { functions = (signature, place) ∷ self.old.functions }) }
+    {
+        self.declared.bind(signature, place)
+    }
+
+    /// Whether a function of this name with so many parameters is declared.
+    pub fn is_declared(&self, name: SharedName, arity: usize) -> bool
+        ensures { result ≡ is_declared_function self.now name arity }
+    {
+        self.declared.find(&Signature { name, arity }).is_some()
+    }
+
+    /// The place of the binder that a variable has in scope.
+    pub fn binder(&self, name: &SharedName) -> Option<&Place>
+        ensures { option_copied result ≡ binder_of self.now.variables name.now }
+    {
+        self.variables.find(name)
+    }
+
+    /// Binds a variable inside the others.
+    pub fn bind_variable(&mut self, alloc: Global, variable: &Variable) -> Result<(), AllocError>
+        ensures { OnOk result (self.new ≡ with_variable variable.now self.old) }
+    {
+        let name = or_nameless(alloc, self.plain_name(&variable.name)?)?;
+        let name = SharedName::new(alloc, name)?;
+        self.variables.bind(name, variable.place)
+    }
+
+    /// Binds a variable, if there is one.
+    pub fn bind_optional(
+        &mut self,
+        alloc: Global,
+        variable: &Option<Variable>,
+    ) -> Result<(), AllocError>
+        ensures { OnOk result (self.new ≡ with_optional variable.now self.old) }
+    {
+        match variable {
+            Some(variable) => self.bind_variable(alloc, variable),
+            None => Ok(()),
+        }
+    }
+
+    /// Takes the innermost variable away.
+    pub fn unbind_variable(&mut self) -> Result<(), AllocError>
+        ensures { OnOk result (self.new ≡ without_variable self.old) }
+    {
+        self.variables.unbind()
+    }
+
+    /// Takes the innermost variable away, if one was bound.
+    pub fn unbind_optional(&mut self, variable: &Option<Variable>) -> Result<(), AllocError>
+        ensures { OnOk result (self.new ≡ without_optional variable.now self.old) }
+    {
+        match variable {
+            Some(_) => self.unbind_variable(),
+            None => Ok(()),
+        }
     }
 }
 

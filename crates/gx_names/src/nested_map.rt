@@ -1,7 +1,7 @@
 // Bindings of keys that stand one inside another.
 
 ghost use Rattle.std.specs.Prelude.{◌≡◌, [], ◌∷◌, OnOk, IfOk, drop, option_copied};
-ghost use Rattle.gx_names.specs.NestedMap.{bound_value};
+ghost use Rattle.gx_names.specs.NestedMap.{innermost_value};
 
 use crate::stack::Stack;
 use indexmap::IndexMap;
@@ -25,13 +25,13 @@ pub struct NestedMap<K: Eq + Hash, V> {
 
 impl<K: Eq + Hash, V> Model for NestedMap<K, V> {
     ghost use Rattle.std.specs.Prelude.{List};
-    ghost use Rattle.gx_names.specs.NestedBindings.{IsIndexed, pairs};
+    ghost use Rattle.gx_names.specs.NestedBindings.{IsIndexOf, pairs};
 
     ghost Value = { List (K × V) };
 
     ghost view = { λ m. pairs m.bindings };
 
-    ghost invariant = { λ m. IsIndexed K.eq m.innermost m.bindings };
+    ghost invariant = { λ m. IsIndexOf K.eq m.innermost m.bindings };
 }
 
 impl<K: Eq + Hash + Clone + Drop, V: Clone + Drop> NestedMap<K, V> {
@@ -47,7 +47,7 @@ impl<K: Eq + Hash + Clone + Drop, V: Clone + Drop> NestedMap<K, V> {
 
     /// The value of the innermost binding of a key.
     pub fn find(&self, key: &K) -> Option<&V>
-        ensures { option_copied result ≡ bound_value K.eq self.now key.now }
+        ensures { option_copied result ≡ innermost_value K.eq self.now key.now }
     {
         match self.innermost.get(key) {
             Some(Some(value)) => Some(value),

@@ -1,90 +1,100 @@
 // A resolution in its midst: the tasks that are left, and the trees in the making.
 
 ghost use Rattle.std.specs.Prelude.{◌≡◌, ◌≢◌, [], ◌∷◌, ◌++◌, OnOk, IfOk, Some};
-ghost use Rattle.gx_ast.specs.SyntaxTree.{call, cast_as, castable_as, conditional};
-ghost use Rattle.gx_ast.specs.SyntaxView.{trees_of};
+ghost use Rattle.gx_ast.specs.SyntaxTree.{call, cast_as, castable_as, conditional, filtered, instance_of, treat_as};
+ghost use Rattle.gx_ast.specs.SyntaxView.{keys_of, trees_of};
 ghost use Rattle.gx_names.specs.declared.resolving.Task.TheVariants as tasks;
 ghost use Rattle.gx_names.specs.declared.tree.Construct.TheVariants as constructs;
-ghost use Rattle.gx_names.specs.Refusals.{binder_refusals, call_refusals, form_refusals, tree_refusals, use_refusals};
+ghost use Rattle.gx_names.specs.TreeRefusals.{call_refusals, form_refusals, keys_refusals, tree_refusals, use_refusals};
+ghost use Rattle.gx_names.specs.Steps.{step_refusals, step_tested, axis_of_step};
 ghost use Rattle.gx_names.specs.Refused.{Judges, Proceeds};
-ghost use Rattle.gx_names.specs.ResolvedTree.{no_resolved, one_resolved, resolved_at, three_resolved, two_resolved};
-ghost use Rattle.gx_names.specs.Resolution.{binder_resolved, call_resolved, form_resolved, tree_resolved, use_resolved};
+ghost use Rattle.gx_names.specs.ResolvedTree.{and_parts, no_resolved, one_resolved, resolved_at, three_resolved, two_resolved};
+ghost use Rattle.gx_names.specs.TreeResolution.{call_resolved, form_resolved, keys_resolved, tree_resolved, use_resolved};
 ghost use Rattle.gx_names.specs.Stacked.{first};
-ghost use Rattle.gx_names.specs.Resolving.{adopted, all_adopted, refusals_of_rest, refusals_with, rest_refusals, rest_resolved, trees_behind, trees_left, trees_of_rest, trees_with};
+ghost use Rattle.gx_names.specs.Resolving.{adopted, all_adopted, bound_rest_refusals, bound_rest_resolved, refusals_of_rest, refusals_with, rest_refusals, rest_resolved, trees_behind, trees_left, trees_of_rest, trees_with, with_part};
 
+use crate::binders::bound_construct;
 use crate::dismantle::dismantle;
 use crate::names::Names;
-use crate::nested_map::NestedMap;
 use crate::refusal::NameRefusal;
 use crate::stack::Stack;
-use crate::tree::{BoundName, Construct, ResolvedExpr};
-use crate::type_names::{
-    atomic_named, check_target, check_written_type, or_no_name, refused, type_written,
-};
-use gx_ast::expression::{Binding, Clause, Expr, ExprNode};
+use crate::steps::{axis_of_step, check_step, step_tested};
+use crate::tree::{BindingWord, Construct, ResolvedExpr};
+use crate::type_names::{atomic_named, check_target, check_type, refused, type_written};
+use gx_ast::expression::{Binding, Case, Clause, Expr, ExprNode, Key};
 use gx_ast::name::{QName, Variable};
-use gx_ast::sequence_type::{SequenceType, SingleType};
+use gx_ast::sequence_type::{AxisStep, DefaultHead, SequenceType, SingleType};
 use gx_base::code::Code;
 use gx_base::name::SharedName;
 use gx_base::place::Place;
-use gx_funcs::function::{Function, find_local};
+use gx_funcs::function::find_local;
 use std::alloc::{AllocError, Global};
 
-/// The variables in scope, with the places of their binders.
-pub(crate) type Scope = NestedMap<SharedName, Place>;
+// What follows in a FLWOR or a quantified expression: bindings of a clause with that word, clauses, sort keys, and what is returned.
+#[derive(Clone, Copy)]
+pub(crate) struct Rest<'a> {
+    word: BindingWord,
+    bindings: &'a [Binding],
+    clauses: &'a [Clause],
+    keys: &'a [Key],
+    returned: &'a Expr,
+}
 
-// A task: to resolve a tree, or trees, which become the last parts of the innermost open tree; what follows bindings and clauses of
-// a FLWOR; to bind a variable; to take the innermost one away; to look at the type of a cast; or to close the innermost open tree.
+// A task: to resolve a tree, or trees, which become the last parts of the innermost open tree, likewise what follows in a FLWOR, sort
+// keys, cases and a default; to bind variables, and to take them away; to look at a type; or to close the innermost open tree.
 #[derive(Clone, Copy)]
 pub(crate) enum Task<'a> {
     Tree(&'a Expr),
     Trees(&'a [Expr]),
-    Clauses(&'a [Binding], &'a [Clause], &'a Expr),
+    Clauses(Rest<'a>),
+    Keys(&'a [Key]),
+    Cases(&'a [Case]),
+    Default(&'a DefaultHead, &'a Expr),
     Bind(&'a Variable),
+    BindOptional(&'a Option<Variable>),
     Unbind,
+    UnbindOptional(&'a Option<Variable>),
+    Written(&'a SequenceType),
     Target(&'a QName),
     Close,
 }
 
 // `unfinished` has the trees in the making, the innermost on top.
 #[derive(Drop)]
-pub(crate) struct Resolving<'a> {
+pub(crate) struct Resolving<'a, 's> {
     pub(crate) tasks: Stack<Task<'a>>,
-    unfinished: Stack<ResolvedExpr>,
-    variables: Scope,
-    names: &'a Names<'a>,
+    pub(crate) unfinished: Stack<ResolvedExpr>,
+    pub(crate) names: Names<'s>,
 }
 
-impl<'a> Resolving<'a> {
+impl<'a, 's> Resolving<'a, 's> {
     // The resolution of a tree.
     #[tactic(auto, using(crate::proofs::ResolvingLemmas::nothing_behind))]
     pub(crate) fn new(
         alloc: Global,
-        names: &'a Names<'a>,
-        variables: Scope,
+        names: Names<'s>,
         tree: &'a Expr,
-    ) -> Result<Resolving<'a>, AllocError>
-        ensures refusals { IfOk result (λ r. refusals_of_rest r ≡ tree_refusals names.now tree.now variables) }
-        ensures trees { IfOk result (λ r. trees_of_rest r ≡ (tree_resolved names.now tree.now variables ∷ [], variables)) }
+    ) -> Result<Resolving<'a, 's>, AllocError>
+        ensures refusals { IfOk result (λ r. refusals_of_rest r ≡ tree_refusals names.entry tree.now) }
+        ensures trees { IfOk result (λ r. trees_of_rest r ≡ (tree_resolved names.entry tree.now ∷ [], names.entry)) }
     {
         let mut tasks = Stack::new(alloc);
         tasks.push(Task::Tree(tree))?;
         Ok(Resolving {
             tasks,
             unfinished: Stack::new(alloc),
-            variables,
             names,
         })
     }
 
-    // The tree, where no task is left, and the variables behind it.
-    pub(crate) fn result(mut self) -> (ResolvedExpr, Scope)
+    // The tree, where no task is left, and what names stand for behind it.
+    pub(crate) fn result(mut self) -> (ResolvedExpr, Names<'s>)
         requires { self.unfinished ≢ [] }
         ensures tree { first self.entry.unfinished ≡ Some result.0 }
-        ensures variables { result.1 ≡ self.entry.variables }
+        ensures names { result.1 ≡ self.entry.names }
     {
         match self.unfinished.pop() {
-            Some(tree) => (tree, self.variables),
+            Some(tree) => (tree, self.names),
             None => unreachable!(),
         }
     }
@@ -104,11 +114,15 @@ impl<'a> Resolving<'a> {
         match task {
             Task::Tree(tree) => self.open_tree(alloc, tree),
             Task::Trees(trees) => Ok(self.open_trees(trees)?),
-            Task::Clauses(bindings, clauses, returned) => {
-                self.open_clauses(alloc, bindings, clauses, returned)
-            }
-            Task::Bind(variable) => Ok(self.bind(alloc, variable)?),
-            Task::Unbind => Ok(self.variables.unbind()?),
+            Task::Clauses(rest) => self.open_rest(alloc, rest),
+            Task::Keys(keys) => Ok(self.open_keys(alloc, keys)?),
+            Task::Cases(cases) => self.open_cases(alloc, cases),
+            Task::Default(head, otherwise) => self.open_default(alloc, head, otherwise),
+            Task::Bind(variable) => Ok(self.names.bind_variable(alloc, variable)?),
+            Task::BindOptional(variable) => Ok(self.names.bind_optional(alloc, variable)?),
+            Task::Unbind => Ok(self.names.unbind_variable()?),
+            Task::UnbindOptional(variable) => Ok(self.names.unbind_optional(variable)?),
+            Task::Written(kind) => self.check_type(alloc, kind),
             Task::Target(target) => self.check_target(alloc, target),
             Task::Close => Ok(self.close()?),
         }
@@ -119,22 +133,28 @@ impl<'a> Resolving<'a> {
         ensures refusals { Proceeds result (refusals_with (tasks.Target target.entry) self.old) (refusals_of_rest self.new) }
         ensures same { self.new ≡ self.old }
     {
-        check_target(alloc, self.names, target)
+        check_target(alloc, &self.names, target)
+    }
+
+    #[tactic(auto, using(crate::proofs::ResolvingLemmas::judged_proceeds))]
+    fn check_type(&mut self, alloc: Global, kind: &SequenceType) -> Result<(), NameRefusal>
+        ensures refusals { Proceeds result (refusals_with (tasks.Written kind.entry) self.old) (refusals_of_rest self.new) }
+        ensures same { self.new ≡ self.old }
+    {
+        check_type(alloc, &self.names, kind)
     }
 
     // Makes a finished tree the last part of the innermost open one.
-    #[tactic(auto, using(crate::proofs::ResolvingLemmas::parts_with_one_more))]
-    fn adopt(&mut self, tree: ResolvedExpr) -> Result<(), AllocError>
+    pub(crate) fn adopt(&mut self, tree: ResolvedExpr) -> Result<(), AllocError>
         ensures unfinished { OnOk result (self.new.unfinished ≡ adopted tree self.old.unfinished) }
         ensures tasks { self.new.tasks ≡ self.old.tasks }
-        ensures variables { self.new.variables ≡ self.old.variables }
         ensures names { self.new.names ≡ self.old.names }
     {
         match self.unfinished.pop() {
             None => self.unfinished.push(tree),
-            Some(mut outer) => {
-                outer.parts.push(tree)?;
-                self.unfinished.push(outer)
+            Some(around) => {
+                let around = with_part(around, tree)?;
+                self.unfinished.push(around)
             }
         }
     }
@@ -150,7 +170,12 @@ impl<'a> Resolving<'a> {
     }
 
     // A tree without parts.
-    fn leaf(&mut self, alloc: Global, place: Place, construct: Construct) -> Result<(), AllocError>
+    pub(crate) fn leaf(
+        &mut self,
+        alloc: Global,
+        place: Place,
+        construct: Construct,
+    ) -> Result<(), AllocError>
         ensures refusals { OnOk result (refusals_of_rest self.new ≡ refusals_of_rest self.old) }
         ensures trees { OnOk result (trees_of_rest self.new ≡ trees_behind (resolved_at place construct no_resolved) self.old) }
     {
@@ -163,30 +188,34 @@ impl<'a> Resolving<'a> {
     }
 
     // Opens a tree.
-    fn begin(&mut self, alloc: Global, place: Place, construct: Construct) -> Result<(), AllocError>
+    pub(crate) fn begin(
+        &mut self,
+        alloc: Global,
+        place: Place,
+        construct: Construct,
+    ) -> Result<(), AllocError>
         ensures unfinished { OnOk result (self.new.unfinished ≡ resolved_at place construct no_resolved ∷ self.old.unfinished) }
         ensures tasks { OnOk result (self.new.tasks ≡ tasks.Close ∷ self.old.tasks) }
-        ensures variables { self.new.variables ≡ self.old.variables }
         ensures names { self.new.names ≡ self.old.names }
     {
         let parts = Vec::new(alloc);
-        self.tasks.push(Task::Close)?;
         self.unfinished.push(ResolvedExpr {
             place,
             construct,
             parts,
-        })
+        })?;
+        self.tasks.push(Task::Close)
     }
 
-    fn open_one(
+    pub(crate) fn open_one(
         &mut self,
         alloc: Global,
         place: Place,
         construct: Construct,
         inner: &'a Expr,
     ) -> Result<(), AllocError>
-        ensures refusals { OnOk result (refusals_of_rest self.new ≡ tree_refusals self.old.names.now inner.now self.old.variables ++ refusals_of_rest self.old) }
-        ensures trees { OnOk result (trees_of_rest self.new ≡ trees_behind (resolved_at place construct (one_resolved (tree_resolved self.old.names.now inner.now self.old.variables))) self.old) }
+        ensures refusals { OnOk result (refusals_of_rest self.new ≡ tree_refusals self.old.names inner.now ++ refusals_of_rest self.old) }
+        ensures trees { OnOk result (trees_of_rest self.new ≡ trees_behind (resolved_at place construct (one_resolved (tree_resolved self.old.names inner.now))) self.old) }
     {
         self.begin(alloc, place, construct)?;
         self.tasks.push(Task::Tree(inner))
@@ -200,8 +229,8 @@ impl<'a> Resolving<'a> {
         first: &'a Expr,
         second: &'a Expr,
     ) -> Result<(), AllocError>
-        ensures refusals { OnOk result (refusals_of_rest self.new ≡ tree_refusals self.old.names.now first.now self.old.variables ++ (tree_refusals self.old.names.now second.now self.old.variables ++ refusals_of_rest self.old)) }
-        ensures trees { OnOk result (trees_of_rest self.new ≡ trees_behind (resolved_at place construct (two_resolved (tree_resolved self.old.names.now first.now self.old.variables) (tree_resolved self.old.names.now second.now self.old.variables))) self.old) }
+        ensures refusals { OnOk result (refusals_of_rest self.new ≡ tree_refusals self.old.names first.now ++ (tree_refusals self.old.names second.now ++ refusals_of_rest self.old)) }
+        ensures trees { OnOk result (trees_of_rest self.new ≡ trees_behind (resolved_at place construct (two_resolved (tree_resolved self.old.names first.now) (tree_resolved self.old.names second.now))) self.old) }
     {
         self.begin(alloc, place, construct)?;
         self.tasks.push(Task::Tree(second))?;
@@ -228,8 +257,8 @@ impl<'a> Resolving<'a> {
         chosen: &'a Expr,
         otherwise: &'a Expr,
     ) -> Result<(), AllocError>
-        ensures refusals { OnOk result (refusals_of_rest self.new ≡ form_refusals self.old.names.now place (conditional test.now chosen.now otherwise.now) self.old.variables ++ refusals_of_rest self.old) }
-        ensures trees { OnOk result (trees_of_rest self.new ≡ trees_behind (form_resolved self.old.names.now place (conditional test.now chosen.now otherwise.now) self.old.variables) self.old) }
+        ensures refusals { OnOk result (refusals_of_rest self.new ≡ form_refusals self.old.names place (conditional test.now chosen.now otherwise.now) ++ refusals_of_rest self.old) }
+        ensures trees { OnOk result (trees_of_rest self.new ≡ trees_behind (form_resolved self.old.names place (conditional test.now chosen.now otherwise.now)) self.old) }
     {
         self.begin(alloc, place, Construct::If)?;
         self.tasks.push(Task::Tree(otherwise))?;
@@ -253,14 +282,36 @@ impl<'a> Resolving<'a> {
             ExprNode::Parenthesised(inner) => {
                 Ok(self.open_one(alloc, place, Construct::Parenthesised, inner)?)
             }
+            ExprNode::Empty => Ok(self.leaf(alloc, place, Construct::Empty)?),
+            ExprNode::Context => Ok(self.leaf(alloc, place, Construct::Context)?),
             ExprNode::Call(name, arguments) => {
                 self.open_call(alloc, place, name, arguments.as_slice())
             }
             ExprNode::Sequence(first, second) => {
                 Ok(self.open_two(alloc, place, Construct::Sequence, first, second)?)
             }
-            ExprNode::Flwor(clauses, _, _, returned) => {
-                Ok(self.open_flwor(alloc, place, clauses.as_slice(), returned)?)
+            ExprNode::Flwor(clauses, _, keys, returned) => {
+                let rest = Rest {
+                    word: BindingWord::Let,
+                    bindings: &[],
+                    clauses: clauses.as_slice(),
+                    keys: keys.as_slice(),
+                    returned,
+                };
+                Ok(self.open_bindings(alloc, place, Construct::Flwor, rest)?)
+            }
+            ExprNode::Quantified(every, bindings, condition) => {
+                let rest = Rest {
+                    word: BindingWord::Satisfies,
+                    bindings: bindings.as_slice(),
+                    clauses: &[],
+                    keys: &[],
+                    returned: condition,
+                };
+                Ok(self.open_bindings(alloc, place, Construct::Quantified(*every), rest)?)
+            }
+            ExprNode::Typeswitch(operand, cases, head, otherwise) => {
+                Ok(self.open_typeswitch(alloc, place, operand, cases.as_slice(), head, otherwise)?)
             }
             ExprNode::If(test, chosen, otherwise) => {
                 Ok(self.open_three(alloc, place, test, chosen, otherwise)?)
@@ -269,6 +320,10 @@ impl<'a> Resolving<'a> {
                 let construct = Construct::Binary(*operator);
                 Ok(self.open_two(alloc, place, construct, left, right)?)
             }
+            ExprNode::InstanceOf(operand, kind) => {
+                Ok(self.open_instance(alloc, place, operand, kind)?)
+            }
+            ExprNode::TreatAs(operand, kind) => Ok(self.open_treat(alloc, place, operand, kind)?),
             ExprNode::CastableAs(operand, kind) => {
                 Ok(self.open_castable(alloc, place, operand, kind)?)
             }
@@ -276,7 +331,26 @@ impl<'a> Resolving<'a> {
             ExprNode::Signed(minus, operand) => {
                 Ok(self.open_one(alloc, place, Construct::Signed(*minus), operand)?)
             }
-            _ => Ok(self.leaf(alloc, place, Construct::Empty)?),
+            ExprNode::Path(descendants, left, right) => {
+                let construct = Construct::Path(*descendants);
+                Ok(self.open_two(alloc, place, construct, left, right)?)
+            }
+            ExprNode::Step(step) => self.step_from_context(alloc, place, step),
+            ExprNode::ParentStep => Ok(self.leaf(alloc, place, Construct::ParentStep)?),
+            ExprNode::Filtered(operand, predicates) => {
+                Ok(self.open_filtered(alloc, place, operand, predicates.as_slice())?)
+            }
+            ExprNode::Direct(_) => Ok(self.leaf(alloc, place, Construct::Empty)?),
+            ExprNode::Document(content) => {
+                Ok(self.open_one(alloc, place, Construct::Document, content)?)
+            }
+            ExprNode::TextNode(content) => {
+                Ok(self.open_one(alloc, place, Construct::TextNode, content)?)
+            }
+            ExprNode::Element(name, content) => self.open_element(alloc, place, name, content),
+            ExprNode::EmptyElement(name) => self.empty_element(alloc, place, name),
+            ExprNode::Attribute(name, content) => self.open_attribute(alloc, place, name, content),
+            ExprNode::EmptyAttribute(name) => self.empty_attribute(alloc, place, name),
         }
     }
 
@@ -287,10 +361,10 @@ impl<'a> Resolving<'a> {
         operand: &'a Expr,
         kind: &'a SingleType,
     ) -> Result<(), AllocError>
-        ensures refusals { OnOk result (refusals_of_rest self.new ≡ form_refusals self.old.names.now place (cast_as operand.now kind.now) self.old.variables ++ refusals_of_rest self.old) }
-        ensures trees { OnOk result (trees_of_rest self.new ≡ trees_behind (form_resolved self.old.names.now place (cast_as operand.now kind.now) self.old.variables) self.old) }
+        ensures refusals { OnOk result (refusals_of_rest self.new ≡ form_refusals self.old.names place (cast_as operand.now kind.now) ++ refusals_of_rest self.old) }
+        ensures trees { OnOk result (trees_of_rest self.new ≡ trees_behind (form_resolved self.old.names place (cast_as operand.now kind.now)) self.old) }
     {
-        let target = atomic_named(alloc, self.names, &kind.name)?;
+        let target = atomic_named(alloc, &self.names, &kind.name)?;
         self.begin(alloc, place, Construct::CastAs(target, kind.optional))?;
         self.tasks.push(Task::Target(&kind.name))?;
         self.tasks.push(Task::Tree(operand))
@@ -303,29 +377,94 @@ impl<'a> Resolving<'a> {
         operand: &'a Expr,
         kind: &'a SingleType,
     ) -> Result<(), AllocError>
-        ensures refusals { OnOk result (refusals_of_rest self.new ≡ form_refusals self.old.names.now place (castable_as operand.now kind.now) self.old.variables ++ refusals_of_rest self.old) }
-        ensures trees { OnOk result (trees_of_rest self.new ≡ trees_behind (form_resolved self.old.names.now place (castable_as operand.now kind.now) self.old.variables) self.old) }
+        ensures refusals { OnOk result (refusals_of_rest self.new ≡ form_refusals self.old.names place (castable_as operand.now kind.now) ++ refusals_of_rest self.old) }
+        ensures trees { OnOk result (trees_of_rest self.new ≡ trees_behind (form_resolved self.old.names place (castable_as operand.now kind.now)) self.old) }
     {
-        let target = atomic_named(alloc, self.names, &kind.name)?;
+        let target = atomic_named(alloc, &self.names, &kind.name)?;
         self.begin(alloc, place, Construct::CastableAs(target, kind.optional))?;
         self.tasks.push(Task::Target(&kind.name))?;
         self.tasks.push(Task::Tree(operand))
     }
 
+    fn open_instance(
+        &mut self,
+        alloc: Global,
+        place: Place,
+        operand: &'a Expr,
+        kind: &'a SequenceType,
+    ) -> Result<(), AllocError>
+        ensures refusals { OnOk result (refusals_of_rest self.new ≡ form_refusals self.old.names place (instance_of operand.now kind.now) ++ refusals_of_rest self.old) }
+        ensures trees { OnOk result (trees_of_rest self.new ≡ trees_behind (form_resolved self.old.names place (instance_of operand.now kind.now)) self.old) }
+    {
+        let written = type_written(alloc, &self.names, kind)?;
+        self.begin(alloc, place, Construct::InstanceOf(written))?;
+        self.tasks.push(Task::Written(kind))?;
+        self.tasks.push(Task::Tree(operand))
+    }
+
+    fn open_treat(
+        &mut self,
+        alloc: Global,
+        place: Place,
+        operand: &'a Expr,
+        kind: &'a SequenceType,
+    ) -> Result<(), AllocError>
+        ensures refusals { OnOk result (refusals_of_rest self.new ≡ form_refusals self.old.names place (treat_as operand.now kind.now) ++ refusals_of_rest self.old) }
+        ensures trees { OnOk result (trees_of_rest self.new ≡ trees_behind (form_resolved self.old.names place (treat_as operand.now kind.now)) self.old) }
+    {
+        let written = type_written(alloc, &self.names, kind)?;
+        self.begin(alloc, place, Construct::TreatAs(written))?;
+        self.tasks.push(Task::Written(kind))?;
+        self.tasks.push(Task::Tree(operand))
+    }
+
+    // An expression with its predicates.
+    #[tactic(auto, using(crate::proofs::FilteredLemmas::predicates_closed))]
+    fn open_filtered(
+        &mut self,
+        alloc: Global,
+        place: Place,
+        operand: &'a Expr,
+        predicates: &'a [Expr],
+    ) -> Result<(), AllocError>
+        ensures refusals { OnOk result (refusals_of_rest self.new ≡ form_refusals self.old.names place (filtered operand.now (trees_of predicates.now)) ++ refusals_of_rest self.old) }
+        ensures trees { OnOk result (trees_of_rest self.new ≡ trees_behind (form_resolved self.old.names place (filtered operand.now (trees_of predicates.now))) self.old) }
+    {
+        self.begin(alloc, place, Construct::Filtered)?;
+        self.tasks.push(Task::Trees(predicates))?;
+        self.tasks.push(Task::Tree(operand))
+    }
+
     // A use of a variable.
     fn variable(&mut self, alloc: Global, place: Place, name: &QName) -> Result<(), NameRefusal>
-        ensures refusals { Proceeds result (use_refusals self.old.names.now self.old.variables place name.now ++ refusals_of_rest self.old) (refusals_of_rest self.new) }
-        ensures trees { OnOk result (trees_of_rest self.new ≡ trees_behind (resolved_at place (use_resolved self.old.names.now self.old.variables place name.now) no_resolved) self.old) }
+        ensures refusals { Proceeds result (use_refusals self.old.names place name.now ++ refusals_of_rest self.old) (refusals_of_rest self.new) }
+        ensures trees { OnOk result (trees_of_rest self.new ≡ trees_behind (resolved_at place (use_resolved self.old.names place name.now) no_resolved) self.old) }
     {
         let Some(name) = self.names.plain_name(name)? else {
             return Err(refused(place, Code::XPST0081));
         };
         let name = SharedName::new(alloc, name)?;
-        let Some(binder) = self.variables.find(&name) else {
+        let Some(binder) = self.names.binder(&name) else {
             return Err(refused(place, Code::XPST0008));
         };
         let construct = Construct::Variable(name, *binder);
         Ok(self.leaf(alloc, place, construct)?)
+    }
+
+    // A step from the context.
+    #[tactic(auto, using(crate::proofs::ResolvingLemmas::refused_before))]
+    fn step_from_context(
+        &mut self,
+        alloc: Global,
+        place: Place,
+        step: &AxisStep,
+    ) -> Result<(), NameRefusal>
+        ensures refusals { Proceeds result (step_refusals self.old.names step.now ++ refusals_of_rest self.old) (refusals_of_rest self.new) }
+        ensures trees { OnOk result (trees_of_rest self.new ≡ trees_behind (resolved_at place (constructs.Step (axis_of_step step.now) (step_tested self.old.names step.now)) no_resolved) self.old) }
+    {
+        check_step(alloc, &self.names, step)?;
+        let test = step_tested(alloc, &self.names, step)?;
+        Ok(self.leaf(alloc, place, Construct::Step(axis_of_step(step), test))?)
     }
 
     // A call of a function, which is found by its name and the number of arguments.
@@ -337,133 +476,175 @@ impl<'a> Resolving<'a> {
         name: &QName,
         arguments: &'a [Expr],
     ) -> Result<(), NameRefusal>
-        ensures refusals { Proceeds result (form_refusals self.old.names.now place (call name.now (trees_of arguments.now)) self.old.variables ++ refusals_of_rest self.old) (refusals_of_rest self.new) }
-        ensures trees { OnOk result (trees_of_rest self.new ≡ trees_behind (form_resolved self.old.names.now place (call name.now (trees_of arguments.now)) self.old.variables) self.old) }
+        ensures refusals { Proceeds result (form_refusals self.old.names place (call name.now (trees_of arguments.now)) ++ refusals_of_rest self.old) (refusals_of_rest self.new) }
+        ensures trees { OnOk result (trees_of_rest self.new ≡ trees_behind (form_resolved self.old.names place (call name.now (trees_of arguments.now))) self.old) }
     {
-        let function = match called(alloc, self.names, place, name, arguments.len()) {
-            Ok(function) => function,
-            Err(refusal) => return Err(refusal),
-        };
-        self.begin(alloc, place, Construct::Call(function))?;
-        Ok(self.tasks.push(Task::Trees(arguments))?)
+        match called(alloc, &self.names, place, name, arguments.len()) {
+            Ok(construct) => {
+                self.begin(alloc, place, construct)?;
+                Ok(self.tasks.push(Task::Trees(arguments))?)
+            }
+            Err(refusal) => Err(refusal),
+        }
     }
 
+    // What has bindings: a FLWOR or a quantified expression.
     #[tactic(auto, using(crate::proofs::ResolvingLemmas::all_closed))]
-    fn open_flwor(
+    fn open_bindings(
         &mut self,
         alloc: Global,
         place: Place,
-        clauses: &'a [Clause],
-        returned: &'a Expr,
+        construct: Construct,
+        rest: Rest<'a>,
     ) -> Result<(), AllocError>
-        ensures refusals { OnOk result (refusals_of_rest self.new ≡ rest_refusals self.old.names.now [] clauses.now returned.now self.old.variables ++ refusals_of_rest self.old) }
-        ensures trees { OnOk result (trees_of_rest self.new ≡ trees_behind (resolved_at place constructs.Flwor (rest_resolved self.old.names.now [] clauses.now returned.now self.old.variables)) self.old) }
+        ensures refusals { OnOk result (refusals_of_rest self.new ≡ rest_refusals self.old.names rest.entry ++ refusals_of_rest self.old) }
+        ensures trees { OnOk result (trees_of_rest self.new ≡ trees_behind (resolved_at place construct (rest_resolved self.old.names rest.entry)) self.old) }
     {
-        self.begin(alloc, place, Construct::Flwor)?;
-        self.tasks.push(Task::Clauses(&[], clauses, returned))
+        self.begin(alloc, place, construct)?;
+        self.tasks.push(Task::Clauses(rest))
     }
 
-    // Puts the next value to the tasks, or, where all variables are bound, what is returned.
-    fn open_clauses(
+    // Puts the next operand to the tasks, or, where all variables are bound, the sort keys and what is returned.
+    #[tactic(auto, using(crate::proofs::ResolvingLemmas::one_more_adopted))]
+    fn open_rest(&mut self, alloc: Global, rest: Rest<'a>) -> Result<(), NameRefusal>
+        ensures refusals { Proceeds result (refusals_with (tasks.Clauses rest.entry) self.old) (refusals_of_rest self.new) }
+        ensures trees { OnOk result (trees_of_rest self.new ≡ trees_with (tasks.Clauses rest.entry) self.old) }
+    {
+        if let Some((first, bindings)) = rest.bindings.split_first() {
+            return self.open_binding(alloc, first, Rest { bindings, ..rest });
+        }
+        match rest.clauses.split_first() {
+            None => Ok(self.open_returned(rest)?),
+            Some((Clause::For(_, bindings), clauses)) => {
+                let rest = Rest {
+                    word: BindingWord::For,
+                    bindings: bindings.as_slice(),
+                    clauses,
+                    ..rest
+                };
+                Ok(self.tasks.push(Task::Clauses(rest))?)
+            }
+            Some((Clause::Let(_, bindings), clauses)) => {
+                let rest = Rest {
+                    word: BindingWord::Let,
+                    bindings: bindings.as_slice(),
+                    clauses,
+                    ..rest
+                };
+                Ok(self.tasks.push(Task::Clauses(rest))?)
+            }
+            Some((Clause::Where(place, condition), clauses)) => {
+                let rest = Rest {
+                    bindings: &[],
+                    clauses,
+                    ..rest
+                };
+                Ok(self.open_where(alloc, *place, condition, rest)?)
+            }
+        }
+    }
+
+    // The sort keys, and what is returned.
+    #[tactic(auto, using(crate::proofs::ResolvingLemmas::one_more_adopted))]
+    fn open_returned(&mut self, rest: Rest<'a>) -> Result<(), AllocError>
+        ensures refusals { OnOk result (refusals_of_rest self.new ≡ (keys_refusals self.old.names (keys_of rest.entry.keys.now) ++ tree_refusals self.old.names rest.entry.returned.now) ++ refusals_of_rest self.old) }
+        ensures trees { OnOk result (trees_of_rest self.new ≡ trees_left self.old.names self.old.tasks (all_adopted (and_parts (keys_resolved self.old.names (keys_of rest.entry.keys.now)) (one_resolved (tree_resolved self.old.names rest.entry.returned.now))) self.old.unfinished)) }
+    {
+        self.tasks.push(Task::Tree(rest.returned))?;
+        self.tasks.push(Task::Keys(rest.keys))
+    }
+
+    // A condition, and what follows it.
+    fn open_where(
         &mut self,
         alloc: Global,
-        bindings: &'a [Binding],
-        clauses: &'a [Clause],
-        returned: &'a Expr,
-    ) -> Result<(), NameRefusal>
-        ensures refusals { Proceeds result (refusals_with (tasks.Clauses bindings.entry clauses.entry returned.entry) self.old) (refusals_of_rest self.new) }
-        ensures trees { OnOk result (trees_of_rest self.new ≡ trees_with (tasks.Clauses bindings.entry clauses.entry returned.entry) self.old) }
+        place: Place,
+        condition: &'a Expr,
+        rest: Rest<'a>,
+    ) -> Result<(), AllocError>
+        ensures refusals { OnOk result (refusals_of_rest self.new ≡ tree_refusals self.old.names condition.now ++ (rest_refusals self.old.names rest.entry ++ refusals_of_rest self.old)) }
+        ensures trees { OnOk result (trees_of_rest self.new ≡ trees_left self.old.names self.old.tasks (all_adopted (rest_resolved self.old.names rest.entry) (adopted (resolved_at place constructs.Where (one_resolved (tree_resolved self.old.names condition.now))) self.old.unfinished))) }
     {
-        if let Some((first, others)) = bindings.split_first() {
-            return self.open_binding(alloc, first, others, clauses, returned);
-        }
-        match clauses.split_first() {
-            None => Ok(self.tasks.push(Task::Tree(returned))?),
-            Some((Clause::Let(_, bindings), others)) => {
-                let rest = Task::Clauses(bindings.as_slice(), others, returned);
-                Ok(self.tasks.push(rest)?)
-            }
-            Some((Clause::For(_, _), _)) | Some((Clause::Where(_, _), _)) => Ok(()),
-        }
+        self.tasks.push(Task::Clauses(rest))?;
+        self.open_part(alloc, place, Construct::Where, condition)
     }
 
-    // A binding of a `let`, and what follows it.
-    #[tactic(auto, using(crate::proofs::ResolvingLemmas::refused_before))]
+    // A binding, and what follows it.
+    #[tactic(auto, using(crate::proofs::ResolvingLemmas::refused_before, crate::proofs::ResolvingLemmas::binding_gone))]
     fn open_binding(
         &mut self,
         alloc: Global,
         first: &'a Binding,
-        others: &'a [Binding],
-        clauses: &'a [Clause],
-        returned: &'a Expr,
+        rest: Rest<'a>,
     ) -> Result<(), NameRefusal>
-        ensures refusals { Proceeds result (rest_refusals self.old.names.now (first.now ∷ others.now) clauses.now returned.now self.old.variables ++ refusals_of_rest self.old) (refusals_of_rest self.new) }
-        ensures trees { OnOk result (trees_of_rest self.new ≡ trees_left self.old.names.now self.old.tasks (all_adopted (rest_resolved self.old.names.now (first.now ∷ others.now) clauses.now returned.now self.old.variables) self.old.unfinished) self.old.variables) }
+        ensures refusals { Proceeds result (bound_rest_refusals self.old.names first.now rest.entry ++ refusals_of_rest self.old) (refusals_of_rest self.new) }
+        ensures trees { OnOk result (trees_of_rest self.new ≡ trees_left self.old.names self.old.tasks (all_adopted (bound_rest_resolved self.old.names first.now rest.entry) self.old.unfinished)) }
     {
-        let variable = &first.bound.variable;
-        let bound = match bound_name(alloc, self.names, variable, &first.bound.kind) {
-            Ok(bound) => bound,
-            Err(refusal) => return Err(refusal),
-        };
+        let bound = &first.bound;
         self.tasks.push(Task::Unbind)?;
-        self.tasks.push(Task::Clauses(others, clauses, returned))?;
-        self.tasks.push(Task::Bind(variable))?;
-        self.begin(alloc, variable.place, Construct::Let(bound))?;
-        Ok(self.tasks.push(Task::Tree(&first.value))?)
+        self.tasks.push(Task::UnbindOptional(&bound.position))?;
+        self.tasks.push(Task::Clauses(rest))?;
+        self.tasks.push(Task::BindOptional(&bound.position))?;
+        self.tasks.push(Task::Bind(&bound.variable))?;
+        match bound_construct(alloc, &self.names, rest.word, bound) {
+            Ok(construct) => {
+                let place = bound.variable.place;
+                Ok(self.open_part(alloc, place, construct, &first.value)?)
+            }
+            Err(refusal) => Err(refusal),
+        }
     }
 
-    fn bind(&mut self, alloc: Global, variable: &Variable) -> Result<(), AllocError>
-        ensures refusals { OnOk result (refusals_of_rest self.new ≡ refusals_with (tasks.Bind variable.entry) self.old) }
-        ensures trees { OnOk result (trees_of_rest self.new ≡ trees_with (tasks.Bind variable.entry) self.old) }
+    // Opens a tree of one part.
+    pub(crate) fn open_part(
+        &mut self,
+        alloc: Global,
+        place: Place,
+        construct: Construct,
+        inner: &'a Expr,
+    ) -> Result<(), AllocError>
+        ensures unfinished { OnOk result (self.new.unfinished ≡ resolved_at place construct no_resolved ∷ self.old.unfinished) }
+        ensures tasks { OnOk result (self.new.tasks ≡ tasks.Tree inner.entry ∷ tasks.Close ∷ self.old.tasks) }
+        ensures names { self.new.names ≡ self.old.names }
     {
-        let name = or_no_name(alloc, self.names.plain_name(&variable.name)?)?;
-        let name = SharedName::new(alloc, name)?;
-        self.variables.bind(name, variable.place)
+        self.begin(alloc, place, construct)?;
+        self.tasks.push(Task::Tree(inner))
     }
 }
 
-// The built-in function that is called.
+// A tree with one more part.
+#[tactic(auto, using(crate::proofs::ResolvingLemmas::parts_with_one_more))]
+fn with_part(around: ResolvedExpr, tree: ResolvedExpr) -> Result<ResolvedExpr, AllocError>
+    ensures { IfOk result (λ e. e ≡ with_part around tree) }
+{
+    let mut around = around;
+    around.parts.push(tree)?;
+    Ok(around)
+}
+
+// The function that is called.
 fn called(
     alloc: Global,
     names: &Names<'_>,
     place: Place,
     name: &QName,
     arity: usize,
-) -> Result<Function, NameRefusal>
+) -> Result<Construct, NameRefusal>
     ensures refusals { Judges result (call_refusals names.now place name.now arity) }
-    ensures function { IfOk result (λ function. constructs.Call function ≡ call_resolved names.now name.now arity) }
+    ensures function { IfOk result (λ construct. construct ≡ call_resolved names.now name.now arity) }
 {
-    let Some(name) = names.function_name(name)? else {
+    let Some(name) = names.called_name(name)? else {
         return Err(refused(place, Code::XPST0081));
     };
-    if !names.is_standard_function(&name) {
-        return Err(refused(place, Code::XPST0017));
+    if names.is_standard_function(&name) {
+        return match find_local(&name.local, arity) {
+            Some(function) => Ok(Construct::Call(function)),
+            None => Err(refused(place, Code::XPST0017)),
+        };
     }
-    match find_local(&name.local, arity) {
-        Some(function) => Ok(function),
-        None => Err(refused(place, Code::XPST0017)),
-    }
-}
-
-/// The variable that is bound, with its type.
-pub(crate) fn bound_name(
-    alloc: Global,
-    names: &Names<'_>,
-    variable: &Variable,
-    kind: &Option<SequenceType>,
-) -> Result<BoundName, NameRefusal>
-    ensures refusals { Judges result (binder_refusals names.now variable.now kind.now) }
-    ensures bound { IfOk result (λ bound. bound ≡ binder_resolved names.now variable.now kind.now) }
-{
-    let Some(name) = names.plain_name(&variable.name)? else {
-        return Err(refused(variable.place, Code::XPST0081));
-    };
-    check_written_type(alloc, names, kind)?;
-    let kind = match kind {
-        Some(kind) => Some(type_written(alloc, names, kind)?),
-        None => None,
-    };
     let name = SharedName::new(alloc, name)?;
-    let place = variable.place;
-    Ok(BoundName { name, place, kind })
+    if names.is_declared(name.clone()?, arity) {
+        return Ok(Construct::CallDeclared(name));
+    }
+    Err(refused(place, Code::XPST0017))
 }

@@ -2,13 +2,15 @@
 
 use gx_ast::expression::BinaryOperator;
 use gx_ast::items::Items;
-use gx_base::name::SharedName;
+use gx_ast::sequence_type::{EmptyOrder, KeyOrder};
+use gx_base::name::{Name, SharedName};
 use gx_base::place::Place;
 use gx_base::text::Text;
 use gx_base::type_name::TypeName;
 use gx_funcs::function::Function;
 use gx_num::Number;
 use gx_types::sequence_type::Ty;
+use gx_types::step::{Axis, Test};
 use std::marker::Model;
 
 /// A variable that is bound, at its `$`, and the type that is written at it.
@@ -19,8 +21,17 @@ pub struct BoundName {
     pub kind: Option<Ty>,
 }
 
+/// The word of a clause that binds variables.
+#[derive(Clone, Copy, Debug, PartialEq, Eq)]
+pub enum BindingWord {
+    For,
+    Let,
+    /// `some` or `every`.
+    Satisfies,
+}
+
 /// What stands at the root of a part of a query, with what it has beside its parts: one variant for each construct (XQuery 1.0,
-/// section 3). A clause of a FLWOR is a part of its own.
+/// section 3). A binding, a clause, a sort key and a branch of a typeswitch are parts of their own.
 #[derive(Debug, Drop)]
 pub enum Construct {
     /// A numeric literal.
@@ -33,24 +44,64 @@ pub enum Construct {
     Empty,
     /// An expression in parentheses.
     Parenthesised,
+    /// `.`.
+    Context,
     /// A call of a built-in function. Its parts are the arguments.
     Call(Function),
+    /// A call of a function that the query declares. Its parts are the arguments.
+    CallDeclared(SharedName),
     /// Two expressions with a comma between.
     Sequence,
-    /// A FLWOR: its clauses, and what is returned.
+    /// A FLWOR: its clauses, its sort keys, and what is returned.
     Flwor,
+    /// A `for` of one variable, with that of its position, over its operand.
+    For(BoundName, Option<BoundName>),
     /// A `let` of one variable, with its value.
     Let(BoundName),
+    /// `where`, with its condition.
+    Where,
+    /// A sort key.
+    Key(KeyOrder),
+    /// `some`, or `every` where that is true: its bindings, and its condition.
+    Quantified(bool),
+    /// A binding of a quantified expression, over its operand.
+    In(BoundName),
+    /// A typeswitch: its operand, its cases, and its default.
+    Typeswitch,
+    /// A case of a typeswitch, with its branch.
+    Case(Option<BoundName>, Ty),
+    /// The default of a typeswitch, with its branch.
+    Default(Option<BoundName>),
     /// `if`, `then` and `else`.
     If,
     /// Two operands with an operator between.
     Binary(BinaryOperator),
+    /// `instance of` a type.
+    InstanceOf(Ty),
+    /// `treat as` a type.
+    TreatAs(Ty),
     /// `castable as` a type, of an empty operand too where that is true.
     CastableAs(TypeName, bool),
     /// `cast as` a type, of an empty operand too where that is true.
     CastAs(TypeName, bool),
     /// A sign, `-` where that is true.
     Signed(bool),
+    /// A path of two parts, with `//` between where that is true.
+    Path(bool),
+    /// An axis step.
+    Step(Axis, Test),
+    /// `..`.
+    ParentStep,
+    /// An expression, and its predicates.
+    Filtered,
+    /// `document { .. }`.
+    Document,
+    /// `text { .. }`.
+    TextNode,
+    /// `element q { .. }`, or without a part `element q {}`.
+    Element(Name),
+    /// `attribute q { .. }`, or without a part `attribute q {}`.
+    Attribute(Name),
 }
 
 /// A part of a query in which each name is resolved: a construct over its parts, which are in the order of the text.
@@ -89,9 +140,45 @@ pub struct Global {
     pub value: ResolvedExpr,
 }
 
-/// A query in which each name is resolved: its global variables, and its body.
+/// An external variable, at `declare` (XQuery 1.0, section 4.14).
+#[derive(Drop)]
+pub struct External {
+    pub place: Place,
+    pub bound: BoundName,
+}
+
+/// A function with its parameters, the type of its result, and its body, at `declare` (XQuery 1.0, section 4.15).
+#[derive(Drop)]
+pub struct FunctionDeclaration {
+    pub place: Place,
+    pub name: SharedName,
+    pub parameters: Items<BoundName>,
+    pub result: Option<Ty>,
+    pub body: ResolvedExpr,
+}
+
+/// What the setters of a prolog say (XQuery 1.0, sections 4.3 and 4.8).
+#[derive(Clone, Copy, Debug, PartialEq, Eq)]
+pub struct Settings {
+    pub preserves_boundary_space: bool,
+    pub empty_order: EmptyOrder,
+}
+
+/// A declaration of the second part of a prolog.
+#[derive(Drop)]
+pub enum Declaration {
+    /// A variable with a value.
+    Global(Global),
+    /// An external variable.
+    External(External),
+    /// A function.
+    Function(FunctionDeclaration),
+}
+
+/// A query in which each name is resolved: its settings, its declarations in the order of the text, and its body.
 #[derive(Drop)]
 pub struct Resolved {
-    pub globals: Items<Global>,
+    pub settings: Settings,
+    pub declarations: Items<Declaration>,
     pub body: ResolvedExpr,
 }

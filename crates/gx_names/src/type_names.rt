@@ -4,8 +4,8 @@ ghost use Rattle.std.specs.Prelude.{◌≡◌, IfOk, option_copied};
 ghost use Rattle.gx_ast.specs.declared.sequence_type.ItemType.TheVariants as written;
 ghost use Rattle.gx_names.specs.Refused.{Judges};
 ghost use Rattle.gx_names.specs.declared.refusal.NameRefusal.TheVariants as refusals;
-ghost use Rattle.gx_names.specs.Environment.{or_no_name};
-ghost use Rattle.gx_names.specs.TypeNames.{atomic_named, attribute_item, attribute_test_refusals, attribute_tested, declared_refusals, document_item, element_declared, element_item, element_test_refusals, element_tested, item_refusals, item_type_of, kind_refusals, target_refusals, test_refusals, test_type, tested_attribute_refusals, tested_element_refusals, tested_type, type_refusals, type_written, with_indicator, written_type_refusals};
+ghost use Rattle.gx_names.specs.Environment.{or_nameless};
+ghost use Rattle.gx_names.specs.TypeNames.{atomic_named, attribute_item, attribute_test_refusals, attribute_tested, declared_refusals, document_item, element_declared, element_item, element_test_refusals, element_tested, item_refusals, item_type_of, kind_refusals, target_refusals, test_refusals, test_type, tested_attribute_refusals, tested_element_refusals, tested_type, type_refusals, type_written, indicated_type, written_type_refusals};
 
 use crate::names::Names;
 use crate::refusal::NameRefusal;
@@ -37,9 +37,36 @@ pub(crate) fn check_written_type(
     ensures { Judges result (written_type_refusals names.now kind.now) }
 {
     match kind {
-        None | Some(SequenceType::Empty(_)) => Ok(()),
-        Some(SequenceType::Items(kind, _)) => check_item(alloc, names, kind),
+        None => Ok(()),
+        Some(kind) => check_type(alloc, names, kind),
     }
+}
+
+/// Looks for what is refused of a type.
+pub(crate) fn check_type(
+    alloc: Global,
+    names: &Names<'_>,
+    kind: &SequenceType,
+) -> Result<(), NameRefusal>
+    ensures { Judges result (type_refusals names.now kind.now) }
+{
+    match kind {
+        SequenceType::Empty(_) => Ok(()),
+        SequenceType::Items(kind, _) => check_item(alloc, names, kind),
+    }
+}
+
+/// The type that is written, where nothing in it is refused.
+pub(crate) fn type_checked(
+    alloc: Global,
+    names: &Names<'_>,
+    kind: &SequenceType,
+) -> Result<Ty, NameRefusal>
+    ensures refusals { Judges result (type_refusals names.now kind.now) }
+    ensures kind { IfOk result (λ t. t ≡ type_written names.now kind.now) }
+{
+    check_type(alloc, names, kind)?;
+    Ok(type_written(alloc, names, kind)?)
 }
 
 fn check_item(alloc: Global, names: &Names<'_>, kind: &ItemType) -> Result<(), NameRefusal>
@@ -64,7 +91,11 @@ fn check_atomic(alloc: Global, names: &Names<'_>, name: &QName) -> Result<(), Na
     }
 }
 
-fn check_test(alloc: Global, names: &Names<'_>, test: &KindTest) -> Result<(), NameRefusal>
+pub(crate) fn check_test(
+    alloc: Global,
+    names: &Names<'_>,
+    test: &KindTest,
+) -> Result<(), NameRefusal>
     ensures { Judges result (test_refusals names.now test.now) }
 {
     match test {
@@ -179,8 +210,8 @@ pub(crate) fn check_target(
 }
 
 /// A name, where its prefix is known, and else one that nothing has.
-pub(crate) fn or_no_name(alloc: Global, name: Option<Name>) -> Result<Name, AllocError>
-    ensures { IfOk result (λ n. n ≡ or_no_name name) }
+pub(crate) fn or_nameless(alloc: Global, name: Option<Name>) -> Result<Name, AllocError>
+    ensures { IfOk result (λ n. n ≡ or_nameless name) }
 {
     if let Some(name) = name {
         return Ok(name);
@@ -199,7 +230,7 @@ pub(crate) fn atomic_named(
 ) -> Result<TypeName, AllocError>
     ensures { IfOk result (λ t. t ≡ atomic_named names.now name.now) }
 {
-    let name = or_no_name(alloc, names.element_name(name)?)?;
+    let name = or_nameless(alloc, names.element_name(name)?)?;
     match atomic_with_name(alloc, names.schemas, &name)? {
         Some(kind) => Ok(kind),
         None => Ok(TypeName::Builtin(Builtin::AnyAtomic)),
@@ -218,13 +249,13 @@ pub(crate) fn type_written(
         SequenceType::Empty(_) => Ok(Ty::empty()),
         SequenceType::Items(item, indicator) => {
             let item = item_type_of(alloc, names, item)?;
-            with_indicator(alloc, *indicator, item)
+            indicated_type(alloc, *indicator, item)
         }
     }
 }
 
-fn with_indicator(alloc: Global, indicator: Indicator, item: Ty) -> Result<Ty, AllocError>
-    ensures { IfOk result (λ t. t ≡ with_indicator indicator item) }
+fn indicated_type(alloc: Global, indicator: Indicator, item: Ty) -> Result<Ty, AllocError>
+    ensures { IfOk result (λ t. t ≡ indicated_type indicator item) }
 {
     match indicator {
         Indicator::Once => Ok(item),
@@ -292,7 +323,7 @@ fn document_item(alloc: Global, tested: Tested) -> Result<Ty, AllocError>
     Ty::of_item(alloc, item_type::ItemType::Document(Some((name, kind))))
 }
 
-fn element_tested(
+pub(crate) fn element_tested(
     alloc: Global,
     names: &Names<'_>,
     tested: &Option<TestedName>,
@@ -304,7 +335,7 @@ fn element_tested(
     };
     let kind = tested_type(alloc, names, Builtin::AnyType, &tested.kind)?;
     let name = match &tested.name {
-        Some(name) => Some(or_no_name(alloc, names.element_name(name)?)?),
+        Some(name) => Some(or_nameless(alloc, names.element_name(name)?)?),
         None => None,
     };
     Ok((name, kind))
@@ -322,14 +353,14 @@ fn attribute_tested(
     };
     let kind = tested_type(alloc, names, Builtin::AnySimple, &tested.kind)?;
     let name = match &tested.name {
-        Some(name) => Some(or_no_name(alloc, names.plain_name(name)?)?),
+        Some(name) => Some(or_nameless(alloc, names.plain_name(name)?)?),
         None => None,
     };
     Ok((name, kind))
 }
 
 // The type in a test; where none is written the given one.
-fn tested_type(
+pub(crate) fn tested_type(
     alloc: Global,
     names: &Names<'_>,
     any: Builtin,
@@ -340,7 +371,7 @@ fn tested_type(
     let Some(kind) = kind else {
         return Ok(TypeName::Builtin(any));
     };
-    let name = or_no_name(alloc, names.element_name(kind)?)?;
+    let name = or_nameless(alloc, names.element_name(kind)?)?;
     match type_with_name(alloc, names.schemas, &name)? {
         Some(kind) => Ok(kind),
         None => Ok(TypeName::Builtin(any)),
@@ -351,7 +382,7 @@ fn tested_type(
 fn element_declared(alloc: Global, names: &Names<'_>, name: &QName) -> Result<Tested, AllocError>
     ensures { IfOk result (λ t. t ≡ element_declared names.now name.now) }
 {
-    let name = or_no_name(alloc, names.element_name(name)?)?;
+    let name = or_nameless(alloc, names.element_name(name)?)?;
     let kind = match names.schemas.global(&name) {
         Some(kind) => kind.clone()?,
         None => TypeName::Builtin(Builtin::AnyType),

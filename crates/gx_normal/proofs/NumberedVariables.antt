@@ -6,13 +6,17 @@ use Rattle.gx_base.specs.declared.place.Place.{Place}
 use Rattle.gx_base.specs.declared.type_name.TypeName.{TypeName}
 use Rattle.gx_ast.specs.declared.expression.BinaryOperator.{BinaryOperator}
 use Rattle.gx_ast.specs.declared.expression.BinaryOperator.TheVariants as operator
+use Rattle.gx_types.specs.declared.step.Axis.{Axis}
+use Rattle.gx_types.specs.declared.step.Axis.TheVariants as axes
+use Rattle.gx_types.specs.declared.step.Test.{Test}
+use Rattle.gx_types.specs.declared.step.Test.TheVariants as tests
 use Rattle.gx_funcs.specs.declared.function.Function.{Function}
 use Rattle.gx_funcs.specs.declared.function.Function.TheVariants as functions
 use Rattle.gx_names.specs.declared.tree.BoundName.{BoundName}
 use Rattle.gx_names.specs.declared.tree.Construct.{Construct}
 use Rattle.gx_names.specs.declared.tree.Construct.TheVariants as written
-use Rattle.gx_names.specs.declared.tree.Global.{Global as ResolvedGlobal}
-use Rattle.gx_names.specs.declared.tree.Resolved.{Resolved}
+use Rattle.gx_names.specs.declared.tree.Declaration.{Declaration}
+use Rattle.gx_names.specs.declared.tree.Declaration.TheVariants as declared
 use Rattle.gx_names.specs.ResolvedTree.{ResolvedTree, ResolvedTrees, resolved_at, no_resolved, a_resolved}
 use Rattle.gx_core.specs.declared.expression.BinaryOp.{BinaryOp}
 use Rattle.gx_core.specs.declared.expression.Core.{Core}
@@ -21,8 +25,8 @@ use Rattle.gx_core.specs.declared.expression.CoreDeclaration.TheVariants.{Global
 use Rattle.gx_core.specs.declared.operator.Operator.TheVariants as operators
 use Rattle.gx_core.specs.Expression.{CoreExpression, At, Parts, no_parts, a_part, all_parts, core_at}
 use Rattle.gx_core.specs.Invariant.{is_among, IsScoped, ArePartsScoped, numbers_bound, numbers_bound_in, AreDistinct, scope_behind, AreValuesScoped, declared_numbers, HasValueOrType, HasQueryVariablesInOrder}
-use Rattle.gx_normal.specs.Constructs.{within, data_around, boolean_around, core_sequence, operator_at, call_at, call_of, empty_at, of_one, data_at, conditional_at, and_at, or_at, signed_at, cast_at, castable_at, let_at, operator_in_core, joined_by, joining}
-use Rattle.gx_normal.specs.Normalisation.{Numbers, same_place, number_at, variable_at, numbered_binder, of_two, of_three, joined_at, constructed, core_of, construct_core, cores_of, flwor_core, declarations_of, behind_globals, query_core}
+use Rattle.gx_normal.specs.Constructs.{within, data_around, boolean_around, core_sequence, operator_at, call_at, call_of, empty_at, of_one, data_at, conditional_at, and_at, or_at, signed_at, cast_at, castable_at, let_at, operator_in_core, joined_by, joining, context_item_at, step_at, path_at}
+use Rattle.gx_normal.specs.Normalisation.{Numbers, Focus, same_place, number_at, variable_at, numbered_binder, of_two, of_three, joined_at, constructed, core_of, construct_core, cores_of, flwor_core, path_core, external_binder, declarations_of, behind_declarations, main_core}
 
 -- numbers that rise from one on, below another
 abbrev Rise : ℕ → ℕ → List ℕ → Type 0
@@ -235,84 +239,160 @@ let_numbered place bound scope free middle next value body h k =
       rising = rise_joined free middle next (numbers_bound value) (middle ∷ (numbers_bound body ++ [])) h.rising (omega arith, rise_alone (middle + 1) next (numbers_bound body) k.rising);
     }
 
-found_numbered : (place : Place) (numbers : Numbers) (binder : Place) (free : ℕ) (found : Option ℕ) → number_at numbers binder ≡ found → IsNumbered (numbers_of numbers) free free (variable_at place found)
-found_numbered place numbers binder free None e = empty_numbered place (numbers_of numbers) free free (omega arith)
-found_numbered place numbers binder free (Some k) e = record { scoped = (found_among numbers binder k e, tt); rising = omega arith }
+-- the variables of a scope, and that of the context item, are among these numbers
+record IsCovered (scope : List ℕ) (numbers : Numbers) (focus : Focus) : Type 0 where
+  bound : (binder : Place) (k : ℕ) → number_at numbers binder ≡ Some k → is_among scope k ≡ true
+  focused : (k : ℕ) → focus ≡ Some k → is_among scope k ≡ true
+
+among_itself : (k : ℕ) (ns : List ℕ) → is_among (k ∷ ns) k ≡ true
+among_itself k ns = ap (λ (b : Bool). b || is_among ns k) (eq-eqb k k refl)
+
+among_more : (n k : ℕ) (ns : List ℕ) → is_among ns k ≡ true → is_among (n ∷ ns) k ≡ true
+among_more n k ns h = or_true (nat_eq n k) (is_among ns k) h
+
+-- with one more variable
+bound_more : (scope : List ℕ) (numbers : Numbers) (focus : Focus) (place : Place) (n : ℕ) → IsCovered scope numbers focus → (binder : Place) (k : ℕ) → number_at ((place, n) ∷ numbers) binder ≡ Some k → is_among (n ∷ scope) k ≡ true
+bound_more scope numbers focus place n h binder k e =
+    elim (same_place place binder) as (λ (same : Bool). (if same then Some n else number_at numbers binder) ≡ Some k → is_among (n ∷ scope) k ≡ true) [
+      | true ↦ λ g. let same : n ≡ k = cc in ap (λ (b : Bool). b || is_among scope k) (eq-eqb n k same)
+      | false ↦ λ g. among_more n k scope (h.bound binder k g)
+    ] e
+
+covered_more : (scope : List ℕ) (numbers : Numbers) (focus : Focus) (place : Place) (n : ℕ) → IsCovered scope numbers focus → IsCovered (n ∷ scope) ((place, n) ∷ numbers) focus
+covered_more scope numbers focus place n h = record { bound = bound_more scope numbers focus place n h; focused = λ k e. among_more n k scope (h.focused k e) }
+
+-- with another context item
+covered_within : (scope : List ℕ) (numbers : Numbers) (focus : Focus) (n : ℕ) → IsCovered scope numbers focus → IsCovered (n ∷ scope) numbers (Some n)
+covered_within scope numbers focus n h = record {
+  bound = λ binder k e. among_more n k scope (h.bound binder k e);
+  focused = λ k e. let same : n ≡ k = cc in subst (λ (m : ℕ). is_among (n ∷ scope) m ≡ true) same (among_itself n scope);
+}
+
+covered_without : (numbers : Numbers) → IsCovered (numbers_of numbers) numbers None
+covered_without numbers = record { bound = found_among numbers; focused = λ k e. absurd (cc) }
+
+found_numbered : (place : Place) (scope : List ℕ) (free : ℕ) (found : Option ℕ) → ((k : ℕ) → found ≡ Some k → is_among scope k ≡ true) → IsNumbered scope free free (variable_at place found)
+found_numbered place scope free None h = empty_numbered place scope free free (omega arith)
+found_numbered place scope free (Some k) h = record { scoped = (h k refl, tt); rising = omega arith }
+
+context_item_numbered : (place : Place) (scope : List ℕ) (free : ℕ) (focus : Focus) → ((k : ℕ) → focus ≡ Some k → is_among scope k ≡ true) → IsNumbered scope free free (context_item_at place focus)
+context_item_numbered place scope free None h = record { scoped = (tt, tt); rising = omega arith }
+context_item_numbered place scope free (Some k) h = record { scoped = (h k refl, tt); rising = omega arith }
+
+step_numbered : (place : Place) (scope : List ℕ) (free : ℕ) (focus : Focus) (axis : Axis) (asks : Test) → ((k : ℕ) → focus ≡ Some k → is_among scope k ≡ true) → IsNumbered scope free free (step_at place focus axis asks)
+step_numbered place scope free None axis asks h = record { scoped = (tt, tt); rising = omega arith }
+step_numbered place scope free (Some k) axis asks h = record { scoped = (h k refl, tt); rising = omega arith }
+
+path_numbered : (place : Place) (scope : List ℕ) (free middle next : ℕ) (first second : CoreExpression)
+    → IsNumbered scope free middle first → IsNumbered (middle ∷ scope) (middle + 1) next second → IsNumbered scope free next (path_at place middle first second)
+path_numbered place scope free middle next first second h k =
+    record {
+      scoped = (tt, ((tt, ((tt, (h.scoped, tt)), (k.scoped, tt))), tt));
+      rising =
+          rise_alone free next ((numbers_bound first ++ []) ++ (middle ∷ (numbers_bound second ++ [])))
+          (rise_joined free middle next (numbers_bound first ++ []) (middle ∷ (numbers_bound second ++ [])) (rise_alone free middle (numbers_bound first) h.rising)
+          (omega arith, rise_alone (middle + 1) next (numbers_bound second) k.rising));
+    }
 
 -- ---- trees
 
-abbrev IsNumberedCore : Numbers → ℕ → CoreExpression × ℕ → Type 0
-IsNumberedCore numbers free made = IsNumbered (numbers_of numbers) free made.1 made.0
+abbrev IsNumberedCore : List ℕ → ℕ → CoreExpression × ℕ → Type 0
+IsNumberedCore scope free made = IsNumbered scope free made.1 made.0
 
-construct_numbered : (place : Place) (construct : Construct) (numbers : Numbers) (free : ℕ) (parts : List CoreExpression × ℕ) (clauses : CoreExpression × ℕ)
-    → AreNumbered (numbers_of numbers) free parts.1 parts.0 → IsNumberedCore numbers free clauses → IsNumberedCore numbers free (construct_core place construct numbers free parts clauses)
-construct_numbered place (written.Variable name binder) numbers free parts clauses h k = found_numbered place numbers binder free (number_at numbers binder) refl
-construct_numbered place written.Flwor numbers free parts clauses h k = k
-construct_numbered place construct numbers free parts clauses h k = constructed_numbered place construct (numbers_of numbers) free parts.1 parts.0 h
+construct_numbered : (place : Place) (construct : Construct) (scope : List ℕ) (numbers : Numbers) (focus : Focus) (free : ℕ) (parts : List CoreExpression × ℕ) (clauses path : CoreExpression × ℕ)
+    → IsCovered scope numbers focus → AreNumbered scope free parts.1 parts.0 → IsNumberedCore scope free clauses → IsNumberedCore scope free path
+    → IsNumberedCore scope free (construct_core place construct numbers focus free parts clauses path)
+construct_numbered place (written.Variable name binder) scope numbers focus free parts clauses path c h k l = found_numbered place scope free (number_at numbers binder) (c.bound binder)
+construct_numbered place written.Context scope numbers focus free parts clauses path c h k l = context_item_numbered place scope free focus c.focused
+construct_numbered place (written.Step axis asks) scope numbers focus free parts clauses path c h k l = step_numbered place scope free focus axis asks c.focused
+construct_numbered place written.ParentStep scope numbers focus free parts clauses path c h k l = step_numbered place scope free focus axes.Parent tests.Node c.focused
+construct_numbered place written.Flwor scope numbers focus free parts clauses path c h k l = k
+construct_numbered place (written.Path false) scope numbers focus free parts clauses path c h k l = l
+construct_numbered place construct scope numbers focus free parts clauses path c h k l = constructed_numbered place construct scope free parts.1 parts.0 h
 
 mutual
-  core_numbered : (tree : ResolvedTree) (numbers : Numbers) (free : ℕ) → IsNumberedCore numbers free (core_of tree numbers free)
-  core_numbered (resolved_at place construct parts) numbers free =
-      construct_numbered place construct numbers free (cores_of parts numbers free) (flwor_core place parts numbers free) (cores_numbered parts numbers free) (flwor_numbered place parts numbers free)
+  core_numbered : (tree : ResolvedTree) (scope : List ℕ) (numbers : Numbers) (focus : Focus) (free : ℕ) → IsCovered scope numbers focus → IsNumberedCore scope free (core_of tree numbers focus free)
+  core_numbered (resolved_at place construct parts) scope numbers focus free c =
+      construct_numbered place construct scope numbers focus free (cores_of parts numbers focus free) (flwor_core place parts numbers focus free) (path_core place parts numbers focus free) c
+      (cores_numbered parts scope numbers focus free c) (flwor_numbered place parts scope numbers focus free c) (path_parts_numbered place parts scope numbers focus free c)
 
-  cores_numbered : (parts : ResolvedTrees) (numbers : Numbers) (free : ℕ) → AreNumbered (numbers_of numbers) free (cores_of parts numbers free).1 (cores_of parts numbers free).0
-  cores_numbered no_resolved numbers free = omega arith
-  cores_numbered (a_resolved first others) numbers free =
-      ((core_of first numbers free).1, core_numbered first numbers free, cores_numbered others numbers (core_of first numbers free).1)
+  cores_numbered : (parts : ResolvedTrees) (scope : List ℕ) (numbers : Numbers) (focus : Focus) (free : ℕ) → IsCovered scope numbers focus
+      → AreNumbered scope free (cores_of parts numbers focus free).1 (cores_of parts numbers focus free).0
+  cores_numbered no_resolved scope numbers focus free c = omega arith
+  cores_numbered (a_resolved first others) scope numbers focus free c =
+      ((core_of first numbers focus free).1, core_numbered first scope numbers focus free c, cores_numbered others scope numbers focus (core_of first numbers focus free).1 c)
 
-  flwor_numbered : (place : Place) (parts : ResolvedTrees) (numbers : Numbers) (free : ℕ) → IsNumberedCore numbers free (flwor_core place parts numbers free)
-  flwor_numbered place no_resolved numbers free = empty_numbered place (numbers_of numbers) free free (omega arith)
-  flwor_numbered place (a_resolved (resolved_at there (written.Let bound) (a_resolved value more)) others) numbers free =
-      let middle = (core_of value numbers free).1 in
-      let body = flwor_core place others ((bound.place, middle) ∷ numbers) (middle + 1) in
-      let_numbered place bound (numbers_of numbers) free middle body.1 (core_of value numbers free).0 body.0 (core_numbered value numbers free)
-      (flwor_numbered place others ((bound.place, middle) ∷ numbers) (middle + 1))
-  flwor_numbered place (a_resolved returned others) numbers free = core_numbered returned numbers free
+  flwor_numbered : (place : Place) (parts : ResolvedTrees) (scope : List ℕ) (numbers : Numbers) (focus : Focus) (free : ℕ) → IsCovered scope numbers focus → IsNumberedCore scope free (flwor_core place parts numbers focus free)
+  flwor_numbered place no_resolved scope numbers focus free c = empty_numbered place scope free free (omega arith)
+  flwor_numbered place (a_resolved (resolved_at there (written.Let bound) (a_resolved value more)) others) scope numbers focus free c =
+      let middle = (core_of value numbers focus free).1 in
+      let body = flwor_core place others ((bound.place, middle) ∷ numbers) focus (middle + 1) in
+      let_numbered place bound scope free middle body.1 (core_of value numbers focus free).0 body.0 (core_numbered value scope numbers focus free c)
+      (flwor_numbered place others (middle ∷ scope) ((bound.place, middle) ∷ numbers) focus (middle + 1) (covered_more scope numbers focus bound.place middle c))
+  flwor_numbered place (a_resolved returned others) scope numbers focus free c = core_numbered returned scope numbers focus free c
+
+  path_parts_numbered : (place : Place) (parts : ResolvedTrees) (scope : List ℕ) (numbers : Numbers) (focus : Focus) (free : ℕ) → IsCovered scope numbers focus → IsNumberedCore scope free (path_core place parts numbers focus free)
+  path_parts_numbered place (a_resolved first (a_resolved second no_resolved)) scope numbers focus free c =
+      let middle = (core_of first numbers focus free).1 in
+      let b = core_of second numbers (Some middle) (middle + 1) in
+      path_numbered place scope free middle b.1 (core_of first numbers focus free).0 b.0 (core_numbered first scope numbers focus free c)
+      (core_numbered second (middle ∷ scope) numbers (Some middle) (middle + 1) (covered_within scope numbers focus middle c))
+  path_parts_numbered place _ scope numbers focus free c = empty_numbered place scope free free (omega arith)
 
 -- ---- whole queries
 
-abbrev scope_of : List ResolvedGlobal → Numbers → ℕ → List ℕ
-scope_of globals numbers free = numbers_of (behind_globals globals numbers free).0
+abbrev scope_of : List Declaration → Numbers → ℕ → List ℕ
+scope_of declarations numbers free = numbers_of (behind_declarations declarations numbers free).0
 
-scope_is : (globals : List ResolvedGlobal) (numbers : Numbers) (free : ℕ) → scope_behind (declarations_of globals numbers free) (numbers_of numbers) ≡ scope_of globals numbers free
+scope_is : (ds : List Declaration) (numbers : Numbers) (free : ℕ) → scope_behind (declarations_of ds numbers free) (numbers_of numbers) ≡ scope_of ds numbers free
 scope_is [] numbers free = refl
-scope_is (g ∷ gs) numbers free =
-    let middle = (core_of g.value numbers free).1 in scope_is gs ((g.bound.place, middle) ∷ numbers) (middle + 1)
+scope_is (declared.Global g ∷ ds) numbers free =
+    let middle = (core_of g.value numbers None free).1 in scope_is ds ((g.bound.place, middle) ∷ numbers) (middle + 1)
+scope_is (declared.External e ∷ ds) numbers free = scope_is ds ((e.bound.place, free) ∷ numbers) (free + 1)
+scope_is (declared.Function f ∷ ds) numbers free = scope_is ds numbers free
 
-values_scoped : (globals : List ResolvedGlobal) (numbers : Numbers) (free : ℕ) → AreValuesScoped (numbers_of numbers) (declarations_of globals numbers free)
+values_scoped : (ds : List Declaration) (numbers : Numbers) (free : ℕ) → AreValuesScoped (numbers_of numbers) (declarations_of ds numbers free)
 values_scoped [] numbers free = tt
-values_scoped (g ∷ gs) numbers free =
-    let middle = (core_of g.value numbers free).1 in
-    ((core_numbered g.value numbers free).scoped, values_scoped gs ((g.bound.place, middle) ∷ numbers) (middle + 1))
+values_scoped (declared.Global g ∷ ds) numbers free =
+    let middle = (core_of g.value numbers None free).1 in
+    ((core_numbered g.value (numbers_of numbers) numbers None free (covered_without numbers)).scoped, values_scoped ds ((g.bound.place, middle) ∷ numbers) (middle + 1))
+values_scoped (declared.External e ∷ ds) numbers free = (tt, values_scoped ds ((e.bound.place, free) ∷ numbers) (free + 1))
+values_scoped (declared.Function f ∷ ds) numbers free = values_scoped ds numbers free
 
-globals_rising : (globals : List ResolvedGlobal) (numbers : Numbers) (free : ℕ) → Rise free (behind_globals globals numbers free).1 (declared_numbers (declarations_of globals numbers free))
-globals_rising [] numbers free = omega arith
-globals_rising (g ∷ gs) numbers free =
-    let middle = (core_of g.value numbers free).1 in
-    let next = (behind_globals gs ((g.bound.place, middle) ∷ numbers) (middle + 1)).1 in
-    rise_joined free middle next (numbers_bound (core_of g.value numbers free).0) (middle ∷ declared_numbers (declarations_of gs ((g.bound.place, middle) ∷ numbers) (middle + 1)))
-    (core_numbered g.value numbers free).rising (omega arith, globals_rising gs ((g.bound.place, middle) ∷ numbers) (middle + 1))
+variables_rising : (ds : List Declaration) (numbers : Numbers) (free : ℕ) → Rise free (behind_declarations ds numbers free).1 (declared_numbers (declarations_of ds numbers free))
+variables_rising [] numbers free = omega arith
+variables_rising (declared.Global g ∷ ds) numbers free =
+    let middle = (core_of g.value numbers None free).1 in
+    let next = (behind_declarations ds ((g.bound.place, middle) ∷ numbers) (middle + 1)).1 in
+    rise_joined free middle next (numbers_bound (core_of g.value numbers None free).0) (middle ∷ declared_numbers (declarations_of ds ((g.bound.place, middle) ∷ numbers) (middle + 1)))
+    (core_numbered g.value (numbers_of numbers) numbers None free (covered_without numbers)).rising (omega arith, variables_rising ds ((g.bound.place, middle) ∷ numbers) (middle + 1))
+variables_rising (declared.External e ∷ ds) numbers free = (omega arith, variables_rising ds ((e.bound.place, free) ∷ numbers) (free + 1))
+variables_rising (declared.Function f ∷ ds) numbers free = variables_rising ds numbers free
 
-have_values : (globals : List ResolvedGlobal) (numbers : Numbers) (free : ℕ) → All HasValueOrType (declarations_of globals numbers free)
+have_values : (ds : List Declaration) (numbers : Numbers) (free : ℕ) → All HasValueOrType (declarations_of ds numbers free)
 have_values [] numbers free = All-nil HasValueOrType
-have_values (g ∷ gs) numbers free =
-    let v = core_of g.value numbers free in
+have_values (declared.Global g ∷ ds) numbers free =
+    let v = core_of g.value numbers None free in
     let d : CoreDeclaration = Global g.bound.name (numbered_binder g.bound v.1) (Some v.0) in
-    All-cons HasValueOrType d (declarations_of gs ((g.bound.place, v.1) ∷ numbers) (v.1 + 1)) tt (have_values gs ((g.bound.place, v.1) ∷ numbers) (v.1 + 1))
+    All-cons HasValueOrType d (declarations_of ds ((g.bound.place, v.1) ∷ numbers) (v.1 + 1)) tt (have_values ds ((g.bound.place, v.1) ∷ numbers) (v.1 + 1))
+have_values (declared.External e ∷ ds) numbers free =
+    let d : CoreDeclaration = Global e.bound.name (external_binder e.bound free) None in
+    All-cons HasValueOrType d (declarations_of ds ((e.bound.place, free) ∷ numbers) (free + 1)) refl (have_values ds ((e.bound.place, free) ∷ numbers) (free + 1))
+have_values (declared.Function f ∷ ds) numbers free = have_values ds numbers free
 
-query_in_order : (query : Resolved) → HasQueryVariablesInOrder (query_core query)
-query_in_order query =
-    let behind = behind_globals query.globals [] 1 in
-    let body = core_of query.body behind.0 behind.1 in
-    let numbered = core_numbered query.body behind.0 behind.1 in
+query_in_order : (ds : List Declaration) (tree : ResolvedTree) → HasQueryVariablesInOrder (main_core ds tree)
+query_in_order ds tree =
+    let behind = behind_declarations ds [] 1 in
+    let body = core_of tree behind.0 None behind.1 in
+    let numbered = core_numbered tree (numbers_of behind.0) behind.0 None behind.1 (covered_without behind.0) in
     record {
-      values = values_scoped query.globals [] 1;
-      body = subst (λ (scope : List ℕ). IsScoped scope body.0) (sym (scope_is query.globals [] 1)) numbered.scoped;
-      once = rising_distinct 1 body.1 (declared_numbers (declarations_of query.globals [] 1) ++ numbers_bound body.0)
-          (rise_joined 1 behind.1 body.1 (declared_numbers (declarations_of query.globals [] 1)) (numbers_bound body.0) (globals_rising query.globals [] 1) numbered.rising);
-      externals = have_values query.globals [] 1;
+      values = values_scoped ds [] 1;
+      body = subst (λ (scope : List ℕ). IsScoped scope body.0) (sym (scope_is ds [] 1)) numbered.scoped;
+      once = rising_distinct 1 body.1 (declared_numbers (declarations_of ds [] 1) ++ numbers_bound body.0)
+          (rise_joined 1 behind.1 body.1 (declared_numbers (declarations_of ds [] 1)) (numbers_bound body.0) (variables_rising ds [] 1) numbered.rising);
+      externals = have_values ds [] 1;
     }
 
-pub made_in_order : {E : Type 0} (query : Resolved) (made : Result Core E) → IfOk made (λ core. core ≡ query_core query) → IfOk made (λ core. HasQueryVariablesInOrder core)
-made_in_order query (Ok core) h = subst (λ (c : Core). HasQueryVariablesInOrder c) (sym h) (query_in_order query)
-made_in_order query (Err error) h = tt
+pub made_in_order : {E : Type 0} (ds : List Declaration) (tree : ResolvedTree) (made : Result Core E) → IfOk made (λ core. core ≡ main_core ds tree) → IfOk made (λ core. HasQueryVariablesInOrder core)
+made_in_order ds tree (Ok core) h = subst (λ (c : Core). HasQueryVariablesInOrder c) (sym h) (query_in_order ds tree)
+made_in_order ds tree (Err error) h = tt

@@ -1,11 +1,13 @@
 -- What each construct of the language stands for in Core, over its parts (XQuery 1.0 and XPath 2.0 Formal Semantics, section 4).
-use Rattle.std.specs.Prelude.{Bool, true, false, pos, List, [], ◌∷◌, Option, None, Some}
+use Rattle.std.specs.Prelude.{ℕ, Bool, true, false, pos, List, [], ◌∷◌, Option, None, Some}
 use Rattle.gx_base.specs.declared.place.Place.{Place}
 use Rattle.gx_base.specs.declared.type_name.TypeName.{TypeName}
 use Rattle.gx_num.specs.declared.Number.TheVariants.{Int}
 use Rattle.gx_facets.specs.declared.Atomic.{Atomic}
 use Rattle.gx_ast.specs.declared.expression.BinaryOperator.{BinaryOperator}
 use Rattle.gx_ast.specs.declared.expression.BinaryOperator.TheVariants as written
+use Rattle.gx_types.specs.declared.step.Axis.{Axis}
+use Rattle.gx_types.specs.declared.step.Test.{Test}
 use Rattle.gx_funcs.specs.declared.function.Function.{Function}
 use Rattle.gx_funcs.specs.declared.function.Function.TheVariants as functions
 use Rattle.gx_core.specs.declared.expression.BinaryOp.{BinaryOp}
@@ -84,6 +86,34 @@ castable_at place kind optional e = core_at place place (operators.Castable kind
 
 abbrev pub let_at : Place → Binder → CoreExpression → CoreExpression → CoreExpression
 let_at place binder value body = core_at place place (operators.Let binder) (two_parts value body)
+
+-- ---- paths
+
+-- what looks at a context item where there is none
+abbrev pub no_context_at : Place → CoreExpression
+no_context_at place = core_at place place operators.NoContext no_parts
+
+-- the context item, which is the value of the variable with this number
+abbrev pub context_item_at : Place → Option ℕ → CoreExpression
+context_item_at place None = no_context_at place
+context_item_at place (Some number) = core_at place place (operators.Var number) no_parts
+
+-- a step from it
+abbrev pub step_at : Place → Option ℕ → Axis → Test → CoreExpression
+step_at place None axis asks = no_context_at place
+step_at place (Some number) axis asks = core_at place place (operators.Step axis asks number) no_parts
+
+abbrev pub nodes_at : Place → CoreExpression → CoreExpression
+nodes_at place e = core_at place place operators.Nodes (one_part e)
+
+-- a variable of Core alone
+abbrev pub hidden_binder : Place → ℕ → Binder
+hidden_binder place number = record { variable = number; place = place; kind = None }
+
+-- the right part for each node that the left one gives, which is the context item there; what all of them give is put in document order
+abbrev pub path_at : Place → (number : ℕ) → CoreExpression → CoreExpression → CoreExpression
+path_at place number first second =
+    core_at place place operators.Order (one_part (core_at place place (operators.For (hidden_binder place number)) (two_parts (nodes_at place first) second)))
 
 -- the operator of Core for one that is written, if it is one
 abbrev pub operator_in_core : BinaryOperator → Option BinaryOp

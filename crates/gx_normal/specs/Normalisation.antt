@@ -1,18 +1,23 @@
 -- From resolved trees to Core: the numbers of variables, and what each construct stands for (XQuery 1.0 and XPath 2.0 Formal Semantics, section 4).
-use Rattle.std.specs.Prelude.{◌≡◌, ℕ, ◌+◌, Bool, ◌==◌, ◌&&◌, List, [], ◌∷◌, Option, None, Some}
+use Rattle.std.specs.Prelude.{◌≡◌, ℕ, ◌+◌, Bool, false, ◌==◌, ◌&&◌, List, [], ◌∷◌, Option, None, Some}
 use Rattle.gx_base.specs.declared.place.Place.{Place}
 use Rattle.gx_base.specs.declared.code.Code.{Code}
 use Rattle.gx_ast.specs.declared.query.Query.{Query}
 use Rattle.gx_types.specs.SchemaSet.{SchemaSet}
+use Rattle.gx_types.specs.SequenceType.{SequenceType, item}
+use Rattle.gx_types.specs.declared.item_type.ItemType.TheVariants as items
+use Rattle.gx_types.specs.declared.step.Axis.TheVariants as axes
+use Rattle.gx_types.specs.declared.step.Test.TheVariants as tests
 use Rattle.gx_names.specs.declared.refusal.Refusal.{Refusal}
 use Rattle.gx_names.specs.Refusals.{query_refusals}
 use Rattle.gx_names.specs.Resolution.{query_resolved}
 use Rattle.gx_names.specs.declared.tree.BoundName.{BoundName}
 use Rattle.gx_names.specs.declared.tree.Construct.{Construct}
 use Rattle.gx_names.specs.declared.tree.Construct.TheVariants as written
-use Rattle.gx_names.specs.declared.tree.Global.{Global as ResolvedGlobal}
+use Rattle.gx_names.specs.declared.tree.Declaration.{Declaration}
+use Rattle.gx_names.specs.declared.tree.Declaration.TheVariants as declared
 use Rattle.gx_names.specs.declared.tree.Resolved.{Resolved}
-use Rattle.gx_names.specs.NestedMap.{bound_value}
+use Rattle.gx_names.specs.NestedMap.{innermost_value}
 use Rattle.gx_names.specs.ResolvedTree.{ResolvedTree, ResolvedTrees, resolved_at, no_resolved, a_resolved}
 use Rattle.gx_funcs.specs.Function.{string_atom}
 use Rattle.gx_core.specs.declared.expression.Binder.{Binder}
@@ -22,8 +27,7 @@ use Rattle.gx_core.specs.declared.expression.CoreDeclaration.TheVariants.{Global
 use Rattle.gx_core.specs.declared.operator.Operator.TheVariants as operators
 use Rattle.gx_core.specs.Arithmetic.{number_atom}
 use Rattle.gx_core.specs.Expression.{CoreExpression, no_parts, core_at}
-use Rattle.gx_core.specs.QueryMeaning.{HasNoExternal}
-use Rattle.gx_normal.specs.Constructs.{within, literal_at, core_sequence, call_of, empty_at, of_one, conditional_at, signed_at, cast_at, castable_at, let_at, joining}
+use Rattle.gx_normal.specs.Constructs.{within, literal_at, core_sequence, call_of, empty_at, of_one, conditional_at, signed_at, cast_at, castable_at, let_at, joining, context_item_at, step_at, path_at}
 
 -- ---- variables
 
@@ -35,7 +39,7 @@ abbrev pub same_place : Place → Place → Bool
 same_place a b = a.line == b.line && a.column == b.column
 
 abbrev pub number_at : Numbers → Place → Option ℕ
-number_at numbers binder = bound_value same_place numbers binder
+number_at numbers binder = innermost_value same_place numbers binder
 
 -- a variable, by the number of its binder
 abbrev pub variable_at : Place → Option ℕ → CoreExpression
@@ -45,6 +49,14 @@ variable_at place (Some number) = core_at place place (operators.Var number) no_
 -- the binder of a variable with its number, and the type that is written at it
 abbrev pub numbered_binder : BoundName → ℕ → Binder
 numbered_binder bound number = record { variable = number; place = bound.place; kind = bound.kind }
+
+-- that of an external variable, whose type is written: a document
+abbrev pub declared_type : Option SequenceType → SequenceType
+declared_type None = item (items.Document None)
+declared_type (Some kind) = kind
+
+abbrev pub external_binder : BoundName → ℕ → Binder
+external_binder bound number = record { variable = number; place = bound.place; kind = Some (declared_type bound.kind) }
 
 -- ---- constructs over the Core of their parts; over another number of parts than theirs they stand for nothing
 
@@ -75,55 +87,80 @@ constructed place _ parts = empty_at place
 
 -- ---- trees
 
--- a construct, over the Core of its parts, or of its clauses where it is a FLWOR; with the number that is free behind it
-abbrev pub construct_core : Place → Construct → Numbers → (free : ℕ) → (parts : List CoreExpression × ℕ) → (clauses : CoreExpression × ℕ) → CoreExpression × ℕ
-construct_core place (written.Variable name binder) numbers free parts clauses = (variable_at place (number_at numbers binder), free)
-construct_core place written.Flwor numbers free parts clauses = clauses
-construct_core place construct numbers free parts clauses = (constructed place construct parts.0, parts.1)
+-- the number of the variable that has the context item, where there is one
+abbrev pub Focus : Type 0
+Focus = Option ℕ
+
+-- a construct, over the Core of its parts, or of its clauses where it is a FLWOR, or of its two parts where it is a path; with the number
+-- that is free behind it
+abbrev pub construct_core : Place → Construct → Numbers → Focus → (free : ℕ) → (parts : List CoreExpression × ℕ) → (clauses path : CoreExpression × ℕ) → CoreExpression × ℕ
+construct_core place (written.Variable name binder) numbers focus free parts clauses path = (variable_at place (number_at numbers binder), free)
+construct_core place written.Context numbers focus free parts clauses path = (context_item_at place focus, free)
+construct_core place (written.Step axis asks) numbers focus free parts clauses path = (step_at place focus axis asks, free)
+construct_core place written.ParentStep numbers focus free parts clauses path = (step_at place focus axes.Parent tests.Node, free)
+construct_core place written.Flwor numbers focus free parts clauses path = clauses
+construct_core place (written.Path false) numbers focus free parts clauses path = path
+construct_core place construct numbers focus free parts clauses path = (constructed place construct parts.0, parts.1)
 
 -- Variables are numbered in the order in which their scopes begin.
 abbrev mutual
-  pub core_of : ResolvedTree → Numbers → (free : ℕ) → CoreExpression × ℕ
-  core_of (resolved_at place construct parts) numbers free =
-      construct_core place construct numbers free (cores_of parts numbers free) (flwor_core place parts numbers free)
+  pub core_of : ResolvedTree → Numbers → Focus → (free : ℕ) → CoreExpression × ℕ
+  core_of (resolved_at place construct parts) numbers focus free =
+      construct_core place construct numbers focus free (cores_of parts numbers focus free) (flwor_core place parts numbers focus free) (path_core place parts numbers focus free)
 
-  pub cores_of : ResolvedTrees → Numbers → (free : ℕ) → List CoreExpression × ℕ
-  cores_of no_resolved numbers free = ([], free)
-  cores_of (a_resolved first others) numbers free =
-      let e = core_of first numbers free in
-      let es = cores_of others numbers e.1 in
+  pub cores_of : ResolvedTrees → Numbers → Focus → (free : ℕ) → List CoreExpression × ℕ
+  cores_of no_resolved numbers focus free = ([], free)
+  cores_of (a_resolved first others) numbers focus free =
+      let e = core_of first numbers focus free in
+      let es = cores_of others numbers focus e.1 in
       (e.0 ∷ es.0, es.1)
 
   -- the clauses of a FLWOR, one inside another, and what is returned
-  pub flwor_core : Place → ResolvedTrees → Numbers → (free : ℕ) → CoreExpression × ℕ
-  flwor_core place no_resolved numbers free = (empty_at place, free)
-  flwor_core place (a_resolved (resolved_at there (written.Let bound) (a_resolved value more)) others) numbers free =
-      let v = core_of value numbers free in
-      let body = flwor_core place others ((bound.place, v.1) ∷ numbers) (v.1 + 1) in
+  pub flwor_core : Place → ResolvedTrees → Numbers → Focus → (free : ℕ) → CoreExpression × ℕ
+  flwor_core place no_resolved numbers focus free = (empty_at place, free)
+  flwor_core place (a_resolved (resolved_at there (written.Let bound) (a_resolved value more)) others) numbers focus free =
+      let v = core_of value numbers focus free in
+      let body = flwor_core place others ((bound.place, v.1) ∷ numbers) focus (v.1 + 1) in
       (let_at place (numbered_binder bound v.1) v.0 body.0, body.1)
-  flwor_core place (a_resolved returned others) numbers free = core_of returned numbers free
+  flwor_core place (a_resolved returned others) numbers focus free = core_of returned numbers focus free
+
+  -- the two parts of a path; the context item of the right one is a variable whose scope begins behind the left one
+  pub path_core : Place → ResolvedTrees → Numbers → Focus → (free : ℕ) → CoreExpression × ℕ
+  path_core place (a_resolved first (a_resolved second no_resolved)) numbers focus free =
+      let a = core_of first numbers focus free in
+      let b = core_of second numbers (Some a.1) (a.1 + 1) in
+      (path_at place a.1 a.0 b.0, b.1)
+  path_core place _ numbers focus free = (empty_at place, free)
 
 -- ---- whole queries
 
--- global variables with their values; the scope of one begins behind its declaration
-abbrev pub declarations_of : List ResolvedGlobal → Numbers → (free : ℕ) → List CoreDeclaration
+-- global variables, an external one without a value; the scope of one begins behind its declaration
+abbrev pub declarations_of : List Declaration → Numbers → (free : ℕ) → List CoreDeclaration
 declarations_of [] numbers free = []
-declarations_of (g ∷ gs) numbers free =
-    let v = core_of g.value numbers free in
-    Global g.bound.name (numbered_binder g.bound v.1) (Some v.0) ∷ declarations_of gs ((g.bound.place, v.1) ∷ numbers) (v.1 + 1)
+declarations_of (declared.Global g ∷ others) numbers free =
+    let v = core_of g.value numbers None free in
+    Global g.bound.name (numbered_binder g.bound v.1) (Some v.0) ∷ declarations_of others ((g.bound.place, v.1) ∷ numbers) (v.1 + 1)
+declarations_of (declared.External e ∷ others) numbers free =
+    Global e.bound.name (external_binder e.bound free) None ∷ declarations_of others ((e.bound.place, free) ∷ numbers) (free + 1)
+declarations_of (declared.Function f ∷ others) numbers free = declarations_of others numbers free
 
 -- the numbers in scope behind them, and the number that is free
-abbrev pub behind_globals : List ResolvedGlobal → Numbers → (free : ℕ) → Numbers × ℕ
-behind_globals [] numbers free = (numbers, free)
-behind_globals (g ∷ gs) numbers free =
-    let v = core_of g.value numbers free in
-    behind_globals gs ((g.bound.place, v.1) ∷ numbers) (v.1 + 1)
+abbrev pub behind_declarations : List Declaration → Numbers → (free : ℕ) → Numbers × ℕ
+behind_declarations [] numbers free = (numbers, free)
+behind_declarations (declared.Global g ∷ others) numbers free =
+    let v = core_of g.value numbers None free in
+    behind_declarations others ((g.bound.place, v.1) ∷ numbers) (v.1 + 1)
+behind_declarations (declared.External e ∷ others) numbers free = behind_declarations others ((e.bound.place, free) ∷ numbers) (free + 1)
+behind_declarations (declared.Function f ∷ others) numbers free = behind_declarations others numbers free
 
 -- the Core of a query, whose variables are numbered from 1
+abbrev pub main_core : List Declaration → ResolvedTree → Core
+main_core declarations body =
+    let behind = behind_declarations declarations [] 1 in
+    record { declarations = declarations_of declarations [] 1; body = (core_of body behind.0 None behind.1).0 }
+
 abbrev pub query_core : Resolved → Core
-query_core query =
-    let behind = behind_globals query.globals [] 1 in
-    record { declarations = declarations_of query.globals [] 1; body = (core_of query.body behind.0 behind.1).0 }
+query_core query = main_core query.declarations query.body
 
 -- the Core of a query as it is written, or the first refusal
 pub data NamedQuery : Type 0 where
@@ -136,8 +173,3 @@ unless_refused (refusal ∷ others) core = unknown_name refusal.place refusal.co
 
 abbrev pub query_named : SchemaSet → Query → NamedQuery
 query_named schemas query = unless_refused (query_refusals schemas query) (query_core (query_resolved schemas query))
-
--- the Core of a query has no external variable
-abbrev pub NamedQueriesHaveNoExternal : Type 0
-NamedQueriesHaveNoExternal =
-    (schemas : SchemaSet) (query : Query) (core : Core) → query_named schemas query ≡ named_query core → HasNoExternal core.declarations

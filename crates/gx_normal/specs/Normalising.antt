@@ -7,10 +7,10 @@ use Rattle.gx_names.specs.ResolvedView.{resolved_parts}
 use Rattle.gx_core.specs.declared.expression.Binder.{Binder}
 use Rattle.gx_core.specs.Expression.{CoreExpression}
 use Rattle.gx_normal.specs.declared.normalising.Task.{Task}
-use Rattle.gx_normal.specs.declared.normalising.Task.TheVariants.{Normalise, Parts, Flwor, Bind, Unbind, FinishLet, Finish}
+use Rattle.gx_normal.specs.declared.normalising.Task.TheVariants.{Normalise, Parts, Flwor, Bind, Unbind, FinishLet, Enter, Leave, FinishPath, Finish}
 use Rattle.gx_normal.specs.declared.normalising.Normalising.{Normalising}
-use Rattle.gx_normal.specs.Constructs.{let_at}
-use Rattle.gx_normal.specs.Normalisation.{Numbers, constructed, numbered_binder, core_of, cores_of, flwor_core}
+use Rattle.gx_normal.specs.Constructs.{let_at, path_at}
+use Rattle.gx_normal.specs.Normalisation.{Numbers, Focus, constructed, numbered_binder, core_of, cores_of, flwor_core}
 
 -- ---- the parts that are there, the last first, of each construct in the making, the innermost first
 
@@ -33,35 +33,46 @@ abbrev pub let_finished : Place → Binder → Made → Made
 let_finished place binder ((body ∷ value ∷ more) ∷ outer) = added (let_at place binder value body) outer
 let_finished place binder _ = []
 
+abbrev pub path_finished : Place → (number : ℕ) → Made → Made
+path_finished place number ((second ∷ first ∷ more) ∷ outer) = added (path_at place number first second) outer
+path_finished place number _ = []
+
 -- ---- what is left to do
 
 pub record Left : Type 0 where
   pub made : Made
   pub numbers : Numbers
+  pub focus : Focus
   pub free : ℕ
 
-abbrev pub core_left : List Task → Made → Numbers → (free : ℕ) → Left
-core_left [] made numbers free = record { made = made; numbers = numbers; free = free }
-core_left (Normalise tree ∷ tasks) made numbers free = let e = core_of tree.now numbers free in core_left tasks (added e.0 made) numbers e.1
-core_left (Parts trees ∷ tasks) made numbers free = let es = cores_of (resolved_parts trees.now) numbers free in core_left tasks (all_added es.0 made) numbers es.1
-core_left (Flwor place parts ∷ tasks) made numbers free = let e = flwor_core place (resolved_parts parts.now) numbers free in core_left tasks (added e.0 made) numbers e.1
-core_left (Bind place bound others ∷ tasks) made numbers free =
-    let body = flwor_core place (resolved_parts others.now) ((bound.now.place, free) ∷ numbers) (free + 1) in
-    core_left tasks (let_finished place (numbered_binder bound.now free) (added body.0 made)) numbers body.1
-core_left (Unbind ∷ tasks) made numbers free = core_left tasks made (drop 1 numbers) free
-core_left (FinishLet place binder ∷ tasks) made numbers free = core_left tasks (let_finished place binder made) numbers free
-core_left (Finish place construct ∷ tasks) made numbers free = core_left tasks (finished place construct.now made) numbers free
+abbrev pub core_left : List Task → Made → Numbers → Focus → (free : ℕ) → Left
+core_left [] made numbers focus free = record { made = made; numbers = numbers; focus = focus; free = free }
+core_left (Normalise tree ∷ tasks) made numbers focus free = let e = core_of tree.now numbers focus free in core_left tasks (added e.0 made) numbers focus e.1
+core_left (Parts trees ∷ tasks) made numbers focus free =
+    let es = cores_of (resolved_parts trees.now) numbers focus free in core_left tasks (all_added es.0 made) numbers focus es.1
+core_left (Flwor place parts ∷ tasks) made numbers focus free =
+    let e = flwor_core place (resolved_parts parts.now) numbers focus free in core_left tasks (added e.0 made) numbers focus e.1
+core_left (Bind place bound others ∷ tasks) made numbers focus free =
+    let body = flwor_core place (resolved_parts others.now) ((bound.now.place, free) ∷ numbers) focus (free + 1) in
+    core_left tasks (let_finished place (numbered_binder bound.now free) (added body.0 made)) numbers focus body.1
+core_left (Unbind ∷ tasks) made numbers focus free = core_left tasks made (drop 1 numbers) focus free
+core_left (FinishLet place binder ∷ tasks) made numbers focus free = core_left tasks (let_finished place binder made) numbers focus free
+core_left (Enter place second ∷ tasks) made numbers focus free =
+    let e = core_of second.now numbers (Some free) (free + 1) in core_left tasks (path_finished place free (added e.0 made)) numbers focus e.1
+core_left (Leave outer ∷ tasks) made numbers focus free = core_left tasks made numbers outer free
+core_left (FinishPath place number ∷ tasks) made numbers focus free = core_left tasks (path_finished place number made) numbers focus free
+core_left (Finish place construct ∷ tasks) made numbers focus free = core_left tasks (finished place construct.now made) numbers focus free
 
 abbrev pub left_of : Normalising → Left
-left_of n = core_left n.tasks n.made n.numbers n.free
+left_of n = core_left n.tasks n.made n.numbers n.focus n.free
 
 -- with one more task that comes first
 abbrev pub left_with : Task → Normalising → Left
-left_with task n = core_left (task ∷ n.tasks) n.made n.numbers n.free
+left_with task n = core_left (task ∷ n.tasks) n.made n.numbers n.focus n.free
 
 -- with an expression that comes next
 abbrev pub left_behind : CoreExpression → Normalising → Left
-left_behind e n = core_left n.tasks (added e n.made) n.numbers n.free
+left_behind e n = core_left n.tasks (added e n.made) n.numbers n.focus n.free
 
 -- a Core that is done stands alone
 abbrev pub IsOnePart : Made → Type 0

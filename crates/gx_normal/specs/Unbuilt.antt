@@ -1,8 +1,10 @@
 -- The productions of the grammar that the program does not evaluate yet. The first of them in the text is where a query is refused.
-use Rattle.std.specs.Prelude.{List, [], ◌∷◌, Option, None, Some}
+use Rattle.std.specs.Prelude.{Bool, true, false, List, [], ◌∷◌, Option, None, Some}
 use Rattle.gx_base.specs.declared.place.Place.{Place}
 use Rattle.gx_ast.specs.declared.expression.BinaryOperator.{BinaryOperator}
 use Rattle.gx_ast.specs.declared.expression.BinaryOperator.TheVariants.{Is, Before, After, Union, Intersect, Except}
+use Rattle.gx_ast.specs.declared.name.Axis.{Axis}
+use Rattle.gx_ast.specs.declared.name.Axis.TheVariants as axes
 use Rattle.gx_ast.specs.declared.query.Setting.{Setting}
 use Rattle.gx_ast.specs.declared.query.SettingNode.{SettingNode}
 use Rattle.gx_ast.specs.declared.query.SettingNode.TheVariants as settings
@@ -11,7 +13,7 @@ use Rattle.gx_ast.specs.declared.query.DefinitionNode.{DefinitionNode}
 use Rattle.gx_ast.specs.declared.query.DefinitionNode.TheVariants as definitions
 use Rattle.gx_ast.specs.declared.query.Initialiser.TheVariants as initial
 use Rattle.gx_ast.specs.declared.query.Query.{Query}
-use Rattle.gx_ast.specs.SyntaxTree.{SyntaxTree, SyntaxForm, SyntaxTrees, Bindings, Clauses, Keys, at, number, string, variable, parenthesised, empty_sequence, call, comma, flwor, conditional, binary, instance_of, treat_as, castable_as, cast_as, signed, path, filtered, no_tree, a_tree, no_binding, a_binding, no_clause, for_clause, let_clause, where_clause, no_key, a_key}
+use Rattle.gx_ast.specs.SyntaxTree.{SyntaxTree, SyntaxForm, SyntaxTrees, Bindings, Clauses, Keys, at, number, string, variable, parenthesised, empty_sequence, call, comma, flwor, conditional, binary, instance_of, treat_as, castable_as, cast_as, signed, context_item, path, axis_step, parent_step, filtered, no_tree, a_tree, no_binding, a_binding, no_clause, for_clause, let_clause, where_clause, no_key, a_key}
 
 -- the first of two places in the order of the text, where there is one
 abbrev pub earlier_place : Option Place → Option Place → Option Place
@@ -30,6 +32,18 @@ unbuilt_operator Union place = Some place
 unbuilt_operator Intersect place = Some place
 unbuilt_operator Except place = Some place
 unbuilt_operator _ place = None
+
+-- an axis on which nodes lie farther away than the parent, the children and the attributes
+abbrev pub is_far_axis : Option Axis → Bool
+is_far_axis (Some axes.Descendant) = true
+is_far_axis (Some axes.DescendantOrSelf) = true
+is_far_axis (Some axes.Ancestor) = true
+is_far_axis (Some axes.AncestorOrSelf) = true
+is_far_axis _ = false
+
+abbrev pub unbuilt_if : Bool → Place → Option Place
+unbuilt_if true place = Some place
+unbuilt_if false place = None
 
 -- predicates, at the first of them
 abbrev pub unbuilt_predicates : SyntaxTrees → Place → Place
@@ -61,7 +75,10 @@ abbrev mutual
   unbuilt_form place (signed minus operand) = first_unbuilt operand
   unbuilt_form place (instance_of operand kind) = earlier_place (first_unbuilt operand) (Some place)
   unbuilt_form place (treat_as operand kind) = earlier_place (first_unbuilt operand) (Some place)
-  unbuilt_form place (path descendants left right) = earlier_place (first_unbuilt left) (Some place)
+  unbuilt_form place context_item = None
+  unbuilt_form place (path descendants left right) = earlier_place (first_unbuilt left) (earlier_place (unbuilt_if descendants place) (first_unbuilt right))
+  unbuilt_form place (axis_step step) = unbuilt_if (is_far_axis step.axis) place
+  unbuilt_form place parent_step = None
   unbuilt_form place (filtered operand predicates) = earlier_place (first_unbuilt operand) (Some (unbuilt_predicates predicates place))
   unbuilt_form place _ = Some place
 
@@ -88,9 +105,10 @@ abbrev pub unbuilt_settings : List Setting → Option Place
 unbuilt_settings [] = None
 unbuilt_settings (s ∷ ss) = earlier_place (unbuilt_setting s.place s.node) (unbuilt_settings ss)
 
--- an external variable or a function, at `declare`; a variable with a value is built where the value is
+-- a function, at `declare`; a variable with a value is built where the value is
 abbrev pub unbuilt_definition : Place → DefinitionNode → Option Place
 unbuilt_definition place (definitions.Variable binder kind (initial.Value value)) = first_unbuilt value
+unbuilt_definition place (definitions.Variable binder kind initial.External) = None
 unbuilt_definition place _ = Some place
 
 abbrev pub unbuilt_definitions : List Definition → Option Place

@@ -6,7 +6,7 @@ ghost use Rattle.gx_funcs.specs.Function.{string_atom};
 ghost use Rattle.gx_core.specs.Expression.{CoreExpression, core_at, no_parts, one_part, two_parts};
 ghost use Rattle.gx_core.specs.ExpressionView.{operator_of, parts_of};
 ghost use Rattle.gx_num.specs.declared.Number.TheVariants as numbers;
-ghost use Rattle.gx_normal.specs.Constructs.{boolean_around, call_at, call_of, cast_at, castable_at, conditional_at, data_at, empty_at, joining, of_one, let_at, operator_in_core, data_around, literal_at, operator_at, core_sequence, signed_at, within};
+ghost use Rattle.gx_normal.specs.Constructs.{boolean_around, call_at, call_of, cast_at, castable_at, conditional_at, data_at, empty_at, joining, of_one, let_at, operator_in_core, data_around, literal_at, operator_at, core_sequence, signed_at, within, context_item_at, step_at, path_at};
 ghost use Rattle.gx_normal.specs.Normalisation.{constructed, of_two, of_three};
 ghost use Rattle.gx_normal.specs.Making.{made_of_one, made_of_two, operation_at};
 
@@ -19,6 +19,7 @@ use gx_facets::{AtomValue, Atomic};
 use gx_funcs::function::{Function, string_atom};
 use gx_names::tree::Construct;
 use gx_num::Number;
+use gx_types::step::{Axis, Test};
 use std::alloc::{AllocError, Global};
 
 /// The Core of a construct over that of its parts.
@@ -172,18 +173,30 @@ fn two_parts_of(alloc: Global, parts: Vec<CoreExpr>) -> Result<Option<(E, E)>, A
     ensures { (place : Place) (make : CoreExpression → CoreExpression → CoreExpression)
         → IfOk result (λ o. MatchOption o (of_two place make parts.items ≡ empty_at place) (λ p. of_two place make parts.items ≡ make p.0.value p.1.value)) }
 {
-    let mut parts = parts.into_iter();
-    let Some(first) = parts.next() else {
-        return Ok(None);
-    };
-    let Some(second) = parts.next() else {
-        return Ok(None);
-    };
-    if parts.next().is_some() {
-        return Ok(None);
+    match two_of(parts) {
+        Some((first, second)) => Ok(Some(boxed(alloc, first, second)?)),
+        None => Ok(None),
     }
+}
+
+fn two_of(parts: Vec<CoreExpr>) -> Option<(CoreExpr, CoreExpr)>
+    ensures { (place : Place) (make : CoreExpression → CoreExpression → CoreExpression)
+        → MatchOption result (of_two place make parts.items ≡ empty_at place) (λ p. of_two place make parts.items ≡ make p.0 p.1) }
+{
+    let mut parts = parts.into_iter();
+    let first = parts.next()?;
+    let second = parts.next()?;
+    match parts.next() {
+        Some(_) => None,
+        None => Some((first, second)),
+    }
+}
+
+fn boxed(alloc: Global, first: CoreExpr, second: CoreExpr) -> Result<(E, E), AllocError>
+    ensures { IfOk result (λ pair. (pair.0.value ≡ first) × (pair.1.value ≡ second)) }
+{
     let first = Box::new(alloc, first)?;
-    Ok(Some((first, Box::new(alloc, second)?)))
+    Ok((first, Box::new(alloc, second)?))
 }
 
 /// A `let`.
@@ -191,6 +204,53 @@ pub(crate) fn let_in(place: Place, binder: Binder, value: E, body: E) -> CoreExp
     ensures { result ≡ let_at place binder value.value body.value }
 {
     at(place, CoreForm::Let(binder, value, body))
+}
+
+/// The context item, which is the value of the variable with this number.
+pub(crate) fn context_item(place: Place, focus: Option<u32>) -> CoreExpr
+    ensures { result ≡ context_item_at place focus }
+{
+    match focus {
+        Some(number) => at(place, CoreForm::Var(number)),
+        None => at(place, CoreForm::NoContext),
+    }
+}
+
+/// A step from it.
+pub(crate) fn step(
+    place: Place,
+    focus: Option<u32>,
+    axis: Axis,
+    test: &Test,
+) -> Result<CoreExpr, AllocError>
+    ensures { IfOk result (λ e. e ≡ step_at place focus axis test.now) }
+{
+    match focus {
+        Some(number) => Ok(at(place, CoreForm::Step(axis, test.clone()?, number))),
+        None => Ok(at(place, CoreForm::NoContext)),
+    }
+}
+
+/// A path of two parts, the context item of the right one the variable with this number.
+pub(crate) fn path(
+    alloc: Global,
+    place: Place,
+    number: u32,
+    first: CoreExpr,
+    second: CoreExpr,
+) -> Result<CoreExpr, AllocError>
+    ensures { IfOk result (λ e. e ≡ path_at place number first second) }
+{
+    let first = Box::new(alloc, first)?;
+    let second = Box::new(alloc, second)?;
+    let nodes = Box::new(alloc, at(place, CoreForm::Nodes(first)))?;
+    let binder = Binder {
+        variable: number,
+        place,
+        kind: None,
+    };
+    let each = Box::new(alloc, at(place, CoreForm::For(binder, nodes, second)))?;
+    Ok(at(place, CoreForm::Order(each)))
 }
 
 /// The empty sequence.

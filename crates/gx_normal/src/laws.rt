@@ -1,8 +1,8 @@
 // Laws over the definitions.
 
-ghost use Rattle.gx_normal.specs.Normalisation.{NamedQueriesHaveNoExternal};
+ghost use Rattle.gx_normal.specs.Externals.{NamedQueriesHaveUntypedDocuments};
 
-/// The Core of a query has no external variable.
-pub fn named_queries_have_no_external()
-    ensures { NamedQueriesHaveNoExternal }
+/// Without schemas, each external variable of a query is a document without types.
+pub fn named_queries_have_untyped_documents()
+    ensures { NamedQueriesHaveUntypedDocuments }
 {}

@@ -1,16 +1,18 @@
 // From resolved queries to Core.
 
-ghost use Rattle.std.specs.Prelude.{◌≡◌, [], ◌++◌, ◌∷◌, IfOk, OnOk, Some};
+ghost use Rattle.std.specs.Prelude.{◌≡◌, [], ◌++◌, ◌∷◌, ◌+◌, None, IfOk, OnOk};
 ghost use Rattle.gx_core.specs.Invariant.{HasQueryVariablesInOrder};
 ghost use Rattle.gx_core.specs.declared.expression.CoreDeclaration.TheVariants as declarations;
-ghost use Rattle.gx_normal.specs.Normalisation.{behind_globals, core_of, declarations_of, numbered_binder, query_core};
+ghost use Rattle.gx_normal.specs.Normalisation.{behind_declarations, core_of, declarations_of, external_binder, main_core, query_core};
 
 use crate::normalising::{Normalising, Numbers, numbered_binder};
 use gx_core::declarations::Declarations;
-use gx_core::expression::{Core, CoreDeclaration, CoreExpr};
+use gx_core::expression::{Binder, Core, CoreDeclaration, CoreExpr};
 use gx_names::dismantle::dismantle;
 use gx_names::nested_map::NestedMap;
-use gx_names::tree::{Global as GlobalVariable, Resolved, ResolvedExpr};
+use gx_names::tree::{BoundName, Declaration, Resolved, ResolvedExpr};
+use gx_types::item_type::ItemType;
+use gx_types::sequence_type::Ty;
 use std::alloc::{AllocError, Global};
 
 /// The Core of a query: each variable has the number of its binder, and operands are atomized (XQuery 1.0 and XPath 2.0 Formal
@@ -19,54 +21,57 @@ pub fn normalise(alloc: Global, query: Resolved) -> Result<Core, AllocError>
     ensures core { IfOk result (λ core. core ≡ query_core query) }
     ensures variables { IfOk result (λ core. HasQueryVariablesInOrder core) }
 {
-    let core = core_of_query(alloc, query.globals.as_slice(), &query.body);
+    let core = core_of_query(alloc, query.declarations.as_slice(), &query.body);
     drop_query(alloc, query);
     core
 }
 
 // Drops a query, its trees by a loop.
 fn drop_query(alloc: Global, query: Resolved) {
-    for global in query.globals.into_vec() {
-        dismantle(alloc, global.value);
+    for declaration in query.declarations.into_vec() {
+        drop_declaration(alloc, declaration);
     }
     dismantle(alloc, query.body);
 }
 
-// The Core of a query with these global variables and this body.
+fn drop_declaration(alloc: Global, declaration: Declaration) {
+    match declaration {
+        Declaration::Global(global) => dismantle(alloc, global.value),
+        Declaration::Function(function) => dismantle(alloc, function.body),
+        Declaration::External(_) => {}
+    }
+}
+
+// The Core of a query with these declarations and this body.
 fn core_of_query(
     alloc: Global,
-    globals: &[GlobalVariable],
+    declarations: &[Declaration],
     body: &ResolvedExpr,
 ) -> Result<Core, AllocError>
-    ensures { IfOk result (λ core. core ≡ query_core (record { globals = globals.now; body = body.now })) }
+    ensures { IfOk result (λ core. core ≡ main_core declarations.now body.now) }
 {
-    let mut declarations = Vec::new(alloc);
-    let (numbers, free) = declare_globals(alloc, globals, &mut declarations)?;
+    let mut made = Vec::new(alloc);
+    let (numbers, free) = declare_all(alloc, declarations, &mut made)?;
     let (body, _numbers, _free) = expression(alloc, body, numbers, free)?;
-    let declarations = Declarations::from_vec(declarations);
+    let declarations = Declarations::from_vec(made);
     Ok(Core { declarations, body })
 }
 
-// The declarations of global variables, with the numbers in scope behind them and the one that is free.
-fn declare_globals(
+// The declarations of variables, with the numbers in scope behind them and the one that is free.
+fn declare_all(
     alloc: Global,
-    globals: &[GlobalVariable],
-    declarations: &mut Vec<CoreDeclaration>,
+    declarations: &[Declaration],
+    made: &mut Vec<CoreDeclaration>,
 ) -> Result<(Numbers, u32), AllocError>
-    ensures declarations { OnOk result (declarations.new.items ≡ declarations.old.items ++ declarations_of globals.now [] 1) }
-    ensures numbers { IfOk result (λ r. r.0 ≡ (behind_globals globals.now [] 1).0) }
-    ensures free { IfOk result (λ r. r.1 ≡ (behind_globals globals.now [] 1).1) }
+    ensures declarations { OnOk result (made.new.items ≡ made.old.items ++ declarations_of declarations.now [] 1) }
+    ensures numbers { IfOk result (λ r. r.0 ≡ (behind_declarations declarations.now [] 1).0) }
+    ensures free { IfOk result (λ r. r.1 ≡ (behind_declarations declarations.now [] 1).1) }
 {
     let mut numbers = NestedMap::new(alloc);
     let mut free = 1;
-    let mut left = globals;
-    while let Some((global, others)) = left.split_first() {
-        let (value, mut inner, number) = expression(alloc, &global.value, numbers, free)?;
-        let Some(next) = number.checked_add(1) else {
-            return Err(AllocError);
-        };
-        declarations.push(declaration(global, number, value)?)?;
-        inner.bind(global.bound.place, number)?;
+    let mut left = declarations;
+    while let Some((declaration, others)) = left.split_first() {
+        let (inner, next) = declare(alloc, declaration, numbers, free, made)?;
         numbers = inner;
         free = next;
         left = others;
@@ -74,20 +79,70 @@ fn declare_globals(
     Ok((numbers, free))
 }
 
-fn declaration(
-    global: &GlobalVariable,
-    number: u32,
-    value: CoreExpr,
-) -> Result<CoreDeclaration, AllocError>
-    ensures { IfOk result (λ d. d ≡ declarations.Global global.now.bound.name (numbered_binder global.now.bound number) (Some value)) }
+// The declaration of a variable; no other declaration is one of Core.
+fn declare(
+    alloc: Global,
+    declaration: &Declaration,
+    numbers: Numbers,
+    free: u32,
+    made: &mut Vec<CoreDeclaration>,
+) -> Result<(Numbers, u32), AllocError>
+    ensures declared { OnOk result (made.new.items ≡ made.old.items ++ declarations_of (declaration.now ∷ []) numbers free) }
+    ensures behind { IfOk result (λ r. r ≡ behind_declarations (declaration.now ∷ []) numbers free) }
 {
-    let name = global.bound.name.name().clone()?;
-    let binder = numbered_binder(&global.bound, number)?;
-    let value = Some(value);
-    Ok(CoreDeclaration::Global {
+    match declaration {
+        Declaration::Global(global) => {
+            let (value, inner, number) = expression(alloc, &global.value, numbers, free)?;
+            let binder = numbered_binder(&global.bound, number)?;
+            bind(&global.bound, binder, Some(value), inner, made)
+        }
+        Declaration::External(external) => {
+            let binder = external_binder(alloc, &external.bound, free)?;
+            bind(&external.bound, binder, None, numbers, made)
+        }
+        Declaration::Function(_) => Ok((numbers, free)),
+    }
+}
+
+// Binds a variable in all behind its declaration.
+fn bind(
+    bound: &BoundName,
+    binder: Binder,
+    value: Option<CoreExpr>,
+    numbers: Numbers,
+    made: &mut Vec<CoreDeclaration>,
+) -> Result<(Numbers, u32), AllocError>
+    ensures made { OnOk result (made.new.items ≡ made.old.items ++ declarations.Global bound.now.name binder value ∷ []) }
+    ensures numbers { IfOk result (λ r. r.0 ≡ (bound.now.place, binder.variable) ∷ numbers) }
+    ensures free { IfOk result (λ r. r.1 ≡ binder.variable + 1) }
+{
+    let number = binder.variable;
+    let Some(next) = number.checked_add(1) else {
+        return Err(AllocError);
+    };
+    let name = bound.name.name().clone()?;
+    made.push(CoreDeclaration::Global {
         name,
         binder,
         value,
+    })?;
+    let mut inner = numbers;
+    inner.bind(bound.place, number)?;
+    Ok((inner, next))
+}
+
+// The binder of an external variable with its number.
+fn external_binder(alloc: Global, bound: &BoundName, variable: u32) -> Result<Binder, AllocError>
+    ensures { IfOk result (λ binder. binder ≡ external_binder bound.now variable) }
+{
+    let kind = match &bound.kind {
+        Some(kind) => kind.clone()?,
+        None => Ty::of_item(alloc, ItemType::Document(None))?,
+    };
+    Ok(Binder {
+        variable,
+        place: bound.place,
+        kind: Some(kind),
     })
 }
 
@@ -98,9 +153,9 @@ fn expression(
     numbers: Numbers,
     free: u32,
 ) -> Result<(CoreExpr, Numbers, u32), AllocError>
-    ensures core { IfOk result (λ r. r.0 ≡ (core_of tree.now numbers free).0) }
+    ensures core { IfOk result (λ r. r.0 ≡ (core_of tree.now numbers None free).0) }
     ensures numbers { IfOk result (λ r. r.1 ≡ numbers) }
-    ensures free { IfOk result (λ r. r.2 ≡ (core_of tree.now numbers free).1) }
+    ensures free { IfOk result (λ r. r.2 ≡ (core_of tree.now numbers None free).1) }
 {
     let mut normalising = Normalising::new(alloc, tree, numbers, free)?;
     for _ in 0..u64::MAX {

@@ -1,25 +1,28 @@
 // A normalisation in its midst: the tasks that are left, and the Core expressions that are there.
 
-ghost use Rattle.std.specs.Prelude.{◌≡◌, [], ◌∷◌, IfOk, OnOk};
+ghost use Rattle.std.specs.Prelude.{◌≡◌, ◌≢◌, [], ◌∷◌, length, None, IfOk, IfSome, IsNone, OnOk};
 ghost use Rattle.gx_names.specs.ResolvedView.{resolved_parts};
-ghost use Rattle.gx_normal.specs.Normalisation.{constructed, core_of, cores_of, number_at, numbered_binder, variable_at};
+ghost use Rattle.gx_normal.specs.Normalisation.{constructed, core_of, cores_of, number_at, numbered_binder, path_core, variable_at};
 ghost use Rattle.gx_normal.specs.Normalising.{added, core_left, IsOnePart, left_behind, left_of, left_with};
 ghost use Rattle.gx_normal.specs.declared.normalising.Task.TheVariants as tasks;
 
-use crate::construct::{at, construct, empty, let_in};
+use crate::construct::{at, construct, context_item, empty, let_in, path, step};
 use gx_base::place::Place;
 use gx_core::dismantle::dismantle;
 use gx_core::expression::{Binder, CoreExpr, CoreForm};
 use gx_names::nested_map::NestedMap;
 use gx_names::stack::Stack;
 use gx_names::tree::{BoundName, Construct, ResolvedExpr};
+use gx_types::step::{Axis, Test};
 use std::alloc::{AllocError, Global};
 
 /// The numbers of the variables in scope, by the places of their binders.
 pub(crate) type Numbers = NestedMap<Place, u32>;
 
 // A task: to normalise a tree, or trees, or the clauses and the body of a FLWOR at its place; to bind the variable of a `let` in the
-// others behind its value; to take the innermost number away; or to put the parts of a `let`, or of another construct, together.
+// others behind its value; to take the innermost number away; to put the parts of a `let` together; to normalise the right part of a
+// path, whose left part is there; to go back to the focus outside of it; to put the parts of a path together; or those of another
+// construct.
 #[derive(Drop)]
 pub(crate) enum Task<'a> {
     Normalise(&'a ResolvedExpr),
@@ -28,17 +31,32 @@ pub(crate) enum Task<'a> {
     Bind(Place, &'a BoundName, &'a [ResolvedExpr]),
     Unbind,
     FinishLet(Place, Binder),
+    Enter(Place, &'a ResolvedExpr),
+    Leave(Option<u32>),
+    FinishPath(Place, u32),
     Finish(Place, &'a Construct),
 }
 
-// `made` has the parts that are there of each construct in the making, the innermost on top; `free` is the first number that no
-// variable has so far.
+// `made` has the parts that are there of each construct in the making, the innermost on top; `focus` is the number of the variable
+// that has the context item; `free` is the first number that no variable has so far.
 #[derive(Drop)]
 pub(crate) struct Normalising<'a> {
     pub(crate) tasks: Stack<Task<'a>>,
     made: Stack<Stack<CoreExpr>>,
     numbers: Numbers,
+    focus: Option<u32>,
     free: u32,
+}
+
+// The two parts, if there are two.
+fn two_parts(parts: &[ResolvedExpr]) -> Option<(&ResolvedExpr, &ResolvedExpr)>
+    ensures some { IfSome result (λ r. parts.now ≡ r.0.now ∷ r.1.now ∷ []) }
+    ensures none { IsNone result → length parts.now ≢ 2 }
+{
+    match parts {
+        [first, second] => Some((first, second)),
+        _ => None,
+    }
 }
 
 impl<'a> Normalising<'a> {
@@ -49,7 +67,8 @@ impl<'a> Normalising<'a> {
         numbers: Numbers,
         free: u32,
     ) -> Result<Normalising<'a>, AllocError>
-        ensures { IfOk result (λ n. left_of n ≡ record { made = ((core_of tree.now numbers free).0 ∷ []) ∷ []; numbers = numbers; free = (core_of tree.now numbers free).1 }) }
+        ensures { IfOk result (λ n. left_of n
+            ≡ record { made = ((core_of tree.now numbers None free).0 ∷ []) ∷ []; numbers = numbers; focus = None; free = (core_of tree.now numbers None free).1 }) }
     {
         let mut tasks = Stack::new(alloc);
         tasks.push(Task::Normalise(tree))?;
@@ -57,6 +76,7 @@ impl<'a> Normalising<'a> {
             tasks,
             made: Stack::new(alloc),
             numbers,
+            focus: None,
             free,
         })
     }
@@ -88,6 +108,12 @@ impl<'a> Normalising<'a> {
             Task::Bind(place, bound, others) => self.bind(place, bound, others),
             Task::Unbind => self.numbers.unbind(),
             Task::FinishLet(place, binder) => self.finish_let(alloc, place, binder),
+            Task::Enter(place, second) => self.enter(place, second),
+            Task::Leave(outer) => {
+                self.focus = outer;
+                Ok(())
+            }
+            Task::FinishPath(place, number) => self.finish_path(alloc, place, number),
             Task::Finish(place, construct) => self.finish(alloc, place, construct),
         }
     }
@@ -97,6 +123,7 @@ impl<'a> Normalising<'a> {
         ensures made { OnOk result (self.new.made ≡ added e self.old.made) }
         ensures tasks { self.new.tasks ≡ self.old.tasks }
         ensures numbers { self.new.numbers ≡ self.old.numbers }
+        ensures focus { self.new.focus ≡ self.old.focus }
         ensures free { self.new.free ≡ self.old.free }
     {
         let mut parts = match self.made.pop() {
@@ -112,7 +139,20 @@ impl<'a> Normalising<'a> {
     {
         match &tree.construct {
             Construct::Variable(_, binder) => self.variable(alloc, tree.place, *binder),
+            Construct::Context => {
+                let item = context_item(tree.place, self.focus);
+                self.add(alloc, item)
+            }
+            Construct::Step(axis, test) => {
+                let step = step(tree.place, self.focus, *axis, test)?;
+                self.add(alloc, step)
+            }
+            Construct::ParentStep => {
+                let step = step(tree.place, self.focus, Axis::Parent, &Test::Node)?;
+                self.add(alloc, step)
+            }
             Construct::Flwor => self.open_flwor(alloc, tree.place, tree.parts.as_slice()),
+            Construct::Path(false) => self.open_path(alloc, tree.place, tree.parts.as_slice()),
             construct => self.open_construct(alloc, tree.place, construct, tree.parts.as_slice()),
         }
     }
@@ -136,7 +176,8 @@ impl<'a> Normalising<'a> {
         construct: &'a Construct,
         parts: &'a [ResolvedExpr],
     ) -> Result<(), AllocError>
-        ensures { OnOk result (left_of self.new ≡ (let cores = cores_of (resolved_parts parts.now) self.old.numbers self.old.free in core_left self.old.tasks (added (constructed place construct.now cores.0) self.old.made) self.old.numbers cores.1)) }
+        ensures { OnOk result (left_of self.new ≡ (let cores = cores_of (resolved_parts parts.now) self.old.numbers self.old.focus self.old.free in
+            core_left self.old.tasks (added (constructed place construct.now cores.0) self.old.made) self.old.numbers self.old.focus cores.1)) }
     {
         self.made.push(Stack::new(alloc))?;
         self.tasks.push(Task::Finish(place, construct))?;
@@ -213,11 +254,61 @@ impl<'a> Normalising<'a> {
         self.add(alloc, let_in(place, binder, value, body))
     }
 
+    // The left part of a path, and then the right one.
+    fn open_path(
+        &mut self,
+        alloc: Global,
+        place: Place,
+        parts: &'a [ResolvedExpr],
+    ) -> Result<(), AllocError>
+        ensures { OnOk result (left_of self.new ≡ (let path = path_core place (resolved_parts parts.now) self.old.numbers self.old.focus self.old.free in
+            core_left self.old.tasks (added path.0 self.old.made) self.old.numbers self.old.focus path.1)) }
+    {
+        let Some((first, second)) = two_parts(parts) else {
+            return self.add(alloc, empty(place));
+        };
+        self.made.push(Stack::new(alloc))?;
+        self.tasks.push(Task::Enter(place, second))?;
+        self.tasks.push(Task::Normalise(first))
+    }
+
+    // The context item of the right part is the variable with the free number.
+    fn enter(&mut self, place: Place, second: &'a ResolvedExpr) -> Result<(), AllocError>
+        ensures { OnOk result (left_of self.new ≡ left_with (tasks.Enter place second.entry) self.old) }
+    {
+        let number = self.free;
+        let Some(next) = number.checked_add(1) else {
+            return Err(AllocError);
+        };
+        self.tasks.push(Task::FinishPath(place, number))?;
+        self.tasks.push(Task::Leave(self.focus))?;
+        self.focus = Some(number);
+        self.free = next;
+        self.tasks.push(Task::Normalise(second))
+    }
+
+    fn finish_path(&mut self, alloc: Global, place: Place, number: u32) -> Result<(), AllocError>
+        ensures { OnOk result (left_of self.new ≡ left_with (tasks.FinishPath place number) self.old) }
+    {
+        let Some(mut parts) = self.made.pop() else {
+            return Ok(());
+        };
+        let Some(second) = parts.pop() else {
+            return self.lose(alloc);
+        };
+        let Some(first) = parts.pop() else {
+            return self.lose(alloc);
+        };
+        let path = path(alloc, place, number, first, second)?;
+        self.add(alloc, path)
+    }
+
     // Forgets what is there, where a part is missing.
     fn lose(&mut self, alloc: Global) -> Result<(), AllocError>
         ensures made { self.new.made ≡ [] }
         ensures tasks { self.new.tasks ≡ self.old.tasks }
         ensures numbers { self.new.numbers ≡ self.old.numbers }
+        ensures focus { self.new.focus ≡ self.old.focus }
         ensures free { self.new.free ≡ self.old.free }
     {
         self.made = Stack::new(alloc);

@@ -4,9 +4,10 @@ ghost use Rattle.std.specs.Prelude.{◌≡◌, ◌∷◌, IfOk, OnOk};
 ghost use Rattle.gx_ast.specs.SyntaxView.{bindings_of, keys_of, trees_of};
 ghost use Rattle.gx_normal.specs.declared.unbuilt.Pending.TheVariants as pendings;
 ghost use Rattle.gx_normal.specs.Searching.{first_in, first_of_all};
-ghost use Rattle.gx_normal.specs.Unbuilt.{first_unbuilt, earlier_place, unbuilt_bindings, unbuilt_definition, unbuilt_definitions, unbuilt_keys, unbuilt_operator, unbuilt_predicates, unbuilt_query, unbuilt_settings};
+ghost use Rattle.gx_normal.specs.Unbuilt.{first_unbuilt, earlier_place, unbuilt_bindings, unbuilt_definition, unbuilt_definitions, unbuilt_keys, unbuilt_operator, unbuilt_predicates, unbuilt_query, unbuilt_settings, unbuilt_if, is_far_axis};
 
 use gx_ast::expression::{BinaryOperator, Binding, Clause, Expr, ExprNode, Key};
+use gx_ast::name::Axis;
 use gx_ast::query::{Definition, DefinitionNode, Initialiser, Query, Setting, SettingNode};
 use gx_base::place::Place;
 use gx_core::stack::Stack;
@@ -66,7 +67,7 @@ fn unbuilt_definitions(
     Ok(None)
 }
 
-// External variables and functions are not built; a variable with a value is where the value is.
+// Functions are not built; a variable with a value is where the value is.
 fn unbuilt_definition(
     alloc: Global,
     place: Place,
@@ -76,7 +77,25 @@ fn unbuilt_definition(
 {
     match definition {
         DefinitionNode::Variable(_, _, Initialiser::Value(value)) => first_unbuilt(alloc, value),
+        DefinitionNode::Variable(_, _, Initialiser::External) => Ok(None),
         _ => Ok(Some(place)),
+    }
+}
+
+fn unbuilt_if(unbuilt: bool, place: Place) -> Option<Place>
+    ensures { result ≡ unbuilt_if unbuilt place }
+{
+    if unbuilt { Some(place) } else { None }
+}
+
+// Whether nodes on an axis lie farther away than the parent, the children and the attributes.
+fn is_far_axis(axis: Option<Axis>) -> bool
+    ensures { result ≡ is_far_axis axis }
+{
+    match axis {
+        Some(Axis::Descendant | Axis::DescendantOrSelf | Axis::Ancestor | Axis::AncestorOrSelf) =>
+            true,
+        _ => false,
     }
 }
 
@@ -159,8 +178,14 @@ fn open_tree<'a>(tree: &'a Expr, pending: &mut Stack<Pending<'a>>) -> Result<(),
     ensures { OnOk result (first_of_all pending.new ≡ first_of_all (pendings.Tree tree.entry ∷ pending.old)) }
 {
     match &tree.node {
-        ExprNode::Number(_) | ExprNode::String(_) | ExprNode::Variable(_) | ExprNode::Empty => {
-            Ok(())
+        ExprNode::Number(_)
+        | ExprNode::String(_)
+        | ExprNode::Variable(_)
+        | ExprNode::Empty
+        | ExprNode::Context
+        | ExprNode::ParentStep => Ok(()),
+        ExprNode::Step(step) => {
+            pending.push(Pending::Found(unbuilt_if(is_far_axis(step.axis), tree.place)))
         }
         ExprNode::Parenthesised(operand)
         | ExprNode::CastableAs(operand, _)
@@ -189,7 +214,9 @@ fn open_tree<'a>(tree: &'a Expr, pending: &mut Stack<Pending<'a>>) -> Result<(),
         ExprNode::InstanceOf(operand, _) | ExprNode::TreatAs(operand, _) => {
             open_front(operand, tree.place, pending)
         }
-        ExprNode::Path(_, left, _) => open_front(left, tree.place, pending),
+        ExprNode::Path(descendants, left, right) => {
+            open_three(left, unbuilt_if(*descendants, tree.place), right, pending)
+        }
         ExprNode::Filtered(operand, predicates) => open_front(
             operand,
             unbuilt_predicates(predicates.as_slice(), tree.place),

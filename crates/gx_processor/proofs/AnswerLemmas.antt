@@ -1,70 +1,118 @@
 -- The words and the files have one answer.
-use Rattle.std.proofs.Common.{◌≡◌, ℕ, arith, Bool, true, false, List, [], ◌∷◌, ◌⊎◌, inl, inr, length, Option, Some, None, refl, sym, ◌∙◌, ap, subst, nat_le}
-use Rattle.std.specs.Prelude.{All, unwrap_or}
+use Rattle.std.proofs.Common.{◌≡◌, ℕ, arith, Bool, true, false, ◌&&◌, List, [], ◌∷◌, ◌++◌, ◌⊎◌, inl, inr, length, Option, Some, None, refl, sym, ◌∙◌, ap, subst, nat_le, if◌then◌else◌}
+use Rattle.std.specs.Prelude.{unwrap_or, codes, bytes_eq}
 use Rattle.std.specs.Bool.{MatchBool}
 use Rattle.std.specs.Str.{chars}
+use Rattle.std.proofs.lemmas.Slice.Eq.{bytes_eq-Decides}
 use Rattle.gx_subtype.proofs.OneText.{one_text}
-use Rattle.gx_base.specs.declared.code.Code.TheVariants.{GLXS0001}
+use Rattle.gx_base.specs.declared.code.Code.TheVariants.{GLXS0001, SENR0001}
 use Rattle.gx_types.specs.SchemaSet.{no_declarations}
 use Rattle.gx_core.specs.declared.expression.Core.{Core}
 use Rattle.gx_core.specs.declared.typed.TypedCore.{TypedCore}
+use Rattle.gx_core.specs.Expression.{outer_of}
+use Rattle.gx_tree.specs.PlainTree.{PlainTree}
+use Rattle.gx_model.specs.Forest.{Forest}
 use Rattle.gx_model.specs.Item.{Items}
 use Rattle.gx_core.specs.Outcome.{Outcome, gives, raises, wrong}
 use Rattle.gx_core.specs.QueryMeaning.{query_outcome}
 use Rattle.gx_static.specs.QueryJudgement.{QueryJudgement, query_typed, query_rejected, query_judged}
 use Rattle.gx_io.specs.Load.{file_of}
+use Rattle.gx_documents.specs.Bindings.{Misbound, misbound, files_bound}
+use Rattle.gx_documents.specs.Documents.{Files, document_nodes}
+use Rattle.gx_xml.specs.declared.refusal.XmlRule.{XmlRule}
+use Rattle.gx_xml.specs.SourceTree.{SourceTree}
+use Rattle.gx_xml.specs.Untyped.{untyped_document}
+use Rattle.gx_xml.proofs.OneReading.{one_document, not_refused, one_refusal}
 use Rattle.gx_processor.specs.declared.status.Status.{Status}
-use Rattle.gx_processor.specs.declared.status.Status.TheVariants.{Query}
+use Rattle.gx_processor.specs.declared.status.Status.TheVariants as status
 use Rattle.gx_base.specs.declared.place.Place.{Place}
 use Rattle.gx_ast.specs.declared.query.Query.{Query as SyntaxQuery}
 use Rattle.gx_syntax.specs.Query.{Parsing, parsed, refused, Parses}
 use Rattle.gx_syntax.proofs.OneParsing.{one_parsing}
 use Rattle.gx_normal.specs.Unbuilt.{unbuilt_query}
 use Rattle.gx_normal.specs.Normalisation.{NamedQuery, named_query, unknown_name, query_named}
-use Rattle.gx_processor.specs.Command.{Command, run_file, check_file, query_file, command_of, texts_to_compare}
-use Rattle.gx_processor.specs.FaultLines.{line, code_line}
-use Rattle.gx_processor.specs.Answer.{Answer, writes, refuses, AnswersOutcome, AnswersTyped, AnswersJudged, AnswersNamed, AnswersBuilt, AnswersParsed, AnswersBytes, AnswersFile, AnswersCommand, AnswersTexts, AnswersWords, Answers, loads_asked, AnswersLookAtTheirLoads, ChecksRefuseForRuns}
+use Rattle.gx_processor.specs.Command.{Command, run_file, check_file, query_file, command_of, command_named, is_operand, texts_to_compare}
+use Rattle.gx_processor.specs.Externals.{external_words}
+use Rattle.gx_processor.specs.FaultLines.{line, code_line, placed_line, long_document_line, document_line}
+use Rattle.gx_processor.specs.Answer.{Answer, writes, refuses, can_be_written, AnswersOutcome, AnswersEvaluated, AnswersRead, AnswersLoaded, AnswersDocuments, AnswersBound, AnswersTyped, AnswersJudged, AnswersNamed, AnswersBuilt, AnswersParsed, AnswersBytes, AnswersFile, AnswersCommand, AnswersTexts, AnswersWords, Answers, ChecksRefuseForRuns}
 
 outcome_unique : (o : Outcome Items) (a b : Answer) → AnswersOutcome o a → AnswersOutcome o b → a ≡ b
 outcome_unique (gives items forest) a b h k = h ∙ sym k
 outcome_unique (raises code) a b h k = h ∙ sym k
 outcome_unique wrong a b h k = absurd h
 
-typed_unique : (command : Command) (core : Core) (t : TypedCore) (a b : Answer) → AnswersTyped command core t a → AnswersTyped command core t b → a ≡ b
-typed_unique (run_file name) core t a b h k = outcome_unique (query_outcome no_declarations core [] []) a b h k
-typed_unique (check_file name) core t a b h k = h ∙ sym k
+evaluated_unique : (core : Core) (forest : Forest) (a b : Answer) → AnswersEvaluated core forest a → AnswersEvaluated core forest b → a ≡ b
+evaluated_unique core forest a b h k = outcome_unique (query_outcome no_declarations core (document_nodes forest) forest) a b h k
 
-judged_unique : (command : Command) (core : Core) (j : QueryJudgement) (a b : Answer) → AnswersJudged command core j a → AnswersJudged command core j b → a ≡ b
-judged_unique command core (query_typed t) a b h k = typed_unique command core t a b h k
-judged_unique command core (query_rejected place code) a b h k = h ∙ sym k
+-- the bytes of a document are read in one way
+read_unique : (file bytes : List ℕ) (Next : PlainTree → Answer → Type 0) (a b : Answer) → ((t : PlainTree) → Next t a → Next t b → a ≡ b) → AnswersRead file bytes Next a → AnswersRead file bytes Next b → a ≡ b
+read_unique file bytes Next a b next (inl h) (inl k) =
+    next (untyped_document h.0) h.2 (subst (λ (root : SourceTree). Next (untyped_document root) b) (one_document bytes k.0 h.0 k.1 h.1) k.2)
+read_unique file bytes Next a b next (inl h) (inr k) = absurd (not_refused bytes h.0 k.0 k.1 h.1 k.2)
+read_unique file bytes Next a b next (inr h) (inl k) = absurd (not_refused bytes k.0 h.0 h.1 k.1 h.2)
+read_unique file bytes Next a b next (inr h) (inr k) =
+    let same = one_refusal bytes h.0 k.0 h.1 k.1 h.2 k.2 in
+    h.3 ∙ ap (λ (rule : XmlRule). refuses status.Document (document_line rule file h.1)) same.0 ∙ ap (λ (place : Place). refuses status.Document (document_line k.0 file place)) same.1 ∙ sym k.3
 
-named_unique : (command : Command) (n : NamedQuery) (a b : Answer) → AnswersNamed command n a → AnswersNamed command n b → a ≡ b
-named_unique command (named_query core) a b h k = judged_unique command core (query_judged no_declarations core) a b h k
-named_unique command (unknown_name place code) a b h k = h ∙ sym k
+held_unique : (file bytes : List ℕ) (short : Bool) (Next : PlainTree → Answer → Type 0) (c a b : Answer) → ((t : PlainTree) → Next t a → Next t b → a ≡ b)
+    → MatchBool short (AnswersRead file bytes Next a) (a ≡ c) → MatchBool short (AnswersRead file bytes Next b) (b ≡ c) → a ≡ b
+held_unique file bytes true Next c a b next h k = read_unique file bytes Next a b next h k
+held_unique file bytes false Next c a b next h k = h ∙ sym k
 
-built_unique : (command : Command) (tree : SyntaxQuery) (unbuilt : Option Place) (a b : Answer) → AnswersBuilt command tree unbuilt a → AnswersBuilt command tree unbuilt b → a ≡ b
-built_unique command tree None a b h k = named_unique command (query_named no_declarations tree) a b h k
-built_unique command tree (Some place) a b h k = h ∙ sym k
+loaded_unique : (file : List ℕ) (bytes : Option (List ℕ)) (Next : PlainTree → Answer → Type 0) (a b : Answer) → ((t : PlainTree) → Next t a → Next t b → a ≡ b) → AnswersLoaded file bytes Next a → AnswersLoaded file bytes Next b → a ≡ b
+loaded_unique file None Next a b next h k = h ∙ sym k
+loaded_unique file (Some bytes) Next a b next h k = held_unique file bytes (nat_le (length bytes) 16777216) Next (refuses status.Document (long_document_line file)) a b next h k
 
-parsed_unique : (command : Command) (p : Parsing) (a b : Answer) → AnswersParsed command p a → AnswersParsed command p b → a ≡ b
-parsed_unique command (parsed tree) a b h k = built_unique command tree (unbuilt_query tree) a b h k
-parsed_unique command (refused rule place) a b h k = h ∙ sym k
+documents_unique : (files : Files) (core : Core) (names : List (List ℕ)) (forest : Forest) (a b : Answer) → AnswersDocuments files core names forest a → AnswersDocuments files core names forest b → a ≡ b
+documents_unique files core [] forest a b h k = evaluated_unique core forest a b h k
+documents_unique files core (name ∷ names) forest a b h k =
+    loaded_unique name (file_of files name) (λ t next. AnswersDocuments files core names (forest ++ t ∷ []) next) a b (λ t f g. documents_unique files core names (forest ++ t ∷ []) a b f g) h k
 
-bytes_unique : (command : Command) (bytes : List ℕ) (a b : Answer) → AnswersBytes command bytes a → AnswersBytes command bytes b → a ≡ b
-bytes_unique command bytes a b h k =
-    parsed_unique command h.0 a b h.2 (subst (λ (p : Parsing). AnswersParsed command p b) (one_parsing bytes k.0 h.0 k.1 h.1) k.2)
+bound_unique : (files : Files) (core : Core) (bindings : List (List ℕ)) (fault : Option Misbound) (a b : Answer) → AnswersBound files core bindings fault a → AnswersBound files core bindings fault b → a ≡ b
+bound_unique files core bindings (Some fault) a b h k = h ∙ sym k
+bound_unique files core bindings None a b h k = documents_unique files core (files_bound (external_words core.declarations) bindings) [] a b h k
 
-match_unique : (command : Command) (short : Bool) (bytes : List ℕ) (c a b : Answer) → MatchBool short (AnswersBytes command bytes a) (a ≡ c) → MatchBool short (AnswersBytes command bytes b) (b ≡ c) → a ≡ b
-match_unique command true bytes c a b h k = bytes_unique command bytes a b h k
-match_unique command false bytes c a b h k = h ∙ sym k
+run_unique : (files : Files) (core : Core) (bindings : List (List ℕ)) (fault : Option Misbound) (writable : Bool) (c a b : Answer)
+    → MatchBool writable (AnswersBound files core bindings fault a) (a ≡ c) → MatchBool writable (AnswersBound files core bindings fault b) (b ≡ c) → a ≡ b
+run_unique files core bindings fault true c a b h k = bound_unique files core bindings fault a b h k
+run_unique files core bindings fault false c a b h k = h ∙ sym k
 
-file_unique : (command : Command) (file : Option (List ℕ)) (a b : Answer) → AnswersFile command file a → AnswersFile command file b → a ≡ b
-file_unique command None a b h k = h ∙ sym k
-file_unique command (Some bytes) a b h k = match_unique command (nat_le (length bytes) 16777216) bytes (refuses Query (code_line GLXS0001)) a b h k
+typed_unique : (files : Files) (command : Command) (core : Core) (t : TypedCore) (a b : Answer) → AnswersTyped files command core t a → AnswersTyped files command core t b → a ≡ b
+typed_unique files (run_file name bindings) core t a b h k =
+    run_unique files core bindings (misbound (external_words core.declarations) bindings) (can_be_written t) (refuses status.Query (placed_line SENR0001 (outer_of core.body))) a b h k
+typed_unique files (check_file name) core t a b h k = h ∙ sym k
 
-command_unique : (files : List (List ℕ × List ℕ)) (asked : Option Command) (a b : Answer) → AnswersCommand files asked a → AnswersCommand files asked b → a ≡ b
+judged_unique : (files : Files) (command : Command) (core : Core) (j : QueryJudgement) (a b : Answer) → AnswersJudged files command core j a → AnswersJudged files command core j b → a ≡ b
+judged_unique files command core (query_typed t) a b h k = typed_unique files command core t a b h k
+judged_unique files command core (query_rejected place code) a b h k = h ∙ sym k
+
+named_unique : (files : Files) (command : Command) (n : NamedQuery) (a b : Answer) → AnswersNamed files command n a → AnswersNamed files command n b → a ≡ b
+named_unique files command (named_query core) a b h k = judged_unique files command core (query_judged no_declarations core) a b h k
+named_unique files command (unknown_name place code) a b h k = h ∙ sym k
+
+built_unique : (files : Files) (command : Command) (tree : SyntaxQuery) (unbuilt : Option Place) (a b : Answer) → AnswersBuilt files command tree unbuilt a → AnswersBuilt files command tree unbuilt b → a ≡ b
+built_unique files command tree None a b h k = named_unique files command (query_named no_declarations tree) a b h k
+built_unique files command tree (Some place) a b h k = h ∙ sym k
+
+parsed_unique : (files : Files) (command : Command) (p : Parsing) (a b : Answer) → AnswersParsed files command p a → AnswersParsed files command p b → a ≡ b
+parsed_unique files command (parsed tree) a b h k = built_unique files command tree (unbuilt_query tree) a b h k
+parsed_unique files command (refused rule place) a b h k = h ∙ sym k
+
+bytes_unique : (files : Files) (command : Command) (bytes : List ℕ) (a b : Answer) → AnswersBytes files command bytes a → AnswersBytes files command bytes b → a ≡ b
+bytes_unique files command bytes a b h k =
+    parsed_unique files command h.0 a b h.2 (subst (λ (p : Parsing). AnswersParsed files command p b) (one_parsing bytes k.0 h.0 k.1 h.1) k.2)
+
+match_unique : (files : Files) (command : Command) (short : Bool) (bytes : List ℕ) (c a b : Answer) → MatchBool short (AnswersBytes files command bytes a) (a ≡ c) → MatchBool short (AnswersBytes files command bytes b) (b ≡ c) → a ≡ b
+match_unique files command true bytes c a b h k = bytes_unique files command bytes a b h k
+match_unique files command false bytes c a b h k = h ∙ sym k
+
+file_unique : (files : Files) (command : Command) (file : Option (List ℕ)) (a b : Answer) → AnswersFile files command file a → AnswersFile files command file b → a ≡ b
+file_unique files command None a b h k = h ∙ sym k
+file_unique files command (Some bytes) a b h k = match_unique files command (nat_le (length bytes) 16777216) bytes (refuses status.Query (code_line GLXS0001)) a b h k
+
+pub command_unique : (files : Files) (asked : Option Command) (a b : Answer) → AnswersCommand files asked a → AnswersCommand files asked b → a ≡ b
 command_unique files None a b h k = h ∙ sym k
-command_unique files (Some command) a b h k = file_unique command (file_of files (query_file command)) a b h k
+command_unique files (Some command) a b h k = file_unique files command (file_of files (query_file command)) a b h k
 
 texts_unique : (left right : List ℕ) (a b : Answer) → AnswersTexts left right a → AnswersTexts left right b → a ≡ b
 texts_unique left right a b (inl h) (inl k) = h.1 ∙ sym k.1
@@ -77,74 +125,77 @@ texts_unique left right a b (inr (inr h)) (inl k) = absurd (k.0 h.1.1.lower h.1.
 texts_unique left right a b (inr (inr h)) (inr (inl k)) = absurd (k.2 h.1.1.upper h.1.1.right_is)
 texts_unique left right a b (inr (inr h)) (inr (inr k)) = h.2 ∙ ap (λ (bytes : List ℕ). writes (line bytes)) (one_text left right h.0 k.0 h.1 k.1) ∙ sym k.2
 
-words_unique : (files : List (List ℕ × List ℕ)) (texts : Option (List ℕ × List ℕ)) (asked : Option Command) (a b : Answer) → AnswersWords files texts asked a → AnswersWords files texts asked b → a ≡ b
+words_unique : (files : Files) (texts : Option (List ℕ × List ℕ)) (asked : Option Command) (a b : Answer) → AnswersWords files texts asked a → AnswersWords files texts asked b → a ≡ b
 words_unique files (Some texts) asked a b h k = texts_unique (chars texts.0) (chars texts.1) a b h k
 words_unique files None asked a b h k = command_unique files asked a b h k
 
-pub answer_unique : (words : List (List ℕ)) (files : List (List ℕ × List ℕ)) (a b : Answer) → Answers words files a → Answers words files b → a ≡ b
+pub answer_unique : (words : List (List ℕ)) (files : Files) (a b : Answer) → Answers words files a → Answers words files b → a ≡ b
 answer_unique words files a b h k = words_unique files (texts_to_compare words) (command_of words) a b h k
 
 -- the parts of two pairs that are equal
 pub same_parts : (p q : List ℕ × List ℕ) → Some p ≡ Some q → (p.0 ≡ q.0) × (p.1 ≡ q.1)
 same_parts p q e = (ap (λ (o : Option (List ℕ × List ℕ)). (unwrap_or o p).0) e, ap (λ (o : Option (List ℕ × List ℕ)). (unwrap_or o p).1) e)
 
--- words over a query compare no texts
+-- words over a query compare no texts: their first word is another one
+named_otherwise : (left right : List ℕ) (command : Command) (operand : Bool) → (if operand then command_named (codes "subtype") left (right ∷ []) else None) ≡ Some command → ⊥
+named_otherwise left right command true e = cc e
+named_otherwise left right command false e = cc e
+
+compare_not : (name left right : List ℕ) (command : Command) (same : Bool) → bytes_eq name (codes "subtype") ≡ same → command_of (name ∷ left ∷ right ∷ []) ≡ Some command
+    → if◌then◌else◌ {A = Option (List ℕ × List ℕ)} (same && (is_operand left && is_operand right)) (Some (left, right)) None ≡ None
+compare_not name left right command false f e = refl
+compare_not name left right command true f e =
+    absurd (named_otherwise left right command (is_operand left)
+    (subst (λ (x : List ℕ). (if is_operand left then command_named x left (right ∷ []) else None) ≡ Some command) ((bytes_eq-Decides name (codes "subtype")).0 f) e))
+
 pub no_texts : (words : List (List ℕ)) (command : Command) → command_of words ≡ Some command → texts_to_compare words ≡ None
 no_texts [] command e = refl
 no_texts (a ∷ []) command e = refl
 no_texts (a ∷ b ∷ []) command e = refl
-no_texts (a ∷ b ∷ c ∷ words) command e = cc
+no_texts (a ∷ b ∷ c ∷ []) command e = compare_not a b c command (bytes_eq a (codes "subtype")) refl e
+no_texts (a ∷ b ∷ c ∷ d ∷ words) command e = refl
 
 -- the answer to words over a query
-pub answer_asked : (words : List (List ℕ)) (files : List (List ℕ × List ℕ)) (command : Command) (a : Answer) → command_of words ≡ Some command → Answers words files a → AnswersCommand files (Some command) a
+pub answer_asked : (words : List (List ℕ)) (files : Files) (command : Command) (a : Answer) → command_of words ≡ Some command → Answers words files a → AnswersCommand files (Some command) a
 answer_asked words files command a e h =
     subst (λ (o : Option Command). AnswersCommand files o a) e (subst (λ (o : Option (List ℕ × List ℕ)). AnswersWords files o (command_of words) a) (no_texts words command e) h)
 
-pub asked_answer : (words : List (List ℕ)) (files : List (List ℕ × List ℕ)) (command : Command) (a : Answer) → command_of words ≡ Some command → AnswersCommand files (Some command) a → Answers words files a
+pub asked_answer : (words : List (List ℕ)) (files : Files) (command : Command) (a : Answer) → command_of words ≡ Some command → AnswersCommand files (Some command) a → Answers words files a
 asked_answer words files command a e h =
     subst (λ (o : Option (List ℕ × List ℕ)). AnswersWords files o (command_of words) a) (sym (no_texts words command e)) (subst (λ (o : Option Command). AnswersCommand files o a) (sym e) h)
 
 -- the answer where the words name a file that is held
-pub answer_at : (words : List (List ℕ)) (files : List (List ℕ × List ℕ)) (command : Command) (bytes : List ℕ) (a : Answer) → command_of words ≡ Some command → file_of files (query_file command) ≡ Some bytes → Answers words files a → AnswersFile command (Some bytes) a
+pub answer_at : (words : List (List ℕ)) (files : Files) (command : Command) (bytes : List ℕ) (a : Answer) → command_of words ≡ Some command → file_of files (query_file command) ≡ Some bytes → Answers words files a → AnswersFile files command (Some bytes) a
 answer_at words files command bytes a e f h =
-    subst (λ (o : Option (List ℕ)). AnswersFile command o a) f (answer_asked words files command a e h)
+    subst (λ (o : Option (List ℕ)). AnswersFile files command o a) f (answer_asked words files command a e h)
 
 -- what a check refuses, a run refuses
-judged_refused : (name : List ℕ) (core : Core) (j : QueryJudgement) (status : Status) (line : List ℕ) → AnswersJudged (check_file name) core j (refuses status line) → AnswersJudged (run_file name) core j (refuses status line)
-judged_refused name core (query_typed t) status line h = cc
-judged_refused name core (query_rejected place code) status line h = h
+judged_refused : (files : Files) (name : List ℕ) (bindings : List (List ℕ)) (core : Core) (j : QueryJudgement) (status : Status) (line : List ℕ) → AnswersJudged files (check_file name) core j (refuses status line)
+    → AnswersJudged files (run_file name bindings) core j (refuses status line)
+judged_refused files name bindings core (query_typed t) status line h = cc
+judged_refused files name bindings core (query_rejected place code) status line h = h
 
-named_refused : (name : List ℕ) (n : NamedQuery) (status : Status) (line : List ℕ) → AnswersNamed (check_file name) n (refuses status line) → AnswersNamed (run_file name) n (refuses status line)
-named_refused name (named_query core) status line h = judged_refused name core (query_judged no_declarations core) status line h
-named_refused name (unknown_name place code) status line h = h
+named_refused : (files : Files) (name : List ℕ) (bindings : List (List ℕ)) (n : NamedQuery) (status : Status) (line : List ℕ) → AnswersNamed files (check_file name) n (refuses status line) → AnswersNamed files (run_file name bindings) n (refuses status line)
+named_refused files name bindings (named_query core) status line h = judged_refused files name bindings core (query_judged no_declarations core) status line h
+named_refused files name bindings (unknown_name place code) status line h = h
 
-built_refused : (name : List ℕ) (tree : SyntaxQuery) (unbuilt : Option Place) (status : Status) (line : List ℕ) → AnswersBuilt (check_file name) tree unbuilt (refuses status line) → AnswersBuilt (run_file name) tree unbuilt (refuses status line)
-built_refused name tree None status line h = named_refused name (query_named no_declarations tree) status line h
-built_refused name tree (Some place) status line h = h
+built_refused : (files : Files) (name : List ℕ) (bindings : List (List ℕ)) (tree : SyntaxQuery) (unbuilt : Option Place) (status : Status) (line : List ℕ) → AnswersBuilt files (check_file name) tree unbuilt (refuses status line)
+    → AnswersBuilt files (run_file name bindings) tree unbuilt (refuses status line)
+built_refused files name bindings tree None status line h = named_refused files name bindings (query_named no_declarations tree) status line h
+built_refused files name bindings tree (Some place) status line h = h
 
-parsed_refused : (name : List ℕ) (p : Parsing) (status : Status) (line : List ℕ) → AnswersParsed (check_file name) p (refuses status line) → AnswersParsed (run_file name) p (refuses status line)
-parsed_refused name (parsed tree) status line h = built_refused name tree (unbuilt_query tree) status line h
-parsed_refused name (refused rule place) status line h = h
+parsed_refused : (files : Files) (name : List ℕ) (bindings : List (List ℕ)) (p : Parsing) (status : Status) (line : List ℕ) → AnswersParsed files (check_file name) p (refuses status line) → AnswersParsed files (run_file name bindings) p (refuses status line)
+parsed_refused files name bindings (parsed tree) status line h = built_refused files name bindings tree (unbuilt_query tree) status line h
+parsed_refused files name bindings (refused rule place) status line h = h
 
-short_refused : (name : List ℕ) (short : Bool) (bytes : List ℕ) (status : Status) (line : List ℕ) (a : Answer) → MatchBool short (AnswersBytes (check_file name) bytes (refuses status line)) (refuses status line ≡ a) → MatchBool short (AnswersBytes (run_file name) bytes (refuses status line)) (refuses status line ≡ a)
-short_refused name true bytes status line a h = (h.0, h.1, parsed_refused name h.0 status line h.2)
-short_refused name false bytes status line a h = h
+short_refused : (files : Files) (name : List ℕ) (bindings : List (List ℕ)) (short : Bool) (bytes : List ℕ) (status : Status) (line : List ℕ) (a : Answer) → MatchBool short (AnswersBytes files (check_file name) bytes (refuses status line)) (refuses status line ≡ a)
+    → MatchBool short (AnswersBytes files (run_file name bindings) bytes (refuses status line)) (refuses status line ≡ a)
+short_refused files name bindings true bytes status line a h = (h.0, h.1, parsed_refused files name bindings h.0 status line h.2)
+short_refused files name bindings false bytes status line a h = h
 
-file_refused : (name : List ℕ) (file : Option (List ℕ)) (status : Status) (line : List ℕ) → AnswersFile (check_file name) file (refuses status line) → AnswersFile (run_file name) file (refuses status line)
-file_refused name None status line h = h
-file_refused name (Some bytes) status line h = short_refused name (nat_le (length bytes) 16777216) bytes status line (refuses Query (code_line GLXS0001)) h
+file_refused : (files : Files) (name : List ℕ) (bindings : List (List ℕ)) (file : Option (List ℕ)) (status : Status) (line : List ℕ) → AnswersFile files (check_file name) file (refuses status line) → AnswersFile files (run_file name bindings) file (refuses status line)
+file_refused files name bindings None told line h = h
+file_refused files name bindings (Some bytes) told line h = short_refused files name bindings (nat_le (length bytes) 16777216) bytes told line (refuses status.Query (code_line GLXS0001)) h
 
 pub check_refused : ChecksRefuseForRuns
-check_refused files name status line h = file_refused name (file_of files name) status line h
-
--- an answer looks at the file of the query alone
-command_elsewhere : (files others : List (List ℕ × List ℕ)) (asked : Option Command) (a : Answer) → All (λ name. file_of files name ≡ file_of others name) (loads_asked asked) → AnswersCommand files asked a → AnswersCommand others asked a
-command_elsewhere files others None a same h = h
-command_elsewhere files others (Some command) a same h = subst (λ (o : Option (List ℕ)). AnswersFile command o a) (same 0 (query_file command) (omega arith)) h
-
-words_elsewhere : (files others : List (List ℕ × List ℕ)) (texts : Option (List ℕ × List ℕ)) (asked : Option Command) (a : Answer) → All (λ name. file_of files name ≡ file_of others name) (loads_asked asked) → AnswersWords files texts asked a → AnswersWords others texts asked a
-words_elsewhere files others (Some texts) asked a same h = h
-words_elsewhere files others None asked a same h = command_elsewhere files others asked a same h
-
-pub answer_elsewhere : AnswersLookAtTheirLoads
-answer_elsewhere words files others a same h = words_elsewhere files others (texts_to_compare words) (command_of words) a same h
+check_refused files name bindings status line h = file_refused files name bindings (file_of files name) status line h

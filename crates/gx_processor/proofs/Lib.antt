@@ -1,8 +1,15 @@
-pub mod ValueTexts
+pub mod Told
 pub mod QueryLemmas
 pub mod AnswerLemmas
+pub mod LoadLemmas
+pub mod DocumentFit
 pub mod Course
 pub mod PromiseLemmas
+pub mod RunLemmas
+pub mod CommandLoads
+pub mod TypedOutput
+pub mod StepLoads
+pub mod LoadLaws
 pub mod HeadlineLemmas
 pub mod Promised
 pub mod AnswerExists

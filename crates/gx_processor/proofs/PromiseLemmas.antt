@@ -1,5 +1,5 @@
 -- The promises of the program, from the course that a run takes.
-use Rattle.std.proofs.Common.{◌≡◌, ℕ, Bool, true, false, List, [], ◌⊎◌, inl, inr, length, Option, Some, None, IfSome, refl, sym, ◌∙◌, ap, subst, arith, nat_le}
+use Rattle.std.proofs.Common.{◌≡◌, ℕ, Bool, true, false, List, [], ◌⊎◌, inl, inr, length, Option, Some, None, refl, sym, ◌∙◌, ap, subst, arith, nat_le}
 use Rattle.std.specs.Bool.{MatchBool}
 use Rattle.std.specs.Str.{chars}
 use Rattle.gx_subtype.specs.Comparison.{IsAnswerText}
@@ -16,20 +16,13 @@ use Rattle.gx_processor.specs.Command.{Command, command_of, texts_to_compare, As
 use Rattle.gx_processor.specs.FaultLines.{line, read_fault_line, write_fault_line, code_line}
 use Rattle.gx_processor.specs.Answer.{Answer, writes, refuses, status_of, output_of, AnswersBytes, Answers}
 use Rattle.gx_processor.specs.Ending.{Put, PutOutput, Ends}
-use Rattle.gx_processor.specs.Replies.{HasForm, IsMisuse, IsAsked, IsUsageOrStarved}
+use Rattle.gx_processor.specs.Replies.{HasForm, IsMisuse, IsMisbinding, IsAsked, IsUsageOrStarved}
+use Rattle.gx_documents.specs.Documents.{Files}
 use Rattle.gx_processor.specs.Run.{Run, WhereTold, IsFaultless}
 use Rattle.gx_processor.specs.Promises.{IsCertain, IsCutShort, LeavesAnswer, IsAnswered, MayFollowOutput, PutsOutput, IsLineOf, of_write_fault, of_read_fault, of_refusal, PutsLine, OutputAfter, LineAfter, FailsToWrite, FailsToRead, IsTooLong, ComparesTexts}
 use Rattle.gx_processor.proofs.AnswerLemmas.{answer_unique, answer_at, no_texts, same_parts}
+use Rattle.gx_processor.proofs.Told.{told_so, told_always}
 use Rattle.gx_processor.proofs.Course.{Course, to_output, to_read_fault, to_refusal, to_no_memory}
-
--- facts about the files that are told
-pub told_so : {Files : Type 0} (told : Option Files) (P Q : Files → Type 0) → ((files : Files) → P files → Q files) → IfSome told P → IfSome told Q
-told_so None P Q f h = tt
-told_so (Some files) P Q f h = f files h
-
-pub told_always : {Files : Type 0} (told : Option Files) (Q : Files → Type 0) → ((files : Files) → Q files) → IfSome told Q
-told_always None Q f = tt
-told_always (Some files) Q f = f files
 
 -- growth by nothing, and by the whole
 nothing_grows : (before : Option (List ℕ)) → GrowsBy before before []
@@ -62,17 +55,17 @@ output_status bytes result out err (inr (inr (part, failed, inr (inl p)))) = inr
 output_status bytes result out err (inr (inr (part, failed, inr (inr p)))) = inr (inr p.0)
 
 -- a certain status is that of the answer
-put_is_of_it : (status : Status) (line : List ℕ) (result : Status) (err : SinkUse) → IsCertain result → Put status line result err → (result ≡ status) × Took err line
+pub put_is_of_it : (status : Status) (line : List ℕ) (result : Status) (err : SinkUse) → IsCertain result → Put status line result err → (result ≡ status) × Took err line
 put_is_of_it status line result err c (inl p) = p
 put_is_of_it status line result err c (inr (inl p)) = absurd (subst IsCertain p.0 c)
 put_is_of_it status line result err c (inr (inr p)) = absurd (subst IsCertain p.0 c)
 
-output_answered : (run : Run) (files : List (List ℕ × List ℕ)) (bytes : List ℕ) → Answers run.words files (writes bytes) → PutOutput bytes run.status run.out run.err → IsCertain run.status → IsAnswered run files
+output_answered : (run : Run) (files : Files) (bytes : List ℕ) → Answers run.words files (writes bytes) → PutOutput bytes run.status run.out run.err → IsCertain run.status → IsAnswered run files
 output_answered run files bytes h (inl p) c = record { answer = writes bytes; answers = h; status = p.0; sinks = (p.1, p.2) }
 output_answered run files bytes h (inr (inl p)) c = absurd (subst IsCertain p.0 c)
 output_answered run files bytes h (inr (inr (part, failed, p))) c = absurd (subst IsCertain (put_is_of_it WriteFault write_fault_line run.status run.err c p).0 c)
 
-refusal_answered : (run : Run) (files : List (List ℕ × List ℕ)) (status : Status) (line : List ℕ) → Answers run.words files (refuses status line) → IsUntouched run.out → Put status line run.status run.err → IsCertain run.status → IsAnswered run files
+refusal_answered : (run : Run) (files : Files) (status : Status) (line : List ℕ) → Answers run.words files (refuses status line) → IsUntouched run.out → Put status line run.status run.err → IsCertain run.status → IsAnswered run files
 refusal_answered run files status line h u p c =
     let q = put_is_of_it status line run.status run.err c p in record { answer = refuses status line; answers = h; status = q.0; sinks = (u, q.1) }
 
@@ -128,7 +121,7 @@ form_output run Query line form u = u
 form_output run Dynamic line form u = u
 form_output run Done line form u = absurd form
 form_output run Schema line form u = absurd form
-form_output run Document line form u = absurd form
+form_output run Document line form u = u
 form_output run ReadFault line form u = absurd form
 form_output run WriteFault line form u = absurd form
 form_output run Memory line form u = absurd form
@@ -151,7 +144,7 @@ form_line run Query line form t = (line, form, t)
 form_line run Dynamic line form t = (form.1.0, subst (λ (xs : List ℕ). Took run.err xs) form.1.1 t)
 form_line run Done line form t = absurd form
 form_line run Schema line form t = absurd form
-form_line run Document line form t = absurd form
+form_line run Document line form t = (line, form.1, t)
 form_line run ReadFault line form t = absurd form
 form_line run WriteFault line form t = absurd form
 form_line run Memory line form t = absurd form
@@ -168,7 +161,7 @@ line_promised run (to_refusal status line form a u p) =
 line_promised run (to_no_memory m u v) = subst (λ (s : Status). LineAfter s run) (sym m) tt
 
 -- a part of the output
-abbrev PartOfOutput : Run → List (List ℕ × List ℕ) → Type 0
+abbrev PartOfOutput : Run → Files → Type 0
 PartOfOutput run files = (answer : Answer) → Answers run.words files answer → IsCutShort run.status → GrewByPrefix run.out (output_of answer)
 
 untouched_is_part : (run : Run) → IsUntouched run.out → WhereTold run (PartOfOutput run)
@@ -184,7 +177,8 @@ part_promised run (to_no_memory m u v) = untouched_is_part run u
 
 -- the cause of each status
 abbrev pub CauseOf : Run → Status → Type 0
-CauseOf run Usage = (line : List ℕ) × IsMisuse run.words line
+CauseOf run Usage = (line : List ℕ) × (IsMisuse run.words line ⊎ IsMisbinding run.words line)
+CauseOf run Document = AskToRun run.words
 CauseOf run Dynamic = AskToRun run.words
 CauseOf run ReadFault = FailsToRead run
 CauseOf run WriteFault = FailsToWrite run
@@ -196,7 +190,7 @@ form_cause run Query line form = tt
 form_cause run Dynamic line form = form.0
 form_cause run Done line form = absurd form
 form_cause run Schema line form = absurd form
-form_cause run Document line form = absurd form
+form_cause run Document line form = form.0
 form_cause run ReadFault line form = absurd form
 form_cause run WriteFault line form = absurd form
 form_cause run Memory line form = absurd form
@@ -228,14 +222,14 @@ usage_promised (Fault _ line) result out err u e = absurd u
 usage_promised Starved result out err u e = inr (inr e.0)
 
 -- a file that is too long
-long_answer : (command : Command) (short : Bool) (bytes : List ℕ) (a b : Answer) → (short ≡ true → ⊥) → MatchBool short (AnswersBytes command bytes a) (a ≡ b) → a ≡ b
-long_answer command true bytes a b e m = absurd (e refl)
-long_answer command false bytes a b e m = m
+long_answer : (files : Files) (command : Command) (short : Bool) (bytes : List ℕ) (a b : Answer) → (short ≡ true → ⊥) → MatchBool short (AnswersBytes files command bytes a) (a ≡ b) → a ≡ b
+long_answer files command true bytes a b e m = absurd (e refl)
+long_answer files command false bytes a b e m = m
 
-pub too_long_refused : (run : Run) (files : List (List ℕ × List ℕ)) → IsAnswered run files → IsTooLong run.words files → (run.status ≡ Query) × Took run.err (code_line GLXS0001)
+pub too_long_refused : (run : Run) (files : Files) → IsAnswered run files → IsTooLong run.words files → (run.status ≡ Query) × Took run.err (code_line GLXS0001)
 too_long_refused run files answered long =
     let at = answer_at run.words files long.command long.bytes answered.answer long.asked long.held answered.answers in
-    let is = long_answer long.command (nat_le (length long.bytes) 16777216) long.bytes answered.answer (refuses Query (code_line GLXS0001)) (λ e. let short = leb-true (length long.bytes) 16777216 e in omega (arith, short, long.long)) at in
+    let is = long_answer files long.command (nat_le (length long.bytes) 16777216) long.bytes answered.answer (refuses Query (code_line GLXS0001)) (λ e. let short = leb-true (length long.bytes) 16777216 e in omega (arith, short, long.long)) at in
     (answered.status ∙ ap status_of is, (subst (λ (b : Answer). LeavesAnswer b run) is answered.sinks).1)
 
 -- without faults a run ends with the answer, or finds no memory
@@ -248,7 +242,7 @@ form_certain words Query line form = tt
 form_certain words Dynamic line form = tt
 form_certain words Done line form = absurd form
 form_certain words Schema line form = absurd form
-form_certain words Document line form = absurd form
+form_certain words Document line form = tt
 form_certain words ReadFault line form = absurd form
 form_certain words WriteFault line form = absurd form
 form_certain words Memory line form = absurd form
@@ -263,13 +257,13 @@ faultless_is_certain run (to_refusal status line form a u (inr (inl p))) f = abs
 faultless_is_certain run (to_refusal status line form a u (inr (inr p))) f = inr p.0
 faultless_is_certain run (to_no_memory m u v) f = inr m
 
-abbrev pub AnsweredOrStarved : Run → List (List ℕ × List ℕ) → Type 0
+abbrev pub AnsweredOrStarved : Run → Files → Type 0
 AnsweredOrStarved run files = IsAnswered run files ⊎ (run.status ≡ Memory)
 
-pub faultless_answered : (run : Run) → Course run → (files : List (List ℕ × List ℕ)) → (IsCertain run.status → IsAnswered run files) → IsFaultless run → AnsweredOrStarved run files
+pub faultless_answered : (run : Run) → Course run → (files : Files) → (IsCertain run.status → IsAnswered run files) → IsFaultless run → AnsweredOrStarved run files
 faultless_answered run course files answered f = elim (faultless_is_certain run course f) [ inl c ↦ inl (answered c) | inr m ↦ inr m ]
 
-pub complete_at : (run : Run) (files : List (List ℕ × List ℕ)) (bytes : List ℕ) → Answers run.words files (writes bytes) → AnsweredOrStarved run files → ((run.status ≡ Done) × Took run.out bytes) ⊎ (run.status ≡ Memory)
+pub complete_at : (run : Run) (files : Files) (bytes : List ℕ) → Answers run.words files (writes bytes) → AnsweredOrStarved run files → ((run.status ≡ Done) × Took run.out bytes) ⊎ (run.status ≡ Memory)
 complete_at run files bytes h (inr m) = inr m
 complete_at run files bytes h (inl answered) =
     let is = answer_unique run.words files answered.answer (writes bytes) answered.answers h in

@@ -6,9 +6,16 @@ use Rattle.gx_processor.specs.declared.status.Status.TheVariants as status
 use Rattle.gx_processor.specs.declared.reply.Reply.{Reply}
 use Rattle.gx_processor.specs.declared.reply.Reply.TheVariants.{Output, Fault, Starved}
 use Rattle.gx_processor.specs.Answer.{Answer, writes, refuses, AnswersTexts, AnswersWords, AnswersCommand, Answers}
-use Rattle.gx_processor.specs.Command.{Command, query_file, command_of, texts_to_compare}
-use Rattle.gx_processor.specs.Replies.{RepliesSo, IsMisuse, IsAsked, IsWellFormed, IsUsageOrStarved, IsFaultOrStarved, IsQueryReply, IsComparison}
-use Rattle.gx_processor.specs.FaultLines.{usage_line}
+use Rattle.gx_base.specs.declared.code.Code.TheVariants.{GLXS0001}
+use Rattle.gx_documents.specs.declared.documents.DocumentFault.TheVariants as faults
+use Rattle.gx_documents.specs.BindingView.{plain_fault}
+use Rattle.gx_documents.specs.Documents.{Files}
+use Rattle.gx_processor.specs.declared.status.Status.{Status}
+use Rattle.gx_processor.specs.declared.refusal.Refusal.{Refusal}
+use Rattle.gx_processor.specs.declared.refusal.Refusal.TheVariants as refusal
+use Rattle.gx_processor.specs.Command.{Command, query_file, command_of, texts_to_compare, IsRun}
+use Rattle.gx_processor.specs.Replies.{RefusesSo, HasCause, RepliesSo, IsMisuse, IsAsked, IsWellFormed, IsUsageOrStarved, IsFaultOrStarved, IsReplyOf, IsQueryForm, IsQueryReply, IsComparison}
+use Rattle.gx_processor.specs.FaultLines.{usage_line, read_fault_line, code_line, placed_line, binding_line, long_document_line, document_line}
 use Rattle.gx_processor.proofs.AnswerLemmas.{no_texts, asked_answer, same_parts}
 
 -- what follows from an answer follows from a reply that says it
@@ -26,30 +33,30 @@ replies_through (Fault status.Memory line) P Q f h = f _ h
 replies_through Starved P Q f h = tt
 
 -- a reply to a command over a query
-pub query_answered : (told : Option (List (List ℕ × List ℕ))) (words : List (List ℕ)) (command : Command) (r : Reply) → command_of words ≡ Some command
+pub query_answered : (told : Option (Files)) (words : List (List ℕ)) (command : Command) (r : Reply) → command_of words ≡ Some command
     → IfSome told (λ files. RepliesSo r (AnswersCommand files (Some command))) → IfSome told (λ files. RepliesSo r (Answers words files))
 query_answered None words command r e h = tt
 query_answered (Some files) words command r e h = replies_through r (AnswersCommand files (Some command)) (Answers words files) (λ a k. asked_answer words files command a e k) h
 
-pub query_formed : (words : List (List ℕ)) (command : Command) (Rose : Type 0) (r : Reply) → command_of words ≡ Some command → IsQueryReply command Rose r → IsWellFormed words Rose r
-query_formed words command Rose (Output text) e h = inl (command, e)
-query_formed words command Rose (Fault status.Done line) e h = absurd h
-query_formed words command Rose (Fault status.Usage line) e h = absurd h
-query_formed words command Rose (Fault status.Query line) e h = h
-query_formed words command Rose (Fault status.Schema line) e h = absurd h
-query_formed words command Rose (Fault status.Document line) e h = absurd h
-query_formed words command Rose (Fault status.Dynamic line) e h = ((h.0.0, e ∙ ap Some h.0.1), h.1)
-query_formed words command Rose (Fault status.ReadFault line) e h = (command, e, h.0, h.1)
-query_formed words command Rose (Fault status.WriteFault line) e h = absurd h
-query_formed words command Rose (Fault status.Memory line) e h = absurd h
-query_formed words command Rose Starved e h = tt
+pub query_formed : (words : List (List ℕ)) (command : Command) (r : Reply) → command_of words ≡ Some command → IsQueryReply command r → IsWellFormed words r
+query_formed words command (Output text) e h = inl (command, e)
+query_formed words command (Fault status.Done line) e h = absurd h
+query_formed words command (Fault status.Usage line) e h = inr ((h.0.0, h.0.1, e ∙ ap Some h.0.2), h.1)
+query_formed words command (Fault status.Query line) e h = h
+query_formed words command (Fault status.Schema line) e h = absurd h
+query_formed words command (Fault status.Document line) e h = ((h.0.0, h.0.1, e ∙ ap Some h.0.2), h.1)
+query_formed words command (Fault status.Dynamic line) e h = ((h.0.0, h.0.1, e ∙ ap Some h.0.2), h.1)
+query_formed words command (Fault status.ReadFault line) e h = tt
+query_formed words command (Fault status.WriteFault line) e h = absurd h
+query_formed words command (Fault status.Memory line) e h = absurd h
+query_formed words command Starved e h = tt
 
 pub query_no_misuse : (words : List (List ℕ)) (command : Command) (line : List ℕ) (r : Reply) → command_of words ≡ Some command → IsMisuse words line → IsUsageOrStarved r
 query_no_misuse words command line r e (inl m) = let none = m.0.0 in cc
 query_no_misuse words command line r e (inr (left, right, f, h)) = let none = no_texts words command e in cc
 
 -- a comparison of two texts
-pub texts_answered : (told : Option (List (List ℕ × List ℕ))) (words : List (List ℕ)) (left right : List ℕ) (r : Reply) → texts_to_compare words ≡ Some (left, right) → IsComparison (chars left) (chars right) r
+pub texts_answered : (told : Option (Files)) (words : List (List ℕ)) (left right : List ℕ) (r : Reply) → texts_to_compare words ≡ Some (left, right) → IsComparison (chars left) (chars right) r
     → IfSome told (λ files. RepliesSo r (Answers words files))
 texts_answered None words left right r e h = tt
 texts_answered (Some files) words left right (Output text) e h = subst (λ (o : Option (List ℕ × List ℕ)). AnswersWords files o (command_of words) (writes (string_bytes text))) (sym e) h
@@ -64,18 +71,26 @@ texts_answered (Some files) words left right (Fault status.WriteFault line) e h 
 texts_answered (Some files) words left right (Fault status.Memory line) e h = cc h.0
 texts_answered (Some files) words left right Starved e h = tt
 
-pub texts_formed : (words : List (List ℕ)) (Rose : Type 0) (left right : List ℕ) (r : Reply) → texts_to_compare words ≡ Some (left, right) → IsComparison (chars left) (chars right) r → IsWellFormed words Rose r
-texts_formed words Rose left right (Output text) e h = inr (left, right, e, h)
-texts_formed words Rose left right (Fault status.Usage line) e h = inr (left, right, e, h.1)
-texts_formed words Rose left right (Fault status.Done line) e h = cc h.0
-texts_formed words Rose left right (Fault status.Query line) e h = cc h.0
-texts_formed words Rose left right (Fault status.Schema line) e h = cc h.0
-texts_formed words Rose left right (Fault status.Document line) e h = cc h.0
-texts_formed words Rose left right (Fault status.Dynamic line) e h = cc h.0
-texts_formed words Rose left right (Fault status.ReadFault line) e h = cc h.0
-texts_formed words Rose left right (Fault status.WriteFault line) e h = cc h.0
-texts_formed words Rose left right (Fault status.Memory line) e h = cc h.0
-texts_formed words Rose left right Starved e h = tt
+pub texts_formed : (words : List (List ℕ)) (left right : List ℕ) (r : Reply) → texts_to_compare words ≡ Some (left, right) → IsComparison (chars left) (chars right) r → IsWellFormed words r
+texts_formed words left right (Output text) e h = inr (left, right, e, h)
+texts_formed words left right (Fault status.Usage line) e h = inl (inr (left, right, e, h.1))
+texts_formed words left right (Fault status.Done line) e h = cc h.0
+texts_formed words left right (Fault status.Query line) e h = cc h.0
+texts_formed words left right (Fault status.Schema line) e h = cc h.0
+texts_formed words left right (Fault status.Document line) e h = cc h.0
+texts_formed words left right (Fault status.Dynamic line) e h = cc h.0
+texts_formed words left right (Fault status.ReadFault line) e h = cc h.0
+texts_formed words left right (Fault status.WriteFault line) e h = cc h.0
+texts_formed words left right (Fault status.Memory line) e h = cc h.0
+texts_formed words left right Starved e h = tt
+
+-- words that compare texts name no command
+no_command_of : (words : List (List ℕ)) (texts : List ℕ × List ℕ) (asked : Option Command) → command_of words ≡ asked → texts_to_compare words ≡ Some texts → asked ≡ None
+no_command_of words texts None e f = refl
+no_command_of words texts (Some command) e f = let none = no_texts words command e in cc
+
+pub no_command : (words : List (List ℕ)) (texts : List ℕ × List ℕ) → texts_to_compare words ≡ Some texts → command_of words ≡ None
+no_command words texts f = no_command_of words texts (command_of words) refl f
 
 -- an output is given only where both texts stand for types
 written_has_types : (left right bytes line : List ℕ) → AnswersTexts left right (writes bytes) → AnswersTexts left right (refuses status.Usage line) → ⊥
@@ -101,3 +116,68 @@ texts_misused words left right line (Fault status.ReadFault told) e h (inr m) = 
 texts_misused words left right line (Fault status.WriteFault told) e h (inr m) = cc h.0
 texts_misused words left right line (Fault status.Memory told) e h (inr m) = cc h.0
 texts_misused words left right line Starved e h (inr m) = tt
+
+-- ---- a reply to a refusal
+
+said : (told here : Status) (line text : List ℕ) (P : Answer → Type 0) → here ≡ told → text ≡ line → P (refuses told line) → P (refuses here text)
+said told here line text P e f k = subst (λ (z : Status). P (refuses z text)) (sym e) (subst (λ (xs : List ℕ). P (refuses told xs)) (sym f) k)
+
+fault_replies : (told : Status) (line : List ℕ) (r : Reply) (P : Answer → Type 0) → IsFaultOrStarved told line r → P (refuses told line) → RepliesSo r P
+fault_replies told line (Output text) P h k = absurd h
+fault_replies told line (Fault status.Done text) P h k = said told status.Done line (string_bytes text) P h.0 h.1 k
+fault_replies told line (Fault status.Usage text) P h k = said told status.Usage line (string_bytes text) P h.0 h.1 k
+fault_replies told line (Fault status.Query text) P h k = said told status.Query line (string_bytes text) P h.0 h.1 k
+fault_replies told line (Fault status.Schema text) P h k = said told status.Schema line (string_bytes text) P h.0 h.1 k
+fault_replies told line (Fault status.Document text) P h k = said told status.Document line (string_bytes text) P h.0 h.1 k
+fault_replies told line (Fault status.Dynamic text) P h k = said told status.Dynamic line (string_bytes text) P h.0 h.1 k
+fault_replies told line (Fault status.ReadFault text) P h k = tt
+fault_replies told line (Fault status.WriteFault text) P h k = said told status.WriteFault line (string_bytes text) P h.0 h.1 k
+fault_replies told line (Fault status.Memory text) P h k = said told status.Memory line (string_bytes text) P h.0 h.1 k
+fault_replies told line Starved P h k = tt
+
+unread_replies : (line : List ℕ) (r : Reply) (P : Answer → Type 0) → IsFaultOrStarved status.ReadFault line r → RepliesSo r P
+unread_replies line (Output text) P h = absurd h
+unread_replies line (Fault status.Done text) P h = cc h.0
+unread_replies line (Fault status.Usage text) P h = cc h.0
+unread_replies line (Fault status.Query text) P h = cc h.0
+unread_replies line (Fault status.Schema text) P h = cc h.0
+unread_replies line (Fault status.Document text) P h = cc h.0
+unread_replies line (Fault status.Dynamic text) P h = cc h.0
+unread_replies line (Fault status.ReadFault text) P h = tt
+unread_replies line (Fault status.WriteFault text) P h = cc h.0
+unread_replies line (Fault status.Memory text) P h = cc h.0
+unread_replies line Starved P h = tt
+
+refusal_replies : (file : List ℕ) (e : Refusal) (r : Reply) (P : Answer → Type 0) → IsReplyOf file e r → RefusesSo e P → RepliesSo r P
+refusal_replies file refusal.ReadFault r P h k = unread_replies (read_fault_line file) r P h
+refusal_replies file refusal.TooLong r P h k = fault_replies status.Query (code_line GLXS0001) r P h k
+refusal_replies file (refusal.Query code place) r P h k = fault_replies status.Query (placed_line code place) r P h k
+refusal_replies file (refusal.Binding fault) r P h k = fault_replies status.Usage (binding_line (plain_fault fault)) r P h k
+refusal_replies file (refusal.Document name faults.Unread) r P h k = unread_replies (read_fault_line (string_bytes name)) r P h
+refusal_replies file (refusal.Document name faults.TooLong) r P h k = fault_replies status.Document (long_document_line (string_bytes name)) r P h k
+refusal_replies file (refusal.Document name (faults.Refused rule place)) r P h k = fault_replies status.Document (document_line rule (string_bytes name) place) r P h k
+refusal_replies file (refusal.Dynamic code) r P h k = fault_replies status.Dynamic (code_line code) r P h k
+refusal_replies file refusal.Memory r P h k = subst (λ (z : Reply). RepliesSo z P) (sym h) tt
+
+pub refusal_answered : (told : Option Files) (file : List ℕ) (e : Refusal) (r : Reply) (P : Files → Answer → Type 0) → IsReplyOf file e r → IfSome told (λ files. RefusesSo e (P files)) → IfSome told (λ files. RepliesSo r (P files))
+refusal_answered None file e r P h k = tt
+refusal_answered (Some files) file e r P h k = refusal_replies file e r (P files) h k
+
+-- the form of its line
+fault_formed : (command : Command) (told : Status) (line : List ℕ) (r : Reply) → IsFaultOrStarved told line r → IsQueryForm command told line → IsQueryReply command r
+fault_formed command told line (Output text) h k = absurd h
+fault_formed command told line (Fault here text) h k =
+    subst (λ (z : Status). IsQueryForm command z (string_bytes text)) (sym h.0) (subst (λ (xs : List ℕ). IsQueryForm command told xs) (sym h.1) k)
+fault_formed command told line Starved h k = tt
+
+pub refusal_formed : (command : Command) (e : Refusal) (r : Reply) → IsReplyOf (query_file command) e r → HasCause (IsRun command) e → IsQueryReply command r
+refusal_formed command refusal.ReadFault r h k = fault_formed command status.ReadFault (read_fault_line (query_file command)) r h tt
+refusal_formed command refusal.TooLong r h k = fault_formed command status.Query (code_line GLXS0001) r h (inl refl)
+refusal_formed command (refusal.Query code place) r h k = fault_formed command status.Query (placed_line code place) r h (inr (code, place, refl))
+refusal_formed command (refusal.Binding fault) r h k = fault_formed command status.Usage (binding_line (plain_fault fault)) r h (k, (plain_fault fault, refl))
+refusal_formed command (refusal.Document name faults.Unread) r h k = fault_formed command status.ReadFault (read_fault_line (string_bytes name)) r h tt
+refusal_formed command (refusal.Document name faults.TooLong) r h k = fault_formed command status.Document (long_document_line (string_bytes name)) r h (k, inl (string_bytes name, refl))
+refusal_formed command (refusal.Document name (faults.Refused rule place)) r h k =
+    fault_formed command status.Document (document_line rule (string_bytes name) place) r h (k, inr (rule, string_bytes name, place, refl))
+refusal_formed command (refusal.Dynamic code) r h k = fault_formed command status.Dynamic (code_line code) r h (k, (code, refl))
+refusal_formed command refusal.Memory r h k = subst (λ (z : Reply). IsQueryReply command z) (sym h) tt

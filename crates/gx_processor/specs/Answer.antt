@@ -1,15 +1,28 @@
 -- What the program answers to its words, over the files that its library holds.
-use Rattle.std.specs.Prelude.{◌≡◌, ℕ, nat_le, List, [], ◌∷◌, All, length, Option, None, Some, MatchBool, ◌⊎◌}
+use Rattle.std.specs.Prelude.{◌≡◌, ℕ, nat_le, Bool, List, [], ◌∷◌, ◌++◌, length, Option, None, Some, MatchBool, ◌⊎◌}
 use Rattle.std.specs.Str.{chars}
 use Rattle.gx_base.specs.declared.place.Place.{Place}
-use Rattle.gx_base.specs.declared.code.Code.TheVariants.{GLXS0001, XPST0003}
+use Rattle.gx_base.specs.declared.code.Code.TheVariants.{GLXS0001, XPST0003, SENR0001}
+use Rattle.gx_base.specs.declared.type_name.Builtin.TheVariants as builtins
+use Rattle.gx_base.specs.declared.type_name.TypeName.TheVariants as names
+use Rattle.gx_types.specs.declared.item_type.ItemType.TheVariants as items
 use Rattle.gx_types.specs.SchemaSet.{no_declarations}
-use Rattle.gx_types.specs.SequenceType.{SequenceType}
+use Rattle.gx_types.specs.SequenceType.{SequenceType, item, either, star}
+use Rattle.gx_include.specs.Decision.{is_included}
+use Rattle.gx_steptype.specs.StepType.{any_document, any_element, text_item}
+use Rattle.gx_tree.specs.PlainTree.{PlainTree}
+use Rattle.gx_xml.specs.declared.refusal.XmlRule.{XmlRule}
+use Rattle.gx_xml.specs.declared.refusal.XmlRefusal.TheVariants.{Refused}
+use Rattle.gx_xml.specs.Reading.{IsDocumentOf, IsDocumentRefusal}
+use Rattle.gx_xml.specs.SourceTree.{SourceTree}
+use Rattle.gx_xml.specs.Untyped.{untyped_document}
 use Rattle.gx_typetext.specs.TypeReading.{IsTypeText}
 use Rattle.gx_subtype.specs.Comparison.{IsNoType, IsAnswerText}
 use Rattle.gx_core.specs.declared.expression.Core.{Core}
 use Rattle.gx_core.specs.declared.typed.TypedCore.{TypedCore}
+use Rattle.gx_model.specs.Forest.{Forest}
 use Rattle.gx_model.specs.Item.{Items}
+use Rattle.gx_core.specs.Expression.{outer_of}
 use Rattle.gx_core.specs.Outcome.{Outcome, gives, raises, wrong}
 use Rattle.gx_core.specs.QueryMeaning.{query_outcome, query_type}
 use Rattle.gx_static.specs.QueryJudgement.{QueryJudgement, query_typed, query_rejected, query_judged}
@@ -23,8 +36,11 @@ use Rattle.gx_normal.specs.Unbuilt.{unbuilt_query}
 use Rattle.gx_normal.specs.Normalisation.{NamedQuery, named_query, unknown_name, query_named}
 use Rattle.gx_processor.specs.Serialisation.{serialised}
 use Rattle.gx_processor.specs.TypeBytes.{type_bytes}
+use Rattle.gx_documents.specs.Bindings.{Misbound, misbound, files_bound}
+use Rattle.gx_documents.specs.Documents.{Files, document_nodes}
+use Rattle.gx_processor.specs.Externals.{external_words}
 use Rattle.gx_processor.specs.Command.{Command, run_file, check_file, query_file, command_of, texts_to_compare}
-use Rattle.gx_processor.specs.FaultLines.{line, usage_line, left_type_line, right_type_line, read_fault_line, code_line, placed_line}
+use Rattle.gx_processor.specs.FaultLines.{line, usage_line, left_type_line, right_type_line, read_fault_line, code_line, placed_line, binding_line, long_document_line, document_line}
 use Rattle.gx_base.specs.declared.limits.TheConstants.{FILE_BYTES}
 
 -- bytes for standard output, or a refusal with its fault line
@@ -50,44 +66,83 @@ AnswersOutcome (gives items forest) answer = answer ≡ writes (serialised fores
 AnswersOutcome (raises code) answer = answer ≡ refuses status.Dynamic (code_line code)
 AnswersOutcome wrong answer = ⊥
 
+-- evaluation over the trees of the documents
+abbrev pub AnswersEvaluated : Core → Forest → Answer → Type 0
+AnswersEvaluated core forest answer = AnswersOutcome (query_outcome no_declarations core (document_nodes forest) forest) answer
+
+-- the bytes of a document: its tree goes on, or a rule refuses it
+abbrev pub AnswersRead : (file bytes : List ℕ) → (PlainTree → Answer → Type 0) → Answer → Type 0
+AnswersRead file bytes Next answer =
+    ((root : SourceTree) × IsDocumentOf bytes root × Next (untyped_document root) answer)
+    ⊎ ((rule : XmlRule) × (place : Place) × IsDocumentRefusal bytes (Refused place rule) × (answer ≡ refuses status.Document (document_line rule file place)))
+
+-- its loading, within the limit on the bytes of a file
+abbrev pub AnswersLoaded : (file : List ℕ) → Option (List ℕ) → (PlainTree → Answer → Type 0) → Answer → Type 0
+AnswersLoaded file None Next answer = answer ≡ refuses status.ReadFault (read_fault_line file)
+AnswersLoaded file (Some bytes) Next answer =
+    MatchBool (nat_le (length bytes) FILE_BYTES) (AnswersRead file bytes Next answer) (answer ≡ refuses status.Document (long_document_line file))
+
+-- the documents, behind the trees that are there
+abbrev pub AnswersDocuments : Files → Core → (names : List (List ℕ)) → Forest → Answer → Type 0
+AnswersDocuments files core [] forest answer = AnswersEvaluated core forest answer
+AnswersDocuments files core (name ∷ names) forest answer =
+    AnswersLoaded name (file_of files name) (λ t next. AnswersDocuments files core names (forest ++ t ∷ []) next) answer
+
+-- the words that bind the external variables
+abbrev pub AnswersBound : Files → Core → (bindings : List (List ℕ)) → Option Misbound → Answer → Type 0
+AnswersBound files core bindings (Some fault) answer = answer ≡ refuses status.Usage (binding_line fault)
+AnswersBound files core bindings None answer = AnswersDocuments files core (files_bound (external_words core.declarations) bindings) [] answer
+
+-- `(document-node() | element() | text() | xs:anyAtomicType)*`, the type of what can be written
+abbrev pub writable_type : SequenceType
+writable_type = star (either (either (either any_document any_element) text_item) (item (items.Atom (names.Builtin builtins.AnyAtomic))))
+
+abbrev pub can_be_written : TypedCore → Bool
+can_be_written typing = is_included no_declarations (query_type typing) writable_type
+
+abbrev pub AnswersRun : Files → (bindings : List (List ℕ)) → Core → TypedCore → Answer → Type 0
+AnswersRun files bindings core typing answer =
+    MatchBool (can_be_written typing) (AnswersBound files core bindings (misbound (external_words core.declarations) bindings) answer)
+    (answer ≡ refuses status.Query (placed_line SENR0001 (outer_of core.body)))
+
 -- what a command does with a query that has a type: a run evaluates it, and a check writes its type
-abbrev pub AnswersTyped : Command → Core → TypedCore → Answer → Type 0
-AnswersTyped (run_file name) core typing answer = AnswersOutcome (query_outcome no_declarations core [] []) answer
-AnswersTyped (check_file name) core typing answer = answer ≡ writes (type_bytes (query_type typing))
+abbrev pub AnswersTyped : Files → Command → Core → TypedCore → Answer → Type 0
+AnswersTyped files (run_file name bindings) core typing answer = AnswersRun files bindings core typing answer
+AnswersTyped files (check_file name) core typing answer = answer ≡ writes (type_bytes (query_type typing))
 
 -- typing
-abbrev pub AnswersJudged : Command → Core → QueryJudgement → Answer → Type 0
-AnswersJudged command core (query_rejected place code) answer = answer ≡ refuses status.Query (placed_line code place)
-AnswersJudged command core (query_typed typing) answer = AnswersTyped command core typing answer
+abbrev pub AnswersJudged : Files → Command → Core → QueryJudgement → Answer → Type 0
+AnswersJudged files command core (query_rejected place code) answer = answer ≡ refuses status.Query (placed_line code place)
+AnswersJudged files command core (query_typed typing) answer = AnswersTyped files command core typing answer
 
 -- names
-abbrev pub AnswersNamed : Command → NamedQuery → Answer → Type 0
-AnswersNamed command (unknown_name place code) answer = answer ≡ refuses status.Query (placed_line code place)
-AnswersNamed command (named_query core) answer = AnswersJudged command core (query_judged no_declarations core) answer
+abbrev pub AnswersNamed : Files → Command → NamedQuery → Answer → Type 0
+AnswersNamed files command (unknown_name place code) answer = answer ≡ refuses status.Query (placed_line code place)
+AnswersNamed files command (named_query core) answer = AnswersJudged files command core (query_judged no_declarations core) answer
 
 -- a production that is not built yet
-abbrev pub AnswersBuilt : Command → Query → (unbuilt : Option Place) → Answer → Type 0
-AnswersBuilt command tree (Some place) answer = answer ≡ refuses status.Query (placed_line XPST0003 place)
-AnswersBuilt command tree None answer = AnswersNamed command (query_named no_declarations tree) answer
+abbrev pub AnswersBuilt : Files → Command → Query → (unbuilt : Option Place) → Answer → Type 0
+AnswersBuilt files command tree (Some place) answer = answer ≡ refuses status.Query (placed_line XPST0003 place)
+AnswersBuilt files command tree None answer = AnswersNamed files command (query_named no_declarations tree) answer
 
 -- parsing
-abbrev pub AnswersParsed : Command → Parsing → Answer → Type 0
-AnswersParsed command (refused rule place) answer = answer ≡ refuses status.Query (placed_line (rule_code rule) place)
-AnswersParsed command (parsed tree) answer = AnswersBuilt command tree (unbuilt_query tree) answer
+abbrev pub AnswersParsed : Files → Command → Parsing → Answer → Type 0
+AnswersParsed files command (refused rule place) answer = answer ≡ refuses status.Query (placed_line (rule_code rule) place)
+AnswersParsed files command (parsed tree) answer = AnswersBuilt files command tree (unbuilt_query tree) answer
 
-abbrev pub AnswersBytes : Command → List ℕ → Answer → Type 0
-AnswersBytes command bytes answer = (parsing : Parsing) × Parses bytes parsing × AnswersParsed command parsing answer
+abbrev pub AnswersBytes : Files → Command → List ℕ → Answer → Type 0
+AnswersBytes files command bytes answer = (parsing : Parsing) × Parses bytes parsing × AnswersParsed files command parsing answer
 
 -- loading, within the limit on the bytes of a file
-abbrev pub AnswersFile : Command → Option (List ℕ) → Answer → Type 0
-AnswersFile command None answer = answer ≡ refuses status.ReadFault (read_fault_line (query_file command))
-AnswersFile command (Some bytes) answer =
-    MatchBool (nat_le (length bytes) FILE_BYTES) (AnswersBytes command bytes answer) (answer ≡ refuses status.Query (code_line GLXS0001))
+abbrev pub AnswersFile : Files → Command → Option (List ℕ) → Answer → Type 0
+AnswersFile files command None answer = answer ≡ refuses status.ReadFault (read_fault_line (query_file command))
+AnswersFile files command (Some bytes) answer =
+    MatchBool (nat_le (length bytes) FILE_BYTES) (AnswersBytes files command bytes answer) (answer ≡ refuses status.Query (code_line GLXS0001))
 
 -- the words
-abbrev pub AnswersCommand : List (List ℕ × List ℕ) → Option Command → Answer → Type 0
+abbrev pub AnswersCommand : Files → Option Command → Answer → Type 0
 AnswersCommand files None answer = answer ≡ refuses status.Usage usage_line
-AnswersCommand files (Some command) answer = AnswersFile command (file_of files (query_file command)) answer
+AnswersCommand files (Some command) answer = AnswersFile files command (file_of files (query_file command)) answer
 
 -- two texts that are compared: one of them stands for no type, the left one judged first; or the answer on them is written
 abbrev pub AnswersTexts : (left right : List ℕ) → Answer → Type 0
@@ -97,34 +152,20 @@ AnswersTexts left right answer =
     ⊎ ((bytes : List ℕ) × IsAnswerText left right bytes × (answer ≡ writes (line bytes))))
 
 -- the words `subtype`, and else those of a query
-abbrev pub AnswersWords : List (List ℕ × List ℕ) → Option (List ℕ × List ℕ) → Option Command → Answer → Type 0
+abbrev pub AnswersWords : Files → Option (List ℕ × List ℕ) → Option Command → Answer → Type 0
 AnswersWords files (Some texts) asked answer = AnswersTexts (chars texts.0) (chars texts.1) answer
 AnswersWords files None asked answer = AnswersCommand files asked answer
 
 -- each step of the work is done only where no step before it refuses
-abbrev pub Answers : List (List ℕ) → List (List ℕ × List ℕ) → Answer → Type 0
+abbrev pub Answers : List (List ℕ) → Files → Answer → Type 0
 Answers words files answer = AnswersWords files (texts_to_compare words) (command_of words) answer
 
 -- there is an answer to all words and files
 abbrev pub AnAnswerExists : Type 0
-AnAnswerExists = (words : List (List ℕ)) (files : List (List ℕ × List ℕ)) → (answer : Answer) × Answers words files answer
+AnAnswerExists = (words : List (List ℕ)) (files : Files) → (answer : Answer) × Answers words files answer
 
 -- what a check of a file refuses, a run of it refuses with the same line
 abbrev pub ChecksRefuseForRuns : Type 0
 ChecksRefuseForRuns =
-    (files : List (List ℕ × List ℕ)) (name : List ℕ) (status : Status) (line : List ℕ)
-    → AnswersCommand files (Some (check_file name)) (refuses status line) → AnswersCommand files (Some (run_file name)) (refuses status line)
-
--- the files that the steps of an answer load, in the order of the steps: that of the query
-abbrev pub loads_asked : Option Command → List (List ℕ)
-loads_asked None = []
-loads_asked (Some command) = query_file command ∷ []
-
-abbrev pub loads_of : List (List ℕ) → List (List ℕ)
-loads_of words = loads_asked (command_of words)
-
--- an answer looks at no other files than those that its steps load
-abbrev pub AnswersLookAtTheirLoads : Type 0
-AnswersLookAtTheirLoads =
-    (words : List (List ℕ)) (files others : List (List ℕ × List ℕ)) (answer : Answer)
-    → All (λ name. file_of files name ≡ file_of others name) (loads_of words) → Answers words files answer → Answers words others answer
+    (files : Files) (name : List ℕ) (bindings : List (List ℕ)) (status : Status) (line : List ℕ)
+    → AnswersCommand files (Some (check_file name)) (refuses status line) → AnswersCommand files (Some (run_file name bindings)) (refuses status line)

@@ -1,15 +1,16 @@
 -- Which words name a command.
-use Rattle.std.specs.Prelude.{◌≡◌, String, string_bytes, map, ℕ, ◌==◌, nat_le, not, Bool, false, ◌&&◌, List, [], ◌∷◌, length, Option, None, Some, codes, bytes_eq, if◌then◌else◌}
+use Rattle.std.specs.Prelude.{◌≡◌, String, string_bytes, map, ℕ, ◌==◌, nat_le, not, Bool, true, false, ◌&&◌, List, [], ◌∷◌, length, Option, None, Some, codes, bytes_eq, if◌then◌else◌}
+use Rattle.std.specs.List.{list_all, list_any}
 use Rattle.gx_base.specs.declared.limits.TheConstants.{WORD_BYTES}
 
--- what the program is asked to do with the query in a file: to run it, or to check it
+-- what the program is asked to do with the query in a file: to run it, with words that bind its external variables, or to check it
 pub data Command : Type 0 where
-  run_file : (name : List ℕ) → Command
+  run_file : (name : List ℕ) (bindings : List (List ℕ)) → Command
   check_file : (name : List ℕ) → Command
 
 -- the file of the query
 abbrev pub query_file : Command → List ℕ
-query_file (run_file name) = name
+query_file (run_file name bindings) = name
 query_file (check_file name) = name
 
 -- the bytes of each word
@@ -21,19 +22,31 @@ abbrev pub is_operand : List ℕ → Bool
 is_operand [] = false
 is_operand (first ∷ others) = not (first == 45) && nat_le (length (first ∷ others)) WORD_BYTES
 
--- the command of that name over a file
-abbrev pub command_named : List ℕ → List ℕ → Option Command
-command_named name file =
-    if bytes_eq name (codes "run") then Some (run_file file) else (if bytes_eq name (codes "check") then Some (check_file file) else None)
+-- a word that binds a variable to a file has a `=`
+abbrev pub is_binding : List ℕ → Bool
+is_binding word = is_operand word && list_any (λ c. c == 61) word
 
--- the commands over a query are `run FILE` and `check FILE`
+abbrev pub has_no_word : List (List ℕ) → Bool
+has_no_word [] = true
+has_no_word (word ∷ words) = false
+
+-- the command of that name over a file, with the words behind it
+abbrev pub command_named : List ℕ → List ℕ → List (List ℕ) → Option Command
+command_named name file others =
+    if bytes_eq name (codes "run") && list_all is_binding others then Some (run_file file others)
+    else (if bytes_eq name (codes "check") && has_no_word others then Some (check_file file) else None)
+
+-- the commands over a query are `run FILE NAME=FILE ..` and `check FILE`
 abbrev pub command_of : List (List ℕ) → Option Command
-command_of (name ∷ file ∷ []) = if is_operand file then command_named name file else None
+command_of (name ∷ file ∷ others) = if is_operand file then command_named name file others else None
 command_of _ = None
 
--- the words are `run FILE`
+abbrev pub IsRun : Command → Type 0
+IsRun command = (name : List ℕ) × (bindings : List (List ℕ)) × (command ≡ run_file name bindings)
+
+-- the words are `run FILE NAME=FILE ..`
 abbrev pub AskToRun : List (List ℕ) → Type 0
-AskToRun words = (name : List ℕ) × (command_of words ≡ Some (run_file name))
+AskToRun words = (name : List ℕ) × (bindings : List (List ℕ)) × (command_of words ≡ Some (run_file name bindings))
 
 -- the two texts of `subtype TEXT TEXT`
 abbrev pub texts_to_compare : List (List ℕ) → Option (List ℕ × List ℕ)

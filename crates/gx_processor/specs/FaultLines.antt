@@ -4,6 +4,9 @@ use Rattle.gx_base.specs.declared.code.Code.{Code}
 use Rattle.gx_base.specs.declared.code.Code.TheVariants.{GLXS0001}
 use Rattle.gx_base.specs.declared.place.Place.{Place}
 use Rattle.gx_base.specs.Code.{spelling}
+use Rattle.gx_xml.specs.declared.refusal.XmlRule.{XmlRule}
+use Rattle.gx_xml.specs.declared.refusal.XmlRule.TheVariants as rules
+use Rattle.gx_documents.specs.Bindings.{Misbound, unknown, doubled, missing}
 
 -- ended by a line feed
 abbrev pub line : List ℕ → List ℕ
@@ -33,6 +36,37 @@ placed_line code place = line (spelling code ++ codes " at " ++ decimal place.li
 -- the line of a refused query: the code of a file that is too long, alone, or a code with its place
 abbrev pub IsQueryLine : List ℕ → Type 0
 IsQueryLine told = (told ≡ code_line GLXS0001) ⊎ ((code : Code) × (place : Place) × (told ≡ placed_line code place))
+
+-- why words bind external variables wrongly
+abbrev pub binding_text : Misbound → List ℕ
+binding_text (unknown name) = codes "Usage: unknown " ++ name
+binding_text (doubled name) = codes "Usage: doubled " ++ name
+binding_text (missing name) = codes "Usage: missing " ++ name
+
+abbrev pub binding_line : Misbound → List ℕ
+binding_line fault = line (binding_text fault)
+
+-- the rules that refuse documents
+abbrev pub xml_rule_name : XmlRule → List ℕ
+xml_rule_name rules.NotUtf8 = codes "NotUtf8"
+xml_rule_name rules.Malformed = codes "Malformed"
+xml_rule_name rules.Doctype = codes "Doctype"
+xml_rule_name rules.UnboundPrefix = codes "UnboundPrefix"
+xml_rule_name rules.DuplicateAttribute = codes "DuplicateAttribute"
+xml_rule_name rules.TooDeep = codes "TooDeep"
+
+-- a document that is too long
+abbrev pub long_document_line : List ℕ → List ℕ
+long_document_line file = line (codes "TooLong in " ++ file)
+
+-- a rule, and the file and the place where a document breaks it
+abbrev pub document_line : XmlRule → List ℕ → Place → List ℕ
+document_line rule file place = line (xml_rule_name rule ++ codes " in " ++ file ++ codes " at " ++ decimal place.line ++ codes ":" ++ decimal place.column)
+
+-- the line of a refused document
+abbrev pub IsDocumentLine : List ℕ → Type 0
+IsDocumentLine told =
+    ((file : List ℕ) × (told ≡ long_document_line file)) ⊎ ((rule : XmlRule) × (file : List ℕ) × (place : Place) × (told ≡ document_line rule file place))
 
 abbrev pub write_fault_line : List ℕ
 write_fault_line = line (codes "WriteFault")

@@ -1,8 +1,8 @@
--- The headline. Where a query has a type, a check writes exactly the text of the type and a line feed, and a run writes
--- exactly the serialisation of the value that the query has, and that value belongs to the type, or it reports the one
+-- The headline. Where a query has a type, a check writes exactly the text of the type and a line feed, and a run on any documents
+-- writes exactly the serialisation of the value that the query has, and that value belongs to the type, or it reports the one
 -- dynamic error that the query raises. Where typing rejects a query, both report the code and the place of the first
 -- expression to which the static rules give no type.
-use Rattle.std.specs.Prelude.{◌≡◌, ℕ, List, [], Some, ◌⊎◌}
+use Rattle.std.specs.Prelude.{◌≡◌, ℕ, true, List, None, Some, ◌⊎◌}
 use Rattle.gx_base.specs.declared.place.Place.{Place}
 use Rattle.gx_base.specs.declared.code.Code.{Code}
 use Rattle.gx_types.specs.SchemaSet.{no_declarations}
@@ -21,36 +21,45 @@ use Rattle.gx_processor.specs.Command.{Command, run_file, check_file, query_file
 use Rattle.gx_processor.specs.FaultLines.{code_line, placed_line}
 use Rattle.gx_processor.specs.Serialisation.{serialised}
 use Rattle.gx_processor.specs.TypeBytes.{type_bytes}
-use Rattle.gx_processor.specs.Answer.{Answers, writes}
+use Rattle.gx_documents.specs.Bindings.{misbound, files_bound}
+use Rattle.gx_documents.specs.Documents.{Files, HoldTrees, document_nodes}
+use Rattle.gx_processor.specs.Externals.{external_words}
+use Rattle.gx_processor.specs.Answer.{Answers, writes, can_be_written}
 use Rattle.gx_processor.specs.Run.{Run}
 
--- the value that the query has, of the type, is written, and nothing else
-pub record WritesValue (core : Core) (typing : TypedCore) (run : Run) : Type 0 where
+-- the value that the query has over the trees of the documents, of the type, is written, and nothing else
+pub record WritesValue (core : Core) (typing : TypedCore) (documents : Forest) (run : Run) : Type 0 where
   pub items : Items
   pub forest : Forest
-  pub value : query_outcome no_declarations core [] [] ≡ gives items forest
+  pub value : query_outcome no_declarations core (document_nodes documents) documents ≡ gives items forest
   pub belongs : Belongs no_declarations forest items (query_type typing)
   pub status : run.status ≡ Done
   pub output : Took run.out (serialised forest items)
   pub line : IsUntouched run.err
 
 -- the dynamic error that the query raises is reported, and nothing else
-pub record ReportsError (core : Core) (run : Run) : Type 0 where
+pub record ReportsError (core : Core) (documents : Forest) (run : Run) : Type 0 where
   pub code : Code
-  pub raised : query_outcome no_declarations core [] [] ≡ raises code
+  pub raised : query_outcome no_declarations core (document_nodes documents) documents ≡ raises code
   pub status : run.status ≡ Dynamic
   pub output : IsUntouched run.out
   pub line : Took run.err (code_line code)
 
 -- a run ends with the value that belongs to the type, with the one dynamic error, or without memory
-abbrev pub RunEnds : Core → TypedCore → Run → Type 0
-RunEnds core typing run = WritesValue core typing run ⊎ (ReportsError core run ⊎ (run.status ≡ Memory))
+abbrev pub RunEnds : Core → TypedCore → Forest → Run → Type 0
+RunEnds core typing documents run = WritesValue core typing documents run ⊎ (ReportsError core documents run ⊎ (run.status ≡ Memory))
 
--- a run of a query that has a type
-abbrev pub RunsTyped : Run → List (List ℕ × List ℕ) → Type 0
+-- the words bind each external variable of the query once, to files that hold documents with these trees
+pub record BindDocuments (files : Files) (core : Core) (bindings : List (List ℕ)) (documents : Forest) : Type 0 where
+  pub bound : misbound (external_words core.declarations) bindings ≡ None
+  pub held : HoldTrees files (files_bound (external_words core.declarations) bindings) documents
+
+-- a run of a query that has a type without attributes at its top, on documents
+abbrev pub RunsTyped : Run → Files → Type 0
 RunsTyped run files =
-    (name : List ℕ) (core : Core) (typing : TypedCore) → command_of run.words ≡ Some (run_file name)
-    → HoldsQuery files name core → query_judged no_declarations core ≡ query_typed typing → RunEnds core typing run
+    (name : List ℕ) (bindings : List (List ℕ)) (core : Core) (typing : TypedCore) (documents : Forest) → command_of run.words ≡ Some (run_file name bindings)
+    → HoldsQuery files name core → query_judged no_declarations core ≡ query_typed typing → can_be_written typing ≡ true
+    → BindDocuments files core bindings documents → RunEnds core typing documents run
 
 -- the text of the type is written, and nothing else
 pub record WritesType (typing : TypedCore) (run : Run) : Type 0 where
@@ -59,25 +68,26 @@ pub record WritesType (typing : TypedCore) (run : Run) : Type 0 where
   pub line : IsUntouched run.err
 
 -- a check of a query that has a type
-abbrev pub ChecksTyped : Run → List (List ℕ × List ℕ) → Type 0
+abbrev pub ChecksTyped : Run → Files → Type 0
 ChecksTyped run files =
     (name : List ℕ) (core : Core) (typing : TypedCore) → command_of run.words ≡ Some (check_file name)
     → HoldsQuery files name core → query_judged no_declarations core ≡ query_typed typing → WritesType typing run ⊎ (run.status ≡ Memory)
 
 -- the file of that name holds a query that has a type, and this is the type's text
-pub record HoldsTyped (files : List (List ℕ × List ℕ)) (name printed : List ℕ) : Type 0 where
+pub record HoldsTyped (files : Files) (name printed : List ℕ) : Type 0 where
   pub core : Core
   pub typing : TypedCore
   pub query : HoldsQuery files name core
   pub judgement : query_judged no_declarations core ≡ query_typed typing
   pub text : type_bytes (query_type typing) ≡ printed
 
--- where a check of a file prints a type, a run of the same file ends as one of that type
-abbrev pub RunsAsChecked : Run → List (List ℕ × List ℕ) → Type 0
+-- where a check of a file prints a type, a run of the same file on documents ends as one of that type
+abbrev pub RunsAsChecked : Run → Files → Type 0
 RunsAsChecked run files =
-    (checking : List (List ℕ)) (name printed : List ℕ) → command_of run.words ≡ Some (run_file name)
+    (checking : List (List ℕ)) (name : List ℕ) (bindings : List (List ℕ)) (printed : List ℕ) → command_of run.words ≡ Some (run_file name bindings)
     → command_of checking ≡ Some (check_file name) → Answers checking files (writes printed)
-    → (query : HoldsTyped files name printed) × RunEnds query.core query.typing run
+    → (query : HoldsTyped files name printed)
+    × (can_be_written query.typing ≡ true → (documents : Forest) → BindDocuments files query.core bindings documents → RunEnds query.core query.typing documents run)
 
 -- the code and the place of the first expression that fails, to which the static rules give no type, are reported, and
 -- nothing else
@@ -88,7 +98,7 @@ pub record ReportsRejection (core : Core) (code : Code) (place : Place) (run : R
   pub line : Took run.err (placed_line code place)
 
 -- a run or a check of a query that typing rejects
-abbrev pub RejectsUntyped : Run → List (List ℕ × List ℕ) → Type 0
+abbrev pub RejectsUntyped : Run → Files → Type 0
 RejectsUntyped run files =
     (command : Command) (core : Core) (place : Place) (code : Code) → command_of run.words ≡ Some command
     → HoldsQuery files (query_file command) core → query_judged no_declarations core ≡ query_rejected place code

@@ -6,9 +6,12 @@ pub mod CommandView
 pub mod FaultLines
 pub mod RuleCode
 pub mod Status
+pub mod Externals
 pub mod Answer
+pub mod Loading
 pub mod Run
 pub mod Ending
 pub mod Replies
+pub mod RunReplies
 pub mod Headline
 pub mod Promises

@@ -7,13 +7,15 @@ use Rattle.gx_io.specs.LibraryUse.{LoadsOnly}
 use Rattle.gx_io.specs.SinkUse.{IsUntouched, GrewByPrefix, Took, TookPart, SinkFailed}
 use Rattle.gx_processor.specs.declared.status.Status.{Status}
 use Rattle.gx_processor.specs.declared.status.Status.TheVariants.{Done, Usage, Query, Schema, Document, Dynamic, ReadFault, WriteFault, Memory}
-use Rattle.gx_processor.specs.Answer.{Answer, writes, refuses, Answers, status_of, output_of, loads_of}
+use Rattle.gx_processor.specs.Answer.{Answer, writes, refuses, Answers, status_of, output_of}
 use Rattle.gx_processor.specs.Command.{Command, query_file, command_of, texts_to_compare, AskToRun}
-use Rattle.gx_processor.specs.FaultLines.{line, read_fault_line, code_line, IsQueryLine, write_fault_line}
+use Rattle.gx_processor.specs.FaultLines.{line, read_fault_line, code_line, IsQueryLine, IsDocumentLine, write_fault_line}
 use Rattle.gx_processor.specs.Headline.{RunsTyped, ChecksTyped, RunsAsChecked, RejectsUntyped}
 use Rattle.std.specs.Str.{chars}
 use Rattle.gx_subtype.specs.Comparison.{IsAnswerText}
-use Rattle.gx_processor.specs.Replies.{HasForm, IsMisuse}
+use Rattle.gx_documents.specs.Documents.{Files}
+use Rattle.gx_processor.specs.Loading.{LoadsOf, AreFirstOf, MayLoad}
+use Rattle.gx_processor.specs.Replies.{HasForm, IsMisuse, IsMisbinding}
 use Rattle.gx_processor.specs.Run.{Run, WhereTold, IsFaultless, FailsToLoad}
 use Rattle.gx_base.specs.declared.limits.TheConstants.{FILE_BYTES}
 
@@ -39,7 +41,7 @@ LeavesAnswer (writes bytes) run = Took run.out bytes × IsUntouched run.err
 LeavesAnswer (refuses status line) run = IsUntouched run.out × Took run.err line
 
 -- the status and the sinks are those of the answer
-pub record IsAnswered (run : Run) (files : List (List ℕ × List ℕ)) : Type 0 where
+pub record IsAnswered (run : Run) (files : Files) : Type 0 where
   pub answer : Answer
   pub answers : Answers run.words files answer
   pub status : run.status ≡ status_of answer
@@ -83,14 +85,14 @@ OutputAfter ReadFault run = IsUntouched run.out
 -- the fault line after each status: one line, of the form that the status has
 abbrev pub LineAfter : Status → Run → Type 0
 LineAfter Done run = IsUntouched run.err
-LineAfter Usage run = (line : List ℕ) × IsMisuse run.words line × Took run.err line
+LineAfter Usage run = (line : List ℕ) × (IsMisuse run.words line ⊎ IsMisbinding run.words line) × Took run.err line
 LineAfter Query run = (line : List ℕ) × IsQueryLine line × Took run.err line
 LineAfter Dynamic run = (code : Code) × Took run.err (code_line code)
 LineAfter ReadFault run = (file : List ℕ) × Took run.err (read_fault_line file)
 LineAfter WriteFault run = Took run.err write_fault_line ⊎ SinkFailed run.err
 LineAfter Memory run = Unit {0}
 LineAfter Schema run = ⊥
-LineAfter Document run = ⊥
+LineAfter Document run = (line : List ℕ) × IsDocumentLine line × Took run.err line
 
 -- a put failed: that of the output, or that of a line
 abbrev pub FailsToWrite : Run → Type 0
@@ -101,7 +103,7 @@ abbrev pub FailsToRead : Run → Type 0
 FailsToRead run = (file : List ℕ) × FailsToLoad run file × Took run.err (read_fault_line file)
 
 -- the file of the query is longer than the limit
-pub record IsTooLong (words : List (List ℕ)) (files : List (List ℕ × List ℕ)) : Type 0 where
+pub record IsTooLong (words : List (List ℕ)) (files : Files) : Type 0 where
   pub command : Command
   pub bytes : List ℕ
   pub asked : command_of words ≡ Some command
@@ -116,11 +118,20 @@ ComparesTexts run =
     (left right : List ℕ) → texts_to_compare run.words ≡ Some (left, right) → run.status ≡ Done
     → (bytes : List ℕ) × IsAnswerText (chars left) (chars right) bytes × Took run.out (line bytes)
 
+-- the loads that were made: those of the answer's steps, each once and in their order, and no other; where a fault or want of memory
+-- ended the run, the first of them
+pub record LoadsSteps (run : Run) : Type 0 where
+  pub names : List (List ℕ)
+  pub loaded : LoadsOnly run.library names
+  pub may : MayLoad (command_of run.words) names
+  pub all : WhereTold run (λ files. IsCertain run.status → LoadsOf run.words files names)
+  pub first : WhereTold run (λ files. (loads : List (List ℕ)) → LoadsOf run.words files loads → AreFirstOf names loads)
+
 pub record Promises (run : Run) : Type 0 where
   -- Unless a fault outside or want of memory ends the run, it ends with the answer.
   pub answer : WhereTold run (λ files. IsCertain run.status → IsAnswered run files)
-  -- The calls: the loads of the answer's steps, each once and in their order, and no other; at most one put to each sink.
-  pub loads : LoadsOnly run.library (loads_of run.words)
+  -- The calls: the loads of the answer's steps, and at most one put to each sink.
+  pub loads : LoadsSteps run
   pub output_put : IsUntouched run.out ⊎ PutsOutput run
   pub line_put : IsUntouched run.err ⊎ PutsLine run
   -- What the sinks hold after each status.
@@ -128,8 +139,9 @@ pub record Promises (run : Run) : Type 0 where
   pub line : LineAfter run.status run
   pub part : WhereTold run (λ files. (answer : Answer) → Answers run.words files answer → IsCutShort run.status → GrewByPrefix run.out (output_of answer))
   -- When each status comes.
-  pub usage : run.status ≡ Usage → (line : List ℕ) × IsMisuse run.words line
+  pub usage : run.status ≡ Usage → (line : List ℕ) × (IsMisuse run.words line ⊎ IsMisbinding run.words line)
   pub usage_always : (line : List ℕ) → IsMisuse run.words line → (run.status ≡ Usage) ⊎ IsCutShort run.status
+  pub document : run.status ≡ Document → AskToRun run.words
   pub dynamic : run.status ≡ Dynamic → AskToRun run.words
   pub read_fault : run.status ≡ ReadFault → FailsToRead run
   pub write_fault : run.status ≡ WriteFault → FailsToWrite run

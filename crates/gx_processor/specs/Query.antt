@@ -3,6 +3,7 @@ use Rattle.std.specs.Prelude.{◌≡◌, ℕ, ◌≤◌, List, length, None, Som
 use Rattle.gx_base.specs.declared.limits.TheConstants.{FILE_BYTES}
 use Rattle.gx_types.specs.SchemaSet.{no_declarations}
 use Rattle.gx_core.specs.declared.expression.Core.{Core}
+use Rattle.gx_documents.specs.Documents.{Files}
 use Rattle.gx_io.specs.Load.{file_of}
 use Rattle.gx_ast.specs.declared.query.Query.{Query}
 use Rattle.gx_syntax.specs.Query.{Parses, parsed}
@@ -17,7 +18,7 @@ pub record IsQueryOf (bytes : List ℕ) (core : Core) : Type 0 where
   pub named : query_named no_declarations tree ≡ named_query core
 
 -- the file of that name holds a query with this Core
-pub record HoldsQuery (files : List (List ℕ × List ℕ)) (name : List ℕ) (core : Core) : Type 0 where
+pub record HoldsQuery (files : Files) (name : List ℕ) (core : Core) : Type 0 where
   pub bytes : List ℕ
   pub held : file_of files name ≡ Some bytes
   pub within : length bytes ≤ FILE_BYTES

@@ -1,5 +1,5 @@
 -- What a reply says of the answer.
-use Rattle.std.specs.Prelude.{◌≡◌, ℕ, List, None, Some, ◌⊎◌}
+use Rattle.std.specs.Prelude.{◌≡◌, ℕ, List, [], ◌∷◌, ◌++◌, Option, None, Some, IfSome, Result, Ok, Err, ◌⊎◌}
 use Rattle.std.specs.String.{string_bytes}
 use Rattle.gx_base.specs.declared.code.Code.{Code}
 use Rattle.gx_base.specs.declared.code.Code.TheVariants.{GLXS0001}
@@ -11,24 +11,44 @@ use Rattle.gx_processor.specs.declared.refusal.Refusal.{Refusal}
 use Rattle.gx_processor.specs.declared.refusal.Refusal.TheVariants as refusal
 use Rattle.std.specs.Str.{chars}
 use Rattle.gx_processor.specs.Answer.{Answer, writes, refuses, AnswersTexts}
-use Rattle.gx_processor.specs.Command.{Command, run_file, query_file, command_of, texts_to_compare, NameNoCommand, AskToRun}
-use Rattle.gx_processor.specs.FaultLines.{usage_line, read_fault_line, code_line, placed_line, IsQueryLine}
+use Rattle.gx_documents.specs.declared.documents.DocumentFault.{DocumentFault}
+use Rattle.gx_documents.specs.declared.documents.DocumentFault.TheVariants as faults
+use Rattle.gx_documents.specs.Bindings.{Misbound}
+use Rattle.gx_documents.specs.BindingView.{plain_fault}
+use Rattle.gx_io.specs.LibraryUse.{LibraryUse, LoadsOnly, LibraryFailed, LastLoadFailed}
+use Rattle.gx_processor.specs.Command.{Command, query_file, command_of, texts_to_compare, NameNoCommand, AskToRun, IsRun}
+use Rattle.gx_processor.specs.Loading.{CommandLoads, LoadsAsked, AreFirstOf, MayLoad}
+use Rattle.gx_processor.specs.FaultLines.{usage_line, read_fault_line, code_line, placed_line, binding_line, long_document_line, document_line, IsQueryLine, IsDocumentLine}
 
--- a refusal of the query or a dynamic error is the answer; a read fault and want of memory say nothing of it
+-- a refusal of the query, of the words that bind or of a document, or a dynamic error is the answer; a read fault and want of memory say nothing of it
 abbrev pub RefusesSo : Refusal → (Answer → Type 0) → Type 0
 RefusesSo refusal.TooLong Answered = Answered (refuses status.Query (code_line GLXS0001))
 RefusesSo (refusal.Query code place) Answered = Answered (refuses status.Query (placed_line code place))
 RefusesSo (refusal.Dynamic code) Answered = Answered (refuses status.Dynamic (code_line code))
+RefusesSo (refusal.Binding fault) Answered = Answered (refuses status.Usage (binding_line (plain_fault fault)))
+RefusesSo (refusal.Document file faults.Unread) Answered = Unit {0}
+RefusesSo (refusal.Document file faults.TooLong) Answered = Answered (refuses status.Document (long_document_line (string_bytes file)))
+RefusesSo (refusal.Document file (faults.Refused rule place)) Answered = Answered (refuses status.Document (document_line rule (string_bytes file) place))
 RefusesSo refusal.ReadFault Answered = Unit {0}
 RefusesSo refusal.Memory Answered = Unit {0}
 
--- why a refusal comes: a read fault where a count of faults rose, and a dynamic error where a query is run
-abbrev pub HasCause : (Rose Runs : Type 0) → Refusal → Type 0
-HasCause Rose Runs refusal.ReadFault = Rose
-HasCause Rose Runs (refusal.Dynamic code) = Runs
-HasCause Rose Runs refusal.TooLong = Unit {0}
-HasCause Rose Runs (refusal.Query code place) = Unit {0}
-HasCause Rose Runs refusal.Memory = Unit {0}
+-- a refusal of the query alone; a read fault only where a count of faults rose
+abbrev pub IsOfQuery : (Rose : Type 0) → Refusal → Type 0
+IsOfQuery Rose refusal.ReadFault = Rose
+IsOfQuery Rose refusal.TooLong = Unit {0}
+IsOfQuery Rose (refusal.Query code place) = Unit {0}
+IsOfQuery Rose refusal.Memory = Unit {0}
+IsOfQuery Rose _ = ⊥
+
+-- why a refusal comes: all but those of the query come where it is run
+abbrev pub HasCause : (Runs : Type 0) → Refusal → Type 0
+HasCause Runs (refusal.Dynamic code) = Runs
+HasCause Runs (refusal.Binding fault) = Runs
+HasCause Runs (refusal.Document file fault) = Runs
+HasCause Runs refusal.ReadFault = Unit {0}
+HasCause Runs refusal.TooLong = Unit {0}
+HasCause Runs (refusal.Query code place) = Unit {0}
+HasCause Runs refusal.Memory = Unit {0}
 
 -- likewise of a reply
 abbrev pub RepliesSo : Reply → (Answer → Type 0) → Type 0
@@ -43,22 +63,27 @@ IsMisuse words line =
     (NameNoCommand words × (line ≡ usage_line))
     ⊎ ((left : List ℕ) × (right : List ℕ) × (texts_to_compare words ≡ Some (left, right)) × AnswersTexts (chars left) (chars right) (refuses status.Usage line))
 
--- the form of the line of a refusal, and when it can be given: only the words make it Usage, and only a run is Dynamic
+-- the words of a run bind its external variables wrongly
+abbrev pub IsMisbinding : List (List ℕ) → List ℕ → Type 0
+IsMisbinding words line = AskToRun words × ((fault : Misbound) × (line ≡ binding_line fault))
+
+-- the form of the line of a refusal, and when it can be given: only the words make it Usage, and only a run looks at bindings and
+-- documents and is Dynamic
 abbrev pub HasForm : List (List ℕ) → Status → List ℕ → Type 0
-HasForm words status.Usage line = IsMisuse words line
+HasForm words status.Usage line = IsMisuse words line ⊎ IsMisbinding words line
 HasForm words status.Query line = IsQueryLine line
 HasForm words status.Dynamic line = AskToRun words × ((code : Code) × (line ≡ code_line code))
 HasForm words status.Done line = ⊥
 HasForm words status.Schema line = ⊥
-HasForm words status.Document line = ⊥
+HasForm words status.Document line = AskToRun words × IsDocumentLine line
 HasForm words status.ReadFault line = ⊥
 HasForm words status.WriteFault line = ⊥
 HasForm words status.Memory line = ⊥
 
--- likewise of a reply, where a read fault comes only where a count of faults rose
-abbrev pub HasLine : List (List ℕ) → Type 0 → Status → List ℕ → Type 0
-HasLine words Rose status.ReadFault line = (command : Command) × (command_of words ≡ Some command) × (line ≡ read_fault_line (query_file command)) × Rose
-HasLine words Rose status line = HasForm words status line
+-- likewise of a reply; the line of a read fault is told by the loads
+abbrev pub HasLine : List (List ℕ) → Status → List ℕ → Type 0
+HasLine words status.ReadFault line = Unit {0}
+HasLine words status line = HasForm words status line
 
 -- an output is that of a query, or the answer on two texts
 abbrev pub IsAsked : List (List ℕ) → List ℕ → Type 0
@@ -66,10 +91,10 @@ IsAsked words bytes =
     ((command : Command) × (command_of words ≡ Some command))
     ⊎ ((left : List ℕ) × (right : List ℕ) × (texts_to_compare words ≡ Some (left, right)) × AnswersTexts (chars left) (chars right) (writes bytes))
 
-abbrev pub IsWellFormed : List (List ℕ) → Type 0 → Reply → Type 0
-IsWellFormed words Rose (Output text) = IsAsked words (string_bytes text)
-IsWellFormed words Rose (Fault status line) = HasLine words Rose status (string_bytes line)
-IsWellFormed words Rose Starved = Unit {0}
+abbrev pub IsWellFormed : List (List ℕ) → Reply → Type 0
+IsWellFormed words (Output text) = IsAsked words (string_bytes text)
+IsWellFormed words (Fault status line) = HasLine words status (string_bytes line)
+IsWellFormed words Starved = Unit {0}
 
 -- words that name no command are Usage, or no memory is found
 abbrev pub IsUsageOrStarved : Reply → Type 0
@@ -95,11 +120,96 @@ IsComparison left right (Output text) = AnswersTexts left right (writes (string_
 IsComparison left right (Fault told line) = (told ≡ status.Usage) × AnswersTexts left right (refuses status.Usage (string_bytes line))
 IsComparison left right Starved = Unit {0}
 
+-- what is replied where a file holds no document
+abbrev pub IsDocumentFault : (file : List ℕ) → DocumentFault → Reply → Type 0
+IsDocumentFault file faults.Unread reply = IsFaultOrStarved status.ReadFault (read_fault_line file) reply
+IsDocumentFault file faults.TooLong reply = IsFaultOrStarved status.Document (long_document_line file) reply
+IsDocumentFault file (faults.Refused rule place) reply = IsFaultOrStarved status.Document (document_line rule file place) reply
+
+-- what is replied to a refusal of a command over a file: its line, or no memory was found
+abbrev pub IsReplyOf : (file : List ℕ) → Refusal → Reply → Type 0
+IsReplyOf file refusal.ReadFault reply = IsFaultOrStarved status.ReadFault (read_fault_line file) reply
+IsReplyOf file refusal.TooLong reply = IsFaultOrStarved status.Query (code_line GLXS0001) reply
+IsReplyOf file (refusal.Query code place) reply = IsFaultOrStarved status.Query (placed_line code place) reply
+IsReplyOf file (refusal.Binding fault) reply = IsFaultOrStarved status.Usage (binding_line (plain_fault fault)) reply
+IsReplyOf file (refusal.Document name fault) reply = IsDocumentFault (string_bytes name) fault reply
+IsReplyOf file (refusal.Dynamic code) reply = IsFaultOrStarved status.Dynamic (code_line code) reply
+IsReplyOf file refusal.Memory reply = reply ≡ Starved
+
 -- why a reply to a command over a query comes
-abbrev pub IsQueryReply : Command → Type 0 → Reply → Type 0
-IsQueryReply command Rose (Output text) = Unit {0}
-IsQueryReply command Rose (Fault status.ReadFault line) = (string_bytes line ≡ read_fault_line (query_file command)) × Rose
-IsQueryReply command Rose (Fault status.Query line) = IsQueryLine (string_bytes line)
-IsQueryReply command Rose (Fault status.Dynamic line) = ((name : List ℕ) × (command ≡ run_file name)) × ((code : Code) × (string_bytes line ≡ code_line code))
-IsQueryReply command Rose (Fault _ line) = ⊥
-IsQueryReply command Rose Starved = Unit {0}
+abbrev pub IsQueryForm : Command → Status → List ℕ → Type 0
+IsQueryForm command status.ReadFault line = Unit {0}
+IsQueryForm command status.Query line = IsQueryLine line
+IsQueryForm command status.Usage line = IsRun command × ((fault : Misbound) × (line ≡ binding_line fault))
+IsQueryForm command status.Document line = IsRun command × IsDocumentLine line
+IsQueryForm command status.Dynamic line = IsRun command × ((code : Code) × (line ≡ code_line code))
+IsQueryForm command status.Done line = ⊥
+IsQueryForm command status.Schema line = ⊥
+IsQueryForm command status.WriteFault line = ⊥
+IsQueryForm command status.Memory line = ⊥
+
+abbrev pub IsQueryReply : Command → Reply → Type 0
+IsQueryReply command (Output text) = Unit {0}
+IsQueryReply command (Fault told line) = IsQueryForm command told (string_bytes line)
+IsQueryReply command Starved = Unit {0}
+
+-- ---- loads
+
+-- the files were loaded in front of this one, and its load was the last and failed
+pub record LoadFailed (library : LibraryUse) (names : List (List ℕ)) (line : List ℕ) : Type 0 where
+  pub earlier : List (List ℕ)
+  pub file : List ℕ
+  pub in_order : names ≡ earlier ++ (file ∷ [])
+  pub failed : LastLoadFailed library earlier file
+  pub rose : LibraryFailed library
+  pub line_is : line ≡ read_fault_line file
+
+-- all loads of the steps were made, or where a load failed or memory is wanting, the first of them
+abbrev pub AreFirst : (List (List ℕ) → Type 0) → List (List ℕ) → Type 0
+AreFirst Steps names = (loads : List (List ℕ)) → Steps loads → AreFirstOf names loads
+
+abbrev pub ReplyLoads : (Steps : List (List ℕ) → Type 0) → List (List ℕ) → Reply → Type 0
+ReplyLoads Steps names (Output text) = Steps names
+ReplyLoads Steps names (Fault status.ReadFault line) = AreFirst Steps names
+ReplyLoads Steps names (Fault status line) = Steps names
+ReplyLoads Steps names Starved = AreFirst Steps names
+
+abbrev pub ReplyFailed : LibraryUse → List (List ℕ) → Reply → Type 0
+ReplyFailed library names (Fault status.ReadFault line) = LoadFailed library names (string_bytes line)
+ReplyFailed library names _ = Unit {0}
+
+-- the loads of a command, by what it replies
+pub record LoadsSo (library : LibraryUse) (asked : Option Command) (reply : Reply) : Type 0 where
+  pub names : List (List ℕ)
+  pub loaded : LoadsOnly library names
+  pub may : MayLoad asked names
+  pub told : IfSome (library.files library.before) (λ files. ReplyLoads (LoadsAsked files asked) names reply)
+  pub failed : ReplyFailed library names reply
+
+-- likewise of a refusal of a command
+
+abbrev pub RefusalLoads : (Steps : List (List ℕ) → Type 0) → List (List ℕ) → Refusal → Type 0
+RefusalLoads Steps names refusal.ReadFault = AreFirst Steps names
+RefusalLoads Steps names (refusal.Document file faults.Unread) = AreFirst Steps names
+RefusalLoads Steps names refusal.Memory = AreFirst Steps names
+RefusalLoads Steps names _ = Steps names
+
+abbrev pub RefusalFailed : LibraryUse → Command → List (List ℕ) → Refusal → Type 0
+RefusalFailed library command names refusal.ReadFault = LoadFailed library names (read_fault_line (query_file command))
+RefusalFailed library command names (refusal.Document file faults.Unread) = LoadFailed library names (read_fault_line (string_bytes file))
+RefusalFailed library command names _ = Unit {0}
+
+abbrev pub OutcomeLoads : {V : Type 0} → (Steps : List (List ℕ) → Type 0) → List (List ℕ) → Result V Refusal → Type 0
+OutcomeLoads Steps names (Ok text) = Steps names
+OutcomeLoads Steps names (Err e) = RefusalLoads Steps names e
+
+abbrev pub OutcomeFailed : {V : Type 0} → LibraryUse → Command → List (List ℕ) → Result V Refusal → Type 0
+OutcomeFailed library command names (Ok text) = Unit {0}
+OutcomeFailed library command names (Err e) = RefusalFailed library command names e
+
+pub record OutputLoads {V : Type 0} (library : LibraryUse) (command : Command) (result : Result V Refusal) : Type 0 where
+  pub names : List (List ℕ)
+  pub loaded : LoadsOnly library names
+  pub may : MayLoad (Some command) names
+  pub told : IfSome (library.files library.before) (λ files. OutcomeLoads (CommandLoads files command) names result)
+  pub failed : OutcomeFailed library command names result

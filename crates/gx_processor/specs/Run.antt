@@ -1,9 +1,11 @@
 -- A run of the program.
-use Rattle.std.specs.Prelude.{◌≡◌, ℕ, List, ◌∷◌, ◌++◌, IfSome}
+use Rattle.std.specs.Prelude.{ℕ, List, [], ◌∷◌, ◌++◌, IfSome}
 use Rattle.gx_io.specs.LibraryUse.{LibraryUse, LibraryFailed, LastLoadFailed}
 use Rattle.gx_io.specs.SinkUse.{SinkUse, SinkFailed}
 use Rattle.gx_processor.specs.declared.status.Status.{Status}
-use Rattle.gx_processor.specs.Answer.{loads_of}
+use Rattle.gx_documents.specs.Documents.{Files}
+use Rattle.gx_processor.specs.Command.{command_of}
+use Rattle.gx_processor.specs.Loading.{LoadsOf, AreFirstOf, MayLoad}
 
 -- the words of the command line, the library and the two sinks before and after, and the status
 pub record Run : Type 1 where
@@ -14,7 +16,7 @@ pub record Run : Type 1 where
   pub err : SinkUse
 
 -- a fact about the files that the library holds, where it tells them
-abbrev pub WhereTold : Run → (List (List ℕ × List ℕ) → Type 0) → Type 0
+abbrev pub WhereTold : Run → (Files → Type 0) → Type 0
 WhereTold run Fact = IfSome (run.library.files run.library.before) Fact
 
 -- no count of faults rose
@@ -23,10 +25,10 @@ pub record IsFaultless (run : Run) : Type 0 where
   pub out : SinkFailed run.out → ⊥
   pub err : SinkFailed run.err → ⊥
 
--- a count of faults rose in the load of this file. It is the next of those that the steps load; the loads of the steps
--- before it were made, and no load was made after it.
+-- A count of faults rose in the load of this file. It is the next of those that the steps load; the loads of the steps before it were
+-- made, and no load was made after it.
 pub record FailsToLoad (run : Run) (file : List ℕ) : Type 0 where
   pub earlier : List (List ℕ)
-  pub later : List (List ℕ)
-  pub in_order : loads_of run.words ≡ earlier ++ (file ∷ later)
+  pub may : MayLoad (command_of run.words) (earlier ++ (file ∷ []))
+  pub next : WhereTold run (λ files. (loads : List (List ℕ)) → LoadsOf run.words files loads → AreFirstOf (earlier ++ (file ∷ [])) loads)
   pub failed : LastLoadFailed run.library earlier file

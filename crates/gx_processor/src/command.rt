@@ -1,7 +1,8 @@
 // The words of the command line.
 
-ghost use Rattle.std.specs.Prelude.{◌≡◌, ◌≤◌, length, option_map, IfSome, IsTrue};
-ghost use Rattle.gx_processor.specs.Command.{bytes_of, is_operand, command_named, command_of, texts_to_compare};
+ghost use Rattle.std.specs.Prelude.{◌≡◌, ◌==◌, ◌≤◌, length, option_map, IfSome, IsTrue};
+ghost use Rattle.std.specs.List.{list_all, list_any};
+ghost use Rattle.gx_processor.specs.Command.{bytes_of, is_binding, is_operand, command_named, command_of, texts_to_compare};
 ghost use Rattle.gx_processor.specs.CommandView.{plain_command, plain_texts};
 
 use gx_base::limits::WORD_BYTES;
@@ -9,8 +10,8 @@ use gx_base::limits::WORD_BYTES;
 /// What the words ask for, with the name of the query's file.
 #[derive(Clone, Copy)]
 pub enum Command<'a> {
-    /// `run FILE`: the value of the query.
-    Run(&'a str),
+    /// `run FILE NAME=FILE ..`: the value of the query, with the words that bind its external variables.
+    Run(&'a str, &'a [String]),
     /// `check FILE`: the type of the query.
     Check(&'a str),
 }
@@ -25,7 +26,7 @@ impl<'a> Command<'a> {
         ensures { result.now ≡ query_file (plain_command self.entry) }
     {
         match self {
-            Command::Run(file) | Command::Check(file) => file,
+            Command::Run(file, _) | Command::Check(file) => file,
         }
     }
 }
@@ -34,9 +35,16 @@ impl<'a> Command<'a> {
 pub fn command_of_words(words: &[String]) -> Option<Command<'_>>
     ensures { option_map plain_command result ≡ command_of (bytes_of words.now) }
 {
-    match words {
-        [name, file] if is_operand(file.as_str()) => command_named(name.as_str(), file.as_str()),
-        _ => None,
+    let Some((name, others)) = words.split_first() else {
+        return None;
+    };
+    let Some((file, others)) = others.split_first() else {
+        return None;
+    };
+    if is_operand(file.as_str()) {
+        command_named(name.as_str(), file.as_str(), others)
+    } else {
+        None
     }
 }
 
@@ -55,14 +63,49 @@ pub fn texts_to_compare(words: &[String]) -> Option<(&str, &str)>
     }
 }
 
-fn command_named<'a>(name: &str, file: &'a str) -> Option<Command<'a>>
-    ensures { option_map plain_command result ≡ command_named name.now file.now }
+fn command_named<'a>(name: &str, file: &'a str, others: &'a [String]) -> Option<Command<'a>>
+    ensures { option_map plain_command result ≡ command_named name.now file.now (bytes_of others.now) }
 {
-    match name {
-        "run" => Some(Command::Run(file)),
-        "check" => Some(Command::Check(file)),
-        _ => None,
+    if name == "run" && are_bindings(others) {
+        return Some(Command::Run(file, others));
     }
+    if name == "check" && others.is_empty() {
+        return Some(Command::Check(file));
+    }
+    None
+}
+
+// Whether each word binds a variable.
+fn are_bindings(words: &[String]) -> bool
+    ensures { result ≡ list_all is_binding (bytes_of words.now) }
+{
+    let mut left = words;
+    while let Some((word, others)) = left.split_first() {
+        if !is_binding(word.as_str()) {
+            return false;
+        }
+        left = others;
+    }
+    true
+}
+
+fn is_binding(word: &str) -> bool
+    ensures { result ≡ is_binding word.now }
+{
+    is_operand(word) && has_equals(word.as_bytes())
+}
+
+fn has_equals(bytes: &[u8]) -> bool
+    ensures { result ≡ list_any (λ c. c == 61) bytes.now }
+{
+    let mut left = bytes;
+    while let Some((byte, others)) = left.split_first() {
+        if *byte == b'=' {
+            return true;
+        }
+        left = others;
+    }
+    false
 }
 
 fn is_operand(word: &str) -> bool

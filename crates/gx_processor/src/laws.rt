@@ -1,7 +1,9 @@
 // Laws over the definitions.
 
 ghost use Rattle.std.specs.Prelude.{◌≡◌, ℕ, List};
-ghost use Rattle.gx_processor.specs.Answer.{Answer, Answers, AnAnswerExists, AnswersLookAtTheirLoads, ChecksRefuseForRuns};
+ghost use Rattle.gx_processor.specs.Answer.{Answer, Answers, AnAnswerExists, ChecksRefuseForRuns};
+ghost use Rattle.gx_processor.specs.Loading.{AnswersLookAtTheirLoads};
+ghost use Rattle.gx_documents.specs.Documents.{Files};
 
 /// The words and the files have an answer.
 pub fn an_answer_exists()
@@ -10,7 +12,7 @@ pub fn an_answer_exists()
 
 /// The words and the files have at most one answer.
 pub fn one_answer()
-    ensures { (words : List (List ℕ)) (files : List (List ℕ × List ℕ)) (a b : Answer) → Answers words files a → Answers words files b → a ≡ b }
+    ensures { (words : List (List ℕ)) (files : Files) (a b : Answer) → Answers words files a → Answers words files b → a ≡ b }
 {}
 
 /// What a check of a file refuses, a run of it refuses with the same line.

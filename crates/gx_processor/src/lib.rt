@@ -8,5 +8,6 @@ pub mod processor;
 mod query;
 mod refusal;
 mod reply;
+mod run;
 mod serialise;
 pub mod status;

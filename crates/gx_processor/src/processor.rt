@@ -1,18 +1,17 @@
 // The call that answers the words of the command line.
 
-ghost use Rattle.std.specs.Prelude.{◌≡◌, ℕ, List, [], ◌∷◌, ◌≤◌, ◌++◌, length, string_bytes, IfOk, IfSome, Some};
+ghost use Rattle.std.specs.Prelude.{◌≡◌, ℕ, List, ◌≤◌, ◌++◌, length, string_bytes, IfOk, IfSome, Some};
 ghost use Rattle.std.specs.Str.{chars};
-ghost use Rattle.gx_io.specs.Calls.{Loads};
-ghost use Rattle.gx_io.specs.Faults.{Rose};
 ghost use Rattle.gx_io.specs.LibraryUse.{library_use};
 ghost use Rattle.gx_io.specs.SinkUse.{sink_use};
-ghost use Rattle.gx_processor.specs.Answer.{Answers, AnswersCommand, loads_of};
-ghost use Rattle.gx_processor.specs.Command.{bytes_of, query_file};
+ghost use Rattle.gx_processor.specs.Answer.{Answers, AnswersCommand};
+ghost use Rattle.gx_processor.specs.Command.{bytes_of, command_of};
 ghost use Rattle.gx_processor.specs.CommandView.{plain_command};
 ghost use Rattle.gx_processor.specs.Ending.{Ends, Put, PutOutput};
-ghost use Rattle.gx_processor.specs.FaultLines.{line, placed_line};
+ghost use Rattle.gx_documents.specs.BindingView.{plain_fault};
+ghost use Rattle.gx_processor.specs.FaultLines.{binding_line, document_line, line, placed_line, xml_rule_name};
 ghost use Rattle.gx_processor.specs.Promises.{Promises};
-ghost use Rattle.gx_processor.specs.Replies.{IsQueryReply, RepliesSo, IsWellFormed, IsMisuse, IsUsageOrStarved, IsFaultOrStarved, IsOutputOrStarved, IsComparison};
+ghost use Rattle.gx_processor.specs.Replies.{IsQueryReply, RepliesSo, LoadsSo, IsWellFormed, IsMisuse, IsUsageOrStarved, IsReplyOf, IsDocumentFault, IsFaultOrStarved, IsOutputOrStarved, IsComparison};
 
 use crate::command::{Command, command_of_words, texts_to_compare};
 use crate::output::output;
@@ -23,16 +22,21 @@ use gx_base::code::Code;
 use gx_base::limits::FILE_BYTES;
 use gx_base::place::Place;
 use gx_core::laws::sound_queries_keep_their_types;
+use gx_documents::bindings::BindingFault;
+use gx_documents::documents::DocumentFault;
+use gx_documents::laws::documents_are_honest;
 use gx_io::{Library, PutError, Sink};
+use gx_normal::laws::named_queries_have_untyped_documents;
 use gx_static::laws::{query_rejection_names_a_failure, query_typing_is_sound};
 use gx_subtype::subtype::{Side, SubtypeError, subtype};
+use gx_xml::refusal::XmlRule;
 use std::alloc::{AllocError, Global};
 
 /// Answers the words of the command line over the files of a library: puts the output to `out`, or a fault line to
 /// `err`, and says how the run ended.
 ///
-/// `run FILE` writes the value of the query in the file (XQuery 1.0, section 2.2; Serialization, section 2), and
-/// `check FILE` writes the text of the type that the static rules give the query (XQuery 1.0, section 2.2.3.1).
+/// `run FILE NAME=FILE ..` writes the value of the query in the file, on the documents that its external variables are bound to
+/// (XQuery 1.0, section 2.2; Serialization, section 2), and `check FILE` writes the text of the type that the static rules give the query (XQuery 1.0, section 2.2.3.1).
 /// `subtype TEXT TEXT` writes whether the type of the left text is included in that of the right one (XQuery 1.0 and XPath
 /// 2.0 Formal Semantics, section 8.3): `yes`, `no: ` with the first list of shapes that is not, or `unknown`.
 pub fn galax<L: Library, O: Sink, E: Sink>(
@@ -53,16 +57,18 @@ pub fn galax<L: Library, O: Sink, E: Sink>(
     query_typing_is_sound();
     sound_queries_keep_their_types();
     query_rejection_names_a_failure();
+    documents_are_honest();
+    named_queries_have_untyped_documents();
     let reply = reply_to(alloc, words, library);
     finish(reply, out, err)
 }
 
 // What the program replies to its words.
 fn reply_to<L: Library>(alloc: Global, words: &[String], library: &mut L) -> Reply
-    ensures loads { Loads L.was_loaded (loads_of (bytes_of words.now)) library.old library.new }
     ensures counted { L.faults library.old ≤ L.faults library.new }
+    ensures loads { LoadsSo (library_use L.files L.faults L.was_loaded library.old library.new) (command_of (bytes_of words.now)) result }
     ensures answer { IfSome (L.files library.old) (λ files. RepliesSo result (Answers (bytes_of words.now) files)) }
-    ensures cause { IsWellFormed (bytes_of words.now) (Rose (L.faults library.old) (L.faults library.new)) result }
+    ensures cause { IsWellFormed (bytes_of words.now) result }
     ensures usage { (line : List ℕ) → IsMisuse (bytes_of words.now) line → IsUsageOrStarved result }
 {
     if let Some((left, right)) = texts_to_compare(words) {
@@ -76,18 +82,91 @@ fn reply_to<L: Library>(alloc: Global, words: &[String], library: &mut L) -> Rep
 
 // What the program replies to a command over a query.
 fn query_reply<L: Library>(alloc: Global, command: Command<'_>, library: &mut L) -> Reply
-    ensures loads { Loads L.was_loaded (query_file (plain_command command.entry) ∷ []) library.old library.new }
     ensures counted { L.faults library.old ≤ L.faults library.new }
+    ensures loads { LoadsSo (library_use L.files L.faults L.was_loaded library.old library.new) (Some (plain_command command.entry)) result }
     ensures answer { IfSome (L.files library.old) (λ files. RepliesSo result (AnswersCommand files (Some (plain_command command.entry)))) }
-    ensures cause { IsQueryReply (plain_command command.entry) (Rose (L.faults library.old) (L.faults library.new)) result }
+    ensures cause { IsQueryReply (plain_command command.entry) result }
 {
     match output(alloc, command, library) {
         Ok(text) => Reply::Output(text),
-        Err(Refusal::ReadFault) => fault(alloc, Status::ReadFault, "ReadFault ", command.file()),
-        Err(Refusal::TooLong) => fault(alloc, Status::Query, Code::GLXS0001.text(), ""),
-        Err(Refusal::Query { code, place }) => placed_fault(alloc, code, place),
-        Err(Refusal::Dynamic(code)) => fault(alloc, Status::Dynamic, code.text(), ""),
-        Err(Refusal::Memory) => Reply::Starved,
+        Err(refusal) => refused(alloc, command.file(), refusal),
+    }
+}
+
+// What the program replies to a refusal of a command over a file.
+fn refused(alloc: Global, file: &str, refusal: Refusal) -> Reply
+    ensures { IsReplyOf file.now refusal result }
+{
+    match refusal {
+        Refusal::ReadFault => fault(alloc, Status::ReadFault, "ReadFault ", file),
+        Refusal::TooLong => fault(alloc, Status::Query, Code::GLXS0001.text(), ""),
+        Refusal::Query { code, place } => placed_fault(alloc, code, place),
+        Refusal::Binding(found) => misbound(alloc, found),
+        Refusal::Document(name, found) => document_fault(alloc, name.as_str(), found),
+        Refusal::Dynamic(code) => fault(alloc, Status::Dynamic, code.text(), ""),
+        Refusal::Memory => Reply::Starved,
+    }
+}
+
+// A refusal of the words that bind external variables.
+fn misbound(alloc: Global, found: BindingFault) -> Reply
+    ensures { IsFaultOrStarved Status.Usage (binding_line (plain_fault found)) result }
+{
+    match found {
+        BindingFault::Unknown(name) => fault(
+            alloc,
+            Status::Usage,
+            "Usage: unknown ",
+            name.as_str(),
+        ),
+        BindingFault::Doubled(name) => fault(
+            alloc,
+            Status::Usage,
+            "Usage: doubled ",
+            name.as_str(),
+        ),
+        BindingFault::Missing(name) => fault(
+            alloc,
+            Status::Usage,
+            "Usage: missing ",
+            name.as_str(),
+        ),
+    }
+}
+
+// A refusal of the document in a file.
+fn document_fault(alloc: Global, file: &str, found: DocumentFault) -> Reply
+    ensures { IsDocumentFault file.now found result }
+{
+    match found {
+        DocumentFault::Unread => fault(alloc, Status::ReadFault, "ReadFault ", file),
+        DocumentFault::TooLong => fault(alloc, Status::Document, "TooLong in ", file),
+        DocumentFault::Refused(rule, place) => broken_rule(alloc, rule, file, place),
+    }
+}
+
+// A refusal of a document with the rule that it breaks and the place.
+fn broken_rule(alloc: Global, rule: XmlRule, file: &str, place: Place) -> Reply
+    ensures { IsFaultOrStarved Status.Document (document_line rule file.now place) result }
+{
+    let Place { line, column } = place;
+    match format!(in alloc; "{} in {file} at {line}:{column}\n", rule_name(rule)) {
+        Ok(text) => Reply::Fault(Status::Document, text),
+        Err(AllocError) => Reply::Starved,
+    }
+}
+
+// The name of a rule in a fault line.
+fn rule_name(rule: XmlRule) -> &'static str
+    ensures { result.now ≡ xml_rule_name rule }
+{
+    match rule {
+        XmlRule::NotUtf8 => "NotUtf8",
+        XmlRule::Malformed => "Malformed",
+        XmlRule::Doctype => "Doctype",
+        XmlRule::UnboundPrefix => "UnboundPrefix",
+        XmlRule::DuplicateAttribute => "DuplicateAttribute",
+        XmlRule::TooDeep => "TooDeep",
     }
 }
 

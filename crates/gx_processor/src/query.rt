@@ -2,17 +2,19 @@
 
 ghost use Rattle.std.specs.Prelude.{◌≡◌, ◌≤◌, [], ◌∷◌, length, IfOk, IfErr, IfSome, Some, None};
 ghost use Rattle.gx_types.specs.SchemaSet.{no_declarations};
-ghost use Rattle.gx_core.specs.QueryMeaning.{plain_query, HasNoExternal, IsSoundQuery};
+ghost use Rattle.gx_core.specs.QueryMeaning.{plain_query, IsSoundQuery};
 ghost use Rattle.gx_static.specs.QueryJudgement.{query_judged, query_typed};
 ghost use Rattle.gx_io.specs.Calls.{Loads};
 ghost use Rattle.gx_io.specs.Faults.{Rose};
 ghost use Rattle.gx_io.specs.Load.{file_of};
 ghost use Rattle.gx_syntax.specs.Query.{Parses, parsed};
 ghost use Rattle.gx_processor.specs.Answer.{AnswersFile, AnswersBytes, AnswersBuilt, AnswersNamed, AnswersJudged};
+ghost use Rattle.gx_documents.specs.Documents.{Files};
+ghost use Rattle.gx_normal.specs.Externals.{ExternalsAreUntyped};
 ghost use Rattle.gx_processor.specs.Command.{Command};
 ghost use Rattle.gx_processor.specs.Query.{HoldsQuery};
 ghost use Rattle.gx_normal.specs.Normalisation.{query_named, named_query};
-ghost use Rattle.gx_processor.specs.Replies.{RefusesSo, HasCause};
+ghost use Rattle.gx_processor.specs.Replies.{RefusesSo, IsOfQuery};
 ghost use Rattle.gx_processor.specs.RuleCode.{rule_code};
 ghost use Rattle.gx_names.specs.Refused.{Judges};
 ghost use Rattle.gx_names.specs.Refusals.{query_refusals};
@@ -30,7 +32,7 @@ use gx_io::{Library, LoadError};
 use gx_names::refusal::NameRefusal;
 use gx_names::resolve::resolve;
 use gx_names::tree::Resolved;
-use gx_normal::laws::named_queries_have_no_external;
+use gx_normal::laws::named_queries_have_untyped_documents;
 use gx_normal::normalise::normalise;
 use gx_normal::unbuilt::unbuilt_query;
 use gx_parse::parser::parse;
@@ -47,16 +49,17 @@ pub fn typed_query<L: Library>(
     library: &mut L,
 ) -> Result<TypedCore, Refusal>
     ensures loads { Loads L.was_loaded (file.now ∷ []) library.old library.new }
+    ensures told { L.files library.new ≡ L.files library.old }
     ensures counted { L.faults library.old ≤ L.faults library.new }
     ensures query { IfSome (L.files library.old) (λ files. IfOk result (λ query. HoldsQuery files file.now (plain_query query))) }
     ensures typed { IfOk result (λ query. query_judged no_declarations (plain_query query) ≡ query_typed query) }
     ensures sound { IfOk result (λ query. IsSoundQuery no_declarations query) }
-    ensures closed { IfOk result (λ query. HasNoExternal (plain_query query).declarations) }
+    ensures untyped { IfOk result (λ query. ExternalsAreUntyped (plain_query query).declarations) }
     ensures refused { IfSome (L.files library.old) (λ files. IfErr result (λ refusal.
-        (command : Command) → RefusesSo refusal (AnswersFile command (file_of files file.now)))) }
-    ensures cause { IfErr result (HasCause (Rose (L.faults library.old) (L.faults library.new)) ⊥) }
+        (command : Command) → RefusesSo refusal (AnswersFile files command (file_of files file.now)))) }
+    ensures cause { IfErr result (IsOfQuery (Rose (L.faults library.old) (L.faults library.new))) }
 {
-    named_queries_have_no_external();
+    named_queries_have_untyped_documents();
     let bytes = bytes_of(alloc, file, library)?;
     let tree = tree_of(alloc, bytes.as_slice())?;
     let core = core_of(alloc, tree)?;
@@ -66,12 +69,13 @@ pub fn typed_query<L: Library>(
 // The bytes of a file that is not too long.
 fn bytes_of<L: Library>(alloc: Global, file: &str, library: &mut L) -> Result<Vec<u8>, Refusal>
     ensures loads { Loads L.was_loaded (file.now ∷ []) library.old library.new }
+    ensures told { L.files library.new ≡ L.files library.old }
     ensures counted { L.faults library.old ≤ L.faults library.new }
     ensures held { IfSome (L.files library.old) (λ files. IfOk result (λ bytes. file_of files file.now ≡ Some bytes.items)) }
     ensures within { IfOk result (λ bytes. length bytes.items ≤ FILE_BYTES) }
     ensures refused { IfSome (L.files library.old) (λ files. IfErr result (λ refusal.
-        (command : Command) → RefusesSo refusal (AnswersFile command (file_of files file.now)))) }
-    ensures cause { IfErr result (HasCause (Rose (L.faults library.old) (L.faults library.new)) ⊥) }
+        (command : Command) → RefusesSo refusal (AnswersFile files command (file_of files file.now)))) }
+    ensures cause { IfErr result (IsOfQuery (Rose (L.faults library.old) (L.faults library.new))) }
 {
     match library.load(alloc, file, FILE_BYTES) {
         Ok(bytes) => Ok(bytes),
@@ -86,8 +90,8 @@ fn tree_of(alloc: Global, bytes: &[u8]) -> Result<Query, Refusal>
     requires { length bytes.now ≤ FILE_BYTES }
     ensures tree { IfOk result (λ tree. Parses bytes.now (parsed tree)) }
     ensures built { IfOk result (λ tree. unbuilt_query tree ≡ None) }
-    ensures refused { IfErr result (λ refusal. (command : Command) → RefusesSo refusal (AnswersBytes command bytes.now)) }
-    ensures cause { IfErr result (HasCause ⊥ ⊥) }
+    ensures refused { IfErr result (λ refusal. (files : Files) (command : Command) → RefusesSo refusal (AnswersBytes files command bytes.now)) }
+    ensures cause { IfErr result (IsOfQuery ⊥) }
 {
     match parse(alloc, bytes) {
         Ok(tree) => built(alloc, tree),
@@ -115,8 +119,8 @@ fn rule_code(rule: SyntaxRule) -> Code
 fn built(alloc: Global, tree: Query) -> Result<Query, Refusal>
     ensures same { IfOk result (λ kept. kept ≡ tree) }
     ensures built { IfOk result (λ kept. unbuilt_query kept ≡ None) }
-    ensures refused { IfErr result (λ refusal. (command : Command) → RefusesSo refusal (AnswersBuilt command tree (unbuilt_query tree))) }
-    ensures cause { IfErr result (HasCause ⊥ ⊥) }
+    ensures refused { IfErr result (λ refusal. (files : Files) (command : Command) → RefusesSo refusal (AnswersBuilt files command tree (unbuilt_query tree))) }
+    ensures cause { IfErr result (IsOfQuery ⊥) }
 {
     let refusal = match unbuilt_query(alloc, &tree) {
         Ok(None) => return Ok(tree),
@@ -161,8 +165,8 @@ fn drop_initialiser(alloc: Global, initialiser: Initialiser) {
 #[tactic(auto, using(crate::proofs::QueryLemmas::named_so, crate::proofs::QueryLemmas::refused_so))]
 fn core_of(alloc: Global, tree: Query) -> Result<Core, Refusal>
     ensures core { IfOk result (λ core. query_named no_declarations tree ≡ named_query core) }
-    ensures refused { IfErr result (λ refusal. (command : Command) → RefusesSo refusal (AnswersNamed command (query_named no_declarations tree))) }
-    ensures cause { IfErr result (HasCause ⊥ ⊥) }
+    ensures refused { IfErr result (λ refusal. (files : Files) (command : Command) → RefusesSo refusal (AnswersNamed files command (query_named no_declarations tree))) }
+    ensures cause { IfErr result (IsOfQuery ⊥) }
 {
     let resolved = resolved(alloc, &tree);
     drop_query(alloc, tree);
@@ -188,8 +192,8 @@ fn typed_core(alloc: Global, core: Core) -> Result<TypedCore, Refusal>
     ensures same { IfOk result (λ t. plain_query t ≡ core) }
     ensures sound { IfOk result (λ t. IsSoundQuery no_declarations t) }
     ensures refused { IfErr result (λ refusal.
-        (command : Command) → RefusesSo refusal (AnswersJudged command core (query_judged no_declarations core))) }
-    ensures cause { IfErr result (HasCause ⊥ ⊥) }
+        (files : Files) (command : Command) → RefusesSo refusal (AnswersJudged files command core (query_judged no_declarations core))) }
+    ensures cause { IfErr result (IsOfQuery ⊥) }
 {
     let schemas = Schemas::empty(alloc)?;
     match infer(alloc, &schemas, core) {

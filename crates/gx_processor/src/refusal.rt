@@ -2,15 +2,19 @@
 
 use gx_base::code::Code;
 use gx_base::place::Place;
+use gx_documents::bindings::BindingFault;
+use gx_documents::documents::DocumentFault;
 use std::alloc::AllocError;
 
-/// Why a command has no output: the query's file could not be read or is too long, the query is refused at a place, its evaluation
-/// raises an error, or memory is wanting.
-#[derive(Clone, Copy, Debug, PartialEq, Eq)]
+/// Why a command has no output: the query's file could not be read or is too long, the query is refused at a place, the words bind
+/// its external variables wrongly, the file of this name holds no document, its evaluation raises an error, or memory is wanting.
+#[derive(Debug, Drop)]
 pub enum Refusal {
     ReadFault,
     TooLong,
     Query { code: Code, place: Place },
+    Binding(BindingFault),
+    Document(String, DocumentFault),
     Dynamic(Code),
     Memory,
 }

@@ -1,27 +1,55 @@
 // The writing of values.
 
 ghost use Rattle.std.specs.Prelude.{◌≡◌, IfOk, string_bytes, map};
-ghost use Rattle.gx_processor.specs.Serialisation.{serialised_atoms, atom_item};
+ghost use Rattle.gx_processor.specs.Serialisation.{serialised, serial_item, node_item};
+ghost use Rattle.gx_model.specs.Forest.{node_in};
 
-use gx_facets::{Atomic, print_value};
+use gx_base::text::Text;
+use gx_facets::print_value;
+use gx_model::copied::copied_tree;
+use gx_model::forest::Forest;
+use gx_model::item::{ItemForm, ModelItem};
+use gx_model::node::Node;
 use gx_serial::item::{SerialItem, answer_text};
 use std::alloc::{AllocError, Global};
 
-/// The text of atomic values, as the serialiser writes an answer of their texts (Serialization, section 2).
-pub fn serialise(alloc: Global, values: &[Atomic]) -> Result<String, AllocError>
-    ensures { IfOk result (λ text. string_bytes text ≡ serialised_atoms values.now) }
+/// The text of a value, as the serialiser writes an answer (Serialization, section 2).
+pub fn serialise(alloc: Global, forest: &Forest, value: &[ModelItem]) -> Result<String, AllocError>
+    ensures { IfOk result (λ text. string_bytes text ≡ serialised forest.now value.now) }
 {
-    let items = serial_items(alloc, values)?;
+    let items = serial_items(alloc, forest, value)?;
     let text = answer_text(alloc, items.as_slice())?;
     Ok(text.into_string())
 }
 
-fn serial_items(alloc: Global, values: &[Atomic]) -> Result<Vec<SerialItem>, AllocError>
-    ensures { IfOk result (λ items. items.items ≡ map atom_item values.now) }
+fn serial_items(
+    alloc: Global,
+    forest: &Forest,
+    value: &[ModelItem],
+) -> Result<Vec<SerialItem>, AllocError>
+    ensures { IfOk result (λ items. items.items ≡ map (serial_item forest.now) value.now) }
 {
     let mut items = Vec::new(alloc);
-    for value in values {
-        items.push(SerialItem::Text(print_value(alloc, &value.value)?))?;
+    for item in value {
+        items.push(serial_item(alloc, forest, item)?)?;
     }
     Ok(items)
+}
+
+fn serial_item(alloc: Global, forest: &Forest, item: &ModelItem) -> Result<SerialItem, AllocError>
+    ensures { IfOk result (λ made. made ≡ serial_item forest.now item.now) }
+{
+    match &item.form {
+        ItemForm::Atom(atomic) => Ok(SerialItem::Text(print_value(alloc, &atomic.value)?)),
+        ItemForm::Node(node) => node_item(alloc, forest, node),
+    }
+}
+
+fn node_item(alloc: Global, forest: &Forest, node: &Node) -> Result<SerialItem, AllocError>
+    ensures { IfOk result (λ made. made ≡ node_item (node_in forest.now node.now)) }
+{
+    match copied_tree(forest, node)? {
+        Some(tree) => Ok(SerialItem::Tree(tree)),
+        None => Ok(SerialItem::Text(Text::empty(alloc)?)),
+    }
 }

@@ -35,8 +35,8 @@ use Rattle.gx_core.specs.Outcome.{gives, given}
 use Rattle.gx_core.specs.Comparing.{truth_value, compared_items, decided, cast_failure, atoms_among, generally_compared}
 use Rattle.gx_core.specs.Soundness.{typed_setting, IsOfType, Keeps}
 use Rattle.gx_core.proofs.KeptFacts.{fact_at_once}
-use Rattle.gx_static.specs.declared.rules.Family.{Family}
-use Rattle.gx_static.specs.declared.rules.Family.TheVariants as families
+use Rattle.gx_static.specs.declared.comparison.Family.{Family}
+use Rattle.gx_static.specs.declared.comparison.Family.TheVariants as families
 use Rattle.gx_static.specs.Rule.{atomic, all_items, is_at_most_one, is_atomic_in, is_of_family, are_of_family, are_of_one_family, value_comparison_type, are_comparable_items, are_comparable_types}
 use Rattle.gx_static.specs.Laws.{ValueComparisonKeepsType, GeneralComparisonKeepsType}
 use Rattle.gx_static.proofs.ItemLemmas.{EachItem, each_so, the_item, Meets, items_meet}

@@ -1,9 +1,10 @@
 -- Typing the parts of an expression and then making it comes to the judgement of the expression.
-use Rattle.std.proofs.Common.{◌≡◌, ◌≢◌, ◌≤◌, ◌+◌, ℕ, zero, suc, List, [], ◌∷◌, ◌++◌, length, map, reverse, Option, None, Some, refl, sym, ◌∙◌, ap, subst, append_assoc, arith}
+use Rattle.std.proofs.Common.{◌≡◌, ◌≢◌, ◌≤◌, ◌+◌, ℕ, zero, suc, List, [], ◌∷◌, ◌++◌, length, map, reverse, None, Some, refl, sym, ◌∙◌, ap, subst, append_assoc, arith}
 use Rattle.std.proofs.lemmas.List.{append-nil, reverse-append}
 use Rattle.gx_base.specs.declared.place.Place.{Place}
 use Rattle.gx_types.specs.SchemaSet.{SchemaSet}
 use Rattle.gx_types.specs.SequenceType.{SequenceType}
+use Rattle.gx_types.specs.Prime.{prime_of}
 use Rattle.gx_funcs.specs.declared.function.Function.{Function}
 use Rattle.gx_core.specs.declared.expression.Binder.{Binder}
 use Rattle.gx_core.specs.declared.operator.Operator.{Operator}
@@ -135,7 +136,7 @@ pub each_of_arguments : {B : Type 0} (look : TypedExpression → B) (es : List T
 each_of_arguments look [] = refl
 each_of_arguments look (e ∷ es) = ap (λ bs. look e ∷ bs) (each_of_arguments look es)
 
--- a `let`, whose body is typed under the type of its value
+-- a `for` and a `let`, whose body is typed under the type of what comes before
 second_typed : (t : TypedExpression) (j : Judgement) (conclude : Parts SequenceType → Judgement) (next : TypedExpression → Awaited)
     → then_typed j (λ u. then_typed (conclude (two_parts t u)) next)
     ≡ then_typed (with_typed (with_typed (with_typed j (λ u. typed (a_part u no_parts))) (λ ts. typed (a_part t ts))) conclude) next
@@ -154,6 +155,13 @@ pub let_opens : (schemas : SchemaSet) (tasks : List Task) (parts : List TypedExp
 let_opens schemas tasks parts types declared place outer binder value body =
     both_typed (judged schemas value types) (λ t. judged schemas body ((binder.variable, annotation_of t) ∷ types))
     (λ ts. concluded place outer (operators.Let binder) ts (ruling schemas (operators.Let binder) (each_of annotation_of ts) types)) (λ t. continued schemas tasks (t ∷ parts) types declared)
+
+pub for_opens : (schemas : SchemaSet) (tasks : List Task) (parts : List TypedExpression) (types : Types) (declared : List TypedDeclaration) (place outer : Place) (binder : Binder) (source body : CoreExpression)
+    → then_typed (judged schemas source types) (λ t. then_typed (judged schemas body ((binder.variable, prime_of (annotation_of t)) ∷ types)) (λ u. continued schemas (Finish place outer (operators.For binder) ∷ tasks) (u ∷ t ∷ parts) types declared))
+    ≡ then_typed (judged schemas (core_at place outer (operators.For binder) (two_parts source body)) types) (λ t. continued schemas tasks (t ∷ parts) types declared)
+for_opens schemas tasks parts types declared place outer binder source body =
+    both_typed (judged schemas source types) (λ t. judged schemas body ((binder.variable, prime_of (annotation_of t)) ∷ types))
+    (λ ts. concluded place outer (operators.For binder) ts (ruling schemas (operators.For binder) (each_of annotation_of ts) types)) (λ t. continued schemas tasks (t ∷ parts) types declared)
 
 -- so many parts are there as the operator has, where what is left to do comes to a judgement
 pub parts_are_there : (n : ℕ) (below : List TypedExpression) (parts : Parts SequenceType) (next : Parts SequenceType → List TypedExpression → Awaited)

@@ -1,16 +1,14 @@
 -- Doing the tasks of declarations and of the body comes to the judgement of the query.
 use Rattle.std.proofs.Common.{◌≡◌, List, [], ◌∷◌, ◌++◌, None, Some, refl, sym, ◌∙◌, ap, append_assoc}
 use Rattle.std.proofs.lemmas.List.{append-nil}
-use Rattle.gx_base.specs.declared.name.Name.{Name}
 use Rattle.gx_types.specs.SchemaSet.{SchemaSet}
-use Rattle.gx_core.specs.declared.expression.Binder.{Binder}
 use Rattle.gx_core.specs.declared.expression.Core.{Core}
 use Rattle.gx_core.specs.declared.expression.CoreDeclaration.{CoreDeclaration}
 use Rattle.gx_core.specs.declared.expression.CoreDeclaration.TheVariants.{Global}
 use Rattle.gx_core.specs.declared.typed.TypedDeclaration.{TypedDeclaration}
 use Rattle.gx_core.specs.declared.typed.TypedDeclaration.TheVariants as globals
 use Rattle.gx_core.specs.Bindings.{Types}
-use Rattle.gx_core.specs.QueryMeaning.{global_types, external_types, types_declared}
+use Rattle.gx_core.specs.QueryMeaning.{global_types, types_declared}
 use Rattle.gx_core.specs.Soundness.{TypedExpression}
 use Rattle.gx_static.specs.Judgement.{Judged, Judgement, typed, rejected, with_typed, judged}
 use Rattle.gx_static.specs.QueryJudgement.{declared_as, declarations_judged, core_judged}

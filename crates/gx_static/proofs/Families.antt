@@ -15,8 +15,8 @@ use Rattle.gx_types.specs.ItemTakes.{ItemTakes}
 use Rattle.gx_model.specs.Forest.{Forest}
 use Rattle.gx_model.specs.Item.{Item, atom}
 use Rattle.gx_model.specs.Belongs.{ValueFits, item_shape, ItemFits}
-use Rattle.gx_static.specs.declared.rules.Family.{Family}
-use Rattle.gx_static.specs.declared.rules.Family.TheVariants as families
+use Rattle.gx_static.specs.declared.comparison.Family.{Family}
+use Rattle.gx_static.specs.declared.comparison.Family.TheVariants as families
 use Rattle.gx_static.specs.Rule.{is_atomic_in, is_of_family}
 use Rattle.gx_static.proofs.ItemLemmas.{Meets, atom_in}
 use Rattle.gx_static.proofs.LiteralLemmas.{string_is_no_number, string_is_no_boolean, boolean_is_no_number, untyped_is_no_number, untyped_is_no_boolean, from_untyped_is_no_string, from_untyped_is_no_boolean, from_untyped_is_no_number, integer_is_a_number}

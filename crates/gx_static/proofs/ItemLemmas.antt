@@ -1,5 +1,5 @@
 -- What the item types of a type say of the items of its values.
-use Rattle.std.proofs.Common.{◌≡◌, ℕ, suc, ◌≤◌, Bool, true, List, [], ◌∷◌, ◌++◌, length, Option, None, Some, refl, sym, ◌∙◌, ap, subst, inl, inr, nat_le, arith}
+use Rattle.std.proofs.Common.{◌≡◌, ℕ, suc, ◌≤◌, Bool, true, false, List, [], ◌∷◌, ◌++◌, length, Option, None, Some, refl, sym, ◌∙◌, ap, subst, inl, inr, nat_le, arith}
 use Rattle.std.specs.Option.{option_map}
 use Rattle.std.proofs.Math.Dec.{T, leb→le}
 use Rattle.std.proofs.lemmas.Bool.{and_parts}
@@ -23,7 +23,7 @@ use Rattle.gx_types.proofs.PublicLaws.{occurrence_bounds_length, items_take_each
 use Rattle.gx_types.proofs.DerivationOrder.{derivation_is_a_preorder}
 use Rattle.gx_types.proofs.DerivationTest.{derives_when_tested}
 use Rattle.gx_tree.specs.PlainTree.{PlainTree, document, element, attribute, text}
-use Rattle.gx_model.specs.Forest.{Forest, node_in}
+use Rattle.gx_model.specs.Forest.{Forest, PlainNode, node_in}
 use Rattle.gx_model.specs.Item.{Item, atom, node, Items}
 use Rattle.gx_model.specs.Belongs.{shape_of, item_shape, ItemFits, HaveShapes, Belongs}
 use Rattle.gx_static.specs.Rule.{all_items, is_atomic, is_atomic_in, is_all_in, is_at_least_one, is_at_most_one}
@@ -128,11 +128,42 @@ items_are_atoms s forest xs t e b =
     each_item s forest IsAtomShape IsAtom xs b.seen (λ x shape shown fits k. let a = atom_of_shape forest x shape k.0 shown k.1 in (a.value, a.is)) b.shaped
     (shapes_passed s is_atomic IsAtomShape t b.seen (atomic_taken s) e b.taken)
 
+-- values of node types
+
+abbrev pub is_node_item : ItemType → Bool
+is_node_item (items.Atom kind) = false
+is_node_item _ = true
+
+abbrev IsNodeShape : Shape → Type 0
+IsNodeShape (shapes.Atom kind) = ⊥
+IsNodeShape _ = Unit {0}
+
+node_taken : (s : SchemaSet) (kind : ItemType) (shape : Shape) → is_node_item kind ≡ true → ItemTakes s kind shape → IsNodeShape shape
+node_taken s (items.Atom k) shape e h = absurd (cc)
+node_taken s (items.Element name k) (shapes.Atom t) e h = h
+node_taken s (items.Attribute name k) (shapes.Atom t) e h = h
+node_taken s items.Text (shapes.Atom t) e h = h
+node_taken s (items.Document None) (shapes.Atom t) e h = h
+node_taken s (items.Document (Some named)) (shapes.Atom t) e h = h
+node_taken s kind _ e h = tt
+
+abbrev pub IsNode : Item → Type 0
+IsNode x = (place : PlainNode) × (x ≡ node place)
+
+node_of_shape : (forest : Forest) (x : Item) (shape : Shape) → item_shape forest x ≡ Some shape → IsNodeShape shape → IsNode x
+node_of_shape forest (atom a) shape e h = let same : shape ≡ shapes.Atom a.kind = cc in absurd (subst IsNodeShape same h)
+node_of_shape forest (node place) shape e h = (place, refl)
+
+pub items_are_nodes : (s : SchemaSet) (forest : Forest) (xs : Items) (t : SequenceType) → all_items is_node_item t ≡ true → Belongs s forest xs t → EachItem IsNode xs
+items_are_nodes s forest xs t e b =
+    each_item s forest IsNodeShape IsNode xs b.seen (λ x shape shown fits k. node_of_shape forest x shape shown k) b.shaped
+    (shapes_passed s is_node_item IsNodeShape t b.seen (node_taken s) e b.taken)
+
 -- values of types that are derived from a built-in type
-abbrev IsShapeIn : SchemaSet → Builtin → Shape → Type 0
+abbrev pub IsShapeIn : SchemaSet → Builtin → Shape → Type 0
 IsShapeIn s b shape = (kind : TypeName) × (shape ≡ shapes.Atom kind) × DerivesFrom s kind (names.Builtin b)
 
-derived_taken : (s : SchemaSet) (b : Builtin) (kind : ItemType) (shape : Shape) → is_atomic_in s b kind ≡ true → ItemTakes s kind shape → IsShapeIn s b shape
+pub derived_taken : (s : SchemaSet) (b : Builtin) (kind : ItemType) (shape : Shape) → is_atomic_in s b kind ≡ true → ItemTakes s kind shape → IsShapeIn s b shape
 derived_taken s b (items.Atom k) (shapes.Atom t) e h =
     (t, refl, derivation_is_a_preorder.transitive s t k (names.Builtin b) h (derives_when_tested s k (names.Builtin b) e))
 derived_taken s b (items.Atom k) _ e h = absurd h

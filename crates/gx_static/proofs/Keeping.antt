@@ -1,6 +1,5 @@
 -- The operators but arithmetic keep their types.
-use Rattle.std.proofs.Common.{◌≡◌, ℕ, Bool, true, false, List, [], ◌∷◌, ◌++◌, Option, None, Some, refl, sym, ◌∙◌, ap, subst, if◌then◌else◌}
-use Rattle.std.specs.Option.{option_map}
+use Rattle.std.proofs.Common.{◌≡◌, ℕ, Bool, true, false, List, [], ◌∷◌, ◌++◌, map, Option, None, Some, refl, sym, ◌∙◌, subst, if◌then◌else◌}
 use Rattle.gx_base.specs.declared.code.Code.{Code}
 use Rattle.gx_base.specs.declared.type_name.TypeName.TheVariants as names
 use Rattle.gx_types.specs.declared.item_type.ItemType.TheVariants as items
@@ -13,8 +12,11 @@ use Rattle.gx_types.specs.TypeRules.{sequence_of}
 use Rattle.gx_types.proofs.EqualNames.{type_name_itself}
 use Rattle.gx_types.proofs.PublicLaws.{sequence_takes_parts}
 use Rattle.gx_model.specs.Forest.{Forest, IsHonest}
-use Rattle.gx_model.specs.Item.{Item, atom, Items}
+use Rattle.gx_model.specs.Item.{atom, Items}
 use Rattle.gx_model.specs.Belongs.{HaveShapes, Belongs}
+use Rattle.gx_steptype.specs.DataType.{has_data, type_of_data}
+use Rattle.gx_steptype.specs.StepLaws.{value_shape}
+use Rattle.gx_steptype.proofs.DataTypes.{data_keeps_its_type}
 use Rattle.gx_core.specs.declared.expression.BinaryOp.{BinaryOp}
 use Rattle.gx_core.specs.declared.expression.BinaryClass.{BinaryClass}
 use Rattle.gx_core.specs.BinaryOperators.{class_of}
@@ -23,14 +25,14 @@ use Rattle.gx_core.specs.declared.operator.Operator.TheVariants as operators
 use Rattle.gx_core.specs.Expression.{Parts, no_parts, a_part, each_of, annotation_of}
 use Rattle.gx_core.specs.Bindings.{look_up, Types, types_bound}
 use Rattle.gx_core.specs.Outcome.{Outcome, gives, after, given}
-use Rattle.gx_core.specs.Meaning.{Context, Bindings, Denotation, atomized, binary_meaning, acts, all_of, denoted, meaning, meanings}
+use Rattle.gx_core.specs.Meaning.{Context, Bindings, Denotation, binary_meaning, acts, all_of, denoted, meaning, meanings}
 use Rattle.gx_core.specs.Soundness.{Setting, typed_setting, context_of, IsOfType, AreOfTypes, Keeps, Situation}
 use Rattle.gx_core.specs.Laws.{AllKeep}
 use Rattle.gx_core.proofs.KeptFacts.{fact_after, fact_at_once, binding_fits, bindings_fit_still, operands_keep}
-use Rattle.gx_static.specs.Rule.{is_as_written, has_type, has_none, type_if, shown_type, all_items, is_atomic, binary_rule, rule, ruling, variable_ruling}
+use Rattle.gx_static.specs.Rule.{is_as_written, has_type, has_none, type_if, shown_type, data_rule, binary_rule, rule, ruling, variable_ruling}
 use Rattle.gx_static.specs.Laws.{ActsKeepType, PartsKeepTypes, OperatorKeepsType, LiteralKeepsType, VariableKeepsType, EmptyKeepsType, SequenceKeepsType, LetKeepsType, DataKeepsType}
-use Rattle.gx_static.proofs.ItemLemmas.{EachItem, IsAtom, items_are_atoms}
 use Rattle.gx_static.proofs.LiteralLemmas.{literal_fits}
+use Rattle.gx_static.proofs.HonestValues.{shapes_are_untyped, are_atomized}
 
 -- the type that a rule gives
 pub ruled : (t u : SequenceType) → has_type t ≡ has_type u → t ≡ u
@@ -86,7 +88,7 @@ empty_keeps s [] t forest [] e honest b = value_keeps s nothing t forest [] (rul
 empty_keeps s [] t forest (x ∷ xs) e honest b = absurd b
 empty_keeps s (p ∷ ps) t forest xs e honest b = absurd (cc)
 
-have_joined : (s : SchemaSet) (forest : Forest) (xs ys : Items) (ss us : List Shape) → HaveShapes s forest xs ss → HaveShapes s forest ys us → HaveShapes s forest (xs ++ ys) (ss ++ us)
+pub have_joined : (s : SchemaSet) (forest : Forest) (xs ys : Items) (ss us : List Shape) → HaveShapes s forest xs ss → HaveShapes s forest ys us → HaveShapes s forest (xs ++ ys) (ss ++ us)
 have_joined s forest [] ys [] us h k = k
 have_joined s forest [] ys (shape ∷ ss) us h k = absurd h
 have_joined s forest (x ∷ xs) ys [] us h k = absurd h
@@ -109,16 +111,18 @@ sequence_keeps s [] t forest values e honest h = absurd (cc)
 sequence_keeps s (a ∷ []) t forest values e honest h = absurd (cc)
 sequence_keeps s (a ∷ b ∷ c ∷ ps) t forest values e honest h = absurd (cc)
 
-atoms_are_atomized : (forest : Forest) (xs : Items) → EachItem IsAtom xs → atomized forest xs ≡ Some xs
-atoms_are_atomized forest [] h = refl
-atoms_are_atomized forest (x ∷ xs) h =
-    subst (λ (y : Item). atomized forest (y ∷ xs) ≡ Some (y ∷ xs)) (sym h.0.1) (ap (option_map (λ ys. atom h.0.0 ∷ ys)) (atoms_are_atomized forest xs h.1))
-
 pub data_keeps : DataKeepsType
+unfolding data_rule
 data_keeps s (a ∷ []) t forest (xs ∷ []) e honest h =
-    let r = tested (all_items is_atomic a) a t _ _ e in
-    subst (λ (found : Option Items). Keeps (typed_setting s) forest t (given found (λ ys. gives ys forest))) (sym (atoms_are_atomized forest xs (items_are_atoms s forest xs a r.0 h.0)))
-    (value_keeps s a t forest xs r.1 honest h.0)
+    let r = tested (has_data s a) (type_of_data s a) t _ _ e in
+    let b = h.0 in
+    let v = are_atomized s forest xs b.seen honest b.shaped in
+    subst (λ (found : Option Items). Keeps (typed_setting s) forest t (given found (λ ys. gives ys forest))) (sym v.atomized_so)
+    (value_keeps s (type_of_data s a) t forest v.values r.1 honest (record {
+      seen = map value_shape b.seen;
+      shaped = v.shaped;
+      taken = data_keeps_its_type s a b.seen (shapes_are_untyped s forest xs b.seen honest b.shaped) r.0 b.taken;
+    }))
 data_keeps s (a ∷ []) t forest [] e honest h = absurd h
 data_keeps s (a ∷ []) t forest (xs ∷ ys ∷ values) e honest h = absurd h.1
 data_keeps s [] t forest values e honest h = absurd (cc)

@@ -1,6 +1,10 @@
 pub mod LiteralLemmas
 pub mod ItemLemmas
+pub mod HonestValues
 pub mod Keeping
+pub mod Loops
+pub mod Paths
+pub mod Orders
 pub mod Singles
 pub mod Arithmetic
 pub mod Families
@@ -9,6 +13,7 @@ pub mod Ranges
 pub mod Conditionals
 pub mod Casts
 pub mod CallLemmas
+pub mod BooleanTypes
 pub mod Calls
 pub mod SoundTyping
 pub mod Failing

@@ -1,5 +1,5 @@
 -- The laws of whole queries, from those of expressions.
-use Rattle.std.proofs.Common.{◌≡◌, ◌≢◌, ℕ, Bool, true, false, List, [], ◌∷◌, ◌++◌, map, Option, None, Some, inl, inr, refl, sym, ◌∙◌, ap, subst, if◌then◌else◌, Result, Ok, Err, rules}
+use Rattle.std.proofs.Common.{◌≡◌, ℕ, Bool, true, false, List, [], ◌∷◌, ◌++◌, map, Option, None, Some, inl, inr, refl, sym, ◌∙◌, ap, subst, if◌then◌else◌, Result, Ok, Err, rules}
 use Rattle.std.specs.List.{All}
 use Rattle.std.specs.Prelude.{IfOk}
 use Rattle.gx_static.specs.declared.error.InferError.{InferError}
@@ -9,8 +9,11 @@ use Rattle.std.proofs.lemmas.List.Elements.{All-tail}
 use Rattle.gx_base.specs.declared.name.Name.{Name}
 use Rattle.gx_base.specs.declared.place.Place.{Place}
 use Rattle.gx_base.specs.declared.code.Code.{Code}
-use Rattle.gx_base.specs.declared.code.Code.TheVariants.{XPTY0004, XPST0008}
+use Rattle.gx_base.specs.declared.code.Code.TheVariants.{XPTY0004}
 use Rattle.gx_types.specs.SchemaSet.{SchemaSet}
+use Rattle.gx_types.specs.SchemaInvariant.{IsSchemaSet}
+use Rattle.gx_types.specs.Derivation.{bases_of}
+use Rattle.gx_types.specs.Grounded.{Grounded}
 use Rattle.gx_types.specs.SequenceType.{SequenceType}
 use Rattle.gx_core.specs.declared.expression.Binder.{Binder}
 use Rattle.gx_core.specs.declared.expression.Core.{Core}
@@ -22,7 +25,7 @@ use Rattle.gx_core.specs.declared.typed.TypedDeclaration.TheVariants as globals
 use Rattle.gx_core.specs.Bindings.{Types}
 use Rattle.gx_core.specs.Expression.{CoreExpression, annotation_of, plain}
 use Rattle.gx_core.specs.Invariant.{IsScoped, scope_behind, AreValuesScoped, HasValueOrType, HasQueryVariablesInOrder}
-use Rattle.gx_core.specs.QueryMeaning.{plain_declaration, plain_query, global_types, types_declared, IsSoundValue, ValuesAreSound}
+use Rattle.gx_core.specs.QueryMeaning.{plain_declaration, global_types, types_declared, IsSoundValue, ValuesAreSound}
 use Rattle.gx_core.specs.Soundness.{TypedExpression, typed_setting}
 use Rattle.gx_static.specs.Rule.{is_as_written}
 use Rattle.gx_static.specs.Judgement.{Judged, typed, rejected, with_typed, judged}
@@ -51,27 +54,27 @@ declared_holds s name binder value types t h =
       | false ↦ tt
     ]
 
-declaration_holds : (s : SchemaSet) (d : CoreDeclaration) (types : Types) → IfTyped (IsDeclaredSoundly s d types) (declaration_judged s d types)
-declaration_holds s (Global name binder (Some value)) types =
-    made_holds (judged s value types) (declared_as s name binder) (IsTypedSoundly s value types) (IsDeclaredSoundly s (Global name binder (Some value)) types) (judged_holds s value types)
+declaration_holds : (s : SchemaSet) → Grounded (bases_of s) → (d : CoreDeclaration) (types : Types) → IfTyped (IsDeclaredSoundly s d types) (declaration_judged s d types)
+declaration_holds s g (Global name binder (Some value)) types =
+    made_holds (judged s value types) (declared_as s name binder) (IsTypedSoundly s value types) (IsDeclaredSoundly s (Global name binder (Some value)) types) (judged_holds s g value types)
     (λ t h. declared_holds s name binder value types t h)
-declaration_holds s (Global name binder None) types = record { same = refl; sound = tt }
+declaration_holds s g (Global name binder None) types = record { same = refl; sound = tt }
 
-declarations_hold : (s : SchemaSet) (ds : List CoreDeclaration) (types : Types) → IfTyped (AreDeclaredSoundly s ds types) (declarations_judged s ds types)
-declarations_hold s [] types = record { same = refl; sound = tt }
-declarations_hold s (d ∷ ds) types =
+declarations_hold : (s : SchemaSet) → Grounded (bases_of s) → (ds : List CoreDeclaration) (types : Types) → IfTyped (AreDeclaredSoundly s ds types) (declarations_judged s ds types)
+declarations_hold s g [] types = record { same = refl; sound = tt }
+declarations_hold s g (d ∷ ds) types =
     made_holds (declaration_judged s d types) (λ t. with_typed (declarations_judged s ds (global_types t ++ types)) (λ ts. typed (t ∷ ts)))
-    (IsDeclaredSoundly s d types) (AreDeclaredSoundly s (d ∷ ds) types) (declaration_holds s d types)
+    (IsDeclaredSoundly s d types) (AreDeclaredSoundly s (d ∷ ds) types) (declaration_holds s g d types)
     (λ t h. made_holds (declarations_judged s ds (global_types t ++ types)) (λ ts. typed (t ∷ ts)) (AreDeclaredSoundly s ds (global_types t ++ types)) (AreDeclaredSoundly s (d ∷ ds) types)
-    (declarations_hold s ds (global_types t ++ types))
+    (declarations_hold s g ds (global_types t ++ types))
     (λ ts k. record { same = ap (λ (e : CoreDeclaration). e ∷ map plain_declaration ts) h.same ∙ ap (λ (es : List CoreDeclaration). d ∷ es) k.same; sound = (h.sound, k.sound) }))
 
-core_holds : (s : SchemaSet) (core : Core) → IfTyped (IsQueryTypedSoundly s core) (core_judged s core)
-core_holds s core =
+core_holds : (s : SchemaSet) → Grounded (bases_of s) → (core : Core) → IfTyped (IsQueryTypedSoundly s core) (core_judged s core)
+core_holds s g core =
     made_holds (declarations_judged s core.declarations []) (λ ds. with_typed (judged s core.body (types_declared ds [])) (λ t. typed (record { declarations = ds; body = t })))
-    (AreDeclaredSoundly s core.declarations []) (IsQueryTypedSoundly s core) (declarations_hold s core.declarations [])
+    (AreDeclaredSoundly s core.declarations []) (IsQueryTypedSoundly s core) (declarations_hold s g core.declarations [])
     (λ ds h. made_holds (judged s core.body (types_declared ds [])) (λ t. typed (record { declarations = ds; body = t })) (IsTypedSoundly s core.body (types_declared ds [])) (IsQueryTypedSoundly s core)
-    (judged_holds s core.body (types_declared ds []))
+    (judged_holds s g core.body (types_declared ds []))
     (λ t k. record {
       same = ap (λ (es : List CoreDeclaration). let c : Core = record { declarations = es; body = plain t } in c) h.same ∙ ap (λ (e : CoreExpression). let c : Core = record { declarations = core.declarations; body = e } in c) k.same;
       sound = (h.sound, k.sound);
@@ -86,11 +89,11 @@ whole_rejected (typed q) place code h = cc
 whole_rejected (rejected own other) place code h = cc
 
 pub query_sound : QueryTypingIsSound
-query_sound s core query j = subst (IfTyped (IsQueryTypedSoundly s core)) (whole_typed (core_judged s core) query j) (core_holds s core)
+query_sound s core query i j = subst (IfTyped (IsQueryTypedSoundly s core)) (whole_typed (core_judged s core) query j) (core_holds s i.grounded core)
 
-pub sound_if_typed : (s : SchemaSet) (core : Core) (r : Result TypedCore InferError) → IfOk r (λ t. query_judged s core ≡ query_typed t) → IfOk r (λ t. IsSoundQuery s t)
-sound_if_typed s core (Ok t) h = (query_sound s core t h).sound
-sound_if_typed s core (Err e) h = tt
+pub sound_if_typed : (s : SchemaSet) (core : Core) → IsSchemaSet s → (r : Result TypedCore InferError) → IfOk r (λ t. query_judged s core ≡ query_typed t) → IfOk r (λ t. IsSoundQuery s t)
+sound_if_typed s core i (Ok t) h = (query_sound s core t i h).sound
+sound_if_typed s core i (Err e) h = tt
 
 -- ---- what is rejected fails
 

@@ -1,11 +1,21 @@
 -- Where each variable stands in the scope of its binder, no variable is rejected.
-use Rattle.std.proofs.Common.{◌≡◌, ◌≢◌, ℕ, ◌+◌, Bool, true, false, ◌||◌, List, [], ◌∷◌, ◌++◌, map, Option, Some, None, refl, sym, ◌∙◌, ap, subst, nat_eq, if◌then◌else◌}
+use Rattle.std.proofs.Common.{◌≡◌, ◌≢◌, ℕ, ◌+◌, Bool, true, false, ◌||◌, ◌&&◌, List, [], ◌∷◌, ◌++◌, map, Option, Some, None, refl, sym, ◌∙◌, ap, subst, nat_eq, if◌then◌else◌}
+use Rattle.std.specs.Prelude.{not}
 use Rattle.gx_base.specs.declared.place.Place.{Place}
 use Rattle.gx_base.specs.declared.code.Code.{Code}
-use Rattle.gx_base.specs.declared.code.Code.TheVariants.{XPST0008, XPTY0004, FOTY0012}
+use Rattle.gx_base.specs.declared.code.Code.TheVariants.{XPST0003, XPST0005, XPST0008, XPTY0004, XPTY0018, XPTY0019, XPTY0020, XPDY0002, FOTY0012}
 use Rattle.gx_base.specs.declared.type_name.Builtin.{Builtin}
 use Rattle.gx_types.specs.SchemaSet.{SchemaSet}
-use Rattle.gx_types.specs.SequenceType.{SequenceType}
+use Rattle.gx_types.specs.declared.step.Axis.{Axis}
+use Rattle.gx_types.specs.declared.step.Test.{Test}
+use Rattle.gx_types.specs.SequenceType.{SequenceType, never, nothing}
+use Rattle.gx_types.specs.SameType.{same_type}
+use Rattle.gx_types.specs.Occurrence.{occurrence_of}
+use Rattle.gx_types.specs.Prime.{prime_of}
+use Rattle.gx_types.specs.TypeRules.{times_of}
+use Rattle.gx_include.specs.Decision.{is_included}
+use Rattle.gx_steptype.specs.StepType.{is_near, node_type, step_type}
+use Rattle.gx_steptype.specs.DataType.{has_data, type_of_data}
 use Rattle.gx_funcs.specs.declared.function.Function.{Function}
 use Rattle.gx_funcs.specs.declared.function.Function.TheVariants as functions
 use Rattle.gx_funcs.specs.declared.function.Parameter.{Parameter}
@@ -18,7 +28,7 @@ use Rattle.gx_core.specs.declared.operator.Operator.TheVariants as operators
 use Rattle.gx_core.specs.Expression.{CoreExpression, At, Parts, no_parts, a_part, each_of, annotation_of}
 use Rattle.gx_core.specs.Bindings.{look_up, Types, types_bound, numbers_bound_by}
 use Rattle.gx_core.specs.Invariant.{is_among, IsInScope, IsScoped, ArePartsScoped}
-use Rattle.gx_static.specs.Rule.{has_type, has_none, binary_rule, takes_argument, arguments_rule, answer_rule, call_rule, ruling, variable_ruling}
+use Rattle.gx_static.specs.Rule.{has_type, has_none, all_items, is_atomic, nodes_type, step_rule, reaching, step_ruling, order_rule, data_rule, binary_rule, takes_argument, arguments_rule, answer_rule, call_rule, ruling, variable_ruling}
 use Rattle.gx_static.specs.Judgement.{typed, with_typed, concluded, judged, parts_judged}
 use Rattle.gx_static.specs.Laws.{ScopedVariablesHaveTypes}
 use Rattle.gx_static.proofs.Failing.{IfRejected, made_fails, own_fails}
@@ -89,6 +99,43 @@ call_code : (s : SchemaSet) (function : Function) (ts : List SequenceType) (code
 unfolding call_rule
 call_code s function ts code part e = arguments_code s (parameters_of function) ts 0 (answer_type_of function) code part (parameters_code function) e
 
+-- a step from a variable that has a type
+another_code : (given code : Code) (there part : Option ℕ) → given ≢ XPST0008 → has_none given there ≡ has_none code part → code ≢ XPST0008
+another_code given code there part n e = let same : given ≡ code = cc in subst (λ (c : Code). c ≢ XPST0008) same n
+
+reached_code : (given context : SequenceType) (code : Code) (part : Option ℕ) → reaching context (has_type given) ≡ has_none code part → code ≢ XPST0008
+reached_code given context code part e =
+    elim (same_type nothing given && not (same_type never context)) as (λ (b : Bool). (if b then has_none XPST0005 None else has_type given) ≡ has_none code part → code ≢ XPST0008) [
+      | true ↦ λ f. another_code XPST0005 code None part (λ x. cc) f
+      | false ↦ λ f. absurd (cc)
+    ] e
+
+context_code : (s : SchemaSet) (axis : Axis) (asks : Test) (context : SequenceType) (code : Code) (part : Option ℕ) → reaching context (step_rule s axis asks context) ≡ has_none code part → code ≢ XPST0008
+context_code s axis asks context code part e =
+    elim (is_near axis) as (λ (b : Bool). reaching context (if b then (if is_included s context node_type then has_type (step_type s axis asks context) else has_none XPTY0020 None) else has_none XPST0003 None) ≡ has_none code part → code ≢ XPST0008) [
+      | true ↦ λ f. elim (is_included s context node_type) as (λ (b : Bool). reaching context (if b then has_type (step_type s axis asks context) else has_none XPTY0020 None) ≡ has_none code part → code ≢ XPST0008) [
+        | true ↦ λ g. reached_code (step_type s axis asks context) context code part g
+        | false ↦ λ g. another_code XPTY0020 code None part (λ x. cc) g
+      ] f
+      | false ↦ λ f. another_code XPST0003 code None part (λ x. cc) f
+    ] e
+
+step_code : (s : SchemaSet) (axis : Axis) (asks : Test) (number : ℕ) (types : Types) (found : Option SequenceType) (code : Code) (part : Option ℕ) → look_up types number ≡ found → is_among (in_scope types) number ≡ true
+    → step_ruling s axis asks number found ≡ has_none code part → code ≢ XPST0008
+step_code s axis asks number types None code part e h r = let clash = not_found types number e in absurd (cc)
+step_code s axis asks number types (Some t) code part e h r = context_code s axis asks t code part r
+
+order_code : (s : SchemaSet) (t : SequenceType) (code : Code) (part : Option ℕ) → order_rule s t ≡ has_none code part → code ≢ XPST0008
+order_code s t code part e =
+    elim (is_included s t nodes_type) as (λ (b : Bool). (if b then has_type (times_of (prime_of t) (occurrence_of t)) else (if all_items is_atomic t then has_type t else has_none XPTY0018 None)) ≡ has_none code part → code ≢ XPST0008) [
+      | true ↦ λ f. absurd (cc)
+      | false ↦ λ f. tested_code (all_items is_atomic t) t XPTY0018 code part (λ x. cc) f
+    ] e
+
+data_code : (s : SchemaSet) (t : SequenceType) (code : Code) (part : Option ℕ) → data_rule s t ≡ has_none code part → code ≢ XPST0008
+unfolding data_rule
+data_code s t code part e = tested_code (has_data s t) (type_of_data s t) FOTY0012 code part (λ x. cc) e
+
 -- no rule but that of a variable has the code
 ruling_code : (s : SchemaSet) (operator : Operator) (ts : List SequenceType) (types : Types) (code : Code) (part : Option ℕ) → IsInScope (in_scope types) operator → ruling s operator ts types ≡ has_none code part → code ≢ XPST0008
 ruling_code s (operators.Var number) [] types code part h e = variable_code s number types (look_up types number) code part refl h e
@@ -99,9 +146,19 @@ ruling_code s operators.Empty [] types code part h e = absurd (cc)
 ruling_code s operators.Empty (t ∷ ts) types code part h e = other_code code part e
 ruling_code s operators.Seq (t ∷ u ∷ []) types code part h e = absurd (cc)
 ruling_code s operators.Seq _ types code part h e = other_code code part e
+ruling_code s (operators.For binder) (t ∷ u ∷ []) types code part h e = tested_code _ _ XPTY0004 code part (λ x. cc) e
+ruling_code s (operators.For binder) _ types code part h e = other_code code part e
+ruling_code s (operators.Step axis asks number) [] types code part h e = step_code s axis asks number types (look_up types number) code part refl h e
+ruling_code s (operators.Step axis asks number) (t ∷ ts) types code part h e = other_code code part e
+ruling_code s operators.Nodes (t ∷ []) types code part h e = tested_code _ _ XPTY0019 code part (λ x. cc) e
+ruling_code s operators.Nodes _ types code part h e = other_code code part e
+ruling_code s operators.Order (t ∷ []) types code part h e = order_code s t code part e
+ruling_code s operators.Order _ types code part h e = other_code code part e
+ruling_code s operators.NoContext [] types code part h e = let same : XPDY0002 ≡ code = cc in subst (λ (c : Code). c ≢ XPST0008) same (λ x. cc)
+ruling_code s operators.NoContext (t ∷ ts) types code part h e = other_code code part e
 ruling_code s (operators.Let binder) (t ∷ u ∷ []) types code part h e = tested_code _ _ XPTY0004 code part (λ x. cc) e
 ruling_code s (operators.Let binder) _ types code part h e = other_code code part e
-ruling_code s operators.DataOf (t ∷ []) types code part h e = tested_code _ _ FOTY0012 code part (λ x. cc) e
+ruling_code s operators.DataOf (t ∷ []) types code part h e = data_code s t code part e
 ruling_code s operators.DataOf _ types code part h e = other_code code part e
 ruling_code s operators.If (t ∷ u ∷ v ∷ []) types code part h e = tested_code _ _ XPTY0004 code part (λ x. cc) e
 ruling_code s operators.If _ types code part h e = other_code code part e
@@ -120,6 +177,9 @@ abbrev places_of : List SequenceType → List (Unit {0})
 places_of ts = map (λ t. tt) ts
 
 numbers_agree : (operator : Operator) (before : List SequenceType) → in_scope (types_bound operator before) ≡ numbers_bound_by operator (places_of before)
+numbers_agree (operators.For binder) [] = refl
+numbers_agree (operators.For binder) (t ∷ []) = refl
+numbers_agree (operators.For binder) (t ∷ u ∷ ts) = refl
 numbers_agree (operators.Let binder) [] = refl
 numbers_agree (operators.Let binder) (t ∷ []) = refl
 numbers_agree (operators.Let binder) (t ∷ u ∷ ts) = refl

@@ -5,6 +5,11 @@ use Rattle.gx_base.specs.declared.code.Code.{Code}
 use Rattle.gx_base.specs.declared.code.Code.TheVariants.{XPST0008}
 use Rattle.gx_facets.specs.declared.Atomic.{Atomic}
 use Rattle.gx_types.specs.SchemaSet.{SchemaSet}
+use Rattle.gx_types.specs.declared.step.Axis.{Axis}
+use Rattle.gx_types.specs.declared.step.Test.{Test}
+use Rattle.gx_types.specs.Derivation.{bases_of}
+use Rattle.gx_types.specs.Grounded.{Grounded}
+use Rattle.gx_types.specs.SchemaInvariant.{IsSchemaSet}
 use Rattle.gx_types.specs.SequenceType.{SequenceType}
 use Rattle.gx_model.specs.Forest.{Forest, IsHonest}
 use Rattle.gx_model.specs.Item.{Items}
@@ -64,6 +69,21 @@ SequenceKeepsType = (schemas : SchemaSet) → ActsKeepType schemas operators.Seq
 abbrev pub LetKeepsType : Type 0
 LetKeepsType = (schemas : SchemaSet) (binder : Binder) → OperatorKeepsType schemas (operators.Let binder)
 
+abbrev pub ForKeepsType : Type 0
+ForKeepsType = (schemas : SchemaSet) (binder : Binder) → OperatorKeepsType schemas (operators.For binder)
+
+abbrev pub StepKeepsType : Type 0
+StepKeepsType = (schemas : SchemaSet) (axis : Axis) (asks : Test) (number : ℕ) → Grounded (bases_of schemas) → OperatorKeepsType schemas (operators.Step axis asks number)
+
+abbrev pub NodesKeepType : Type 0
+NodesKeepType = (schemas : SchemaSet) → Grounded (bases_of schemas) → ActsKeepType schemas operators.Nodes
+
+abbrev pub OrderKeepsType : Type 0
+OrderKeepsType = (schemas : SchemaSet) → Grounded (bases_of schemas) → ActsKeepType schemas operators.Order
+
+abbrev pub NoContextKeepsType : Type 0
+NoContextKeepsType = (schemas : SchemaSet) → ActsKeepType schemas operators.NoContext
+
 abbrev pub DataKeepsType : Type 0
 DataKeepsType = (schemas : SchemaSet) → ActsKeepType schemas operators.DataOf
 
@@ -96,7 +116,7 @@ abbrev pub CastableKeepsType : Type 0
 CastableKeepsType = (schemas : SchemaSet) (kind : TypeName) (allows_empty : Bool) → ActsKeepType schemas (operators.Castable kind allows_empty)
 
 abbrev pub CallKeepsType : Type 0
-CallKeepsType = (schemas : SchemaSet) (function : Function) → ActsKeepType schemas (operators.Call function)
+CallKeepsType = (schemas : SchemaSet) (function : Function) → Grounded (bases_of schemas) → ActsKeepType schemas (operators.Call function)
 
 -- what is judged to have a type is the same tree with its types, and it is sound
 pub record IsTypedSoundly (schemas : SchemaSet) (e : CoreExpression) (types : Types) (t : TypedExpression) : Type 0 where
@@ -105,7 +125,7 @@ pub record IsTypedSoundly (schemas : SchemaSet) (e : CoreExpression) (types : Ty
 
 abbrev pub TypingIsSound : Type 0
 TypingIsSound =
-    (schemas : SchemaSet) (e : CoreExpression) (types : Types) (t : TypedExpression) → judged schemas e types ≡ typed t → IsTypedSoundly schemas e types t
+    (schemas : SchemaSet) (e : CoreExpression) (types : Types) (t : TypedExpression) → IsSchemaSet schemas → judged schemas e types ≡ typed t → IsTypedSoundly schemas e types t
 
 -- where a Core is rejected, the place and the code are those of the first expression in it that fails
 abbrev pub RejectionNamesFailure : Type 0

@@ -5,6 +5,7 @@ use Rattle.gx_base.specs.declared.place.Place.{Place}
 use Rattle.gx_base.specs.declared.code.Code.{Code}
 use Rattle.gx_base.specs.declared.code.Code.TheVariants.{XPST0008, XPTY0004}
 use Rattle.gx_types.specs.SchemaSet.{SchemaSet}
+use Rattle.gx_types.specs.SchemaInvariant.{IsSchemaSet}
 use Rattle.gx_core.specs.declared.expression.Binder.{Binder}
 use Rattle.gx_core.specs.declared.expression.Core.{Core}
 use Rattle.gx_core.specs.declared.expression.CoreDeclaration.{CoreDeclaration}
@@ -100,7 +101,7 @@ pub record IsQueryTypedSoundly (schemas : SchemaSet) (core : Core) (query : Type
   pub sound : IsSoundQuery schemas query
 
 abbrev pub QueryTypingIsSound : Type 0
-QueryTypingIsSound = (schemas : SchemaSet) (core : Core) (query : TypedCore) → query_judged schemas core ≡ query_typed query → IsQueryTypedSoundly schemas core query
+QueryTypingIsSound = (schemas : SchemaSet) (core : Core) (query : TypedCore) → IsSchemaSet schemas → query_judged schemas core ≡ query_typed query → IsQueryTypedSoundly schemas core query
 
 -- where a query is rejected, the place and the code are those of the first expression in it that fails
 abbrev pub QueryRejectionNamesFailure : Type 0

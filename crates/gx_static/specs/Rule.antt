@@ -1,7 +1,7 @@
 -- The static rules: the type that an operator has, from the types of its parts (XQuery 1.0 and XPath 2.0 Formal Semantics, section 4).
-use Rattle.std.specs.Prelude.{ℕ, ◌+◌, min, nat_le, Bool, true, false, ◌&&◌, ◌||◌, List, [], ◌∷◌, Option, None, Some, if◌then◌else◌}
+use Rattle.std.specs.Prelude.{ℕ, ◌+◌, min, nat_le, Bool, true, false, ◌&&◌, ◌||◌, not, List, [], ◌∷◌, Option, None, Some, if◌then◌else◌}
 use Rattle.gx_base.specs.declared.code.Code.{Code}
-use Rattle.gx_base.specs.declared.code.Code.TheVariants.{XPTY0004, XPST0008, FOTY0012}
+use Rattle.gx_base.specs.declared.code.Code.TheVariants.{XPST0003, XPTY0004, XPST0005, XPST0008, XPTY0018, XPTY0019, XPTY0020, XPDY0002, FOTY0012}
 use Rattle.gx_base.specs.declared.type_name.Builtin.{Builtin}
 use Rattle.gx_base.specs.declared.type_name.Builtin.TheVariants.{Integer, Decimal, UntypedAtomic, Boolean}
 use Rattle.gx_base.specs.declared.type_name.Builtin.TheVariants as builtins
@@ -19,7 +19,13 @@ use Rattle.gx_types.specs.SameItemType.{same_type_name}
 use Rattle.gx_types.specs.SameType.{same_type}
 use Rattle.gx_types.specs.Occurs.{Occurs}
 use Rattle.gx_types.specs.Occurrence.{occurrence_of, occurs}
+use Rattle.gx_types.specs.Choice.{choice_among}
 use Rattle.gx_types.specs.TypeRules.{sequence_of, choice_of, times_of}
+use Rattle.gx_types.specs.Prime.{prime_of}
+use Rattle.gx_types.specs.declared.step.Axis.{Axis}
+use Rattle.gx_types.specs.declared.step.Test.{Test}
+use Rattle.gx_steptype.specs.StepType.{is_near, node_type, any_item, step_type}
+use Rattle.gx_steptype.specs.DataType.{has_data, type_of_data}
 use Rattle.gx_funcs.specs.declared.function.Function.{Function}
 use Rattle.gx_funcs.specs.declared.function.Parameter.{Parameter}
 use Rattle.gx_funcs.specs.declared.function.ParameterType.{ParameterType}
@@ -35,8 +41,8 @@ use Rattle.gx_core.specs.declared.operator.Operator.TheVariants as operators
 use Rattle.gx_core.specs.Arithmetic.{type_of_number}
 use Rattle.gx_core.specs.BinaryOperators.{class_of}
 use Rattle.gx_include.specs.Decision.{is_included}
-use Rattle.gx_static.specs.declared.rules.Family.{Family}
-use Rattle.gx_static.specs.declared.rules.Family.TheVariants as families
+use Rattle.gx_static.specs.declared.comparison.Family.{Family}
+use Rattle.gx_static.specs.declared.comparison.Family.TheVariants as families
 use Rattle.gx_core.specs.Bindings.{look_up, Types}
 
 -- a type, or none: then a code, which stands at a part, counted from 0, or at the operator itself
@@ -202,9 +208,31 @@ abbrev pub is_atomic : ItemType → Bool
 is_atomic (items.Atom kind) = true
 is_atomic _ = false
 
--- atomic values are their own typed values
-abbrev pub data_rule : SequenceType → Ruling
-data_rule operand = if all_items is_atomic operand then has_type operand else has_none FOTY0012 None
+unfoldable pub data_rule : SchemaSet → SequenceType → Ruling
+data_rule schemas operand = if has_data schemas operand then has_type (type_of_data schemas operand) else has_none FOTY0012 None
+
+-- ---- paths
+
+-- the variable of `for` has an item of its operand
+abbrev pub for_rule : SchemaSet → Binder → (source body : SequenceType) → Ruling
+for_rule schemas binder source body = type_if (is_as_written schemas binder.kind (prime_of source)) (times_of body (occurrence_of source))
+
+-- a step from one node; steps to the four far axes have no types as yet, and are refused as if they were not in the language
+abbrev pub step_rule : SchemaSet → Axis → Test → (context : SequenceType) → Ruling
+step_rule schemas axis asks context =
+    if is_near axis then (if is_included schemas context node_type then has_type (step_type schemas axis asks context) else has_none XPTY0020 None) else has_none XPST0003 None
+
+-- nodes, as many as there are
+abbrev pub nodes_type : SequenceType
+nodes_type = star node_type
+
+abbrev pub nodes_rule : SchemaSet → SequenceType → Ruling
+nodes_rule schemas operand = if is_included schemas operand nodes_type then has_type operand else has_none XPTY0019 None
+
+-- nodes come in any order, each once; atomic values stay as they are
+abbrev pub order_rule : SchemaSet → SequenceType → Ruling
+order_rule schemas operand =
+    if is_included schemas operand nodes_type then has_type (times_of (prime_of operand) (occurrence_of operand)) else (if all_items is_atomic operand then has_type operand else has_none XPTY0018 None)
 
 -- ---- casts
 
@@ -218,7 +246,12 @@ castable_rule operand = type_if (is_at_most_one operand && all_items is_atomic o
 
 -- ---- calls of built-in functions
 
--- an item type whose items have an effective boolean value
+-- the boolean types: values of such a type have an effective boolean value (XQuery 1.0, section 2.4.3)
+unfoldable pub boolean_types : SequenceType
+boolean_types =
+    choice_among (nothing ∷ both node_type (star any_item) ∷ atomic Boolean ∷ atomic builtins.Str ∷ atomic UntypedAtomic ∷ atomic Decimal ∷ [])
+
+-- an item type of atomic values that have one
 abbrev pub has_effective_boolean : SchemaSet → ItemType → Bool
 has_effective_boolean schemas kind =
     is_of_family schemas families.Truth kind || is_of_family schemas families.Text kind || is_of_family schemas families.Number kind
@@ -227,7 +260,7 @@ has_effective_boolean schemas kind =
 abbrev pub takes_argument : SchemaSet → ParameterType → SequenceType → Bool
 takes_argument schemas parameters.Items argument = true
 takes_argument schemas parameters.OptionalItem argument = is_at_most_one argument
-takes_argument schemas parameters.TruthValue argument = is_at_most_one argument && all_items (has_effective_boolean schemas) argument
+takes_argument schemas parameters.TruthValue argument = is_included schemas argument boolean_types
 
 -- each argument, numbered from this number on, is of the type of its parameter; the first of another type has the code of its parameter
 abbrev pub arguments_rule : SchemaSet → List Parameter → List SequenceType → (number : ℕ) → Ruling → Ruling
@@ -250,23 +283,33 @@ arity (operators.Lit value) = 0
 arity (operators.Var number) = 1
 arity operators.Empty = 0
 arity operators.Seq = 2
+arity (operators.For binder) = 2
 arity (operators.Let binder) = 2
 arity operators.If = 3
 arity (operators.Cast kind allows_empty) = 1
 arity (operators.Castable kind allows_empty) = 1
+arity (operators.Step axis asks number) = 1
+arity operators.Nodes = 1
+arity operators.Order = 1
 arity operators.DataOf = 1
+arity operators.NoContext = 0
 arity (operators.Call function) = arity_of function
 arity operators.Neg = 1
 arity (operators.Binary operator) = 2
 
--- each operator, from the types of its parts; the one part of a variable is what it is bound to
+-- each operator, from the types of its parts; the one part of a variable and of a step is what the variable is bound to
 abbrev pub rule : SchemaSet → Operator → List SequenceType → Ruling
 rule schemas (operators.Lit value) [] = literal_rule value
 rule schemas (operators.Var number) (bound ∷ []) = has_type bound
 rule schemas operators.Empty [] = has_type nothing
 rule schemas operators.Seq (first ∷ second ∷ []) = has_type (sequence_of first second)
+rule schemas (operators.For binder) (source ∷ body ∷ []) = for_rule schemas binder source body
+rule schemas (operators.Step axis asks number) (context ∷ []) = step_rule schemas axis asks context
+rule schemas operators.Nodes (operand ∷ []) = nodes_rule schemas operand
+rule schemas operators.Order (operand ∷ []) = order_rule schemas operand
+rule schemas operators.NoContext [] = has_none XPDY0002 None
 rule schemas (operators.Let binder) (value ∷ body ∷ []) = let_rule schemas binder value body
-rule schemas operators.DataOf (operand ∷ []) = data_rule operand
+rule schemas operators.DataOf (operand ∷ []) = data_rule schemas operand
 rule schemas operators.If (condition ∷ chosen ∷ otherwise ∷ []) = conditional_rule schemas condition chosen otherwise
 rule schemas (operators.Cast kind allows_empty) (operand ∷ []) = cast_rule kind allows_empty operand
 rule schemas (operators.Castable kind allows_empty) (operand ∷ []) = castable_rule operand
@@ -280,8 +323,20 @@ abbrev pub variable_ruling : SchemaSet → (number : ℕ) → Option SequenceTyp
 variable_ruling schemas number None = has_none XPST0008 None
 variable_ruling schemas number (Some bound) = rule schemas (operators.Var number) (bound ∷ [])
 
--- each operator as it stands in an expression: a variable has no part there, and takes its type from its scope
+-- a step in an expression that gives nothing, whatever the node is, is an error
+abbrev pub reaching : (context : SequenceType) → Ruling → Ruling
+reaching context (has_type given) = if same_type nothing given && not (same_type never context) then has_none XPST0005 None else has_type given
+reaching context (has_none code part) = has_none code part
+
+-- the rule of a step from the node of a variable
+abbrev pub step_ruling : SchemaSet → Axis → Test → (number : ℕ) → Option SequenceType → Ruling
+step_ruling schemas axis asks number None = has_none XPST0008 None
+step_ruling schemas axis asks number (Some context) = reaching context (rule schemas (operators.Step axis asks number) (context ∷ []))
+
+-- each operator as it stands in an expression: a variable and a step have no part there, and take the type of the variable from its scope
 abbrev pub ruling : SchemaSet → Operator → List SequenceType → Types → Ruling
 ruling schemas (operators.Var number) [] types = variable_ruling schemas number (look_up types number)
 ruling schemas (operators.Var number) (part ∷ parts) types = has_none XPTY0004 None
+ruling schemas (operators.Step axis asks number) [] types = step_ruling schemas axis asks number (look_up types number)
+ruling schemas (operators.Step axis asks number) (part ∷ parts) types = has_none XPTY0004 None
 ruling schemas operator parts types = rule schemas operator parts

@@ -3,6 +3,7 @@ use Rattle.std.specs.Prelude.{◌≡◌, ℕ, zero, suc, List, [], ◌∷◌, �
 use Rattle.gx_base.specs.declared.place.Place.{Place}
 use Rattle.gx_types.specs.SchemaSet.{SchemaSet}
 use Rattle.gx_types.specs.SequenceType.{SequenceType}
+use Rattle.gx_types.specs.Prime.{prime_of}
 use Rattle.gx_funcs.specs.Function.{arity_of}
 use Rattle.gx_core.specs.declared.operator.Operator.{Operator}
 use Rattle.gx_core.specs.declared.operator.Operator.TheVariants as operators
@@ -21,7 +22,7 @@ use Rattle.gx_static.specs.QueryJudgement.{declared_as}
 use Rattle.gx_static.specs.declared.error.InferError.{InferError}
 use Rattle.gx_static.specs.declared.error.InferError.TheVariants as errors
 use Rattle.gx_static.specs.declared.typing.Task.{Task}
-use Rattle.gx_static.specs.declared.typing.Task.TheVariants.{Infer, Bind, Unbind, Finish, FinishCall, Declare, External}
+use Rattle.gx_static.specs.declared.typing.Task.TheVariants.{Infer, Bind, BindItem, Unbind, Finish, FinishCall, Declare, External}
 use Rattle.gx_static.specs.declared.typing.Typing.{Typing}
 
 -- what a typing comes to, where no part is missing
@@ -39,11 +40,16 @@ part_count (operators.Lit value) = 0
 part_count (operators.Var number) = 0
 part_count operators.Empty = 0
 part_count operators.Seq = 2
+part_count (operators.For binder) = 2
 part_count (operators.Let binder) = 2
 part_count operators.If = 3
 part_count (operators.Cast kind allows_empty) = 1
 part_count (operators.Castable kind allows_empty) = 1
+part_count (operators.Step axis asks number) = 0
+part_count operators.Nodes = 1
+part_count operators.Order = 1
 part_count operators.DataOf = 1
+part_count operators.NoContext = 0
 part_count (operators.Call function) = arity_of function
 part_count operators.Neg = 1
 part_count (operators.Binary operator) = 2
@@ -77,6 +83,8 @@ continued schemas [] (t ∷ parts) types declared = Some (typed (record { declar
 continued schemas (Infer e ∷ tasks) parts types declared = then_typed (judged schemas e types) (λ t. continued schemas tasks (t ∷ parts) types declared)
 continued schemas (Bind variable ∷ tasks) [] types declared = None
 continued schemas (Bind variable ∷ tasks) (t ∷ parts) types declared = continued schemas tasks (t ∷ parts) ((variable, annotation_of t) ∷ types) declared
+continued schemas (BindItem variable ∷ tasks) [] types declared = None
+continued schemas (BindItem variable ∷ tasks) (t ∷ parts) types declared = continued schemas tasks (t ∷ parts) ((variable, prime_of (annotation_of t)) ∷ types) declared
 continued schemas (Unbind ∷ tasks) parts types declared = continued schemas tasks parts (drop 1 types) declared
 continued schemas (Finish place outer operator ∷ tasks) parts types declared =
     last_parts (part_count operator) parts no_parts (finished schemas place outer operator types (λ t below. continued schemas tasks (t ∷ below) types declared))

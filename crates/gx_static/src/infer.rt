@@ -25,6 +25,7 @@ pub fn infer(alloc: Global, schemas: &Schemas, core: Core) -> Result<TypedCore, 
 {
     query_typing_is_sound();
     query_rejection_names_a_failure();
+    let _types = schemas.types();
     typed_core(alloc, schemas, core)
 }
 

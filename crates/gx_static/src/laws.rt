@@ -1,6 +1,6 @@
 // Laws of typing: one for each operator, and the one that is joined of them.
 
-ghost use Rattle.gx_static.specs.Laws.{LiteralKeepsType, VariableKeepsType, EmptyKeepsType, SequenceKeepsType, LetKeepsType, DataKeepsType, ArithmeticKeepsType, NegationKeepsType, ValueComparisonKeepsType, GeneralComparisonKeepsType, RangeKeepsType, ConditionalKeepsType, CastKeepsType, CastableKeepsType, CallKeepsType, TypingIsSound, RejectionNamesFailure, ScopedVariablesHaveTypes};
+ghost use Rattle.gx_static.specs.Laws.{LiteralKeepsType, VariableKeepsType, EmptyKeepsType, SequenceKeepsType, ForKeepsType, LetKeepsType, StepKeepsType, NodesKeepType, OrderKeepsType, NoContextKeepsType, DataKeepsType, ArithmeticKeepsType, NegationKeepsType, ValueComparisonKeepsType, GeneralComparisonKeepsType, RangeKeepsType, ConditionalKeepsType, CastKeepsType, CastableKeepsType, CallKeepsType, TypingIsSound, RejectionNamesFailure, ScopedVariablesHaveTypes};
 ghost use Rattle.gx_static.specs.QueryJudgement.{QueryTypingIsSound, QueryRejectionNamesFailure, QueryVariablesHaveTypes};
 
 /// A literal has the type of its value.
@@ -23,10 +23,38 @@ pub fn sequence_keeps_its_type()
     ensures { SequenceKeepsType }
 {}
 
+/// The value of a `for` belongs to its type where that of its body does, under the bindings of the variable to each item of its
+/// operand.
+pub fn for_keeps_its_type()
+    ensures { ForKeepsType }
+{}
+
 /// The value of a `let` belongs to its type where that of its body does, under the bindings of the variable to the values of
 /// its type.
 pub fn let_keeps_its_type()
     ensures { LetKeepsType }
+{}
+
+/// The nodes of a step to a child, an attribute, the node itself or the parent belong to the type of the step where its variable
+/// is bound to one node. The types of the schemas end at built-in ones.
+pub fn step_keeps_its_type()
+    ensures { StepKeepsType }
+{}
+
+/// The operand of a path is of nodes alone where its type is included in `node()*`. The types of the schemas end at built-in ones.
+pub fn nodes_keep_their_type()
+    ensures { NodesKeepType }
+{}
+
+/// Nodes in document order, each once, belong to the prime type, as often as the type of the operand occurs; atomic values belong to
+/// that type. The types of the schemas end at built-in ones.
+pub fn order_keeps_its_type()
+    ensures { OrderKeepsType }
+{}
+
+/// What looks at a context where there is none has no type.
+pub fn no_context_keeps_its_type()
+    ensures { NoContextKeepsType }
 {}
 
 /// An atomized value belongs to its type where that of the operand does.
@@ -74,7 +102,8 @@ pub fn castable_keeps_its_type()
     ensures { CastableKeepsType }
 {}
 
-/// What a built-in function answers belongs to its type where the arguments belong to those of its parameters.
+/// What a built-in function answers belongs to its type where the arguments belong to those of its parameters. The types of the
+/// schemas end at built-in ones.
 pub fn call_keeps_its_type()
     ensures { CallKeepsType }
 {}

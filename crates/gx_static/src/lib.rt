@@ -1,8 +1,13 @@
 //! Static typing: the type of each expression of a Core, and why typing is sound.
 #![tactic(auto)]
 
+mod call;
+mod comparison;
 pub mod error;
 pub mod infer;
+mod item_tests;
 pub mod laws;
+mod numeric;
+mod path;
 pub mod rules;
 mod typing;

@@ -1,42 +1,39 @@
 // The static rules of the operators.
 
-ghost use Rattle.std.specs.Prelude.{◌≡◌, ◌&&◌, length, None, IfOk, IfErr};
-ghost use Rattle.gx_types.specs.SequenceType.{never};
-ghost use Rattle.gx_types.specs.SameType.{same_type};
+ghost use Rattle.std.specs.Prelude.{◌≡◌, length, IfOk, IfErr, IsTrue};
+ghost use Rattle.gx_types.specs.SchemaSet.{SchemaSet};
+ghost use Rattle.gx_types.specs.Prime.{prime_of};
 ghost use Rattle.gx_types.specs.TypeRules.{sequence_of};
 ghost use Rattle.gx_core.specs.BinaryOperators.{class_of};
-ghost use Rattle.gx_funcs.specs.Function.{answer_type_of};
-ghost use Rattle.gx_static.specs.Rule.{rule, arity, has_type, type_if, binary_rule, arithmetic_rule, arithmetic_type, number_type, integer_if, negation_rule, is_at_most_one, is_at_least_one, is_optional_in, both_occur, compared_occur, is_all_in, is_atomic_in, atomic, literal_rule, shown_type, data_rule, all_items, is_atomic, is_of_family, are_of_family, are_of_one_family, value_comparison_rule, are_comparable_items, are_comparable_types, general_comparison_rule, range_rule, conditional_rule, cast_rule, castable_rule, has_effective_boolean, takes_argument, answer_rule, call_rule, is_as_written, let_rule};
-ghost use Rattle.gx_static.specs.declared.error.RuleError.TheVariants as errors;
+ghost use Rattle.gx_static.specs.Rule.{rule, arity, has_type, binary_rule, literal_rule, shown_type, data_rule, conditional_rule, cast_rule, castable_rule, is_as_written, for_rule, let_rule};
 ghost use Rattle.gx_static.specs.Refusal.{RefusesType};
 
+use crate::call::call_type;
+use crate::comparison::{general_comparison_type, value_comparison_type};
 use crate::error::RuleError;
+use crate::item_tests::{
+    atomic, is_all_atomic, is_at_least_one, is_at_most_one, is_atomic, is_optional_in, no_type,
+};
+use crate::numeric::{arithmetic_type, negation_type, range_type};
+use crate::path::{nodes_type, order_type, step_type};
 use gx_base::code::Code;
 use gx_base::type_name::{Builtin, TypeName};
-use gx_core::expression::{ArithmeticOp, BinaryClass, BinaryOp, Binder};
+use gx_core::expression::{BinaryClass, BinaryOp, Binder};
 use gx_core::operator::Operator;
 use gx_facets::{AtomValue, Atomic};
-use gx_funcs::function::{Function, ParameterType};
 use gx_include::decision::is_included;
 use gx_num::Number;
-use gx_types::derivation::derives;
+use gx_steptype::data_type::data_type as type_of_data;
+use gx_steptype::error::StepError;
 use gx_types::item_type::ItemType;
-use gx_types::occurrence::Occurrence;
 use gx_types::schemas::Schemas;
 use gx_types::sequence_type::{Ty, TyNode};
-use gx_types::type_rules::{alt, occurrence, seq, star, times};
+use gx_types::type_rules::{alt, occurrence, prime, seq, times};
 use std::alloc::{AllocError, Global};
 
-// A family of values that compare with one another: numbers, strings and untyped values, or booleans.
-#[derive(Clone, Copy)]
-enum Family {
-    Number,
-    Text,
-    Truth,
-}
-
-/// The type that the static rule of an operator gives, from the types of its parts; the one part of a variable is what it is
-/// bound to (XQuery 1.0 and XPath 2.0 Formal Semantics, section 4).
+/// The type that the static rule of an operator gives, from the types of its parts; the one part of a variable and of a
+/// step is what the variable is bound to (XQuery 1.0 and XPath 2.0 Formal Semantics, section 4). A step that gives nothing, whatever
+/// the node is, has the type of the empty sequence here.
 pub fn operator_type(
     alloc: Global,
     schemas: &Schemas,
@@ -54,13 +51,20 @@ pub fn operator_type(
             node: TyNode::Empty,
         }),
         (Operator::Seq, [first, second]) => Ok(sequence_type(alloc, first, second)?),
+        (Operator::For(binder), [source, body]) => for_type(alloc, schemas, binder, source, body),
         (Operator::Let(binder), [value, body]) => let_type(alloc, schemas, binder, value, body),
         (Operator::If, [condition, chosen, otherwise]) => {
             conditional_type(alloc, schemas, condition, chosen, otherwise)
         }
         (Operator::Cast(kind, optional), [operand]) => cast_type(alloc, kind, *optional, operand),
         (Operator::Castable(_, _), [operand]) => castable_type(alloc, operand),
-        (Operator::DataOf, [operand]) => data_type(operand),
+        (Operator::Step(axis, test, _), [context]) => {
+            step_type(alloc, schemas, *axis, test, context)
+        }
+        (Operator::Nodes, [operand]) => nodes_type(alloc, schemas, operand),
+        (Operator::Order, [operand]) => order_type(alloc, schemas, operand),
+        (Operator::DataOf, [operand]) => data_type(alloc, schemas, operand),
+        (Operator::NoContext, []) => Err(no_type(Code::XPDY0002)),
         (Operator::Call(function), arguments) => call_type(alloc, schemas, *function, arguments),
         (Operator::Neg, [operand]) => negation_type(alloc, schemas, operand),
         (Operator::Binary(operator), [left, right]) => {
@@ -114,6 +118,43 @@ pub(crate) fn is_as_written(
     }
 }
 
+// The type of a `for` is that of its body, as often as its operand occurs.
+pub(crate) fn for_type(
+    alloc: Global,
+    schemas: &Schemas,
+    binder: &Binder,
+    source: &Ty,
+    body: &Ty,
+) -> Result<Ty, RuleError>
+    ensures typed { IfOk result (λ t. for_rule schemas.now binder.now source.now body.now ≡ has_type t) }
+    ensures refused { IfErr result (λ e. RefusesType e (for_rule schemas.now binder.now source.now body.now)) }
+{
+    if is_item_as_written(alloc, schemas, binder, source)? {
+        let body = body.clone()?;
+        Ok(times(alloc, body, occurrence(source))?)
+    } else {
+        Err(no_type(Code::XPTY0004))
+    }
+}
+
+// Whether the type of an item of a type is included in the one that is written at a binder.
+fn is_item_as_written(
+    alloc: Global,
+    schemas: &Schemas,
+    binder: &Binder,
+    source: &Ty,
+) -> Result<bool, AllocError>
+    ensures { IfOk result (λ answer. answer ≡ is_as_written schemas.now binder.now.kind (prime_of source.now)) }
+{
+    match &binder.kind {
+        Some(written) => {
+            let item = prime(alloc, source)?;
+            is_included(alloc, schemas, &item, written)
+        }
+        None => Ok(true),
+    }
+}
+
 // The type of a `let` is that of its body.
 pub(crate) fn let_type(
     alloc: Global,
@@ -159,341 +200,36 @@ fn shown_type(value: &AtomValue) -> Builtin
     }
 }
 
-// The type of typed values.
-pub(crate) fn data_type(operand: &Ty) -> Result<Ty, RuleError>
-    ensures typed { IfOk result (λ t. data_rule operand.now ≡ has_type t) }
-    ensures refused { IfErr result (λ e. RefusesType e (data_rule operand.now)) }
+// The type of typed values. Atomic values of one type are their own.
+#[tactic(auto, unfolding(crate::specs::Rule::data_rule))]
+pub(crate) fn data_type(alloc: Global, schemas: &Schemas, operand: &Ty) -> Result<Ty, RuleError>
+    ensures typed { IfOk result (λ t. data_rule schemas.now operand.now ≡ has_type t) }
+    ensures refused { IfErr result (λ e. RefusesType e (data_rule schemas.now operand.now)) }
 {
-    if is_all_atomic(operand) {
-        Ok(operand.clone()?)
-    } else {
-        Err(no_type(Code::FOTY0012))
+    if is_its_own_data(operand) {
+        return Ok(operand.clone()?);
+    }
+    match type_of_data(alloc, schemas, operand) {
+        Ok(t) => Ok(t),
+        Err(StepError::NotANode) => unreachable!(),
+        Err(StepError::NoTypedValue) => Err(no_type(Code::FOTY0012)),
+        Err(StepError::Memory) => Err(RuleError::Memory),
     }
 }
 
-// Whether all items of a type are atomic values.
-fn is_all_atomic(t: &Ty) -> bool
-    ensures { result ≡ all_items is_atomic t.now }
+// A type of atomic values of one type, with an indicator or without, is that of their typed values.
+#[tactic(auto, unfolding(crate::specs::Rule::data_rule))]
+fn is_its_own_data(t: &Ty) -> bool
+    ensures { (schemas : SchemaSet) → IsTrue result → data_rule schemas t.now ≡ has_type t.now }
 {
     match &t.node {
-        TyNode::Never | TyNode::Empty => true,
         TyNode::Item(kind) => is_atomic(kind),
-        TyNode::Seq(first, second) | TyNode::Alt(first, second) => {
-            is_all_atomic(first) && is_all_atomic(second)
-        }
-        TyNode::Optional(part) | TyNode::Star(part) | TyNode::Plus(part) => is_all_atomic(part),
-    }
-}
-
-fn is_atomic(kind: &ItemType) -> bool
-    ensures { result ≡ is_atomic kind.now }
-{
-    matches!(kind, ItemType::Atom(_))
-}
-
-// No type, with a code that stands at the operator itself.
-fn no_type(code: Code) -> RuleError
-    ensures { result ≡ errors.NoType code None }
-{
-    RuleError::NoType { code, part: None }
-}
-
-// The type of an atomic value of a built-in type.
-fn atomic(alloc: Global, builtin: Builtin) -> Result<Ty, AllocError>
-    ensures { IfOk result (λ t. t ≡ atomic builtin) }
-{
-    Ty::of_item(alloc, ItemType::Atom(TypeName::Builtin(builtin)))
-}
-
-// Whether the values of a type have at most one item.
-fn is_at_most_one(t: &Ty) -> bool
-    ensures { result ≡ is_at_most_one t.now }
-{
-    occurrence(t).greatest <= 1
-}
-
-// Whether the values of a type have at least one item.
-fn is_at_least_one(t: &Ty) -> bool
-    ensures { result ≡ is_at_least_one t.now }
-{
-    1 <= occurrence(t).least
-}
-
-// Whether a type is of at most one item, which is of a built-in type.
-fn is_optional_in(schemas: &Schemas, builtin: Builtin, t: &Ty) -> bool
-    ensures { result ≡ is_optional_in schemas.now builtin t.now }
-{
-    is_at_most_one(t) && is_all_in(schemas, builtin, t)
-}
-
-// Whether all items of a type are atomic values of a built-in type.
-fn is_all_in(schemas: &Schemas, builtin: Builtin, t: &Ty) -> bool
-    ensures { result ≡ is_all_in schemas.now builtin t.now }
-{
-    match &t.node {
-        TyNode::Never | TyNode::Empty => true,
-        TyNode::Item(kind) => is_atomic_in(schemas, builtin, kind),
-        TyNode::Seq(first, second) => {
-            is_all_in(schemas, builtin, first) && is_all_in(schemas, builtin, second)
-        }
-        TyNode::Alt(first, second) => {
-            is_all_in(schemas, builtin, first) && is_all_in(schemas, builtin, second)
-        }
-        TyNode::Optional(part) => is_all_in(schemas, builtin, part),
-        TyNode::Star(part) => is_all_in(schemas, builtin, part),
-        TyNode::Plus(part) => is_all_in(schemas, builtin, part),
-    }
-}
-
-fn is_atomic_in(schemas: &Schemas, builtin: Builtin, kind: &ItemType) -> bool
-    ensures { result ≡ is_atomic_in schemas.now builtin kind.now }
-{
-    match kind {
-        ItemType::Atom(kind) => derives(schemas, kind, &TypeName::Builtin(builtin)),
+        TyNode::Optional(part) | TyNode::Star(part) | TyNode::Plus(part) => match &part.node {
+            TyNode::Item(kind) => is_atomic(kind),
+            _ => false,
+        },
         _ => false,
     }
-}
-
-// An integer where all operands are.
-fn integer_if(whole: bool) -> Builtin
-    ensures { result ≡ integer_if whole }
-{
-    if whole {
-        Builtin::Integer
-    } else {
-        Builtin::Decimal
-    }
-}
-
-// The type of a number that is made of two.
-fn number_type(schemas: &Schemas, operation: ArithmeticOp, left: &Ty, right: &Ty) -> Builtin
-    ensures { result ≡ number_type schemas.now operation left.now right.now }
-{
-    match operation {
-        ArithmeticOp::Div => Builtin::Decimal,
-        ArithmeticOp::IDiv => Builtin::Integer,
-        ArithmeticOp::Add | ArithmeticOp::Sub | ArithmeticOp::Mul | ArithmeticOp::Mod => integer_if(
-            is_all_in(schemas, Builtin::Integer, left)
-                && is_all_in(schemas, Builtin::Integer, right),
-        ),
-    }
-}
-
-// As often as the shorter of two operands.
-fn both_occur(left: &Ty, right: &Ty) -> Occurrence
-    ensures { result ≡ both_occur left.now right.now }
-{
-    let first = occurrence(left);
-    let second = occurrence(right);
-    Occurrence {
-        least: first.least.min(second.least),
-        greatest: first.greatest.min(second.greatest),
-    }
-}
-
-fn is_never(t: &Ty) -> bool
-    ensures { result ≡ same_type never t.now }
-{
-    let never = Ty {
-        node: TyNode::Never,
-    };
-    never.same(t)
-}
-
-// The type of arithmetic: none where the left operand has none, empty where an operand is, and optional where an operand
-// may be empty.
-fn arithmetic_type(
-    alloc: Global,
-    schemas: &Schemas,
-    operation: ArithmeticOp,
-    left: &Ty,
-    right: &Ty,
-) -> Result<Ty, RuleError>
-    ensures typed { IfOk result (λ t. arithmetic_rule schemas.now operation left.now right.now ≡ has_type t) }
-    ensures refused { IfErr result (λ e. RefusesType e (arithmetic_rule schemas.now operation left.now right.now)) }
-{
-    let are_numbers = is_optional_in(schemas, Builtin::Decimal, left)
-        && is_optional_in(schemas, Builtin::Decimal, right);
-    if !are_numbers {
-        return Err(no_type(Code::XPTY0004));
-    }
-    if is_never(left) {
-        return Ok(Ty::none());
-    }
-    let number = atomic(alloc, number_type(schemas, operation, left, right))?;
-    Ok(times(alloc, number, both_occur(left, right))?)
-}
-
-// The type of a negation.
-pub(crate) fn negation_type(alloc: Global, schemas: &Schemas, operand: &Ty) -> Result<Ty, RuleError>
-    ensures typed { IfOk result (λ t. negation_rule schemas.now operand.now ≡ has_type t) }
-    ensures refused { IfErr result (λ e. RefusesType e (negation_rule schemas.now operand.now)) }
-{
-    if !is_optional_in(schemas, Builtin::Decimal, operand) {
-        return Err(no_type(Code::XPTY0004));
-    }
-    let number = atomic(
-        alloc,
-        integer_if(is_all_in(schemas, Builtin::Integer, operand)),
-    )?;
-    Ok(times(alloc, number, occurrence(operand))?)
-}
-
-fn is_of_family(schemas: &Schemas, family: Family, kind: &ItemType) -> bool
-    ensures { result ≡ is_of_family schemas.now family kind.now }
-{
-    match family {
-        Family::Number => is_atomic_in(schemas, Builtin::Decimal, kind),
-        Family::Text => {
-            is_atomic_in(schemas, Builtin::Str, kind)
-                || is_atomic_in(schemas, Builtin::UntypedAtomic, kind)
-        }
-        Family::Truth => is_atomic_in(schemas, Builtin::Boolean, kind),
-    }
-}
-
-// Whether all items of a type are of a family.
-fn is_all_of_family(schemas: &Schemas, family: Family, t: &Ty) -> bool
-    ensures { result ≡ all_items (is_of_family schemas.now family) t.now }
-{
-    match &t.node {
-        TyNode::Never | TyNode::Empty => true,
-        TyNode::Item(kind) => is_of_family(schemas, family, kind),
-        TyNode::Seq(first, second) | TyNode::Alt(first, second) => {
-            is_all_of_family(schemas, family, first) && is_all_of_family(schemas, family, second)
-        }
-        TyNode::Optional(part) | TyNode::Star(part) | TyNode::Plus(part) => {
-            is_all_of_family(schemas, family, part)
-        }
-    }
-}
-
-fn are_of_family(schemas: &Schemas, left: &Ty, right: &Ty, family: Family) -> bool
-    ensures { result ≡ are_of_family schemas.now left.now right.now family }
-{
-    is_all_of_family(schemas, family, left) && is_all_of_family(schemas, family, right)
-}
-
-fn are_of_one_family(schemas: &Schemas, left: &Ty, right: &Ty) -> bool
-    ensures { result ≡ are_of_one_family schemas.now left.now right.now }
-{
-    are_of_family(schemas, left, right, Family::Number)
-        || are_of_family(schemas, left, right, Family::Text)
-        || are_of_family(schemas, left, right, Family::Truth)
-}
-
-// Once, or at most once where an operand may be empty.
-fn compared_occur(left: &Ty, right: &Ty) -> Occurrence
-    ensures { result ≡ compared_occur left.now right.now }
-{
-    Occurrence {
-        least: occurrence(left).least.min(occurrence(right).least),
-        greatest: 1,
-    }
-}
-
-// The type of a value comparison.
-fn value_comparison_type(
-    alloc: Global,
-    schemas: &Schemas,
-    left: &Ty,
-    right: &Ty,
-) -> Result<Ty, RuleError>
-    ensures typed { IfOk result (λ t. value_comparison_rule schemas.now left.now right.now ≡ has_type t) }
-    ensures refused { IfErr result (λ e. RefusesType e (value_comparison_rule schemas.now left.now right.now)) }
-{
-    let are_comparable = is_at_most_one(left)
-        && is_at_most_one(right)
-        && are_of_one_family(schemas, left, right);
-    if !are_comparable {
-        return Err(no_type(Code::XPTY0004));
-    }
-    if is_never(left) {
-        return Ok(Ty::none());
-    }
-    let truth = atomic(alloc, Builtin::Boolean)?;
-    Ok(times(alloc, truth, compared_occur(left, right))?)
-}
-
-// Whether the items of two item types can be compared.
-fn are_comparable_items(schemas: &Schemas, a: &ItemType, b: &ItemType) -> bool
-    ensures { result ≡ are_comparable_items schemas.now a.now b.now }
-{
-    let number = is_of_family(schemas, Family::Number, a)
-        && is_of_family(schemas, Family::Number, b);
-    let text = is_of_family(schemas, Family::Text, a) && is_of_family(schemas, Family::Text, b);
-    let truth = is_of_family(schemas, Family::Truth, a) && is_of_family(schemas, Family::Truth, b);
-    let untyped_left = is_atomic_in(schemas, Builtin::UntypedAtomic, a)
-        && is_of_family(schemas, Family::Truth, b);
-    let untyped_right = is_of_family(schemas, Family::Truth, a)
-        && is_atomic_in(schemas, Builtin::UntypedAtomic, b);
-    number || text || truth || untyped_left || untyped_right
-}
-
-// Whether the items of an item type can be compared with all items of a type.
-fn is_comparable_with(schemas: &Schemas, kind: &ItemType, t: &Ty) -> bool
-    ensures { result ≡ all_items (are_comparable_items schemas.now kind.now) t.now }
-{
-    match &t.node {
-        TyNode::Never | TyNode::Empty => true,
-        TyNode::Item(other) => are_comparable_items(schemas, kind, other),
-        TyNode::Seq(first, second) | TyNode::Alt(first, second) => {
-            is_comparable_with(schemas, kind, first) && is_comparable_with(schemas, kind, second)
-        }
-        TyNode::Optional(part) | TyNode::Star(part) | TyNode::Plus(part) => {
-            is_comparable_with(schemas, kind, part)
-        }
-    }
-}
-
-// Whether the items of a type can be compared with all items of another.
-fn are_comparable_types(schemas: &Schemas, left: &Ty, right: &Ty) -> bool
-    ensures { result ≡ are_comparable_types schemas.now left.now right.now }
-{
-    match &left.node {
-        TyNode::Never | TyNode::Empty => true,
-        TyNode::Item(kind) => is_comparable_with(schemas, kind, right),
-        TyNode::Seq(first, second) | TyNode::Alt(first, second) => {
-            are_comparable_types(schemas, first, right)
-                && are_comparable_types(schemas, second, right)
-        }
-        TyNode::Optional(part) | TyNode::Star(part) | TyNode::Plus(part) => {
-            are_comparable_types(schemas, part, right)
-        }
-    }
-}
-
-// The type of a general comparison.
-fn general_comparison_type(
-    alloc: Global,
-    schemas: &Schemas,
-    left: &Ty,
-    right: &Ty,
-) -> Result<Ty, RuleError>
-    ensures typed { IfOk result (λ t. general_comparison_rule schemas.now left.now right.now ≡ has_type t) }
-    ensures refused { IfErr result (λ e. RefusesType e (general_comparison_rule schemas.now left.now right.now)) }
-{
-    if !are_comparable_types(schemas, left, right) {
-        return Err(no_type(Code::XPTY0004));
-    }
-    if is_never(left) {
-        return Ok(Ty::none());
-    }
-    Ok(atomic(alloc, Builtin::Boolean)?)
-}
-
-// The type of a range.
-fn range_type(alloc: Global, schemas: &Schemas, left: &Ty, right: &Ty) -> Result<Ty, RuleError>
-    ensures typed { IfOk result (λ t. range_rule schemas.now left.now right.now ≡ has_type t) }
-    ensures refused { IfErr result (λ e. RefusesType e (range_rule schemas.now left.now right.now)) }
-{
-    let are_integers = is_optional_in(schemas, Builtin::Integer, left)
-        && is_optional_in(schemas, Builtin::Integer, right);
-    if !are_integers {
-        return Err(no_type(Code::XPTY0004));
-    }
-    let integer = atomic(alloc, Builtin::Integer)?;
-    Ok(star(alloc, &integer)?)
 }
 
 // The type of a conditional.
@@ -542,89 +278,6 @@ pub(crate) fn castable_type(alloc: Global, operand: &Ty) -> Result<Ty, RuleError
 {
     if is_at_most_one(operand) && is_all_atomic(operand) {
         Ok(atomic(alloc, Builtin::Boolean)?)
-    } else {
-        Err(no_type(Code::XPTY0004))
-    }
-}
-
-fn has_effective_boolean(schemas: &Schemas, kind: &ItemType) -> bool
-    ensures { result ≡ has_effective_boolean schemas.now kind.now }
-{
-    is_of_family(schemas, Family::Truth, kind)
-        || is_of_family(schemas, Family::Text, kind)
-        || is_of_family(schemas, Family::Number, kind)
-}
-
-// Whether all items of a type have an effective boolean value.
-fn have_effective_booleans(schemas: &Schemas, t: &Ty) -> bool
-    ensures { result ≡ all_items (has_effective_boolean schemas.now) t.now }
-{
-    match &t.node {
-        TyNode::Never | TyNode::Empty => true,
-        TyNode::Item(kind) => has_effective_boolean(schemas, kind),
-        TyNode::Seq(first, second) | TyNode::Alt(first, second) => {
-            have_effective_booleans(schemas, first) && have_effective_booleans(schemas, second)
-        }
-        TyNode::Optional(part) | TyNode::Star(part) | TyNode::Plus(part) => {
-            have_effective_booleans(schemas, part)
-        }
-    }
-}
-
-// Whether a parameter takes the values of a type.
-fn takes_argument(schemas: &Schemas, takes: ParameterType, argument: &Ty) -> bool
-    ensures { result ≡ takes_argument schemas.now takes argument.now }
-{
-    match takes {
-        ParameterType::Items => true,
-        ParameterType::OptionalItem => is_at_most_one(argument),
-        ParameterType::TruthValue => {
-            is_at_most_one(argument) && have_effective_booleans(schemas, argument)
-        }
-    }
-}
-
-// The type of what a function answers.
-fn answer_type(alloc: Global, function: Function) -> Result<Ty, RuleError>
-    ensures typed { IfOk result (λ t. answer_rule (answer_type_of function) ≡ has_type t) }
-    ensures refused { IfErr result (λ e. RefusesType e (answer_rule (answer_type_of function))) }
-{
-    match function.result() {
-        Some(builtin) => Ok(atomic(alloc, builtin)?),
-        None => Err(no_type(Code::XPTY0004)),
-    }
-}
-
-// The type of a call of a built-in function.
-#[tactic(auto, using(crate::proofs::CallLemmas::few_parameters), unfolding(crate::specs::Rule::call_rule))]
-pub(crate) fn call_type(
-    alloc: Global,
-    schemas: &Schemas,
-    function: Function,
-    arguments: &[Ty],
-) -> Result<Ty, RuleError>
-    ensures typed { IfOk result (λ t. call_rule schemas.now function arguments.now ≡ has_type t) }
-    ensures refused { IfErr result (λ e. RefusesType e (call_rule schemas.now function arguments.now)) }
-{
-    let mut parameters = function.parameters();
-    let mut left = arguments;
-    let mut number = 0;
-    while let Some((parameter, others)) = parameters.split_first() {
-        let Some((argument, behind)) = left.split_first() else {
-            return Err(no_type(Code::XPTY0004));
-        };
-        if !takes_argument(schemas, parameter.takes, argument) {
-            return Err(RuleError::NoType {
-                code: parameter.code,
-                part: Some(number),
-            });
-        }
-        parameters = others;
-        left = behind;
-        number += 1;
-    }
-    if left.is_empty() {
-        answer_type(alloc, function)
     } else {
         Err(no_type(Code::XPTY0004))
     }

@@ -2,6 +2,7 @@
 
 ghost use Rattle.std.specs.Prelude.{◌≡◌, ◌≢◌, ◌≤◌, ◌++◌, List, [], ◌∷◌, length, map, None, Some, IfOk, IfErr, OnOk};
 ghost use Rattle.gx_types.specs.SchemaSet.{SchemaSet};
+ghost use Rattle.gx_types.specs.Prime.{prime_of};
 ghost use Rattle.gx_types.specs.SequenceType.{SequenceType};
 ghost use Rattle.gx_core.specs.declared.operator.Operator.TheVariants as operators;
 ghost use Rattle.gx_core.specs.Expression.{Parts, no_parts, all_parts, each_of, annotation_of, outer_of};
@@ -16,10 +17,14 @@ ghost use Rattle.gx_static.specs.QueryJudgement.{core_judged};
 ghost use Rattle.gx_static.specs.Typing.{Awaited, continued, tasks_of, then_typed, typed_in_order, finished, part_count, last_parts, judgement_of, judgement_with, EndsRejected};
 ghost use Rattle.gx_static.specs.declared.typing.Task.TheVariants as tasks;
 
+use crate::call::call_type;
 use crate::error::{InferError, RuleError};
+use crate::item_tests::no_type;
+use crate::numeric::negation_type;
+use crate::path::{nodes_type, order_type, step_in_scope};
 use crate::rules::{
-    binary_type, call_type, cast_type, castable_type, conditional_type, data_type, is_as_written,
-    let_type, literal_type, negation_type, sequence_type,
+    binary_type, cast_type, castable_type, conditional_type, data_type, for_type, is_as_written,
+    let_type, literal_type, sequence_type,
 };
 use gx_base::code::Code;
 use gx_base::name::Name;
@@ -34,16 +39,18 @@ use gx_core::typed::{T, TypedCore, TypedDeclaration, TypedExpr, TypedForm};
 use gx_funcs::function::Function;
 use gx_types::schemas::Schemas;
 use gx_types::sequence_type::{Ty, TyNode};
+use gx_types::type_rules::prime;
 use std::alloc::{AllocError, Global};
 
 // A task: to infer the type of an expression, whose typed form goes on top of the parts; to bind a variable to the type of the
-// part on top; to take the innermost binding away; or to make the expression of an operator, or of a call with so many
+// part on top, or to that of an item of it; to take the innermost binding away; or to make the expression of an operator, or of a call with so many
 // arguments, at its place and that of its outermost parentheses, of the parts on top; to declare a global variable, whose value is
 // the part on top; or to declare an external variable.
 #[derive(Drop)]
 pub(crate) enum Task {
     Infer(CoreExpr),
     Bind(u32),
+    BindItem(u32),
     Unbind,
     Finish(Place, Place, Operator),
     FinishCall(Place, Place, Function, usize),
@@ -115,6 +122,7 @@ impl Typing {
         match task {
             Task::Infer(expression) => Ok(self.open(expression)?),
             Task::Bind(variable) => Ok(self.bind(variable)?),
+            Task::BindItem(variable) => Ok(self.bind_item(alloc, variable)?),
             Task::Unbind => {
                 self.scope.unbind();
                 Ok(())
@@ -146,6 +154,9 @@ impl Typing {
                 first,
                 second,
             ),
+            CoreForm::For(binder, source, body) => {
+                self.open_for(place, outer, binder, source, body)
+            }
             CoreForm::Let(binder, value, body) => self.open_let(place, outer, binder, value, body),
             CoreForm::If(condition, chosen, otherwise) => {
                 self.open_conditional(place, outer, condition, chosen, otherwise)
@@ -156,7 +167,13 @@ impl Typing {
             CoreForm::Castable(operand, kind, optional) => {
                 self.open_single(place, outer, Operator::Castable(kind, optional), operand)
             }
+            CoreForm::Step(axis, test, number) => {
+                self.open_leaf(place, outer, Operator::Step(axis, test, number))
+            }
+            CoreForm::Nodes(operand) => self.open_single(place, outer, Operator::Nodes, operand),
+            CoreForm::Order(operand) => self.open_single(place, outer, Operator::Order, operand),
             CoreForm::DataOf(operand) => self.open_single(place, outer, Operator::DataOf, operand),
+            CoreForm::NoContext => self.open_leaf(place, outer, Operator::NoContext),
             CoreForm::Call(function, arguments) => {
                 self.open_call(place, outer, function, arguments)
             }
@@ -251,7 +268,29 @@ impl Typing {
         Ok(())
     }
 
-    // The body is typed with the variable in scope.
+    // The body is typed with the variable in scope, which has an item of the operand.
+    fn open_for(
+        &mut self,
+        place: Place,
+        outer: Place,
+        binder: Binder,
+        source: E,
+        body: E,
+    ) -> Result<(), AllocError>
+        ensures { (schemas : SchemaSet) → OnOk result (judgement_of schemas self.new
+            ≡ then_typed (judged schemas source.value self.old.scope) (λ t. then_typed (judged schemas body.value ((binder.variable, prime_of (annotation_of t)) ∷ self.old.scope))
+            (λ u. continued schemas (tasks.Finish place outer (operators.For binder) ∷ self.old.tasks) (u ∷ t ∷ self.old.parts) self.old.scope self.old.declared.items))) }
+    {
+        let variable = binder.variable;
+        self.tasks
+            .push(Task::Finish(place, outer, Operator::For(binder)))?;
+        self.tasks.push(Task::Unbind)?;
+        self.tasks.push(Task::Infer(Box::into_inner(body)))?;
+        self.tasks.push(Task::BindItem(variable))?;
+        self.tasks.push(Task::Infer(Box::into_inner(source)))
+    }
+
+    // The body is typed with the variable in scope, which has the value.
     fn open_let(
         &mut self,
         place: Place,
@@ -283,6 +322,18 @@ impl Typing {
         };
         self.scope.bind(variable, value.kind.clone()?)?;
         self.parts.push(value)
+    }
+
+    // Binds a variable to the type of an item of the part on top.
+    fn bind_item(&mut self, alloc: Global, variable: u32) -> Result<(), AllocError>
+        requires { self.now.parts ≢ [] }
+        ensures { (schemas : SchemaSet) → OnOk result (judgement_of schemas self.new ≡ judgement_with schemas (tasks.BindItem variable) self.old) }
+    {
+        let Some(source) = self.parts.pop() else {
+            unreachable!();
+        };
+        self.scope.bind(variable, prime(alloc, &source.kind)?)?;
+        self.parts.push(source)
     }
 
     // Declares a global variable, whose value is the part on top.
@@ -436,6 +487,10 @@ impl Typing {
                 let second = self.part(alloc)?;
                 Ok(TypedForm::Seq(self.part(alloc)?, second))
             }
+            Operator::For(binder) => {
+                let body = self.part(alloc)?;
+                Ok(TypedForm::For(binder, self.part(alloc)?, body))
+            }
             Operator::Let(binder) => {
                 let body = self.part(alloc)?;
                 Ok(TypedForm::Let(binder, self.part(alloc)?, body))
@@ -451,7 +506,11 @@ impl Typing {
             Operator::Castable(kind, optional) => {
                 Ok(TypedForm::Castable(self.part(alloc)?, kind, optional))
             }
+            Operator::Step(axis, test, number) => Ok(TypedForm::Step(axis, test, number)),
+            Operator::Nodes => Ok(TypedForm::Nodes(self.part(alloc)?)),
+            Operator::Order => Ok(TypedForm::Order(self.part(alloc)?)),
             Operator::DataOf => Ok(TypedForm::DataOf(self.part(alloc)?)),
+            Operator::NoContext => Ok(TypedForm::NoContext),
             Operator::Call(function) => {
                 Ok(TypedForm::Call(function, self.last(alloc, function.arity())?))
             }
@@ -560,6 +619,9 @@ fn form_type(
             node: TyNode::Empty,
         }),
         TypedForm::Seq(first, second) => Ok(sequence_type(alloc, &first.kind, &second.kind)?),
+        TypedForm::For(binder, source, body) => {
+            for_type(alloc, schemas, binder, &source.kind, &body.kind)
+        }
         TypedForm::Let(binder, value, body) => {
             let_type(alloc, schemas, binder, &value.kind, &body.kind)
         }
@@ -574,7 +636,13 @@ fn form_type(
             cast_type(alloc, kind, *optional, &operand.kind)
         }
         TypedForm::Castable(operand, _, _) => castable_type(alloc, &operand.kind),
-        TypedForm::DataOf(operand) => data_type(&operand.kind),
+        TypedForm::Step(axis, test, number) => {
+            step_in_scope(alloc, schemas, *axis, test, *number, scope)
+        }
+        TypedForm::Nodes(operand) => nodes_type(alloc, schemas, &operand.kind),
+        TypedForm::Order(operand) => order_type(alloc, schemas, &operand.kind),
+        TypedForm::DataOf(operand) => data_type(alloc, schemas, &operand.kind),
+        TypedForm::NoContext => Err(no_type(Code::XPDY0002)),
         TypedForm::Call(function, arguments) => {
             let kinds = kinds(alloc, arguments.as_slice())?;
             call_type(alloc, schemas, *function, kinds.as_slice())
@@ -593,10 +661,7 @@ fn variable_type(number: u32, scope: &Scope<Ty>) -> Result<Ty, RuleError>
 {
     match scope.find(number) {
         Some(bound) => Ok(bound.clone()?),
-        None => Err(RuleError::NoType {
-            code: Code::XPST0008,
-            part: None,
-        }),
+        None => Err(no_type(Code::XPST0008)),
     }
 }
 
@@ -613,22 +678,28 @@ fn refusal(place: Place, form: &TypedForm, error: RuleError) -> InferError
     }
 }
 
-// Where the code of an operator stands: at a part, at the variable of a `let`, or at the operator itself.
+// Where the code of an operator stands: at a part, at the variable of a `for` or a `let`, or at the operator itself.
 #[tactic(auto, using(crate::proofs::Continuing::each_of_arguments))]
 fn form_place(place: Place, form: &TypedForm, part: Option<u32>) -> Place
     ensures { result ≡ code_place (own_place (typed_operator_of form.now) place) (each_of outer_of (typed_parts_of form.now)) part }
 {
     match form {
-        TypedForm::Lit(_) | TypedForm::Var(_) | TypedForm::Empty => code_place(place, &[], part),
-        TypedForm::DataOf(operand)
+        TypedForm::Lit(_)
+        | TypedForm::Var(_)
+        | TypedForm::Empty
+        | TypedForm::Step(_, _, _)
+        | TypedForm::NoContext => code_place(place, &[], part),
+        TypedForm::Nodes(operand)
+        | TypedForm::Order(operand)
+        | TypedForm::DataOf(operand)
         | TypedForm::Neg(operand)
         | TypedForm::Cast(operand, _, _)
         | TypedForm::Castable(operand, _, _) => code_place(place, &[operand.outer], part),
         TypedForm::Seq(first, second) | TypedForm::Binary(_, first, second) => {
             code_place(place, &[first.outer, second.outer], part)
         }
-        TypedForm::Let(binder, value, body) => {
-            code_place(binder.place, &[value.outer, body.outer], part)
+        TypedForm::For(binder, first, body) | TypedForm::Let(binder, first, body) => {
+            code_place(binder.place, &[first.outer, body.outer], part)
         }
         TypedForm::If(condition, chosen, otherwise) => code_place(
             place,

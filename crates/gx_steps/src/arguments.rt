@@ -4,6 +4,7 @@ use gx_base::name::Name;
 use gx_base::text::Text;
 use gx_base::type_name::TypeName;
 use gx_model::node::Node;
+use gx_model::path::Path;
 use gx_row::names::{name, type_name};
 use gx_types::step::{Axis, NameTest, Test};
 use std::alloc::{AllocError, Global};
@@ -29,9 +30,18 @@ pub fn node_of(alloc: Global, word: &str) -> Result<Node, AllocError> {
     }
     Ok(Node {
         tree,
-        path,
+        path: Path::from_vec(alloc, path)?,
         attribute,
     })
+}
+
+/// Nodes with commas between them.
+pub fn nodes_of(alloc: Global, word: &str) -> Result<Vec<Node>, AllocError> {
+    let mut nodes = Vec::new(alloc);
+    for part in word.split(',') {
+        nodes.push(node_of(alloc, part)?)?;
+    }
+    Ok(nodes)
 }
 
 fn number(word: &str) -> usize {
@@ -118,7 +128,7 @@ pub fn shown_nodes(alloc: Global, nodes: &[Node]) -> Result<String, AllocError> 
 
 fn shown_node(alloc: Global, node: &Node) -> Result<String, AllocError> {
     let mut shown = format!(in alloc; "{}", node.tree)?;
-    for position in &node.path {
+    for position in node.path.as_slice() {
         let part = format!(in alloc; "/{position}")?;
         shown.push_str(part.as_str())?;
     }

@@ -5,11 +5,11 @@ mod arguments;
 mod parts;
 mod types;
 
-use arguments::{axis_of, node_of, shown_nodes, test_of};
+use arguments::{axis_of, node_of, nodes_of, shown_nodes, test_of};
 use gx_model::axis::axis;
 use gx_model::forest::Forest;
 use gx_model::node::Node;
-use gx_model::order::before;
+use gx_model::order::{before, in_document_order};
 use gx_row::not_a_row;
 use gx_row::words::words;
 use gx_types::schemas::Schemas;
@@ -39,6 +39,7 @@ fn row_answer(alloc: Global, row: &str) -> Result<String, AllocError> {
     match borrowed.as_slice() {
         ["before", a, b] => before_row(alloc, a, b),
         ["step", axis, test, node, words @ ..] => step_row(alloc, axis, test, node, words),
+        ["order", nodes, words @ ..] => order_row(alloc, nodes, words),
         ["type", axis, test, context] => type_row(alloc, axis, test, context),
         ["data", t] => data_row(alloc, t),
         _ => not_a_row(alloc),
@@ -49,6 +50,16 @@ fn before_row(alloc: Global, a: &str, b: &str) -> Result<String, AllocError> {
     let a = node_of(alloc, a)?;
     let b = node_of(alloc, b)?;
     format!(in alloc; "{} {}", before(&a, &b), before(&b, &a))
+}
+
+// Nodes in document order, in the trees that the words make.
+fn order_row(alloc: Global, nodes: &str, words: &[&str]) -> Result<String, AllocError> {
+    let nodes = nodes_of(alloc, nodes)?;
+    let mut parts = Parts::new(alloc);
+    parts.take_words(alloc, words)?;
+    let trees = parts.into_trees();
+    let ordered = in_document_order(&Forest { trees }, nodes);
+    shown_nodes(alloc, ordered.as_slice())
 }
 
 // The nodes on an axis in the trees that the words make.

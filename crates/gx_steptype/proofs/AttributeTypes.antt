@@ -22,6 +22,7 @@ use Rattle.gx_types.proofs.PublicLaws.{indicators_are_exact, factored_takes_type
 use Rattle.gx_types.proofs.EqualNames.{names_are_equivalent}
 use Rattle.gx_tree.specs.declared.attribute.Attribute.{Attribute}
 use Rattle.gx_tree.specs.PlainTree.{PlainTree, document, element, attribute, text}
+use Rattle.gx_tree.specs.OwnNames.{has_attribute, HaveOwnNames}
 use Rattle.gx_tree.specs.Erasure.{AreUntypedAtomic}
 use Rattle.gx_model.specs.Forest.{own_attributes}
 use Rattle.gx_model.specs.Belongs.{shape_of}
@@ -30,7 +31,6 @@ use Rattle.gx_steptype.specs.declared.tested.Meeting.{Meeting}
 use Rattle.gx_steptype.specs.declared.tested.Meeting.TheVariants.{Never, Always, Possibly}
 use Rattle.gx_steptype.specs.TestedType.{type_met, both_met, where_met, narrowed_type, tested_item}
 use Rattle.gx_steptype.specs.StepType.{any_attributes, attribute_content, attribute_type}
-use Rattle.gx_steptype.specs.StepLaws.{has_attribute, HaveOwnNames}
 use Rattle.gx_steptype.proofs.Replacing.{append_nil}
 use Rattle.gx_steptype.proofs.Testing.{kept, tested_takes}
 use Rattle.gx_steptype.proofs.UntypedKinds.{untyped_kinds, untyped_atomic_is_simple}

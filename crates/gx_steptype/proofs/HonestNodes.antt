@@ -7,20 +7,21 @@ use Rattle.gx_types.specs.SchemaSet.{SchemaSet}
 use Rattle.gx_tree.specs.declared.attribute.Attribute.{Attribute}
 use Rattle.gx_tree.specs.PlainTree.{PlainTree, PlainTrees, document, element, attribute, text, no_trees, a_tree, list_of, IsProper, IsContent, AreContent}
 use Rattle.gx_tree.specs.Erasure.{IsUntyped, AreUntyped, AreUntypedAtomic}
+use Rattle.gx_tree.specs.OwnNames.{HasOwnNames, AllHaveOwnNames}
 use Rattle.gx_model.specs.Forest.{Forest, then_found, children_of, own_attributes, tree_at, IsHonest}
 use Rattle.gx_model.specs.Belongs.{shape_of}
-use Rattle.gx_steptype.specs.StepLaws.{HasOwnNames, AllHaveOwnNames, NamesAreDistinct, IsUntypedShape}
+use Rattle.gx_steptype.specs.StepLaws.{IsUntypedShape}
 
 pub record IsNode (t : PlainTree) : Type 0 where
   pub proper : IsProper t
   pub untyped : IsUntyped t
   pub names : HasOwnNames t
 
-pub tree_is_node : (s : SchemaSet) (forest : Forest) (n : ℕ) (t : PlainTree) → IsHonest s forest → NamesAreDistinct forest → slice_get forest n ≡ Some t → IsNode t
-tree_is_node s [] n t h k e = absurd (cc)
-tree_is_node s (u ∷ forest) zero t h k e =
-    let same : u ≡ t = cc in subst IsNode same (record { proper = h.0.0; untyped = h.0.1; names = k.0 })
-tree_is_node s (u ∷ forest) (suc n) t h k e = tree_is_node s forest n t h.1 k.1 e
+pub tree_is_node : (s : SchemaSet) (forest : Forest) (n : ℕ) (t : PlainTree) → IsHonest s forest → slice_get forest n ≡ Some t → IsNode t
+tree_is_node s [] n t h e = absurd (cc)
+tree_is_node s (u ∷ forest) zero t h e =
+    let same : u ≡ t = cc in subst IsNode same (record { proper = h.0.0; untyped = h.0.1; names = h.0.2 })
+tree_is_node s (u ∷ forest) (suc n) t h e = tree_is_node s forest n t h.1 e
 
 -- a child is an element or a text, and a node again
 pub record IsChildNode (t : PlainTree) : Type 0 where

@@ -29,7 +29,7 @@ use Rattle.gx_model.proofs.AxisLemmas.{children_are_found, attributes_are_found,
 use Rattle.gx_steptype.specs.Replaced.{replaced_items}
 use Rattle.gx_steptype.specs.TestedType.{tested_item}
 use Rattle.gx_steptype.specs.StepType.{is_near, item_step, child_type, parent_type, step_type}
-use Rattle.gx_steptype.specs.StepLaws.{IsUntypedShape, NamesAreDistinct, StepsKeepTheirTypes}
+use Rattle.gx_steptype.specs.StepLaws.{IsUntypedShape, StepsKeepTheirTypes}
 use Rattle.gx_steptype.proofs.Replacing.{Serves, each_item, replaced_takes, append_nil}
 use Rattle.gx_steptype.proofs.Testing.{tested_takes}
 use Rattle.gx_steptype.proofs.HonestNodes.{IsNode, tree_is_node, child_is_node, node_at, attribute_is_untyped, shape_is_untyped}
@@ -289,17 +289,17 @@ there_in_forest forest from x (Some t) f k = there_in_tree forest from x t (loca
 stands_there : (forest : Forest) (from : PlainNode) (x : Shape) → item_shape forest (node from) ≡ Some x → StandsThere forest from x
 stands_there forest from x e = there_in_forest forest from x (slice_get forest from.tree) refl e
 
-step_of_shapes : (s : SchemaSet) (forest : Forest) (from : PlainNode) (axis : Axis) (test : Test) (context : SequenceType) → Grounded (bases_of s) → IsHonest s forest → NamesAreDistinct forest → is_near axis ≡ true
+step_of_shapes : (s : SchemaSet) (forest : Forest) (from : PlainNode) (axis : Axis) (test : Test) (context : SequenceType) → Grounded (bases_of s) → IsHonest s forest → is_near axis ≡ true
     → (seen : List Shape) → HaveShapes s forest (node from ∷ []) seen → Takes s context seen → Belongs s forest (map node (on_axis s forest from axis test)) (step_type s axis test context)
-step_of_shapes s forest from axis asks context g honest names near [] h k = absurd h
-step_of_shapes s forest from axis asks context g honest names near (x ∷ []) h k =
+step_of_shapes s forest from axis asks context g honest near [] h k = absurd h
+step_of_shapes s forest from axis asks context g honest near (x ∷ []) h k =
     let there = stands_there forest from x h.0 in
     step_in_tree s forest from axis asks context x there.root there.in_forest
     (subst (StepTakes s (asked s (is_attribute_axis axis) asks) axis there.root (location_of from)) there.shape
-    (from_place s g (asked s (is_attribute_axis axis) asks) axis there.root there.there from.path from.attribute near (tree_is_node s forest from.tree there.root honest names there.in_forest) there.found))
+    (from_place s g (asked s (is_attribute_axis axis) asks) axis there.root there.there from.path from.attribute near (tree_is_node s forest from.tree there.root honest there.in_forest) there.found))
     k
-step_of_shapes s forest from axis asks context g honest names near (x ∷ y ∷ seen) h k = absurd h.2
+step_of_shapes s forest from axis asks context g honest near (x ∷ y ∷ seen) h k = absurd h.2
 
 pub steps_keep_their_types : StepsKeepTheirTypes
-steps_keep_their_types s forest from axis asks context g honest names near belongs =
-    step_of_shapes s forest from axis asks context g honest names near belongs.seen belongs.shaped belongs.taken
+steps_keep_their_types s forest from axis asks context g honest near belongs =
+    step_of_shapes s forest from axis asks context g honest near belongs.seen belongs.shaped belongs.taken

@@ -1,7 +1,5 @@
 -- What types of steps and of typed values promise, in forests of nodes without a type (Formal Semantics, sections 7.2.3 and 8.2).
-use Rattle.std.specs.Prelude.{◌≡◌, Bool, true, false, List, [], ◌∷◌, map, None, Some}
-use Rattle.std.specs.List.{list_any}
-use Rattle.gx_base.specs.Name.{same_name}
+use Rattle.std.specs.Prelude.{◌≡◌, true, List, [], ◌∷◌, map, None, Some}
 use Rattle.gx_base.specs.declared.type_name.Builtin.TheVariants.{Untyped, UntypedAtomic}
 use Rattle.gx_base.specs.declared.type_name.TypeName.TheVariants as names
 use Rattle.gx_types.specs.declared.shape.Shape.{Shape}
@@ -13,8 +11,6 @@ use Rattle.gx_types.specs.Derivation.{bases_of}
 use Rattle.gx_types.specs.Grounded.{Grounded}
 use Rattle.gx_types.specs.SequenceType.{SequenceType}
 use Rattle.gx_types.specs.Takes.{Takes, EachShape}
-use Rattle.gx_tree.specs.declared.attribute.Attribute.{Attribute}
-use Rattle.gx_tree.specs.PlainTree.{PlainTree, PlainTrees, document, element, attribute, text, no_trees, a_tree}
 use Rattle.gx_model.specs.Forest.{Forest, PlainNode, IsHonest}
 use Rattle.gx_model.specs.Item.{node}
 use Rattle.gx_model.specs.Belongs.{Belongs}
@@ -22,34 +18,11 @@ use Rattle.gx_model.specs.Axes.{on_axis}
 use Rattle.gx_steptype.specs.StepType.{is_near, step_type}
 use Rattle.gx_steptype.specs.DataType.{has_data, type_of_data}
 
--- no two attributes of an element have equal names
-abbrev pub has_attribute : List Attribute → Attribute → Bool
-has_attribute others a = list_any (λ (b : Attribute). same_name a.name b.name) others
-
-abbrev pub HaveOwnNames : List Attribute → Type 0
-HaveOwnNames [] = Unit {0}
-HaveOwnNames (a ∷ others) = (has_attribute others a ≡ false) × HaveOwnNames others
-
-abbrev mutual
-  pub HasOwnNames : PlainTree → Type 0
-  HasOwnNames (document ts) = AllHaveOwnNames ts
-  HasOwnNames (element name kind attributes ts) = HaveOwnNames attributes × AllHaveOwnNames ts
-  HasOwnNames (attribute a) = Unit {0}
-  HasOwnNames (text t) = Unit {0}
-
-  pub AllHaveOwnNames : PlainTrees → Type 0
-  AllHaveOwnNames no_trees = Unit {0}
-  AllHaveOwnNames (a_tree t ts) = HasOwnNames t × AllHaveOwnNames ts
-
-abbrev pub NamesAreDistinct : Forest → Type 0
-NamesAreDistinct [] = Unit {0}
-NamesAreDistinct (t ∷ forest) = HasOwnNames t × NamesAreDistinct forest
-
 -- from a node of a type, a step to a near axis gives nodes of the step's type, in document order
 abbrev pub StepsKeepTheirTypes : Type 0
 StepsKeepTheirTypes =
     (schemas : SchemaSet) (forest : Forest) (from : PlainNode) (axis : Axis) (test : Test) (context : SequenceType)
-    → Grounded (bases_of schemas) → IsHonest schemas forest → NamesAreDistinct forest → is_near axis ≡ true → Belongs schemas forest (node from ∷ []) context
+    → Grounded (bases_of schemas) → IsHonest schemas forest → is_near axis ≡ true → Belongs schemas forest (node from ∷ []) context
     → Belongs schemas forest (map node (on_axis schemas forest from axis test)) (step_type schemas axis test context)
 
 -- the shape of an item without a declared type: a node is untyped

@@ -164,3 +164,7 @@ step_type schemas axis test context = limited (replaced_items (item_step schemas
 -- node(), the type of one node
 abbrev pub node_type : SequenceType
 node_type = either (either (either any_document any_element) (item any_attribute)) text_item
+
+-- item(), the type of one item
+abbrev pub any_item : SequenceType
+any_item = either node_type (item (items.Atom (names.Builtin builtins.AnyAtomic)))

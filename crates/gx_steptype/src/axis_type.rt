@@ -6,7 +6,7 @@ ghost use Rattle.gx_model.specs.Axes.{is_attribute_axis};
 ghost use Rattle.gx_steptype.specs.AskedView.{kind_asked};
 ghost use Rattle.gx_steptype.specs.Replaced.{replaced_items};
 ghost use Rattle.gx_steptype.specs.TestedType.{tested_item as item_tested};
-ghost use Rattle.gx_steptype.specs.StepType.{is_near, step_type, child_type as type_of_children, parent_type as type_of_parent, node_type as type_of_node};
+ghost use Rattle.gx_steptype.specs.StepType.{is_near, step_type, child_type as type_of_children, parent_type as type_of_parent, node_type as type_of_node, any_item};
 ghost use Rattle.gx_steptype.specs.StepAnswer.{HasStepType, RefusesStep};
 
 use crate::asked::{Asked, asked_by};
@@ -127,8 +127,8 @@ fn parents_tested(
     replace(alloc, &Tested { schemas, asked }, &parent)
 }
 
-// node(), the type of one node.
-fn node_type(alloc: Global) -> Result<Ty, AllocError>
+/// `node()`, the type of one node (XQuery 1.0, section 2.5.4).
+pub fn node_type(alloc: Global) -> Result<Ty, AllocError>
     ensures { IfOk result (λ t. t ≡ type_of_node) }
 {
     let attribute = ItemType::Attribute {
@@ -143,4 +143,13 @@ fn node_type(alloc: Global) -> Result<Ty, AllocError>
         text_type(alloc)?,
     ];
     choose(alloc, &members)
+}
+
+/// `item()`, the type of one item (XQuery 1.0, section 2.5.4).
+pub fn item_type(alloc: Global) -> Result<Ty, AllocError>
+    ensures { IfOk result (λ t. t ≡ any_item) }
+{
+    let nodes = node_type(alloc)?;
+    let atoms = Ty::of_item(alloc, ItemType::Atom(TypeName::Builtin(Builtin::AnyAtomic)))?;
+    choose(alloc, &[nodes, atoms])
 }

@@ -2,9 +2,8 @@
 
 ghost use Rattle.gx_steptype.specs.StepLaws.{StepsKeepTheirTypes, DataKeepsItsType};
 
-/// In an honest forest, which has no types of its nodes as yet, and where no two attributes of an element have equal names: from a
-/// node of a type, a step to a child, an attribute, the node itself or the parent gives nodes of the step's type. The types of the
-/// schemas end at built-in ones.
+/// In an honest forest, which has no types of its nodes as yet: from a node of a type, a step to a child, an attribute, the node
+/// itself or the parent gives nodes of the step's type. The types of the schemas end at built-in ones.
 pub fn steps_keep_their_types()
     ensures { StepsKeepTheirTypes }
 {}

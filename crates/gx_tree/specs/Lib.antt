@@ -5,3 +5,4 @@ pub mod TreeParts
 pub mod Erasure
 pub mod StringValue
 pub mod Binding
+pub mod OwnNames

@@ -17,3 +17,4 @@ pub mod SoundLemmas
 pub mod OneReading
 pub mod CodeLemmas
 pub mod SomeReading
+pub mod UntypedDocuments

@@ -1,5 +1,6 @@
 -- The tree of a document without types.
-use Rattle.std.specs.Prelude.{map}
+use Rattle.std.specs.Prelude.{ℕ, Bool, List, [], ◌∷◌, codes, bytes_eq, if◌then◌else◌}
+use Rattle.std.specs.Str.{encode_utf8_all}
 use Rattle.gx_base.specs.declared.type_name.Builtin.TheVariants.{Untyped, UntypedAtomic}
 use Rattle.gx_base.specs.declared.type_name.TypeName.TheVariants.{Builtin}
 use Rattle.gx_tree.specs.declared.attribute.Attribute.{Attribute}
@@ -12,10 +13,19 @@ use Rattle.gx_xml.specs.SourceTree.{SourceTree, SourceContents, source, no_conte
 abbrev pub attribute_as_untyped : SourceAttribute → Attribute
 attribute_as_untyped a = record { name = a.name; kind = Builtin UntypedAtomic; value = a.value }
 
+-- the namespace of attributes that speak of schemas, as `xsi:type` does (XML Schema 1.0, part 1, section 2.6)
+unfoldable pub is_instance_namespace : List ℕ → Bool
+is_instance_namespace uri = bytes_eq (encode_utf8_all uri) (codes "http://www.w3.org/2001/XMLSchema-instance")
+
+-- those of that namespace are not kept
+abbrev pub untyped_attributes : List SourceAttribute → List Attribute
+untyped_attributes [] = []
+untyped_attributes (a ∷ others) = if is_instance_namespace a.name.uri then untyped_attributes others else attribute_as_untyped a ∷ untyped_attributes others
+
 -- the element with xs:untyped on every element and xs:untypedAtomic on every attribute
 abbrev mutual
   pub untyped_element : SourceTree → PlainTree
-  untyped_element (source name declarations attributes cs) = element name (Builtin Untyped) (map attribute_as_untyped attributes) (untyped_contents cs)
+  untyped_element (source name declarations attributes cs) = element name (Builtin Untyped) (untyped_attributes attributes) (untyped_contents cs)
 
   pub untyped_contents : SourceContents → PlainTrees
   untyped_contents no_content = no_trees

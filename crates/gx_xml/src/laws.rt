@@ -7,6 +7,10 @@ ghost use Rattle.gx_xml.specs.Nodes.{rooted};
 ghost use Rattle.gx_xml.specs.Reading.{IsDocumentOf, IsDocumentRefusal};
 ghost use Rattle.gx_xml.specs.Sound.{IsSoundSource, source_depth};
 ghost use Rattle.gx_xml.specs.SourceTree.{SourceTree};
+ghost use Rattle.gx_xml.specs.Untyped.{untyped_document};
+ghost use Rattle.gx_tree.specs.Erasure.{IsUntyped};
+ghost use Rattle.gx_tree.specs.OwnNames.{HasOwnNames};
+ghost use Rattle.gx_tree.specs.PlainTree.{IsProper};
 ghost use Rattle.gx_xml.specs.declared.refusal.XmlRefusal.TheVariants.{Refused};
 ghost use Rattle.gx_xml.specs.declared.refusal.XmlRule.{XmlRule};
 ghost use Rattle.std.specs.Prelude.{◌≡◌, ◌≤◌, ◌⊎◌, ℕ, List, []};
@@ -34,4 +38,13 @@ pub fn documents_are_read()
 pub fn documents_are_sound()
     ensures sound { (text : List ℕ) (t : SourceTree) → Derives documents whole_document (rooted t) text [] → IsSoundSource t }
     ensures depth { (text : List ℕ) (t : SourceTree) → Derives documents whole_document (rooted t) text [] → source_depth t ≤ 200 }
+{}
+
+/// The tree of a document without types has elements and texts alone below the document node, each element is xs:untyped and each
+/// attribute xs:untypedAtomic, and no two attributes of an element have equal names (XQuery 1.0 and XPath 2.0 Data Model,
+/// sections 6.1 to 6.3).
+pub fn untyped_documents_are_sound()
+    ensures proper { (root : SourceTree) → IsProper (untyped_document root) }
+    ensures untyped { (root : SourceTree) → IsUntyped (untyped_document root) }
+    ensures names { (bytes : List ℕ) (root : SourceTree) → IsDocumentOf bytes root → HasOwnNames (untyped_document root) }
 {}

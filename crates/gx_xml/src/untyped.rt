@@ -1,16 +1,18 @@
 // Documents without types.
 
-ghost use Rattle.gx_xml.specs.Untyped.{attribute_as_untyped, untyped_child, untyped_document, untyped_element};
+ghost use Rattle.gx_xml.specs.Untyped.{is_instance_namespace, untyped_attributes, untyped_child, untyped_document, untyped_element};
 ghost use Rattle.std.specs.Prelude.{◌≡◌, IfOk, map};
 
 use crate::source::{Source, SourceAttribute, SourceChild, SourceElement};
+use gx_base::text::Text;
 use gx_base::type_name::{Builtin, TypeName};
 use gx_tree::attribute::Attribute;
 use gx_tree::tree::{Tree, TreeNode};
 use std::alloc::{AllocError, Global};
 
 /// The document node over the tree, with xs:untyped on every element and xs:untypedAtomic on every attribute (XQuery 1.0 and
-/// XPath 2.0 Data Model, sections 6.1 to 6.3).
+/// XPath 2.0 Data Model, sections 6.1 to 6.3), without the attributes of schema instances, as `xsi:type` (XML Schema 1.0, part 1,
+/// section 2.6).
 pub fn untyped(alloc: Global, source: &Source) -> Result<Tree, AllocError>
     ensures { IfOk result (λ t. t ≡ untyped_document source.now.root) }
 {
@@ -30,7 +32,7 @@ fn untyped_element(alloc: Global, element: &SourceElement) -> Result<Tree, Alloc
         node: TreeNode::Element {
             name: element.name.clone()?,
             kind: TypeName::Builtin(Builtin::Untyped),
-            attributes: untyped_attributes(alloc, &element.attributes)?,
+            attributes: untyped_attributes(alloc, element.attributes.as_slice())?,
             children: untyped_contents(alloc, &element.children)?,
         },
     })
@@ -59,19 +61,31 @@ fn untyped_child(alloc: Global, child: &SourceChild) -> Result<Tree, AllocError>
     }
 }
 
+// The attributes, without those that speak of schemas.
 fn untyped_attributes(
     alloc: Global,
-    attributes: &Vec<SourceAttribute>,
+    attributes: &[SourceAttribute],
 ) -> Result<Vec<Attribute>, AllocError>
-    ensures { IfOk result (λ copies. copies.items ≡ map attribute_as_untyped attributes.now.items) }
+    ensures { IfOk result (λ copies. copies.items ≡ untyped_attributes attributes.now) }
 {
     let mut copies = Vec::with_capacity(alloc, attributes.len())?;
-    for attribute in attributes {
-        copies.push(Attribute {
-            name: attribute.name.clone()?,
-            kind: TypeName::Builtin(Builtin::UntypedAtomic),
-            value: attribute.value.clone()?,
-        })?;
+    let mut left = attributes;
+    while let Some((attribute, others)) = left.split_first() {
+        if !is_instance_namespace(&attribute.name.uri) {
+            copies.push(Attribute {
+                name: attribute.name.clone()?,
+                kind: TypeName::Builtin(Builtin::UntypedAtomic),
+                value: attribute.value.clone()?,
+            })?;
+        }
+        left = others;
     }
     Ok(copies)
+}
+
+#[tactic(auto, unfolding(crate::specs::Untyped::is_instance_namespace))]
+fn is_instance_namespace(uri: &Text) -> bool
+    ensures { result ≡ is_instance_namespace uri.now }
+{
+    uri.as_str() == "http://www.w3.org/2001/XMLSchema-instance"
 }

@@ -1,27 +1,23 @@
-use Rattle.std.proofs.Common.{◌≡◌, ◌∷◌, [], Some, None, Ok, Err, ◌∙◌, sym, ap, subst}
-use Rattle.gx_facets.specs.declared.Atomic.{Atomic}
-use Rattle.gx_atomic.specs.Comparison.{Decision, general_comparison}
-use Rattle.gx_model.specs.Item.{Items, atom}
+use Rattle.std.proofs.Common.{◌≡◌, [], ◌∷◌, IfOk, IfErr, ap, sym, subst, ◌∙◌}
+use Rattle.gx_model.specs.Item.{Items, atom, atoms}
 use Rattle.gx_core.specs.Outcome.{Outcome, gives}
-use Rattle.gx_core.specs.Comparing.{decided, cast_failure}
-use Rattle.gx_eval.specs.declared.failure.Failure.{Failure}
+use Rattle.gx_core.specs.Comparing.{generally_compared}
 use Rattle.gx_eval.specs.Failing.{FailsSo}
-use Rattle.gx_eval.proofs.Operands.{general_is, failing_cast}
+use Rattle.gx_eval.proofs.Operands.{only_atom_is}
 use Rattle.gx_eval.proofs.comparison.generally_compared.Goals as goal
 
-pub returns-in-Some-Ok-clause-value : goal.returns-in-Some-Ok-clause-value
-returns-in-Some-Ok-clause-value c = λ forest.
-    let d : general_comparison c.args.op c.args.left.now c.args.right.now ≡ Some (Ok c.in-Some-Ok.truth) = cc in
-    general_is c.args.op c.args.left.now c.args.right.now forest ∙ ap (λ (d : Decision). decided d forest) d ∙ ap (λ (a : Atomic). gives (atom a ∷ []) forest) (sym c.truth_atom.ensures)
+pub returns-in-Some-Some-clause-value : goal.returns-in-Some-Some-clause-value
+returns-in-Some-Some-clause-value c = λ forest.
+    let l : c.args.left.now ≡ atoms c.from_ref.result.now = only_atom_is c.args.left.now c.in-Some-Some.left.now (sym c.in-Some-Some.ensures) ∙ ap atoms (sym c.from_ref.ensures.value) in
+    let r : c.args.right.now ≡ atoms c.from_ref-in-Some-Some.result.now = only_atom_is c.args.right.now c.in-Some-Some.right.now (sym c.in-Some-Some.ensures') ∙ ap atoms (sym c.from_ref-in-Some-Some.ensures.value) in
+    subst (λ (o : Outcome Items). IfOk c.compared_lists.result (λ r. o ≡ gives (atom r ∷ []) forest))
+    (sym (ap (λ (xs : Items). generally_compared c.args.op xs c.args.right.now forest) l ∙ ap (λ (ys : Items). generally_compared c.args.op (atoms c.from_ref.result.now) ys forest) r))
+    (c.compared_lists.ensures.value forest)
 
-pub returns-in-Some-Err-clause-failed : goal.returns-in-Some-Err-clause-failed
-returns-in-Some-Err-clause-failed c = λ forest.
-    let d : general_comparison c.args.op c.args.left.now c.args.right.now ≡ Some (Err c.in-Some-Err.error) = cc in
-    subst (λ (o : Outcome Items). FailsSo c.cast_failure.result o)
-    (sym (general_is c.args.op c.args.left.now c.args.right.now forest ∙ ap (λ (d : Decision). decided d forest) d))
-    (subst (λ (f : Failure). FailsSo f (cast_failure c.in-Some-Err.error)) (sym c.cast_failure.ensures) (failing_cast c.in-Some-Err.error))
-
-pub returns-in-None-clause-failed : goal.returns-in-None-clause-failed
-returns-in-None-clause-failed c = λ forest.
-    let d : general_comparison c.args.op c.args.left.now c.args.right.now ≡ None = cc in
-    general_is c.args.op c.args.left.now c.args.right.now forest ∙ ap (λ (d : Decision). decided d forest) d
+pub returns-in-Some-Some-clause-failed : goal.returns-in-Some-Some-clause-failed
+returns-in-Some-Some-clause-failed c = λ forest.
+    let l : c.args.left.now ≡ atoms c.from_ref.result.now = only_atom_is c.args.left.now c.in-Some-Some.left.now (sym c.in-Some-Some.ensures) ∙ ap atoms (sym c.from_ref.ensures.value) in
+    let r : c.args.right.now ≡ atoms c.from_ref-in-Some-Some.result.now = only_atom_is c.args.right.now c.in-Some-Some.right.now (sym c.in-Some-Some.ensures') ∙ ap atoms (sym c.from_ref-in-Some-Some.ensures.value) in
+    subst (λ (o : Outcome Items). IfErr c.compared_lists.result (λ e. FailsSo e o))
+    (sym (ap (λ (xs : Items). generally_compared c.args.op xs c.args.right.now forest) l ∙ ap (λ (ys : Items). generally_compared c.args.op (atoms c.from_ref.result.now) ys forest) r))
+    (c.compared_lists.ensures.failed forest)

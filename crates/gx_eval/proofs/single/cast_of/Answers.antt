@@ -1,17 +1,7 @@
-use Rattle.std.proofs.Common.{Result, ap, sym, subst}
-use Rattle.gx_facets.specs.declared.Atomic.{Atomic}
-use Rattle.gx_atomic.specs.declared.casting.CastError.{CastError}
-use Rattle.gx_atomic.specs.Cast.{cast_of}
-use Rattle.gx_core.specs.Casting.{cast_outcome}
-use Rattle.gx_eval.specs.declared.failure.Failure.{Failure}
-use Rattle.gx_eval.specs.Failing.{FailsSo}
-use Rattle.gx_eval.proofs.Operands.{failed_cast}
 use Rattle.gx_eval.proofs.single.cast_of.Goals as goal
 
-pub returns-in-Ok-clause-value : goal.returns-in-Ok-clause-value
-returns-in-Ok-clause-value c = λ schemas forest. ap (λ (r : Result Atomic CastError). cast_outcome r forest) (c.in-Ok.ensures schemas)
+pub returns-in-Atom-clause-value : goal.returns-in-Atom-clause-value
+returns-in-Atom-clause-value c = λ schemas optional forest. rw (← c.item.view_is, c.in-Atom.is) (c.cast_of_atom.ensures.value schemas forest)
 
-pub returns-in-Err-clause-failed : goal.returns-in-Err-clause-failed
-returns-in-Err-clause-failed c = λ schemas forest.
-    subst (λ (f : Failure). FailsSo f (cast_outcome (cast_of schemas c.args.value.now c.args.kind.now) forest)) (sym c.cast_failure.ensures)
-    (failed_cast c.in-Err.error (cast_of schemas c.args.value.now c.args.kind.now) forest (c.in-Err.ensures schemas))
+pub returns-in-Atom-clause-failed : goal.returns-in-Atom-clause-failed
+returns-in-Atom-clause-failed c = λ schemas optional forest. rw (← c.item.view_is, c.in-Atom.is) (c.cast_of_atom.ensures.failed schemas forest)

@@ -1,11 +1,9 @@
-use Rattle.std.proofs.Common.{ap, sym, ◌∙◌}
-use Rattle.std.specs.Prelude.{is_ok}
-use Rattle.gx_funcs.specs.Function.{truth_atom}
-use Rattle.gx_atomic.specs.Cast.{cast_of}
+use Rattle.std.proofs.Common.{[], ◌∷◌, ap, sym}
+use Rattle.gx_facets.specs.declared.Atomic.{Atomic}
+use Rattle.gx_model.specs.Item.{atom}
+use Rattle.gx_core.specs.Outcome.{gives}
 use Rattle.gx_eval.proofs.single.castability.Goals as goal
 
 pub returns-in-Ok-clause-value : goal.returns-in-Ok-clause-value
-returns-in-Ok-clause-value c = λ schemas. c.with_cast.ensures ∙ ap truth_atom (sym (ap is_ok (c.in-Ok.ensures schemas)))
-
-pub returns-in-Err-clause-value : goal.returns-in-Err-clause-value
-returns-in-Err-clause-value c = λ schemas. c.without_cast.ensures.value (cast_of schemas c.args.value.now c.args.kind.now) (c.in-Err.ensures schemas)
+returns-in-Ok-clause-value c = λ schemas optional forest.
+    rw (← c.item.view_is, c.in-Atom.is) (ap (λ (a : Atomic). gives (atom a ∷ []) forest) (sym (c.in-Ok.ensures.value schemas)))

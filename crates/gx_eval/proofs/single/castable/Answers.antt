@@ -1,13 +1,18 @@
-use Rattle.std.proofs.Common.{◌≡◌, ◌∷◌, [], List, length, arith, ap, sym, ◌∙◌}
-use Rattle.gx_facets.specs.declared.Atomic.{Atomic}
-use Rattle.gx_model.specs.Item.{atom, atoms}
-use Rattle.gx_core.specs.Outcome.{gives}
+use Rattle.std.proofs.Common.{◌≡◌, length, arith, ap, sym, subst, ◌∙◌}
+use Rattle.gx_model.specs.Item.{Items}
 use Rattle.gx_core.specs.Casting.{castable_items}
+use Rattle.gx_eval.specs.Failing.{FailsSo}
 use Rattle.gx_eval.proofs.Operands.{the_single}
 use Rattle.gx_eval.proofs.single.castable.Goals as goal
 
-pub returns-in_ok-castability-in-len1-clause-value : goal.returns-in_ok-castability-in-len1-clause-value
-returns-in_ok-castability-in-len1-clause-value c = λ schemas forest.
+pub returns-in-Ok-clause-value : goal.returns-in-Ok-clause-value
+returns-in-Ok-clause-value c = λ schemas forest.
     let l : length c.args.operand.now ≡ 1 = omega arith in
-    ap (λ (xs : List Atomic). castable_items schemas c.args.kind.now c.args.allows_empty (atoms xs) forest) (the_single c.args.operand.now c.x-item.result l c.x-item.is)
-    ∙ ap (λ (a : Atomic). gives (atom a ∷ []) forest) (sym (c.in_ok-castability-in-len1.ensures.value schemas))
+    ap (λ (xs : Items). castable_items schemas c.args.kind.now c.args.allows_empty xs forest) (the_single c.args.operand.now c.x-item.result l c.x-item.is)
+    ∙ c.in-Ok.ensures.value schemas c.args.allows_empty forest
+
+pub returns-in-Err-clause-failed : goal.returns-in-Err-clause-failed
+returns-in-Err-clause-failed c = λ schemas forest.
+    let l : length c.args.operand.now ≡ 1 = omega arith in
+    subst (λ (xs : Items). FailsSo c.in-Err.failure (castable_items schemas c.args.kind.now c.args.allows_empty xs forest)) (sym (the_single c.args.operand.now c.x-item.result l c.x-item.is))
+    (c.in-Err.ensures.failed schemas c.args.allows_empty forest)

@@ -1,4 +1,4 @@
-use Rattle.std.proofs.Common.{◌≡◌, [], ◌∷◌}
+use Rattle.std.proofs.Common.{◌≡◌, [], ◌∷◌, None}
 use Rattle.gx_normal.specs.Normalisation.{core_of}
 use Rattle.gx_normal.specs.Normalising.{left_of}
 use Rattle.gx_normal.proofs.normalise.expression.Given as goal
@@ -6,4 +6,5 @@ use Rattle.gx_normal.proofs.normalise.expression.Given as goal
 -- what is left comes to the Core of the tree
 abbrev pub invariant-loop : goal.invariant-loop
 invariant-loop l =
-    left_of l.normalising ≡ record { made = ((core_of l.fn.tree l.fn.numbers l.fn.free).0 ∷ []) ∷ []; numbers = l.fn.numbers; free = (core_of l.fn.tree l.fn.numbers l.fn.free).1 }
+    left_of l.normalising
+    ≡ record { made = ((core_of l.fn.tree l.fn.numbers None l.fn.free).0 ∷ []) ∷ []; numbers = l.fn.numbers; focus = None; free = (core_of l.fn.tree l.fn.numbers None l.fn.free).1 }

@@ -1,5 +1,5 @@
-use Rattle.gx_processor.proofs.AnswerLemmas.{answer_elsewhere}
+use Rattle.gx_processor.proofs.LoadLaws.{answers_look_at_their_loads}
 use Rattle.gx_processor.proofs.laws.answers_look_at_their_loads.Goals as goal
 
 pub returns : goal.returns
-returns c = answer_elsewhere
+returns c = answers_look_at_their_loads

@@ -1,24 +1,46 @@
-use Rattle.std.proofs.Common.{ap, string_bytes}
+use Rattle.std.proofs.Common.{subst}
 use Rattle.gx_core.specs.QueryMeaning.{plain_query}
-use Rattle.gx_processor.specs.Answer.{writes}
-use Rattle.gx_processor.specs.Command.{run_file, check_file}
-use Rattle.gx_processor.proofs.QueryLemmas.{typed_writes, typed_output, typed_refused}
+use Rattle.gx_io.specs.LibraryUse.{library_use}
+use Rattle.gx_processor.specs.Command.{query_file}
+use Rattle.gx_processor.specs.CommandView.{plain_command}
+use Rattle.gx_processor.proofs.CommandLoads.{query_refusal_loads, query_cause}
+use Rattle.gx_processor.proofs.QueryLemmas.{typed_output, typed_refused, query_refused}
+use Rattle.gx_processor.proofs.TypedOutput.{typed_loads, typed_answers_so, typed_cause}
 use Rattle.gx_processor.proofs.output.output.Goals as goal
 
-pub returns-in-Run-clause-output : goal.returns-in-Run-clause-output
-returns-in-Run-clause-output g c =
-    let named = rw c.in-Run.is at c.file.ensures in
-    let held = rw named at c.in_ok-query.ensures.query in
-    rw c.in-Run.is (typed_output (g.L.Library.files c.args.library.now) (run_file c.in-Run.field-0.now) (plain_query c.in_ok-query.query) c.in_ok-query.query c.value_text.result held c.in_ok-query.ensures.typed c.value_text.ensures.output)
+pub returns-in-Ok-clause-loads : goal.returns-in-Ok-clause-loads
+returns-in-Ok-clause-loads g c =
+    let library = library_use g.L.Library.files g.L.Library.faults g.L.Library.was_loaded c.args.library.now c.typed_output.new.library in
+    let command = plain_command c.args.command in
+    typed_loads library c.typed_query.new.library command c.in-Ok.query c.typed_output.result (rw c.file.ensures at c.typed_query.ensures.loads) c.typed_query.ensures.told c.typed_query.ensures.counted (rw c.file.ensures at c.in-Ok.ensures.query) c.in-Ok.ensures.typed
+    c.typed_output.ensures.typed
 
-pub returns-in-Run-clause-refused : goal.returns-in-Run-clause-refused
-returns-in-Run-clause-refused g c =
-    let named = rw c.in-Run.is at c.file.ensures in
-    let held = rw named at c.in_ok-query.ensures.query in
-    rw c.in-Run.is (typed_refused (g.L.Library.files c.args.library.now) (run_file c.in-Run.field-0.now) (plain_query c.in_ok-query.query) c.in_ok-query.query c.value_text.result held c.in_ok-query.ensures.typed c.value_text.ensures.refused)
+pub returns-in-Ok-clause-output : goal.returns-in-Ok-clause-output
+returns-in-Ok-clause-output g c =
+    let library = library_use g.L.Library.files g.L.Library.faults g.L.Library.was_loaded c.args.library.now c.typed_output.new.library in
+    let command = plain_command c.args.command in
+    typed_output (g.L.Library.files c.args.library.now) command (plain_query c.in-Ok.query) c.in-Ok.query c.typed_output.result (rw c.file.ensures at c.in-Ok.ensures.query) c.in-Ok.ensures.typed
+    (typed_answers_so library c.typed_query.new.library command c.in-Ok.query c.typed_output.result c.typed_query.ensures.told c.typed_output.ensures.typed)
 
-pub returns-in_ok-type_text-in-Check-clause-output : goal.returns-in_ok-type_text-in-Check-clause-output
-returns-in_ok-type_text-in-Check-clause-output g c =
-    let named = rw c.in-Check.is at c.file.ensures in
-    let held = rw named at c.in_ok-query.ensures.query in
-    rw c.in-Check.is (typed_writes (g.L.Library.files c.args.library.now) (check_file c.in-Check.field-0.now) (plain_query c.in_ok-query.query) c.in_ok-query.query (string_bytes c.in_ok-type_text-in-Check.field-0) held c.in_ok-query.ensures.typed (ap writes c.in_ok-type_text-in-Check.ensures))
+pub returns-in-Ok-clause-refused : goal.returns-in-Ok-clause-refused
+returns-in-Ok-clause-refused g c =
+    let library = library_use g.L.Library.files g.L.Library.faults g.L.Library.was_loaded c.args.library.now c.typed_output.new.library in
+    let command = plain_command c.args.command in
+    typed_refused (g.L.Library.files c.args.library.now) command (plain_query c.in-Ok.query) c.in-Ok.query c.typed_output.result (rw c.file.ensures at c.in-Ok.ensures.query) c.in-Ok.ensures.typed
+    (typed_answers_so library c.typed_query.new.library command c.in-Ok.query c.typed_output.result c.typed_query.ensures.told c.typed_output.ensures.typed)
+
+pub returns-in-Ok-clause-cause : goal.returns-in-Ok-clause-cause
+returns-in-Ok-clause-cause g c =
+    let library = library_use g.L.Library.files g.L.Library.faults g.L.Library.was_loaded c.args.library.now c.typed_output.new.library in
+    typed_cause library c.typed_query.new.library (plain_command c.args.command) c.in-Ok.query c.typed_output.result c.typed_output.ensures.typed
+
+pub returns-in-Err-clause-loads : goal.returns-in-Err-clause-loads
+returns-in-Err-clause-loads g c =
+    let library = library_use g.L.Library.files g.L.Library.faults g.L.Library.was_loaded c.args.library.now c.typed_query.new.library in
+    query_refusal_loads library (plain_command c.args.command) c.in-Err.refusal (rw c.file.ensures at c.typed_query.ensures.loads) c.in-Err.ensures.cause (rw c.file.ensures at c.in-Err.ensures.refused)
+
+pub returns-in-Err-clause-refused : goal.returns-in-Err-clause-refused
+returns-in-Err-clause-refused g c = query_refused (g.L.Library.files c.args.library.now) (plain_command c.args.command) c.in-Err.refusal (rw c.file.ensures at c.in-Err.ensures.refused)
+
+pub returns-in-Err-clause-cause : goal.returns-in-Err-clause-cause
+returns-in-Err-clause-cause g c = query_cause _ _ c.in-Err.refusal c.in-Err.ensures.cause

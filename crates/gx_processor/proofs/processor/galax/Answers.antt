@@ -12,5 +12,12 @@ returns g c =
       out = record { Sink = g.row.O.Denot; before = c.args.out.now; after = c.finish.new.out; written = g.O.Sink.written; faults = g.O.Sink.faults; was_put = g.O.Sink.was_put };
       err = record { Sink = g.row.E.Denot; before = c.args.err.now; after = c.finish.new.err; written = g.E.Sink.written; faults = g.E.Sink.faults; was_put = g.E.Sink.was_put };
     } in
-    promised run c.reply_to-reply.result c.query_typing_is_sound.ensures c.sound_queries_keep_their_types.ensures c.query_rejection_names_a_failure.ensures
+    promised run c.reply_to-reply.result
+    (record {
+      sound = c.query_typing_is_sound.ensures;
+      keep = c.sound_queries_keep_their_types.ensures;
+      names = c.query_rejection_names_a_failure.ensures;
+      honest = c.documents_are_honest.ensures;
+      untyped = c.named_queries_have_untyped_documents.ensures;
+    })
     (record { formed = c.reply_to-reply.ensures.cause; usage = c.reply_to-reply.ensures.usage; ends = c.finish.ensures; answers = c.reply_to-reply.ensures.answer; loads = c.reply_to-reply.ensures.loads })

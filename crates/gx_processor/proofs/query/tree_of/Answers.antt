@@ -11,6 +11,6 @@ pub returns-in-Ok-clause-refused : goal.returns-in-Ok-clause-refused
 returns-in-Ok-clause-refused c = built_refused c.args.bytes.now c.in-Ok.tree c.built.result c.in-Ok.ensures.tree c.built.ensures.refused
 
 pub returns-in-Err-Refused-clause-refused : goal.returns-in-Err-Refused-clause-refused
-returns-in-Err-Refused-clause-refused c = λ command.
+returns-in-Err-Refused-clause-refused c = λ files command.
     rw (c.in-Err-Refused.place-is, c.rule_code-code.ensures, c.in-Err-Refused.rule-is)
     (refused c.in-Err-Refused.rule c.in-Err-Refused.place, subst (λ (e : SyntaxRefusal). RefusesBytes e c.args.bytes.now) c.in-Err-Refused.field-0-is c.in-Err-Refused.ensures.refused, refl)

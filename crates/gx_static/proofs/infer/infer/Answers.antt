@@ -2,4 +2,4 @@ use Rattle.gx_static.proofs.QueryLaws.{sound_if_typed}
 use Rattle.gx_static.proofs.infer.infer.Goals as goal
 
 pub returns-clause-sound : goal.returns-clause-sound
-returns-clause-sound c = sound_if_typed c.args.schemas.now c.args.core c.typed_core.result c.typed_core.ensures.typed
+returns-clause-sound c = sound_if_typed c.args.schemas.now c.args.core c.types-types.ensures.invariant c.typed_core.result c.typed_core.ensures.typed

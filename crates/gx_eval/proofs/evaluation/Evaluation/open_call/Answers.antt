@@ -9,13 +9,13 @@ use Rattle.gx_eval.proofs.Operands.{the_single}
 use Rattle.gx_eval.proofs.evaluation.Evaluation.open_call.Goals as goal
 
 pub returns-in-len1-clause-value : goal.returns-in-len1-clause-value
-returns-in-len1-clause-value c = λ k forest.
+returns-in-len1-clause-value c = λ k.
     let l : length c.args.arguments.now ≡ 1 = omega arith in
-    subst (λ (es : List TypedExpression). OnOk c.open_single.result (outcome_of k forest c.open_single.new.self ≡ outcome_behind k forest (denoted k (operators.Call c.args.function) (map (meaning k) es) (items_of c.args.self.now.scope) forest) c.args.self.now))
-    (sym (the_single c.args.arguments.now c.argument-item.result l c.argument-item.is)) (c.open_single.ensures.value k forest)
+    subst (λ (es : List TypedExpression). OnOk c.open_single.result (outcome_of k c.args.forest.now c.open_single.new.self ≡ outcome_behind k c.args.forest.now (denoted k (operators.Call c.args.function) (map (meaning k) es) (items_of c.args.self.now.scope) c.args.forest.now) c.args.self.now))
+    (sym (the_single c.args.arguments.now c.argument-item.result l c.argument-item.is)) (c.open_single.ensures.value k)
 
 pub returns-in-len1-clause-failed : goal.returns-in-len1-clause-failed
-returns-in-len1-clause-failed c = λ k forest.
+returns-in-len1-clause-failed c = λ k.
     let l : length c.args.arguments.now ≡ 1 = omega arith in
-    subst (λ (es : List TypedExpression). IfErr c.open_single.result (λ e. FailsSo e (outcome_behind k forest (denoted k (operators.Call c.args.function) (map (meaning k) es) (items_of c.args.self.now.scope) forest) c.args.self.now)))
-    (sym (the_single c.args.arguments.now c.argument-item.result l c.argument-item.is)) (c.open_single.ensures.failed k forest)
+    subst (λ (es : List TypedExpression). IfErr c.open_single.result (λ e. FailsSo e (outcome_behind k c.args.forest.now (denoted k (operators.Call c.args.function) (map (meaning k) es) (items_of c.args.self.now.scope) c.args.forest.now) c.args.self.now)))
+    (sym (the_single c.args.arguments.now c.argument-item.result l c.argument-item.is)) (c.open_single.ensures.failed k)

@@ -1,6 +1,6 @@
 use Rattle.std.proofs.Common.{refl}
 use Rattle.gx_core.specs.declared.operator.Operator.TheVariants as operators
-use Rattle.gx_static.proofs.Continuing.{single_opens, pair_opens, conditional_opens, call_opens, let_opens}
+use Rattle.gx_static.proofs.Continuing.{single_opens, pair_opens, conditional_opens, call_opens, for_opens, let_opens}
 use Rattle.gx_static.proofs.typing.Typing.open.Goals as goal
 
 pub returns-in-Seq : goal.returns-in-Seq
@@ -89,3 +89,33 @@ returns-in-Neg c = λ schemas.
       ← single_opens schemas (operators.Neg) (λ before. refl) refl c.args.self.now.tasks c.args.self.now.parts c.args.self.now.scope c.args.self.now.declared.items c.expression.inside.place c.expression.inside.outer c.in-Neg.operand.value,
     )
     (c.open_single-in-Neg.ensures schemas)
+
+pub returns-in-For : goal.returns-in-For
+returns-in-For c = λ schemas.
+    rw (
+      ← c.expression.view_is,
+      c.in-For.is,
+      ← for_opens schemas c.args.self.now.tasks c.args.self.now.parts c.args.self.now.scope c.args.self.now.declared.items c.expression.inside.place c.expression.inside.outer c.in-For.binder c.in-For.source.value c.in-For.body.value,
+    )
+    (c.open_for.ensures schemas)
+
+pub returns-in-Step : goal.returns-in-Step
+returns-in-Step c = λ schemas. rw (← c.expression.view_is, c.in-Step.is) (c.open_leaf-in-Step.ensures schemas)
+
+pub returns-in-Nodes : goal.returns-in-Nodes
+returns-in-Nodes c = λ schemas.
+    rw (
+      ← c.expression.view_is,
+      c.in-Nodes.is,
+      ← single_opens schemas (operators.Nodes) (λ before. refl) refl c.args.self.now.tasks c.args.self.now.parts c.args.self.now.scope c.args.self.now.declared.items c.expression.inside.place c.expression.inside.outer c.in-Nodes.operand.value,
+    )
+    (c.open_single-in-Nodes.ensures schemas)
+
+pub returns-in-Order : goal.returns-in-Order
+returns-in-Order c = λ schemas.
+    rw (
+      ← c.expression.view_is,
+      c.in-Order.is,
+      ← single_opens schemas (operators.Order) (λ before. refl) refl c.args.self.now.tasks c.args.self.now.parts c.args.self.now.scope c.args.self.now.declared.items c.expression.inside.place c.expression.inside.outer c.in-Order.operand.value,
+    )
+    (c.open_single-in-Order.ensures schemas)

@@ -1,0 +1,3 @@
+pub mod Words
+pub mod DocumentTrees
+pub mod ReadLemmas

@@ -1,0 +1,5 @@
+pub mod Bindings
+pub mod Documents
+pub mod BindingView
+pub mod Reading
+pub mod Laws

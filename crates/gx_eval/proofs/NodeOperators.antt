@@ -1,0 +1,113 @@
+-- Operators over nodes.
+use Rattle.std.proofs.Common.{◌≡◌, ℕ, Bool, true, false, if◌then◌else◌, List, [], ◌∷◌, ◌++◌, map, take, drop, append_assoc, Option, None, Some, refl, sym, ◌∙◌, ap}
+use Rattle.std.specs.List.{list_all, list_any}
+use Rattle.std.specs.Option.{option_map}
+use Rattle.std.proofs.lemmas.List.{take-append-drop}
+use Rattle.gx_types.specs.declared.step.Axis.{Axis}
+use Rattle.gx_types.specs.declared.step.Test.{Test}
+use Rattle.gx_types.specs.SchemaSet.{SchemaSet}
+use Rattle.gx_model.specs.Forest.{Forest, PlainNode}
+use Rattle.gx_model.specs.Item.{Item, atom, node, Items}
+use Rattle.gx_model.specs.Axes.{on_axis}
+use Rattle.gx_model.specs.DocumentOrder.{in_document_order}
+use Rattle.gx_core.specs.declared.operator.Operator.{Operator}
+use Rattle.gx_core.specs.declared.operator.Operator.TheVariants as operators
+use Rattle.gx_core.specs.Outcome.{Outcome, gives, wrong, after, given}
+use Rattle.gx_core.specs.Meaning.{Context, Bindings, Denotation, acts, atomized, denoted, joined_values, values_of_item}
+use Rattle.gx_core.specs.Paths.{is_node, places_of, put_in_order, stepped}
+use Rattle.gx_eval.specs.OneItem.{only_node}
+use Rattle.gx_eval.specs.Resume.{changed}
+
+-- ---- steps
+
+pub step_from_node : (schemas : SchemaSet) (axis : Axis) (asks : Test) (xs : Items) (forest : Forest) (place : PlainNode) → only_node xs ≡ Some place
+    → stepped schemas axis asks xs forest ≡ gives (map node (on_axis schemas forest place axis asks)) forest
+step_from_node schemas axis asks [] forest place e = absurd (cc)
+step_from_node schemas axis asks (node p ∷ []) forest place e = let same : p ≡ place = cc in ap (λ (q : PlainNode). gives (map node (on_axis schemas forest q axis asks)) forest) same
+step_from_node schemas axis asks (atom a ∷ []) forest place e = absurd (cc)
+step_from_node schemas axis asks (node p ∷ y ∷ xs) forest place e = absurd (cc)
+step_from_node schemas axis asks (atom a ∷ y ∷ xs) forest place e = absurd (cc)
+
+pub step_from_none : (schemas : SchemaSet) (axis : Axis) (asks : Test) (xs : Items) (forest : Forest) → only_node xs ≡ None → stepped schemas axis asks xs forest ≡ wrong
+step_from_none schemas axis asks [] forest e = refl
+step_from_none schemas axis asks (node p ∷ []) forest e = absurd (cc)
+step_from_none schemas axis asks (atom a ∷ []) forest e = refl
+step_from_none schemas axis asks (node p ∷ y ∷ xs) forest e = refl
+step_from_none schemas axis asks (atom a ∷ y ∷ xs) forest e = refl
+
+-- ---- typed values
+
+none_of_two : (a b : Bool) → (if a then true else b) ≡ false → (a ≡ false) × (b ≡ false)
+none_of_two true b e = absurd (cc)
+none_of_two false b e = (refl, e)
+
+pub atoms_are_typed : (forest : Forest) (xs : Items) → list_any is_node xs ≡ false → atomized forest xs ≡ Some xs
+atoms_are_typed forest [] e = refl
+atoms_are_typed forest (atom a ∷ xs) e = ap (joined_values (Some (atom a ∷ []))) (atoms_are_typed forest xs e)
+atoms_are_typed forest (node place ∷ xs) e = absurd (cc)
+
+joined_grouped : (xs ys : Items) (rest : Option Items) → joined_values (Some xs) (joined_values (Some ys) rest) ≡ joined_values (Some (xs ++ ys)) rest
+joined_grouped xs ys None = refl
+joined_grouped xs ys (Some zs) = ap (λ (v : Items). Some v) (sym (append_assoc xs ys zs))
+
+appended_is : (typed now : Items) (found : Option Items) → option_map (λ values. typed ++ values) found ≡ Some now → (more : Items) × (found ≡ Some more) × (now ≡ typed ++ more)
+appended_is typed now None e = absurd (cc)
+appended_is typed now (Some more) e = (more, refl, (cc))
+
+-- the typed values of one item more
+pub one_more_typed : (forest : Forest) (x : Item) (typed now rest : Items) → option_map (λ values. typed ++ values) (values_of_item forest x) ≡ Some now
+    → joined_values (Some now) (atomized forest rest) ≡ joined_values (Some typed) (atomized forest (x ∷ rest))
+one_more_typed forest x typed now rest e =
+    let found = appended_is typed now (values_of_item forest x) e in
+    ap (λ (v : Items). joined_values (Some v) (atomized forest rest)) found.2
+    ∙ sym (joined_grouped typed found.0 (atomized forest rest))
+    ∙ ap (λ (o : Option Items). joined_values (Some typed) (joined_values o (atomized forest rest))) (sym found.1)
+
+-- atomic values at hand are their own typed values
+pub data_at_hand : (k : Context) (forest : Forest) (operand : Denotation) (xs : Items) (bindings : Bindings) → operand bindings forest ≡ gives xs forest → list_any is_node xs ≡ false
+    → denoted k operators.DataOf (operand ∷ []) bindings forest ≡ gives xs forest
+data_at_hand k forest operand xs bindings e h =
+    ap (λ (o : Outcome Items). after (after o (λ x f. gives (x ∷ []) f)) (acts k operators.DataOf)) e ∙ ap (λ (o : Option Items). given o (λ ys. gives ys forest)) (atoms_are_typed forest xs h)
+
+-- ---- operands that are changed where they stand
+
+stays : (k : Context) (operator : Operator) (first : ℕ) (values : Items) (forest : Forest) → acts k operator (drop first values ∷ []) forest ≡ gives (drop first values) forest → changed k operator first values forest ≡ gives values forest
+stays k operator first values forest e =
+    ap (λ (o : Outcome Items). after o (λ more left. gives (take first values ++ more) left)) e ∙ ap (λ (v : Items). gives v forest) (take-append-drop first values)
+
+pub changes : (k : Context) (operator : Operator) (first : ℕ) (values more : Items) (forest : Forest) → acts k operator (drop first values ∷ []) forest ≡ gives more forest → changed k operator first values forest ≡ gives (take first values ++ more) forest
+changes k operator first values more forest e = ap (λ (o : Outcome Items). after o (λ more left. gives (take first values ++ more) left)) e
+
+pub atoms_stay : (k : Context) (first : ℕ) (values : Items) (forest : Forest) → list_any is_node (drop first values) ≡ false → changed k operators.DataOf first values forest ≡ gives values forest
+atoms_stay k first values forest h =
+    stays k operators.DataOf first values forest (ap (λ (o : Option Items). given o (λ ys. gives ys forest)) (atoms_are_typed forest (drop first values) h))
+
+pub data_changes : (k : Context) (first : ℕ) (values typed : Items) (forest : Forest) → atomized forest (drop first values) ≡ Some typed → changed k operators.DataOf first values forest ≡ gives (take first values ++ typed) forest
+data_changes k first values typed forest e = changes k operators.DataOf first values typed forest (ap (λ (o : Option Items). given o (λ ys. gives ys forest)) e)
+
+pub nodes_stay : (k : Context) (first : ℕ) (values : Items) (forest : Forest) → list_all is_node (drop first values) ≡ true → changed k operators.Nodes first values forest ≡ gives values forest
+nodes_stay k first values forest h = stays k operators.Nodes first values forest (ap (λ (b : Bool). if b then gives (drop first values) forest else wrong) h)
+
+pub others_are_wrong : (k : Context) (first : ℕ) (values : Items) (forest : Forest) → list_all is_node (drop first values) ≡ false → acts k operators.Nodes (drop first values ∷ []) forest ≡ wrong
+others_are_wrong k first values forest h = ap (λ (b : Bool). if b then gives (drop first values) forest else wrong) h
+
+pub order_stays : (k : Context) (first : ℕ) (values : Items) (forest : Forest) → put_in_order (drop first values) forest ≡ gives (drop first values) forest → changed k operators.Order first values forest ≡ gives values forest
+order_stays k first values forest e = stays k operators.Order first values forest e
+
+pub order_changes : (k : Context) (first : ℕ) (values : Items) (nodes : List PlainNode) (forest : Forest) → put_in_order (drop first values) forest ≡ gives (map node nodes) forest
+    → changed k operators.Order first values forest ≡ gives (take first values ++ map node nodes) forest
+order_changes k first values nodes forest e = changes k operators.Order first values (map node nodes) forest e
+
+-- ---- nodes in order
+
+pub nodes_ordered : (xs : Items) (forest : Forest) (nodes : List PlainNode) → list_all is_node xs ≡ true → nodes ≡ in_document_order forest (places_of xs) → put_in_order xs forest ≡ gives (map node nodes) forest
+nodes_ordered xs forest nodes h e =
+    ap (λ (b : Bool). if b then gives (map node (in_document_order forest (places_of xs))) forest else (if list_any is_node xs then wrong else gives xs forest)) h ∙ ap (λ (ns : List PlainNode). gives (map node ns) forest) (sym e)
+
+pub mixed_are_wrong : (xs : Items) (forest : Forest) → list_all is_node xs ≡ false → list_any is_node xs ≡ true → put_in_order xs forest ≡ wrong
+mixed_are_wrong xs forest h e =
+    ap (λ (b : Bool). if b then gives (map node (in_document_order forest (places_of xs))) forest else (if list_any is_node xs then wrong else gives xs forest)) h ∙ ap (λ (b : Bool). if b then wrong else gives xs forest) e
+
+pub atoms_ordered : (xs : Items) (forest : Forest) → list_all is_node xs ≡ false → list_any is_node xs ≡ false → put_in_order xs forest ≡ gives xs forest
+atoms_ordered xs forest h e =
+    ap (λ (b : Bool). if b then gives (map node (in_document_order forest (places_of xs))) forest else (if list_any is_node xs then wrong else gives xs forest)) h ∙ ap (λ (b : Bool). if b then wrong else gives xs forest) e

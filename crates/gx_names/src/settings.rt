@@ -1,0 +1,269 @@
+// The first part of a prolog.
+
+ghost use Rattle.std.specs.Prelude.{◌≡◌, ◌++◌, [], ◌∷◌, IfOk, OnOk};
+ghost use Rattle.gx_base.specs.declared.code.Code.TheVariants.{XQST0070};
+ghost use Rattle.gx_names.specs.Environment.{is_word};
+ghost use Rattle.gx_names.specs.TypeNames.{refused_if};
+ghost use Rattle.gx_names.specs.Refused.{Judges};
+ghost use Rattle.gx_names.specs.Resolution.{default_settings, setting_with, settings_with};
+ghost use Rattle.gx_names.specs.SettingRefusals.{declared_prefix_refusals, declared_with, import_prefix_refusals, imported_with, is_reserved_prefix, is_reserved_uri, namespaces_after, namespaces_with, prolog_environment, setting_refusals, settings_refusals};
+
+use crate::names::Names;
+use crate::nested_map::NestedMap;
+use crate::refusal::NameRefusal;
+use crate::tree::Settings;
+use crate::type_names::refused;
+use gx_ast::query::{SchemaPrefix, Setting, SettingNode};
+use gx_ast::sequence_type::EmptyOrder;
+use gx_base::code::Code;
+use gx_base::place::Place;
+use gx_base::text::Text;
+use gx_types::schemas::Schemas;
+use std::alloc::{AllocError, Global};
+
+// The prefixes that are declared, with the places of their declarations.
+type DeclaredPrefixes = NestedMap<Text, Place>;
+
+// The namespaces that are imported, with the places of their imports.
+type ImportedNamespaces = NestedMap<Text, Place>;
+
+/// What names stand for behind the first part of the prolog.
+pub(crate) fn prolog_names<'s>(
+    alloc: Global,
+    schemas: &'s Schemas,
+    settings: &[Setting],
+) -> Result<Names<'s>, NameRefusal>
+    ensures refusals { Judges result (settings_refusals [] [] settings.now) }
+    ensures names { IfOk result (λ n. n ≡ prolog_environment schemas.now settings.now) }
+{
+    let mut names = Names::new(alloc, schemas)?;
+    match declare_settings(alloc, &mut names, settings) {
+        Ok(()) => Ok(names),
+        Err(refusal) => Err(refusal),
+    }
+}
+
+fn declare_settings(
+    alloc: Global,
+    names: &mut Names<'_>,
+    settings: &[Setting],
+) -> Result<(), NameRefusal>
+    ensures refusals { Judges result (settings_refusals [] [] settings.now) }
+    ensures names { OnOk result (names.new ≡ record names.old { namespaces = namespaces_after settings.now names.old.namespaces }) }
+{
+    let mut declared = NestedMap::new(alloc);
+    let mut imported = NestedMap::new(alloc);
+    add_settings(alloc, names, &mut declared, &mut imported, settings)
+}
+
+#[tactic(auto, using(crate::proofs::ResolvingLemmas::refused_before))]
+fn add_settings(
+    alloc: Global,
+    names: &mut Names<'_>,
+    declared: &mut DeclaredPrefixes,
+    imported: &mut ImportedNamespaces,
+    settings: &[Setting],
+) -> Result<(), NameRefusal>
+    ensures refusals { Judges result (settings_refusals declared.old imported.old settings.now) }
+    ensures names { OnOk result (names.new ≡ record names.old { namespaces = namespaces_after settings.now names.old.namespaces }) }
+{
+    let mut left = settings;
+    while let Some((setting, others)) = left.split_first() {
+        add_setting(alloc, names, declared, imported, setting)?;
+        left = others;
+    }
+    Ok(())
+}
+
+// A declaration: what is refused of it, and else what it declares.
+fn add_setting(
+    alloc: Global,
+    names: &mut Names<'_>,
+    declared: &mut DeclaredPrefixes,
+    imported: &mut ImportedNamespaces,
+    setting: &Setting,
+) -> Result<(), NameRefusal>
+    ensures refusals { Judges result (setting_refusals declared.old imported.old setting.now.place setting.now.node) }
+    ensures names { OnOk result (names.new ≡ record names.old { namespaces = namespaces_with setting.now.node names.old.namespaces }) }
+    ensures declared { OnOk result (declared.new ≡ declared_with setting.now.place setting.now.node declared.old) }
+    ensures imported { OnOk result (imported.new ≡ imported_with setting.now.place setting.now.node imported.old) }
+{
+    check_setting(declared, imported, setting.place, &setting.node)?;
+    declare_prefix(declared, setting.place, &setting.node)?;
+    note_import(imported, setting.place, &setting.node)?;
+    Ok(bind_prefix(alloc, names, &setting.node)?)
+}
+
+#[tactic(auto, using(crate::proofs::ResolvingLemmas::refused_before))]
+fn check_setting(
+    declared: &DeclaredPrefixes,
+    imported: &ImportedNamespaces,
+    place: Place,
+    setting: &SettingNode,
+) -> Result<(), NameRefusal>
+    ensures { Judges result (setting_refusals declared.now imported.now place setting.now) }
+{
+    match setting {
+        SettingNode::Namespace(prefix, uri) => check_prefix(declared, place, &prefix.name, uri),
+        SettingNode::DefaultElementNamespace(uri) => check_default(place, uri),
+        SettingNode::Schema(prefix, uri, _) => {
+            check_import_prefix(declared, place, prefix, uri)?;
+            match imported.find(uri) {
+                Some(_) => Err(refused(place, Code::XQST0058)),
+                None => Ok(()),
+            }
+        }
+        SettingNode::BoundarySpace(_)
+        | SettingNode::Construction
+        | SettingNode::Ordering
+        | SettingNode::EmptyOrder(_)
+        | SettingNode::CopyNamespaces => Ok(()),
+    }
+}
+
+fn check_prefix(
+    declared: &DeclaredPrefixes,
+    place: Place,
+    prefix: &Text,
+    uri: &Text,
+) -> Result<(), NameRefusal>
+    ensures { Judges result (declared_prefix_refusals declared.now place prefix.now uri.now) }
+{
+    if is_reserved_prefix(prefix) || is_reserved_uri(uri) {
+        return Err(refused(place, Code::XQST0070));
+    }
+    match declared.find(prefix) {
+        Some(_) => Err(refused(place, Code::XQST0033)),
+        None => Ok(()),
+    }
+}
+
+fn check_default(place: Place, uri: &Text) -> Result<(), NameRefusal>
+    ensures { Judges result (refused_if (is_reserved_uri uri.now) place XQST0070) }
+{
+    if is_reserved_uri(uri) {
+        return Err(refused(place, Code::XQST0070));
+    }
+    Ok(())
+}
+
+#[tactic(auto, using(crate::proofs::ResolvingLemmas::refused_before))]
+fn check_import_prefix(
+    declared: &DeclaredPrefixes,
+    place: Place,
+    prefix: &SchemaPrefix,
+    uri: &Text,
+) -> Result<(), NameRefusal>
+    ensures { Judges result (import_prefix_refusals declared.now place prefix.now uri.now) }
+{
+    match prefix {
+        SchemaPrefix::Unnamed => Ok(()),
+        SchemaPrefix::Named(prefix) => {
+            check_prefix(declared, place, &prefix.name, uri)?;
+            if uri.as_str() == "" {
+                return Err(refused(place, Code::XQST0057));
+            }
+            Ok(())
+        }
+        SchemaPrefix::Default => check_default(place, uri),
+    }
+}
+
+#[tactic(auto, unfolding(crate::specs::SettingRefusals::is_reserved_prefix))]
+fn is_reserved_prefix(prefix: &Text) -> bool
+    ensures { result ≡ is_reserved_prefix prefix.now }
+{
+    let prefix = prefix.as_str();
+    prefix == "xml" || prefix == "xmlns"
+}
+
+#[tactic(auto, unfolding(crate::specs::SettingRefusals::is_reserved_uri))]
+fn is_reserved_uri(uri: &Text) -> bool
+    ensures { result ≡ is_reserved_uri uri.now }
+{
+    let uri = uri.as_str();
+    uri == "http://www.w3.org/XML/1998/namespace" || uri == "http://www.w3.org/2000/xmlns/"
+}
+
+fn declare_prefix(
+    declared: &mut DeclaredPrefixes,
+    place: Place,
+    setting: &SettingNode,
+) -> Result<(), AllocError>
+    ensures { OnOk result (declared.new ≡ declared_with place setting.now declared.old) }
+{
+    match setting {
+        SettingNode::Namespace(prefix, _)
+        | SettingNode::Schema(SchemaPrefix::Named(prefix), _, _) => {
+            declared.bind(prefix.name.clone()?, place)
+        }
+        _ => Ok(()),
+    }
+}
+
+fn note_import(
+    imported: &mut ImportedNamespaces,
+    place: Place,
+    setting: &SettingNode,
+) -> Result<(), AllocError>
+    ensures { OnOk result (imported.new ≡ imported_with place setting.now imported.old) }
+{
+    match setting {
+        SettingNode::Schema(_, uri, _) => imported.bind(uri.clone()?, place),
+        _ => Ok(()),
+    }
+}
+
+fn bind_prefix(
+    alloc: Global,
+    names: &mut Names<'_>,
+    setting: &SettingNode,
+) -> Result<(), AllocError>
+    ensures { OnOk result (names.new ≡ record names.old { namespaces = namespaces_with setting.now names.old.namespaces }) }
+{
+    match setting {
+        SettingNode::Namespace(prefix, uri)
+        | SettingNode::Schema(SchemaPrefix::Named(prefix), uri, _) => {
+            let prefix = prefix.name.clone()?;
+            names.bind(prefix, uri.clone()?)
+        }
+        SettingNode::DefaultElementNamespace(uri)
+        | SettingNode::Schema(SchemaPrefix::Default, uri, _) => {
+            let unprefixed = Text::empty(alloc)?;
+            names.bind(unprefixed, uri.clone()?)
+        }
+        _ => Ok(()),
+    }
+}
+
+/// What the setters say, each the last time that it stands.
+pub(crate) fn settings_with(settings: &[Setting]) -> Settings
+    ensures { result ≡ settings_with settings.now default_settings }
+{
+    let mut chosen = Settings {
+        preserves_boundary_space: false,
+        empty_order: EmptyOrder::Default,
+    };
+    let mut left = settings;
+    while let Some((setting, others)) = left.split_first() {
+        chosen = setting_with(&setting.node, chosen);
+        left = others;
+    }
+    chosen
+}
+
+fn setting_with(setting: &SettingNode, chosen: Settings) -> Settings
+    ensures { result ≡ setting_with setting.now chosen }
+{
+    match setting {
+        SettingNode::BoundarySpace(preserved) => Settings {
+            preserves_boundary_space: *preserved,
+            ..chosen
+        },
+        SettingNode::EmptyOrder(order) => Settings {
+            empty_order: *order,
+            ..chosen
+        },
+        _ => chosen,
+    }
+}

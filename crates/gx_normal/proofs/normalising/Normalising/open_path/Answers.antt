@@ -1,0 +1,19 @@
+use Rattle.std.proofs.Common.{ℕ, ap, is_some}
+use Rattle.gx_core.specs.Expression.{CoreExpression}
+use Rattle.gx_normal.specs.Normalising.{added, core_left}
+use Rattle.gx_normal.proofs.MakingLemmas.{of_two_parts, not_two_parts, on_ok_then}
+use Rattle.gx_normal.proofs.normalising.Normalising.open_path.Goals as goal
+
+pub returns-in_default : goal.returns-in_default
+returns-in_default c =
+    on_ok_then c.add.result _ _ c.add.ensures.made
+    (λ e. rw (e, c.add.ensures.tasks, c.add.ensures.numbers, c.add.ensures.focus, c.add.ensures.free, c.empty.ensures)
+    (ap (λ (m : CoreExpression × ℕ). core_left c.args.self.now.tasks (added m.0 c.args.self.now.made) c.args.self.now.numbers c.args.self.now.focus m.1)
+    (not_two_parts c.args.place c.args.parts.now c.args.self.now.numbers c.args.self.now.focus c.args.self.now.free (c.two_parts.ensures.none (ap is_some c.in_default.is)))))
+
+pub returns : goal.returns
+returns c =
+    on_ok_then c.push-3.result _ _ c.push-3.ensures.ok
+    (λ e. rw (e, c.in_ok-push-2.ensures.ok, c.in_ok-push.ensures.ok)
+    (ap (λ (m : CoreExpression × ℕ). core_left c.args.self.now.tasks (added m.0 c.args.self.now.made) c.args.self.now.numbers c.args.self.now.focus m.1)
+    (of_two_parts c.args.place c.in-Some.first.now c.in-Some.second.now c.args.parts.now c.args.self.now.numbers c.args.self.now.focus c.args.self.now.free c.in-Some.ensures.some)))

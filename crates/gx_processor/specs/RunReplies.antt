@@ -1,0 +1,92 @@
+-- What the run of a query that has a type says.
+use Rattle.std.specs.Prelude.{◌≡◌, ℕ, List, [], ◌∷◌, ◌++◌, Option, Some, IfSome, Result, Ok, Err, String}
+use Rattle.std.specs.String.{string_bytes}
+use Rattle.gx_core.specs.declared.typed.TypedCore.{TypedCore}
+use Rattle.gx_core.specs.QueryMeaning.{plain_query, query_type}
+use Rattle.gx_processor.specs.Command.{Command, run_file, check_file}
+use Rattle.gx_processor.specs.TypeBytes.{type_bytes}
+use Rattle.gx_io.specs.LibraryUse.{LibraryUse, LoadsOnly}
+use Rattle.gx_documents.specs.Bindings.{Misbound}
+use Rattle.gx_documents.specs.BindingView.{plain_fault}
+use Rattle.gx_core.specs.declared.expression.Core.{Core}
+use Rattle.gx_model.specs.Forest.{Forest}
+use Rattle.gx_documents.specs.declared.documents.DocumentsError.{DocumentsError}
+use Rattle.gx_documents.specs.declared.documents.DocumentsError.TheVariants.{Failed, Memory as NoMemory}
+use Rattle.gx_documents.specs.declared.documents.DocumentFault.TheVariants as faults
+use Rattle.gx_documents.specs.Reading.{ReadDocuments}
+use Rattle.gx_processor.specs.declared.refusal.Refusal.{Refusal}
+use Rattle.gx_processor.specs.declared.refusal.Refusal.TheVariants as refusal
+use Rattle.gx_processor.specs.Answer.{Answer, writes, AnswersEvaluated, AnswersRun}
+use Rattle.gx_processor.specs.Loading.{RunLoads, AreBoundFiles}
+use Rattle.gx_processor.specs.FaultLines.{read_fault_line}
+use Rattle.gx_processor.specs.Replies.{RefusesSo, OutcomeLoads, LoadFailed}
+
+abbrev pub AnswersSo : {Z : Type 0} → (Answer → Type 0) → Result (String Z) Refusal → Type 0
+AnswersSo Answered (Ok text) = Answered (writes (string_bytes text))
+AnswersSo Answered (Err e) = RefusesSo e Answered
+
+-- the file of the query has been read
+abbrev pub IsOfRun : {V : Type 0} → Result V Refusal → Type 0
+IsOfRun (Err refusal.ReadFault) = ⊥
+IsOfRun (Err refusal.TooLong) = ⊥
+IsOfRun _ = Unit {0}
+
+abbrev pub FailsAtDocument : {V : Type 0} → LibraryUse → List (List ℕ) → Result V Refusal → Type 0
+FailsAtDocument library names (Err (refusal.Document file faults.Unread)) = LoadFailed library names (read_fault_line (string_bytes file))
+FailsAtDocument library names _ = Unit {0}
+
+pub record RunsSo {Z : Type 0} (library : LibraryUse) (bindings : List (List ℕ)) (core : TypedCore) (result : Result (String Z) Refusal) : Type 0 where
+  pub names : List (List ℕ)
+  pub loaded : LoadsOnly library names
+  pub bound : AreBoundFiles bindings names
+  pub answers : IfSome (library.files library.before) (λ files. AnswersSo (AnswersRun files bindings (plain_query core) core) result)
+  pub told : IfSome (library.files library.before) (λ files. OutcomeLoads (RunLoads files bindings (plain_query core) core) names result)
+  pub failed : FailsAtDocument library names result
+  pub own : IsOfRun result
+
+-- the words bind the external variables wrongly, or memory is wanting
+abbrev pub IsMisboundSo : Option Misbound → Refusal → Type 0
+IsMisboundSo found (refusal.Binding fault) = found ≡ Some (plain_fault fault)
+IsMisboundSo found refusal.Memory = Unit {0}
+IsMisboundSo found _ = ⊥
+
+-- a dynamic error alone
+abbrev pub IsEvaluated : {V : Type 0} → Result V Refusal → Type 0
+IsEvaluated (Ok v) = Unit {0}
+IsEvaluated (Err (refusal.Dynamic code)) = Unit {0}
+IsEvaluated (Err refusal.Memory) = Unit {0}
+IsEvaluated (Err _) = ⊥
+
+-- ---- documents
+
+-- a file holds no document, or memory is wanting
+abbrev pub unread : DocumentsError → Refusal
+unread (Failed file fault) = refusal.Document file fault
+unread NoMemory = refusal.Memory
+
+-- how a run goes on behind the reading of its documents
+abbrev pub Follows : {Z : Type 0} → Core → Result Forest DocumentsError → Result (String Z) Refusal → Type 0
+Follows core (Ok forest) result = AnswersSo (AnswersEvaluated core forest) result × IsEvaluated result
+Follows core (Err error) result = result ≡ Err (unread error)
+
+pub record ReadSo {Z : Type 0} (library : LibraryUse) (names : List (List ℕ)) (core : Core) (result : Result (String Z) Refusal) : Type 0 where
+  pub read : Result Forest DocumentsError
+  pub reads : ReadDocuments library names read
+  pub follows : Follows core read result
+
+-- a check writes, or memory is wanting
+abbrev pub IsWrittenOrStarved : {V : Type 0} → Result V Refusal → Type 0
+IsWrittenOrStarved (Ok v) = Unit {0}
+IsWrittenOrStarved (Err refusal.Memory) = Unit {0}
+IsWrittenOrStarved (Err _) = ⊥
+
+-- the text of the type, or memory is wanting
+abbrev pub WritesType : {Z : Type 0} → TypedCore → Result (String Z) Refusal → Type 0
+WritesType core (Ok text) = string_bytes text ≡ type_bytes (query_type core)
+WritesType core (Err refusal.Memory) = Unit {0}
+WritesType core (Err _) = ⊥
+
+-- what a command over a query that has a type says
+abbrev pub TypedSo : {Z : Type 0} → LibraryUse → Command → TypedCore → Result (String Z) Refusal → Type 0
+TypedSo library (run_file name bindings) core result = RunsSo library bindings core result
+TypedSo library (check_file name) core result = WritesType core result × (library.after ≡ library.before)

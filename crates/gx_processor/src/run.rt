@@ -1,0 +1,266 @@
+// Runs of queries that have a type.
+
+ghost use Rattle.std.specs.Prelude.{◌≡◌, ◌++◌, ◌∷◌, [], IfOk, IfErr, length, map, MatchResult, None, true, string_bytes, ◌≤◌};
+ghost use Rattle.gx_types.specs.SchemaSet.{no_declarations};
+ghost use Rattle.gx_core.specs.Outcome.{gives};
+ghost use Rattle.gx_core.specs.QueryMeaning.{plain_declaration, plain_query, query_outcome, query_type, IsSoundQuery};
+ghost use Rattle.gx_core.specs.Refusal.{Fails};
+ghost use Rattle.gx_documents.specs.BindingView.{word_bytes};
+ghost use Rattle.gx_documents.specs.Bindings.{files_bound, misbound, word_of_name};
+ghost use Rattle.gx_documents.specs.Documents.{AreDocumentTrees, document_nodes};
+ghost use Rattle.gx_include.specs.Decision.{is_included};
+ghost use Rattle.gx_io.specs.LibraryUse.{library_use};
+ghost use Rattle.gx_normal.specs.Externals.{ExternalsAreUntyped};
+ghost use Rattle.gx_processor.specs.Answer.{writes, writable_type, can_be_written, AnswersEvaluated};
+ghost use Rattle.gx_processor.specs.Command.{bytes_of};
+ghost use Rattle.gx_processor.specs.Externals.{external_words};
+ghost use Rattle.gx_processor.specs.Replies.{RefusesSo};
+ghost use Rattle.gx_processor.specs.RunReplies.{AnswersSo, IsEvaluated, IsMisboundSo, ReadSo, RunsSo, unread};
+
+use crate::refusal::Refusal;
+use crate::serialise::serialise;
+use gx_base::code::Code;
+use gx_base::name::Name;
+use gx_base::text_builder::TextBuilder;
+use gx_base::type_name::{Builtin, TypeName};
+use gx_core::dismantle::dismantle_query;
+use gx_core::dyn_error::DynError;
+use gx_core::laws::sound_queries_keep_their_types;
+use gx_core::typed::{TypedCore, TypedDeclaration};
+use gx_documents::bindings::{BindingError, bound_files};
+use gx_documents::documents::{DocumentsError, document_nodes, read_documents};
+use gx_documents::laws::documents_are_honest;
+use gx_eval::evaluator::evaluate;
+use gx_include::decision::is_included;
+use gx_io::Library;
+use gx_model::forest::Forest;
+use gx_model::item::ModelItem;
+use gx_model::node::Node;
+use gx_types::item_type::ItemType;
+use gx_types::schemas::Schemas;
+use gx_types::sequence_type::Ty;
+use gx_types::type_rules::{alt, star};
+use std::alloc::{AllocError, Global};
+
+/// The serialisation of the value of a query that is typed soundly, on the documents that the words bind its external variables to.
+/// The query ends here.
+pub fn run<L: Library>(
+    alloc: Global,
+    core: TypedCore,
+    words: &[String],
+    library: &mut L,
+) -> Result<String, Refusal>
+    requires sound { IsSoundQuery no_declarations core }
+    requires untyped { ExternalsAreUntyped (plain_query core).declarations }
+    ensures counted { L.faults library.old ≤ L.faults library.new }
+    ensures runs { RunsSo (library_use L.files L.faults L.was_loaded library.old library.new) (bytes_of words.now) core result }
+{
+    let answer = value_text(alloc, &core, words, library);
+    dismantle_query(alloc, core);
+    answer
+}
+
+fn value_text<L: Library>(
+    alloc: Global,
+    core: &TypedCore,
+    words: &[String],
+    library: &mut L,
+) -> Result<String, Refusal>
+    requires sound { IsSoundQuery no_declarations core.now }
+    requires untyped { ExternalsAreUntyped (plain_query core.now).declarations }
+    ensures counted { L.faults library.old ≤ L.faults library.new }
+    ensures runs { RunsSo (library_use L.files L.faults L.was_loaded library.old library.new) (bytes_of words.now) core.now result }
+{
+    match is_writable(alloc, &core.body.kind) {
+        Ok(true) => on_documents(alloc, core, words, library),
+        Ok(false) => Err(Refusal::Query {
+            code: Code::SENR0001,
+            place: core.body.outer,
+        }),
+        Err(AllocError) => Err(Refusal::Memory),
+    }
+}
+
+// The value of a query whose value can be written.
+fn on_documents<L: Library>(
+    alloc: Global,
+    core: &TypedCore,
+    words: &[String],
+    library: &mut L,
+) -> Result<String, Refusal>
+    requires sound { IsSoundQuery no_declarations core.now }
+    requires untyped { ExternalsAreUntyped (plain_query core.now).declarations }
+    requires writable { can_be_written core.now ≡ true }
+    ensures counted { L.faults library.old ≤ L.faults library.new }
+    ensures runs { RunsSo (library_use L.files L.faults L.was_loaded library.old library.new) (bytes_of words.now) core.now result }
+{
+    match files_of(alloc, core, words) {
+        Ok(files) => over_files(alloc, core, files.as_slice(), library),
+        Err(refusal) => Err(refusal),
+    }
+}
+
+// The value over the documents in files, one for each external variable.
+fn over_files<L: Library>(
+    alloc: Global,
+    core: &TypedCore,
+    files: &[String],
+    library: &mut L,
+) -> Result<String, Refusal>
+    requires sound { IsSoundQuery no_declarations core.now }
+    requires untyped { ExternalsAreUntyped (plain_query core.now).declarations }
+    requires each { length (word_bytes files.now) ≡ length (external_words (plain_query core.now).declarations) }
+    ensures counted { L.faults library.old ≤ L.faults library.new }
+    ensures read { ReadSo (library_use L.files L.faults L.was_loaded library.old library.new) (word_bytes files.now) (plain_query core.now) result }
+{
+    match read_documents(alloc, files, library) {
+        Ok(forest) => written(alloc, core, forest),
+        Err(error) => Err(unread(error)),
+    }
+}
+
+// The refusal of a file that holds no document.
+fn unread(error: DocumentsError) -> Refusal
+    ensures { result ≡ unread error }
+{
+    match error {
+        DocumentsError::Failed(file, fault) => Refusal::Document(file, fault),
+        DocumentsError::Memory => Refusal::Memory,
+    }
+}
+
+// The files that the words bind the external variables to.
+fn files_of(alloc: Global, core: &TypedCore, words: &[String]) -> Result<Vec<String>, Refusal>
+    ensures { MatchResult result
+        (λ files. (misbound (external_words (plain_query core.now).declarations) (word_bytes words.now) ≡ None)
+        × (word_bytes files.items ≡ files_bound (external_words (plain_query core.now).declarations) (word_bytes words.now)))
+        (IsMisboundSo (misbound (external_words (plain_query core.now).declarations) (word_bytes words.now))) }
+{
+    let variables = external_words(alloc, core.declarations.as_slice())?;
+    match bound_files(alloc, variables.as_slice(), words) {
+        Ok(files) => Ok(files),
+        Err(BindingError::Fault(fault)) => Err(Refusal::Binding(fault)),
+        Err(BindingError::Memory) => Err(Refusal::Memory),
+    }
+}
+
+// The external variables, as words name them.
+fn external_words(
+    alloc: Global,
+    declarations: &[TypedDeclaration],
+) -> Result<Vec<String>, AllocError>
+    ensures { IfOk result (λ words. word_bytes words.items ≡ external_words (map plain_declaration declarations.now)) }
+{
+    let mut words = Vec::new(alloc);
+    let mut left = declarations;
+    while let Some((declaration, others)) = left.split_first() {
+        let TypedDeclaration::Global { name, value, .. } = declaration;
+        if value.is_none() {
+            words.push(word_of_name(alloc, name)?)?;
+        }
+        left = others;
+    }
+    Ok(words)
+}
+
+// The name of a variable as words have it.
+fn word_of_name(alloc: Global, name: &Name) -> Result<String, AllocError>
+    ensures { IfOk result (λ word. string_bytes word ≡ word_of_name name.now) }
+{
+    let mut word = TextBuilder::new(alloc);
+    if !name.uri.is_empty() {
+        word.push('{')?;
+        word.push_text(&name.uri)?;
+        word.push('}')?;
+    }
+    word.push_text(&name.local)?;
+    Ok(word.into_string())
+}
+
+// Whether the values of a type can be written: none has an attribute.
+fn is_writable(alloc: Global, kind: &Ty) -> Result<bool, AllocError>
+    ensures { IfOk result (λ answer. answer ≡ is_included no_declarations kind.now writable_type) }
+{
+    let schemas = Schemas::empty(alloc)?;
+    let writable = writable_type(alloc)?;
+    is_included(alloc, &schemas, kind, &writable)
+}
+
+fn writable_type(alloc: Global) -> Result<Ty, AllocError>
+    ensures { IfOk result (λ t. t ≡ writable_type) }
+{
+    let document = Ty::of_item(alloc, ItemType::Document(None))?;
+    let any = TypeName::Builtin(Builtin::AnyType);
+    let element = Ty::of_item(
+        alloc,
+        ItemType::Element {
+            name: None,
+            kind: any,
+        },
+    )?;
+    let text = Ty::of_item(alloc, ItemType::Text)?;
+    let atomic = ItemType::Atom(TypeName::Builtin(Builtin::AnyAtomic));
+    let atomic = Ty::of_item(alloc, atomic)?;
+    let nodes = alt(alloc, document, element)?;
+    let nodes = alt(alloc, nodes, text)?;
+    let members = alt(alloc, nodes, atomic)?;
+    star(alloc, &members)
+}
+
+// The serialisation of the value over the trees of documents.
+fn written(alloc: Global, core: &TypedCore, forest: Forest) -> Result<String, Refusal>
+    requires sound { IsSoundQuery no_declarations core.now }
+    requires untyped { ExternalsAreUntyped (plain_query core.now).declarations }
+    requires documents { AreDocumentTrees forest }
+    requires each { length forest ≡ length (external_words (plain_query core.now).declarations) }
+    ensures answers { AnswersSo (AnswersEvaluated (plain_query core.now) forest) result }
+    ensures own { IsEvaluated result }
+{
+    let mut forest = forest;
+    match value_of(alloc, core, &mut forest) {
+        Ok(items) => Ok(serialise(alloc, &forest, items.as_slice())?),
+        Err(DynError::Raised(code)) => Err(Refusal::Dynamic(code)),
+        Err(DynError::Memory) => Err(Refusal::Memory),
+    }
+}
+
+// The value of a query that is typed soundly, over the trees of documents.
+fn value_of(
+    alloc: Global,
+    core: &TypedCore,
+    forest: &mut Forest,
+) -> Result<Vec<ModelItem>, DynError>
+    requires sound { IsSoundQuery no_declarations core.now }
+    requires untyped { ExternalsAreUntyped (plain_query core.now).declarations }
+    requires documents { AreDocumentTrees forest.now }
+    requires each { length forest.now ≡ length (external_words (plain_query core.now).declarations) }
+    ensures value { IfOk result (λ v. query_outcome no_declarations (plain_query core.now) (document_nodes forest.old) forest.old ≡ gives v.items forest.new) }
+    ensures raised { IfErr result (λ e. Fails e (query_outcome no_declarations (plain_query core.now) (document_nodes forest.old) forest.old)) }
+{
+    match document_nodes(alloc, forest) {
+        Ok(documents) => evaluated(alloc, core, forest, documents.as_slice()),
+        Err(AllocError) => Err(DynError::Memory),
+    }
+}
+
+fn evaluated(
+    alloc: Global,
+    core: &TypedCore,
+    forest: &mut Forest,
+    documents: &[Node],
+) -> Result<Vec<ModelItem>, DynError>
+    requires sound { IsSoundQuery no_declarations core.now }
+    requires untyped { ExternalsAreUntyped (plain_query core.now).declarations }
+    requires documents { AreDocumentTrees forest.now }
+    requires each { length forest.now ≡ length (external_words (plain_query core.now).declarations) }
+    requires nodes { documents.now ≡ document_nodes forest.now }
+    ensures value { IfOk result (λ v. query_outcome no_declarations (plain_query core.now) (document_nodes forest.old) forest.old ≡ gives v.items forest.new) }
+    ensures raised { IfErr result (λ e. Fails e (query_outcome no_declarations (plain_query core.now) (document_nodes forest.old) forest.old)) }
+{
+    sound_queries_keep_their_types();
+    documents_are_honest();
+    match Schemas::empty(alloc) {
+        Ok(schemas) => evaluate(alloc, &schemas, core, forest, documents),
+        Err(AllocError) => Err(DynError::Memory),
+    }
+}

@@ -1,0 +1,160 @@
+// The static rule of calls of built-in functions.
+
+ghost use Rattle.std.specs.Prelude.{◌≡◌, ◌++◌, [], ◌∷◌, true, IfOk, IfErr, IsTrue, OnOk};
+ghost use Rattle.gx_types.specs.SequenceType.{both, star as any_number};
+ghost use Rattle.gx_funcs.specs.Function.{answer_type_of};
+ghost use Rattle.gx_include.specs.Decision.{is_included};
+ghost use Rattle.gx_steptype.specs.StepType.{node_type as type_of_node, any_item};
+ghost use Rattle.gx_static.specs.Rule.{has_type, atomic, has_effective_boolean, boolean_types, takes_argument, answer_rule, call_rule};
+ghost use Rattle.gx_static.specs.Refusal.{RefusesType};
+
+use crate::comparison::{Family, is_of_family};
+use crate::error::RuleError;
+use crate::item_tests::{atomic, is_at_most_one, no_type};
+use gx_base::code::Code;
+use gx_base::type_name::Builtin;
+use gx_funcs::function::{Function, ParameterType};
+use gx_include::decision::is_included;
+use gx_steptype::axis_type::{item_type, node_type};
+use gx_types::item_type::ItemType;
+use gx_types::schemas::Schemas;
+use gx_types::sequence_type::{Ty, TyNode};
+use gx_types::type_rules::{choose, join, star};
+use std::alloc::{AllocError, Global};
+
+// Whether a parameter takes the values of a type.
+fn takes_argument(
+    alloc: Global,
+    schemas: &Schemas,
+    takes: ParameterType,
+    argument: &Ty,
+) -> Result<bool, AllocError>
+    ensures { IfOk result (λ answer. answer ≡ takes_argument schemas.now takes argument.now) }
+{
+    match takes {
+        ParameterType::Items => Ok(true),
+        ParameterType::OptionalItem => Ok(is_at_most_one(argument)),
+        ParameterType::TruthValue => is_boolean_type(alloc, schemas, argument),
+    }
+}
+
+// Whether the values of a type have an effective boolean value. Types of one value are known to, without a test of inclusion.
+fn is_boolean_type(alloc: Global, schemas: &Schemas, t: &Ty) -> Result<bool, AllocError>
+    ensures { IfOk result (λ answer. answer ≡ is_included schemas.now t.now boolean_types) }
+{
+    if is_one_truth(schemas, t) {
+        return Ok(true);
+    }
+    let boolean = boolean_types(alloc)?;
+    is_included(alloc, schemas, t, &boolean)
+}
+
+// A type of one atomic value that has an effective boolean value, or of none, is one of the boolean types.
+fn is_one_truth(schemas: &Schemas, t: &Ty) -> bool
+    ensures { IsTrue result → is_included schemas.now t.now boolean_types ≡ true }
+{
+    let _types = schemas.types();
+    match &t.node {
+        TyNode::Item(kind) => has_effective_boolean(schemas, kind),
+        TyNode::Optional(part) => match &part.node {
+            TyNode::Item(kind) => has_effective_boolean(schemas, kind),
+            _ => false,
+        },
+        _ => false,
+    }
+}
+
+fn has_effective_boolean(schemas: &Schemas, kind: &ItemType) -> bool
+    ensures { result ≡ has_effective_boolean schemas.now kind.now }
+{
+    is_of_family(schemas, Family::Truth, kind)
+        || is_of_family(schemas, Family::Text, kind)
+        || is_of_family(schemas, Family::Number, kind)
+}
+
+// The types of the values that have an effective boolean value (XQuery 1.0, section 2.4.3).
+#[tactic(auto, unfolding(crate::specs::Rule::boolean_types))]
+fn boolean_types(alloc: Global) -> Result<Ty, AllocError>
+    ensures { IfOk result (λ t. t ≡ boolean_types) }
+{
+    let mut members = Vec::new(alloc);
+    members.push(Ty::empty())?;
+    add_node_first(alloc, &mut members)?;
+    add_atomic(alloc, Builtin::Boolean, &mut members)?;
+    add_atomic(alloc, Builtin::Str, &mut members)?;
+    add_atomic(alloc, Builtin::UntypedAtomic, &mut members)?;
+    add_atomic(alloc, Builtin::Decimal, &mut members)?;
+    choose(alloc, &members)
+}
+
+// Adds the type of a node and any items behind it.
+fn add_node_first(alloc: Global, members: &mut Vec<Ty>) -> Result<(), AllocError>
+    ensures { OnOk result (members.new.items ≡ members.old.items ++ both type_of_node (any_number any_item) ∷ []) }
+{
+    let items = any_items(alloc)?;
+    let node = node_type(alloc)?;
+    members.push(join(alloc, &node, &items)?)?;
+    Ok(())
+}
+
+// The type of any items.
+fn any_items(alloc: Global) -> Result<Ty, AllocError>
+    ensures { IfOk result (λ t. t ≡ any_number any_item) }
+{
+    let item = item_type(alloc)?;
+    star(alloc, &item)
+}
+
+// Adds the type of an atomic value of a built-in type.
+fn add_atomic(alloc: Global, builtin: Builtin, members: &mut Vec<Ty>) -> Result<(), AllocError>
+    ensures { OnOk result (members.new.items ≡ members.old.items ++ atomic builtin ∷ []) }
+{
+    members.push(atomic(alloc, builtin)?)?;
+    Ok(())
+}
+
+// The type of what a function answers.
+fn answer_type(alloc: Global, function: Function) -> Result<Ty, RuleError>
+    ensures typed { IfOk result (λ t. answer_rule (answer_type_of function) ≡ has_type t) }
+    ensures refused { IfErr result (λ e. RefusesType e (answer_rule (answer_type_of function))) }
+{
+    match function.result() {
+        Some(builtin) => Ok(atomic(alloc, builtin)?),
+        None => Err(no_type(Code::XPTY0004)),
+    }
+}
+
+// The type of a call of a built-in function.
+#[tactic(auto, using(crate::proofs::CallLemmas::few_parameters), unfolding(crate::specs::Rule::call_rule))]
+pub(crate) fn call_type(
+    alloc: Global,
+    schemas: &Schemas,
+    function: Function,
+    arguments: &[Ty],
+) -> Result<Ty, RuleError>
+    ensures typed { IfOk result (λ t. call_rule schemas.now function arguments.now ≡ has_type t) }
+    ensures refused { IfErr result (λ e. RefusesType e (call_rule schemas.now function arguments.now)) }
+{
+    let mut parameters = function.parameters();
+    let mut left = arguments;
+    let mut number = 0;
+    while let Some((parameter, others)) = parameters.split_first() {
+        let Some((argument, behind)) = left.split_first() else {
+            return Err(no_type(Code::XPTY0004));
+        };
+        if !takes_argument(alloc, schemas, parameter.takes, argument)? {
+            return Err(RuleError::NoType {
+                code: parameter.code,
+                part: Some(number),
+            });
+        }
+        parameters = others;
+        left = behind;
+        number += 1;
+    }
+    if left.is_empty() {
+        answer_type(alloc, function)
+    } else {
+        Err(no_type(Code::XPTY0004))
+    }
+}

@@ -1,0 +1,125 @@
+// The static rules of steps, of their operands and of document order.
+
+ghost use Rattle.std.specs.Prelude.{◌≡◌, IfOk, IfErr};
+ghost use Rattle.gx_core.specs.Bindings.{look_up};
+ghost use Rattle.gx_include.specs.Decision.{is_included};
+ghost use Rattle.gx_steptype.specs.StepType.{is_near};
+ghost use Rattle.gx_static.specs.Rule.{has_type, step_rule, step_ruling, reaching, nodes_type, nodes_rule, order_rule};
+ghost use Rattle.gx_static.specs.Refusal.{RefusesType};
+
+use crate::error::RuleError;
+use crate::item_tests::{is_all_atomic, is_empty, is_never, no_type};
+use gx_base::code::Code;
+use gx_core::scope::Scope;
+use gx_include::decision::is_included;
+use gx_steptype::axis_type::{axis_type, node_type};
+use gx_steptype::error::StepError;
+use gx_types::schemas::Schemas;
+use gx_types::sequence_type::Ty;
+use gx_types::step::{Axis, Test};
+use gx_types::type_rules::{occurrence, prime, star, times};
+use std::alloc::{AllocError, Global};
+
+// The type of a step from the node of a variable.
+pub(crate) fn step_in_scope(
+    alloc: Global,
+    schemas: &Schemas,
+    axis: Axis,
+    test: &Test,
+    number: u32,
+    scope: &Scope<Ty>,
+) -> Result<Ty, RuleError>
+    ensures typed { IfOk result (λ t. step_ruling schemas.now axis test.now number (look_up scope.now number) ≡ has_type t) }
+    ensures refused { IfErr result (λ e. RefusesType e (step_ruling schemas.now axis test.now number (look_up scope.now number))) }
+{
+    match scope.find(number) {
+        Some(context) => reaching_step_type(alloc, schemas, axis, test, context),
+        None => Err(no_type(Code::XPST0008)),
+    }
+}
+
+// The type of a step that gives something.
+fn reaching_step_type(
+    alloc: Global,
+    schemas: &Schemas,
+    axis: Axis,
+    test: &Test,
+    context: &Ty,
+) -> Result<Ty, RuleError>
+    ensures typed { IfOk result (λ t. reaching context.now (step_rule schemas.now axis test.now context.now) ≡ has_type t) }
+    ensures refused { IfErr result (λ e. RefusesType e (reaching context.now (step_rule schemas.now axis test.now context.now))) }
+{
+    let given = step_type(alloc, schemas, axis, test, context)?;
+    if is_empty(&given) && !is_never(context) {
+        Err(no_type(Code::XPST0005))
+    } else {
+        Ok(given)
+    }
+}
+
+// The type of a step from one node.
+pub(crate) fn step_type(
+    alloc: Global,
+    schemas: &Schemas,
+    axis: Axis,
+    test: &Test,
+    context: &Ty,
+) -> Result<Ty, RuleError>
+    ensures typed { IfOk result (λ t. step_rule schemas.now axis test.now context.now ≡ has_type t) }
+    ensures refused { IfErr result (λ e. RefusesType e (step_rule schemas.now axis test.now context.now)) }
+{
+    if !is_near(axis) {
+        return Err(no_type(Code::XPST0003));
+    }
+    match axis_type(alloc, schemas, axis, test, context) {
+        Ok(t) => Ok(t),
+        Err(StepError::NotANode) => Err(no_type(Code::XPTY0020)),
+        Err(StepError::NoTypedValue) => unreachable!(),
+        Err(StepError::Memory) => Err(RuleError::Memory),
+    }
+}
+
+fn is_near(axis: Axis) -> bool
+    ensures { result ≡ is_near axis }
+{
+    matches!(
+        axis,
+        Axis::Child | Axis::Attribute | Axis::SelfAxis | Axis::Parent
+    )
+}
+
+// The type of an operand of nodes alone.
+pub(crate) fn nodes_type(alloc: Global, schemas: &Schemas, operand: &Ty) -> Result<Ty, RuleError>
+    ensures typed { IfOk result (λ t. nodes_rule schemas.now operand.now ≡ has_type t) }
+    ensures refused { IfErr result (λ e. RefusesType e (nodes_rule schemas.now operand.now)) }
+{
+    if are_nodes(alloc, schemas, operand)? {
+        Ok(operand.clone()?)
+    } else {
+        Err(no_type(Code::XPTY0019))
+    }
+}
+
+// The type of an operand in document order.
+pub(crate) fn order_type(alloc: Global, schemas: &Schemas, operand: &Ty) -> Result<Ty, RuleError>
+    ensures typed { IfOk result (λ t. order_rule schemas.now operand.now ≡ has_type t) }
+    ensures refused { IfErr result (λ e. RefusesType e (order_rule schemas.now operand.now)) }
+{
+    if are_nodes(alloc, schemas, operand)? {
+        let items = prime(alloc, operand)?;
+        return Ok(times(alloc, items, occurrence(operand))?);
+    }
+    if is_all_atomic(operand) {
+        Ok(operand.clone()?)
+    } else {
+        Err(no_type(Code::XPTY0018))
+    }
+}
+
+// Whether a type is of nodes alone.
+fn are_nodes(alloc: Global, schemas: &Schemas, t: &Ty) -> Result<bool, AllocError>
+    ensures { IfOk result (λ answer. answer ≡ is_included schemas.now t.now nodes_type) }
+{
+    let node = node_type(alloc)?;
+    is_included(alloc, schemas, t, &star(alloc, &node)?)
+}

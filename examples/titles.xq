@@ -1,0 +1,1 @@
+declare variable $d as document-node() external; $d/catalogue/book/title
