@@ -4,3 +4,6 @@ pub mod StackLemmas
 pub mod NestedLemmas
 pub mod ScopeLemmas
 pub mod FilteredLemmas
+pub mod DirectLemmas
+pub mod UsesLemmas
+pub mod ReachingLemmas

@@ -10,7 +10,7 @@ use Rattle.gx_names.specs.NestedBindings.{pairs, Index, IsIndexOf}
 
 module _ {K V : Type 0} (eq : K → K → Bool) where
   -- equal keys have one value
-  equal_keys : IsEquivalence eq → (bindings : List (K × V)) (k q : K) → eq k q ≡ true → innermost_value eq bindings k ≡ innermost_value eq bindings q
+  pub equal_keys : IsEquivalence eq → (bindings : List (K × V)) (k q : K) → eq k q ≡ true → innermost_value eq bindings k ≡ innermost_value eq bindings q
   equal_keys laws [] k q e = refl
   equal_keys laws (b ∷ outer) k q e =
       let same : eq b.0 k ≡ eq b.0 q = laws.symm b.0 k ∙ laws.congr k q b.0 e ∙ laws.symm q b.0 in

@@ -10,9 +10,14 @@ pub mod Environment
 pub mod TypeNames
 pub mod Steps
 pub mod Refused
-pub mod TreeRefusals
 pub mod SettingRefusals
+pub mod StartTags
+pub mod TreeRefusals
+pub mod Uses
+pub mod Reaching
 pub mod Refusals
 pub mod TreeResolution
 pub mod Resolution
 pub mod Resolving
+pub mod Using
+pub mod Searching

@@ -2,7 +2,7 @@
 use Rattle.std.specs.Prelude.{ℕ, Bool, true, false, not, ◌||◌, List, [], ◌∷◌, ◌++◌, codes, length, Option, None, Some, is_some}
 use Rattle.gx_base.specs.declared.name.Name.{Name}
 use Rattle.gx_base.specs.declared.place.Place.{Place}
-use Rattle.gx_base.specs.declared.code.Code.TheVariants.{XQST0034, XQST0039, XQST0045, XQST0049, GLXS0004}
+use Rattle.gx_base.specs.declared.code.Code.TheVariants.{XQST0034, XQST0039, XQST0045, XQST0049, XQST0054, GLXS0004}
 use Rattle.gx_base.specs.declared.type_name.Builtin.TheVariants as builtins
 use Rattle.gx_base.specs.declared.type_name.TypeName.{TypeName}
 use Rattle.gx_base.specs.declared.type_name.TypeName.TheVariants as names
@@ -27,9 +27,12 @@ use Rattle.gx_names.specs.declared.refusal.Refusal.{Refusal}
 use Rattle.gx_names.specs.NestedMap.{innermost_value}
 use Rattle.gx_names.specs.declared.signature.Signature.{Signature}
 use Rattle.gx_names.specs.Signature.{same_signature}
+use Rattle.gx_names.specs.declared.uses.Use.{Use}
 use Rattle.gx_names.specs.Environment.{Namespaces, Functions, Variables, Environment, is_word, plain_name, called_name, called_in, or_nameless, binder_of, with_variable, without_variable}
 use Rattle.gx_names.specs.TypeNames.{refused_if, prefix_refusals, written_type_refusals, element_tested}
 use Rattle.gx_names.specs.TreeRefusals.{binder_refusals, tree_refusals}
+use Rattle.gx_names.specs.Uses.{tree_uses}
+use Rattle.gx_names.specs.Reaching.{Bodies, calls_are_settled}
 use Rattle.gx_names.specs.SettingRefusals.{settings_refusals, prolog_environment}
 
 -- ---- the functions that are declared, which are in scope everywhere
@@ -136,14 +139,36 @@ abbrev pub without_parameters : List Parameter → Environment → Environment
 without_parameters [] environment = environment
 without_parameters (p ∷ ps) environment = without_parameters ps (without_variable environment)
 
+-- ---- values
+
+abbrev pub with_body : Option Name → (arity : ℕ) → List Use → Bodies → Bodies
+with_body None arity used bodies = bodies
+with_body (Some name) arity used bodies = (record { name = name; arity = arity }, used) ∷ bodies
+
+-- what the bodies of functions use; no variable is in scope but their parameters
+abbrev pub bodies_with : Environment → DefinitionNode → Bodies → Bodies
+bodies_with environment (definitions.Function name parameters result body) bodies =
+    with_body (called_name environment name) (length parameters) (tree_uses (with_parameters parameters environment) body) bodies
+bodies_with environment _ bodies = bodies
+
+abbrev pub bodies_after : Environment → List Definition → Bodies → Bodies
+bodies_after environment [] bodies = bodies
+bodies_after environment (definition ∷ others) bodies = bodies_after environment others (bodies_with environment definition.node bodies)
+
+-- a value that calls, itself or through functions, one whose body names a variable that is not declared before
+abbrev pub call_order_refusals : Environment → Bodies → Place → SyntaxTree → List Refusal
+call_order_refusals environment bodies place value =
+    refused_if (not (calls_are_settled environment.variables bodies (tree_uses environment value))) place XQST0054
+
 -- ---- declarations of the second part: the variables in scope are those that are declared before
 
-abbrev pub definition_refusals : Environment → (earlier : Functions) → Place → DefinitionNode → List Refusal
-definition_refusals environment earlier place (definitions.Variable binder kind (initial.Value value)) =
-    (doubled_variable environment place binder ++ binder_refusals environment binder kind) ++ tree_refusals environment value
-definition_refusals environment earlier place (definitions.Variable binder kind initial.External) =
+abbrev pub definition_refusals : Environment → Bodies → (earlier : Functions) → Place → DefinitionNode → List Refusal
+definition_refusals environment bodies earlier place (definitions.Variable binder kind (initial.Value value)) =
+    (doubled_variable environment place binder ++ call_order_refusals environment bodies place value)
+    ++ (binder_refusals environment binder kind ++ tree_refusals environment value)
+definition_refusals environment bodies earlier place (definitions.Variable binder kind initial.External) =
     external_refusals environment place binder kind ++ binder_refusals environment binder kind
-definition_refusals environment earlier place (definitions.Function name parameters result body) =
+definition_refusals environment bodies earlier place (definitions.Function name parameters result body) =
     function_refusals earlier place (called_name environment name) (length parameters)
     ++ (heading_refusals environment name parameters result ++ tree_refusals (with_parameters parameters environment) body)
 
@@ -156,16 +181,16 @@ abbrev pub scope_after : List Definition → Environment → Environment
 scope_after [] environment = environment
 scope_after (definition ∷ others) environment = scope_after others (definition_scope definition.node environment)
 
-abbrev pub definitions_refusals : List Definition → (earlier : Functions) → Environment → List Refusal
-definitions_refusals [] earlier environment = []
-definitions_refusals (definition ∷ others) earlier environment =
-    definition_refusals environment earlier definition.place definition.node
-    ++ definitions_refusals others (functions_with environment.namespaces definition.place definition.node earlier) (definition_scope definition.node environment)
+abbrev pub definitions_refusals : List Definition → Bodies → (earlier : Functions) → Environment → List Refusal
+definitions_refusals [] bodies earlier environment = []
+definitions_refusals (definition ∷ others) bodies earlier environment =
+    definition_refusals environment bodies earlier definition.place definition.node
+    ++ definitions_refusals others bodies (functions_with environment.namespaces definition.place definition.node earlier) (definition_scope definition.node environment)
 
 -- the second part of the prolog, and then the body
 abbrev pub main_refusals : Environment → List Definition → SyntaxTree → List Refusal
 main_refusals environment definitions body =
-    definitions_refusals definitions [] environment ++ tree_refusals (scope_after definitions environment) body
+    definitions_refusals definitions (bodies_after environment definitions []) [] environment ++ tree_refusals (scope_after definitions environment) body
 
 -- a whole query
 abbrev pub query_refusals : SchemaSet → Query → List Refusal

@@ -1,25 +1,27 @@
 -- What is refused of an expression, in the order of the text; at one place in the order of the rules (XQuery 1.0, section 3).
-use Rattle.std.specs.Prelude.{ℕ, ◌+◌, Bool, false, ◌&&◌, List, [], ◌++◌, codes, Option, None, Some, if◌then◌else◌}
+use Rattle.std.specs.Prelude.{ℕ, ◌+◌, Bool, false, List, [], ◌∷◌, ◌++◌, Option, None, Some, is_some, if◌then◌else◌}
 use Rattle.gx_base.specs.Name.{same_name}
 use Rattle.gx_base.specs.Text.{same_text}
 use Rattle.gx_base.specs.declared.name.Name.{Name}
 use Rattle.gx_base.specs.declared.place.Place.{Place}
-use Rattle.gx_base.specs.declared.code.Code.TheVariants.{XPST0008, XPST0017, XQDY0044, XQST0089}
+use Rattle.gx_base.specs.declared.code.Code.TheVariants.{XPST0008, XPST0017, XQDY0044, XQST0040, XQST0089}
 use Rattle.gx_ast.specs.declared.name.QName.{QName}
 use Rattle.gx_ast.specs.declared.name.Variable.{Variable}
 use Rattle.gx_ast.specs.declared.sequence_type.BoundVariable.{BoundVariable}
 use Rattle.gx_ast.specs.declared.sequence_type.CaseHead.{CaseHead}
 use Rattle.gx_ast.specs.declared.sequence_type.DefaultHead.{DefaultHead}
 use Rattle.gx_ast.specs.declared.sequence_type.SequenceType.{SequenceType}
-use Rattle.gx_ast.specs.SyntaxTree.{SyntaxTree, SyntaxForm, SyntaxTrees, Bindings, Clauses, Keys, Cases, at, number, string, variable, parenthesised, empty_sequence, context_item, call, comma, flwor, quantified, typeswitch, conditional, binary, instance_of, treat_as, castable_as, cast_as, signed, path, axis_step, parent_step, filtered, direct, document_node, text_node, element_node, empty_element, attribute_node, empty_attribute, no_tree, a_tree, no_binding, a_binding, no_clause, for_clause, let_clause, where_clause, no_key, a_key, no_case, a_case}
+use Rattle.gx_ast.specs.SyntaxTree.{SyntaxTree, SyntaxForm, SyntaxTrees, Bindings, Clauses, Keys, Cases, Attributes, AttributeParts, Parts, at, number, string, variable, parenthesised, empty_sequence, context_item, call, comma, flwor, quantified, typeswitch, conditional, binary, instance_of, treat_as, castable_as, cast_as, signed, path, axis_step, parent_step, filtered, direct, document_node, text_node, element_node, empty_element, attribute_node, empty_attribute, no_tree, a_tree, no_binding, a_binding, no_clause, for_clause, let_clause, where_clause, no_key, a_key, no_case, a_case, no_attribute, an_attribute, no_attribute_part, attribute_text, attribute_enclosed, no_part, blank_part, text_part, element_part, enclosed_part}
 use Rattle.gx_funcs.specs.declared.function.Function.{Function}
 use Rattle.gx_funcs.specs.Function.{function_named}
 use Rattle.gx_names.specs.declared.refusal.Refusal.{Refusal}
 use Rattle.gx_names.specs.declared.tree.Construct.{Construct}
 use Rattle.gx_names.specs.declared.tree.Construct.TheVariants as constructs
-use Rattle.gx_names.specs.Environment.{Environment, function_uri, is_declared_function, is_word, element_name, plain_name, called_name, binder_of, with_variable, with_optional}
+use Rattle.gx_names.specs.NestedMap.{innermost_value}
+use Rattle.gx_names.specs.Environment.{Environment, function_uri, is_declared_function, element_name, plain_name, called_name, or_nameless, binder_of, with_variable, with_optional}
 use Rattle.gx_names.specs.TypeNames.{refused_if, where_named, unless_found, prefix_refusals, written_type_refusals, type_refusals, target_refusals}
 use Rattle.gx_names.specs.Steps.{step_refusals}
+use Rattle.gx_names.specs.StartTags.{is_xmlns, declares_namespace, namespaces_refusals, with_namespaces}
 
 -- a use of a variable: its prefix is known, and it is in scope
 abbrev pub use_refusals : Environment → Place → QName → List Refusal
@@ -85,11 +87,22 @@ case_refusals environment heading = optional_refusals environment heading.variab
 -- ---- constructors
 
 -- an attribute is not named `xmlns`
-unfoldable pub is_xmlns : QName → Bool
-is_xmlns name = is_word name.prefix (codes "") && is_word name.local (codes "xmlns")
-
 abbrev pub attribute_refusals : Environment → Place → QName → List Refusal
 attribute_refusals environment place name = refused_if (is_xmlns name) place XQDY0044 ++ prefix_refusals (plain_name environment name) name.place
+
+-- ---- direct constructors
+
+-- the attributes that stand before in a start tag, by their names
+abbrev pub AttributeNames : Type 0
+AttributeNames = List (Name × Place)
+
+abbrev pub attribute_names_with : Environment → QName → AttributeNames → AttributeNames
+attribute_names_with environment name earlier = (or_nameless (plain_name environment name), name.place) ∷ earlier
+
+-- the name of an attribute: its prefix is known, and no earlier attribute of the tag has the same name
+abbrev pub direct_attribute_refusals : Environment → (earlier : AttributeNames) → QName → List Refusal
+direct_attribute_refusals environment earlier name =
+    where_named (plain_name environment name) name.place (λ n. refused_if (is_some (innermost_value same_name earlier n)) name.place XQST0040)
 
 -- ---- expressions
 
@@ -125,7 +138,11 @@ abbrev mutual
   form_refusals environment place (axis_step step) = step_refusals environment step
   form_refusals environment place parent_step = []
   form_refusals environment place (filtered operand predicates) = tree_refusals environment operand ++ trees_refusals environment predicates
-  form_refusals environment place (direct name attributes content) = []
+  form_refusals environment place (direct name attributes content) =
+      namespaces_refusals [] attributes
+      ++ (prefix_refusals (element_name (with_namespaces attributes environment) name) name.place
+      ++ (attributes_refusals (with_namespaces attributes environment) [] attributes
+      ++ parts_refusals (with_namespaces attributes environment) content))
   form_refusals environment place (document_node content) = tree_refusals environment content
   form_refusals environment place (text_node content) = tree_refusals environment content
   form_refusals environment place (element_node name content) = prefix_refusals (element_name environment name) name.place ++ tree_refusals environment content
@@ -157,6 +174,26 @@ abbrev mutual
   cases_refusals environment no_case = []
   cases_refusals environment (a_case heading body others) =
       case_refusals environment heading ++ (tree_refusals (with_optional heading.variable environment) body ++ cases_refusals environment others)
+
+  -- the attributes that declare no namespaces, behind those of these names
+  pub attributes_refusals : Environment → (earlier : AttributeNames) → Attributes → List Refusal
+  attributes_refusals environment earlier no_attribute = []
+  attributes_refusals environment earlier (an_attribute name value others) =
+      if declares_namespace name then attributes_refusals environment earlier others
+      else (direct_attribute_refusals environment earlier name
+      ++ (attribute_parts_refusals environment value ++ attributes_refusals environment (attribute_names_with environment name earlier) others))
+
+  pub attribute_parts_refusals : Environment → AttributeParts → List Refusal
+  attribute_parts_refusals environment no_attribute_part = []
+  attribute_parts_refusals environment (attribute_text characters others) = attribute_parts_refusals environment others
+  attribute_parts_refusals environment (attribute_enclosed value others) = tree_refusals environment value ++ attribute_parts_refusals environment others
+
+  pub parts_refusals : Environment → Parts → List Refusal
+  parts_refusals environment no_part = []
+  parts_refusals environment (blank_part characters others) = parts_refusals environment others
+  parts_refusals environment (text_part characters others) = parts_refusals environment others
+  parts_refusals environment (element_part element others) = tree_refusals environment element ++ parts_refusals environment others
+  parts_refusals environment (enclosed_part value others) = tree_refusals environment value ++ parts_refusals environment others
 
 -- the default of a typeswitch
 abbrev pub default_refusals : Environment → DefaultHead → SyntaxTree → List Refusal

@@ -1,5 +1,5 @@
 -- An expression with its names resolved, where nothing is refused.
-use Rattle.std.specs.Prelude.{ℕ, Option, None, Some, unwrap_or}
+use Rattle.std.specs.Prelude.{ℕ, List, Option, None, Some, unwrap_or, if◌then◌else◌}
 use Rattle.std.specs.Option.{option_map}
 use Rattle.gx_base.specs.declared.place.Place.{Place}
 use Rattle.gx_ast.specs.declared.name.QName.{QName}
@@ -8,7 +8,7 @@ use Rattle.gx_ast.specs.declared.sequence_type.BoundVariable.{BoundVariable}
 use Rattle.gx_ast.specs.declared.sequence_type.CaseHead.{CaseHead}
 use Rattle.gx_ast.specs.declared.sequence_type.DefaultHead.{DefaultHead}
 use Rattle.gx_ast.specs.declared.sequence_type.SequenceType.{SequenceType}
-use Rattle.gx_ast.specs.SyntaxTree.{SyntaxTree, SyntaxForm, SyntaxTrees, Bindings, Clauses, Keys, Cases, at, number, string, variable, parenthesised, empty_sequence, context_item, call, comma, flwor, quantified, typeswitch, conditional, binary, instance_of, treat_as, castable_as, cast_as, signed, path, axis_step, parent_step, filtered, direct, document_node, text_node, element_node, empty_element, attribute_node, empty_attribute, no_tree, a_tree, no_binding, a_binding, no_clause, for_clause, let_clause, where_clause, no_key, a_key, no_case, a_case}
+use Rattle.gx_ast.specs.SyntaxTree.{SyntaxTree, SyntaxForm, SyntaxTrees, Bindings, Clauses, Keys, Cases, Attributes, AttributeParts, Parts, at, number, string, variable, parenthesised, empty_sequence, context_item, call, comma, flwor, quantified, typeswitch, conditional, binary, instance_of, treat_as, castable_as, cast_as, signed, path, axis_step, parent_step, filtered, direct, document_node, text_node, element_node, empty_element, attribute_node, empty_attribute, no_tree, a_tree, no_binding, a_binding, no_clause, for_clause, let_clause, where_clause, no_key, a_key, no_case, a_case, no_attribute, an_attribute, no_attribute_part, attribute_text, attribute_enclosed, no_part, blank_part, text_part, element_part, enclosed_part}
 use Rattle.gx_funcs.specs.declared.function.Function.TheVariants as functions
 use Rattle.gx_names.specs.declared.tree.BindingWord.{BindingWord}
 use Rattle.gx_names.specs.declared.tree.BindingWord.TheVariants as words
@@ -19,6 +19,7 @@ use Rattle.gx_names.specs.ResolvedTree.{ResolvedTree, ResolvedTrees, resolved_at
 use Rattle.gx_names.specs.Environment.{Environment, element_name, plain_name, called_name, or_nameless, binder_of, with_optional}
 use Rattle.gx_names.specs.TypeNames.{type_written, atomic_named}
 use Rattle.gx_names.specs.Steps.{axis_of_step, step_tested}
+use Rattle.gx_names.specs.StartTags.{declares_namespace, with_namespaces}
 use Rattle.gx_names.specs.TreeRefusals.{count_trees, called_construct, syntax_place, with_bound}
 
 -- a use of a variable, with the place of its binder
@@ -56,6 +57,20 @@ element_resolved environment name = constructs.Element (or_nameless (element_nam
 
 abbrev pub attribute_resolved : Environment → QName → Construct
 attribute_resolved environment name = constructs.Attribute (or_nameless (plain_name environment name))
+
+abbrev pub direct_element_resolved : Environment → QName → Construct
+direct_element_resolved environment name = constructs.DirectElement (or_nameless (element_name environment name))
+
+abbrev pub direct_attribute_resolved : Environment → QName → Construct
+direct_attribute_resolved environment name = constructs.DirectAttribute (or_nameless (plain_name environment name))
+
+-- text of a direct constructor is a string, at the element or the attribute that it stands in
+abbrev pub text_resolved : Place → List ℕ → ResolvedTree
+text_resolved place characters = resolved_at place (constructs.String characters) no_resolved
+
+-- white space alone is kept apart: it counts only where boundary-space is preserved
+abbrev pub blank_resolved : Place → List ℕ → ResolvedTree
+blank_resolved place characters = resolved_at place (constructs.Blank characters) no_resolved
 
 abbrev mutual
   pub tree_resolved : Environment → SyntaxTree → ResolvedTree
@@ -101,7 +116,10 @@ abbrev mutual
   form_resolved environment place parent_step = resolved_at place constructs.ParentStep no_resolved
   form_resolved environment place (filtered operand predicates) =
       resolved_at place constructs.Filtered (a_resolved (tree_resolved environment operand) (trees_resolved environment predicates))
-  form_resolved environment place (direct name attributes content) = resolved_at place constructs.Empty no_resolved
+  form_resolved environment place (direct name attributes content) =
+      resolved_at place (direct_element_resolved (with_namespaces attributes environment) name)
+      (and_parts (attributes_resolved (with_namespaces attributes environment) attributes)
+      (parts_resolved (with_namespaces attributes environment) place content))
   form_resolved environment place (document_node content) = resolved_at place constructs.Document (one_resolved (tree_resolved environment content))
   form_resolved environment place (text_node content) = resolved_at place constructs.TextNode (one_resolved (tree_resolved environment content))
   form_resolved environment place (element_node name content) = resolved_at place (element_resolved environment name) (one_resolved (tree_resolved environment content))
@@ -136,6 +154,28 @@ abbrev mutual
   cases_resolved environment (a_case heading body others) =
       a_resolved (resolved_at heading.place (case_resolved environment heading) (one_resolved (tree_resolved (with_optional heading.variable environment) body)))
       (cases_resolved environment others)
+
+  -- the attributes that declare no namespaces
+  pub attributes_resolved : Environment → Attributes → ResolvedTrees
+  attributes_resolved environment no_attribute = no_resolved
+  attributes_resolved environment (an_attribute name value others) =
+      if declares_namespace name then attributes_resolved environment others
+      else a_resolved (resolved_at name.place (direct_attribute_resolved environment name) (attribute_parts_resolved environment name.place value))
+      (attributes_resolved environment others)
+
+  pub attribute_parts_resolved : Environment → Place → AttributeParts → ResolvedTrees
+  attribute_parts_resolved environment place no_attribute_part = no_resolved
+  attribute_parts_resolved environment place (attribute_text characters others) =
+      a_resolved (text_resolved place characters) (attribute_parts_resolved environment place others)
+  attribute_parts_resolved environment place (attribute_enclosed value others) =
+      a_resolved (tree_resolved environment value) (attribute_parts_resolved environment place others)
+
+  pub parts_resolved : Environment → Place → Parts → ResolvedTrees
+  parts_resolved environment place no_part = no_resolved
+  parts_resolved environment place (blank_part characters others) = a_resolved (blank_resolved place characters) (parts_resolved environment place others)
+  parts_resolved environment place (text_part characters others) = a_resolved (text_resolved place characters) (parts_resolved environment place others)
+  parts_resolved environment place (element_part element others) = a_resolved (tree_resolved environment element) (parts_resolved environment place others)
+  parts_resolved environment place (enclosed_part value others) = a_resolved (tree_resolved environment value) (parts_resolved environment place others)
 
 -- the default of a typeswitch
 abbrev pub default_resolved : Environment → DefaultHead → SyntaxTree → ResolvedTree

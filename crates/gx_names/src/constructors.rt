@@ -5,13 +5,14 @@ ghost use Rattle.gx_ast.specs.SyntaxTree.{attribute_node, element_node, empty_at
 ghost use Rattle.gx_names.specs.Refused.{Judges, Proceeds};
 ghost use Rattle.gx_names.specs.Environment.{element_name};
 ghost use Rattle.gx_names.specs.Resolving.{refusals_of_rest, trees_behind, trees_of_rest};
-ghost use Rattle.gx_names.specs.TreeRefusals.{attribute_refusals, form_refusals, is_xmlns};
+ghost use Rattle.gx_names.specs.TreeRefusals.{attribute_refusals, form_refusals};
 ghost use Rattle.gx_names.specs.TreeResolution.{attribute_resolved, element_resolved, form_resolved};
 ghost use Rattle.gx_names.specs.TypeNames.{prefix_refusals};
 
 use crate::names::Names;
 use crate::refusal::NameRefusal;
 use crate::resolving::Resolving;
+use crate::start_tags::is_xmlns;
 use crate::tree::Construct;
 use crate::type_names::refused;
 use gx_ast::expression::Expr;
@@ -111,11 +112,4 @@ fn attribute_construct(
         Some(name) => Ok(Construct::Attribute(name)),
         None => Err(refused(name.place, Code::XPST0081)),
     }
-}
-
-#[tactic(auto, unfolding(crate::specs::TreeRefusals::is_xmlns))]
-fn is_xmlns(name: &QName) -> bool
-    ensures { result ≡ is_xmlns name.now }
-{
-    name.prefix.as_str() == "" && name.local.as_str() == "xmlns"
 }

@@ -5,8 +5,10 @@ ghost use Rattle.gx_names.specs.Refused.{Judges};
 ghost use Rattle.gx_base.specs.declared.place.Place.{Place as DeclaredAt};
 ghost use Rattle.gx_names.specs.declared.tree.Declaration.TheVariants as declared;
 ghost use Rattle.gx_names.specs.Environment.{Environment as Scope, Functions as FunctionList, called_name, or_nameless, plain_name, with_variable};
-ghost use Rattle.gx_names.specs.Refusals.{definition_refusals, definition_scope, definitions_refusals, doubled_parameter, doubled_variable, external_refusals, function_refusals, functions_with, heading_refusals, is_document_element, is_document_test, is_document_type, is_kept_namespace, is_schema_namespace, is_standard_namespace, parameters_refusals, scope_after, with_functions, with_parameters, with_signature, without_parameters};
+ghost use Rattle.gx_names.specs.Refusals.{bodies_after, bodies_with, call_order_refusals, definition_refusals, definition_scope, definitions_refusals, doubled_parameter, doubled_variable, external_refusals, function_refusals, functions_with, heading_refusals, is_document_element, is_document_test, is_document_type, is_kept_namespace, is_schema_namespace, is_standard_namespace, parameters_refusals, scope_after, with_functions, with_parameters, with_signature, without_parameters};
 ghost use Rattle.gx_names.specs.Resolution.{declaration_resolved, declarations_resolved, external_resolved, function_resolved, global_resolved, parameters_resolved, result_resolved};
+ghost use Rattle.gx_names.specs.Searching.{IsSettled};
+ghost use Rattle.gx_names.specs.Uses.{tree_uses};
 ghost use Rattle.gx_names.specs.TypeNames.{prefix_refusals, written_type_refusals};
 ghost use Rattle.gx_names.specs.TreeRefusals.{binder_refusals, tree_refusals};
 ghost use Rattle.gx_names.specs.TreeResolution.{binder_resolved, tree_resolved};
@@ -14,6 +16,7 @@ ghost use Rattle.gx_names.specs.TreeResolution.{binder_resolved, tree_resolved};
 use crate::binders::bound_name;
 use crate::names::Names;
 use crate::nested_map::NestedMap;
+use crate::reaching::{Bodies, Settled, calls_are_settled};
 use crate::refusal::NameRefusal;
 use crate::resolve::resolve_tree;
 use crate::signature::Signature;
@@ -21,6 +24,7 @@ use crate::tree::{
     BoundName, Declaration, External, FunctionDeclaration, Global as GlobalVariable, ResolvedExpr,
 };
 use crate::type_names::{check_written_type, element_tested, refused, type_written};
+use crate::uses::{SharedUses, Use, tree_uses};
 use gx_ast::expression::Expr;
 use gx_ast::items::Items;
 use gx_ast::name::{QName, Variable};
@@ -76,48 +80,133 @@ fn signature_of(
     Ok(Some(Signature { name, arity }))
 }
 
+// ---- what the bodies of functions use
+
+/// What the bodies of all functions use.
+pub(crate) fn bodies_of<'s>(
+    alloc: Global,
+    names: Names<'s>,
+    definitions: &[Definition],
+) -> Result<(Bodies, Names<'s>), AllocError>
+    ensures bodies { IfOk result (λ r. r.0 ≡ bodies_after names.entry definitions.now []) }
+    ensures names { IfOk result (λ r. r.1 ≡ names.entry) }
+{
+    let mut names = names;
+    let mut bodies = NestedMap::new(alloc);
+    let mut left = definitions;
+    while let Some((definition, others)) = left.split_first() {
+        names = add_body(alloc, names, &mut bodies, &definition.node)?;
+        left = others;
+    }
+    Ok((bodies, names))
+}
+
+fn add_body<'s>(
+    alloc: Global,
+    names: Names<'s>,
+    bodies: &mut Bodies,
+    definition: &DefinitionNode,
+) -> Result<Names<'s>, AllocError>
+    ensures bodies { OnOk result (bodies.new ≡ bodies_with names.entry definition.now bodies.old) }
+    ensures names { IfOk result (λ n. n ≡ names.entry) }
+{
+    let DefinitionNode::Function(name, parameters, _, body) = definition else {
+        return Ok(names);
+    };
+    let Some(name) = names.called_name(name)? else {
+        return Ok(names);
+    };
+    let name = SharedName::new(alloc, name)?;
+    let parameters = parameters.as_slice();
+    let arity = parameters.len();
+    let (used, names) = body_uses(alloc, names, parameters, body)?;
+    bodies.bind(Signature { name, arity }, SharedUses::new(alloc, used)?)?;
+    Ok(names)
+}
+
+// What a body uses, but for its parameters.
+#[tactic(auto, using(crate::proofs::ScopeLemmas::parameters_gone))]
+fn body_uses<'s>(
+    alloc: Global,
+    names: Names<'s>,
+    parameters: &[Parameter],
+    body: &Expr,
+) -> Result<(Vec<Use>, Names<'s>), AllocError>
+    ensures uses { IfOk result (λ r. r.0.items ≡ tree_uses (with_parameters parameters.now names.entry) body.now) }
+    ensures names { IfOk result (λ r. r.1 ≡ names.entry) }
+{
+    let mut names = names;
+    bind_parameters(alloc, &mut names, parameters)?;
+    let (used, names) = tree_uses(alloc, names, body)?;
+    let mut names = names;
+    unbind_parameters(&mut names, parameters)?;
+    Ok((used, names))
+}
+
 // ---- all declarations
+
+// What stands before a declaration: functions, and those whose calls are known to be settled.
+#[derive(Drop)]
+struct Earlier {
+    functions: Functions,
+    settled: Settled,
+}
 
 /// Resolves declarations in their order; with the names that stand behind them.
 #[tactic(auto, using(crate::proofs::ResolvingLemmas::refused_before))]
 pub(crate) fn resolve_definitions<'s>(
     alloc: Global,
     names: Names<'s>,
+    bodies: &Bodies,
     definitions: &[Definition],
 ) -> Result<(Items<Declaration>, Names<'s>), NameRefusal>
-    ensures refusals { Judges result (definitions_refusals definitions.now [] names.entry) }
+    ensures refusals { Judges result (definitions_refusals definitions.now bodies.now [] names.entry) }
     ensures declarations { IfOk result (λ r. r.0 ≡ declarations_resolved definitions.now names.entry) }
     ensures names { IfOk result (λ r. r.1 ≡ scope_after definitions.now names.entry) }
 {
     let mut names = names;
     let mut declarations = Vec::new(alloc);
-    let mut earlier = NestedMap::new(alloc);
+    let mut earlier = Earlier {
+        functions: NestedMap::new(alloc),
+        settled: NestedMap::new(alloc),
+    };
     let mut left = definitions;
     while let Some((definition, others)) = left.split_first() {
-        names = resolve_next(alloc, names, definition, &mut earlier, &mut declarations)?;
+        names = resolve_next(
+            alloc,
+            names,
+            bodies,
+            definition,
+            &mut earlier,
+            &mut declarations,
+        )?;
         left = others;
     }
     Ok((Items::from_vec(declarations), names))
 }
 
 // A declaration behind others; the names that stand behind it.
+#[tactic(auto, using(crate::proofs::ReachingLemmas::settled_behind))]
 fn resolve_next<'s>(
     alloc: Global,
     names: Names<'s>,
+    bodies: &Bodies,
     definition: &Definition,
-    earlier: &mut Functions,
+    earlier: &mut Earlier,
     declarations: &mut Vec<Declaration>,
 ) -> Result<Names<'s>, NameRefusal>
-    ensures refusals { Judges result (definition_refusals names.entry earlier.old definition.now.place definition.now.node) }
+    requires { IsSettled names.variables bodies.now earlier.now.settled }
+    ensures refusals { Judges result (definition_refusals names.entry bodies.now earlier.old.functions definition.now.place definition.now.node) }
     ensures names { IfOk result (λ n. n ≡ definition_scope definition.now.node names.entry) }
-    ensures earlier { OnOk result (earlier.new ≡ functions_with names.entry.namespaces definition.now.place definition.now.node earlier.old) }
+    ensures earlier { OnOk result (earlier.new.functions ≡ functions_with names.entry.namespaces definition.now.place definition.now.node earlier.old.functions) }
+    ensures settled { IfOk result (λ n. IsSettled n.variables bodies.now earlier.new.settled) }
     ensures declarations { OnOk result (declarations.new.items ≡ declarations.old.items ++ declaration_resolved names.entry definition.now.place definition.now.node ∷ []) }
 {
     let place = definition.place;
-    match resolve_definition(alloc, names, earlier, place, &definition.node) {
+    match resolve_definition(alloc, names, bodies, earlier, place, &definition.node) {
         Ok((declaration, names)) => {
             declarations.push(declaration)?;
-            Ok(declare(alloc, names, earlier, definition)?)
+            Ok(declare(alloc, names, &mut earlier.functions, definition)?)
         }
         Err(refusal) => Err(refusal),
     }
@@ -170,24 +259,32 @@ fn declare_variable(
 fn resolve_definition<'s>(
     alloc: Global,
     names: Names<'s>,
-    earlier: &Functions,
+    bodies: &Bodies,
+    earlier: &mut Earlier,
     place: Place,
     definition: &DefinitionNode,
 ) -> Result<(Declaration, Names<'s>), NameRefusal>
-    ensures refusals { Judges result (definition_refusals names.entry earlier.now place definition.now) }
+    requires { IsSettled names.variables bodies.now earlier.now.settled }
+    ensures functions { earlier.new.functions ≡ earlier.old.functions }
+    ensures settled { OnOk result (IsSettled names.entry.variables bodies.now earlier.new.settled) }
+    ensures refusals { Judges result (definition_refusals names.entry bodies.now earlier.old.functions place definition.now) }
     ensures declaration { IfOk result (λ r. r.0 ≡ declaration_resolved names.entry place definition.now) }
     ensures names { IfOk result (λ r. r.1 ≡ names.entry) }
 {
     match definition {
         DefinitionNode::Variable(variable, kind, Initialiser::Value(value)) => {
-            resolve_global(alloc, names, place, Binder { variable, kind }, value)
+            let binder = Binder { variable, kind };
+            let settled = &mut earlier.settled;
+            let names = check_value(alloc, names, bodies, settled, place, variable, value)?;
+            resolve_global(alloc, names, place, binder, value)
         }
         DefinitionNode::Variable(variable, kind, Initialiser::External) => {
             resolve_external(alloc, names, place, Binder { variable, kind })
         }
         DefinitionNode::Function(name, parameters, kind, body) => {
             let parameters = parameters.as_slice();
-            check_function(alloc, &names, earlier, place, name, parameters.len())?;
+            let functions = &earlier.functions;
+            check_function(alloc, &names, functions, place, name, parameters.len())?;
             let signature = Heading {
                 name,
                 parameters,
@@ -215,11 +312,11 @@ fn resolve_global<'s>(
     binder: Binder<'_>,
     value: &Expr,
 ) -> Result<(Declaration, Names<'s>), NameRefusal>
-    ensures refusals { Judges result ((doubled_variable names.entry place binder.entry.variable.now ++ binder_refusals names.entry binder.entry.variable.now binder.entry.kind.now) ++ tree_refusals names.entry value.now) }
+    ensures refusals { Judges result (binder_refusals names.entry binder.entry.variable.now binder.entry.kind.now ++ tree_refusals names.entry value.now) }
     ensures declaration { IfOk result (λ r. r.0 ≡ declared.Global (global_resolved names.entry place binder.entry.variable.now binder.entry.kind.now value.now)) }
     ensures names { IfOk result (λ r. r.1 ≡ names.entry) }
 {
-    let bound = match declared_name(alloc, &names, place, binder) {
+    let bound = match bound_name(alloc, &names, binder.variable, binder.kind) {
         Ok(bound) => bound,
         Err(refusal) => return Err(refusal),
     };
@@ -229,19 +326,28 @@ fn resolve_global<'s>(
     }
 }
 
-// The variable that is declared, unless one of its name was before.
+// A variable that is not declared before, and what its value calls.
 #[tactic(auto, using(crate::proofs::ResolvingLemmas::refused_before))]
-fn declared_name(
+fn check_value<'s>(
     alloc: Global,
-    names: &Names<'_>,
+    names: Names<'s>,
+    bodies: &Bodies,
+    settled: &mut Settled,
     place: Place,
-    binder: Binder<'_>,
-) -> Result<BoundName, NameRefusal>
-    ensures refusals { Judges result (doubled_variable names.now place binder.entry.variable.now ++ binder_refusals names.now binder.entry.variable.now binder.entry.kind.now) }
-    ensures bound { IfOk result (λ bound. bound ≡ binder_resolved names.now binder.entry.variable.now binder.entry.kind.now) }
+    variable: &Variable,
+    value: &Expr,
+) -> Result<Names<'s>, NameRefusal>
+    requires { IsSettled names.variables bodies.now settled.now }
+    ensures refusals { Judges result (doubled_variable names.entry place variable.now ++ call_order_refusals names.entry bodies.now place value.now) }
+    ensures names { IfOk result (λ n. n ≡ names.entry) }
+    ensures settled { OnOk result (IsSettled names.entry.variables bodies.now settled.new) }
 {
-    check_doubled(alloc, names, place, binder.variable)?;
-    bound_name(alloc, names, binder.variable, binder.kind)
+    check_doubled(alloc, &names, place, variable)?;
+    let (used, names) = tree_uses(alloc, names, value)?;
+    if calls_are_settled(alloc, &names, bodies, settled, used)? {
+        return Ok(names);
+    }
+    Err(refused(place, Code::XQST0054))
 }
 
 fn global_declared(place: Place, bound: BoundName, value: ResolvedExpr) -> Declaration

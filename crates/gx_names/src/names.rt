@@ -1,6 +1,6 @@
 // Expanded names.
 
-ghost use Rattle.std.specs.Prelude.{◌≡◌, [], ◌∷◌, IfOk, OnOk, option_copied};
+ghost use Rattle.std.specs.Prelude.{◌≡◌, [], ◌∷◌, IfOk, OnOk, drop, option_copied};
 ghost use Rattle.std.specs.Str.{chars};
 ghost use Rattle.gx_names.specs.Environment.{expanded, known_namespaces};
 
@@ -66,6 +66,13 @@ impl<'s> Names<'s> {
         ensures { OnOk result (self.new ≡ record self.old { namespaces = (prefix, uri) ∷ self.old.namespaces }) }
     {
         self.namespaces.bind(prefix, uri)
+    }
+
+    /// Takes the innermost binding of a prefix away.
+    pub fn unbind(&mut self) -> Result<(), AllocError>
+        ensures { OnOk result (self.new ≡ record self.old { namespaces = drop 1 self.old.namespaces }) }
+    {
+        self.namespaces.unbind()
     }
 
     // The URI of a name with this prefix; without one it is the given URI.

@@ -7,7 +7,7 @@ ghost use Rattle.gx_names.specs.Resolution.{main_resolved, query_resolved};
 ghost use Rattle.gx_names.specs.TreeRefusals.{tree_refusals};
 ghost use Rattle.gx_names.specs.TreeResolution.{tree_resolved};
 
-use crate::declarations::{declare_functions, resolve_definitions};
+use crate::declarations::{bodies_of, declare_functions, resolve_definitions};
 use crate::names::Names;
 use crate::refusal::NameRefusal;
 use crate::resolving::Resolving;
@@ -50,7 +50,8 @@ fn resolve_main(
     ensures refusals { Judges result (main_refusals names.entry definitions.now body.now) }
     ensures resolved { IfOk result (λ r. r ≡ main_resolved names.entry settings definitions.now body.now) }
 {
-    let (declarations, names) = match resolve_definitions(alloc, names, definitions) {
+    let (bodies, names) = bodies_of(alloc, names, definitions)?;
+    let (declarations, names) = match resolve_definitions(alloc, names, &bodies, definitions) {
         Ok(resolved) => resolved,
         Err(refusal) => return Err(refusal),
     };

@@ -16,12 +16,16 @@ ghost use Rattle.gx_names.specs.Resolving.{adopted, all_adopted, bound_rest_refu
 use crate::binders::bound_construct;
 use crate::dismantle::dismantle;
 use crate::names::Names;
+use crate::nested_map::NestedMap;
 use crate::refusal::NameRefusal;
 use crate::stack::Stack;
+use crate::start_tags::leave_namespaces;
 use crate::steps::{axis_of_step, check_step, step_tested};
 use crate::tree::{BindingWord, Construct, ResolvedExpr};
 use crate::type_names::{atomic_named, check_target, check_type, refused, type_written};
-use gx_ast::expression::{Binding, Case, Clause, Expr, ExprNode, Key};
+use gx_ast::expression::{
+    AttributePart, Binding, Case, Clause, DirectAttribute, Expr, ExprNode, Key, Part,
+};
 use gx_ast::name::{QName, Variable};
 use gx_ast::sequence_type::{AxisStep, DefaultHead, SequenceType, SingleType};
 use gx_base::code::Code;
@@ -33,15 +37,19 @@ use std::alloc::{AllocError, Global};
 // What follows in a FLWOR or a quantified expression: bindings of a clause with that word, clauses, sort keys, and what is returned.
 #[derive(Clone, Copy)]
 pub(crate) struct Rest<'a> {
-    word: BindingWord,
-    bindings: &'a [Binding],
-    clauses: &'a [Clause],
-    keys: &'a [Key],
-    returned: &'a Expr,
+    pub(crate) word: BindingWord,
+    pub(crate) bindings: &'a [Binding],
+    pub(crate) clauses: &'a [Clause],
+    pub(crate) keys: &'a [Key],
+    pub(crate) returned: &'a Expr,
 }
 
+// The attributes of a start tag that were resolved, by their names, with their places.
+pub(crate) type AttributeNames = NestedMap<SharedName, Place>;
+
 // A task: to resolve a tree, or trees, which become the last parts of the innermost open tree, likewise what follows in a FLWOR, sort
-// keys, cases and a default; to bind variables, and to take them away; to look at a type; or to close the innermost open tree.
+// keys, cases and a default, the attributes that are left of the innermost open start tag, parts of a value and of content; to bind
+// variables, and to take them away; to leave an element with its namespaces; to look at a type; or to close the innermost open tree.
 #[derive(Clone, Copy)]
 pub(crate) enum Task<'a> {
     Tree(&'a Expr),
@@ -56,14 +64,19 @@ pub(crate) enum Task<'a> {
     UnbindOptional(&'a Option<Variable>),
     Written(&'a SequenceType),
     Target(&'a QName),
+    Attributes(&'a [DirectAttribute]),
+    AttributeParts(&'a [AttributePart], Place),
+    Parts(&'a [Part], Place),
+    LeaveTag(&'a [DirectAttribute]),
     Close,
 }
 
-// `unfinished` has the trees in the making, the innermost on top.
+// `unfinished` has the trees in the making, and `tags` the open start tags, the innermost on top.
 #[derive(Drop)]
 pub(crate) struct Resolving<'a, 's> {
     pub(crate) tasks: Stack<Task<'a>>,
     pub(crate) unfinished: Stack<ResolvedExpr>,
+    pub(crate) tags: Stack<AttributeNames>,
     pub(crate) names: Names<'s>,
 }
 
@@ -83,6 +96,7 @@ impl<'a, 's> Resolving<'a, 's> {
         Ok(Resolving {
             tasks,
             unfinished: Stack::new(alloc),
+            tags: Stack::new(alloc),
             names,
         })
     }
@@ -124,6 +138,12 @@ impl<'a, 's> Resolving<'a, 's> {
             Task::UnbindOptional(variable) => Ok(self.names.unbind_optional(variable)?),
             Task::Written(kind) => self.check_type(alloc, kind),
             Task::Target(target) => self.check_target(alloc, target),
+            Task::Attributes(attributes) => self.open_attributes(alloc, attributes),
+            Task::AttributeParts(value, place) => {
+                Ok(self.open_attribute_parts(alloc, value, place)?)
+            }
+            Task::Parts(content, place) => Ok(self.open_parts(alloc, content, place)?),
+            Task::LeaveTag(attributes) => Ok(leave_namespaces(&mut self.names, attributes)?),
             Task::Close => Ok(self.close()?),
         }
     }
@@ -149,6 +169,7 @@ impl<'a, 's> Resolving<'a, 's> {
         ensures unfinished { OnOk result (self.new.unfinished ≡ adopted tree self.old.unfinished) }
         ensures tasks { self.new.tasks ≡ self.old.tasks }
         ensures names { self.new.names ≡ self.old.names }
+        ensures tags { self.new.tags ≡ self.old.tags }
     {
         match self.unfinished.pop() {
             None => self.unfinished.push(tree),
@@ -197,6 +218,7 @@ impl<'a, 's> Resolving<'a, 's> {
         ensures unfinished { OnOk result (self.new.unfinished ≡ resolved_at place construct no_resolved ∷ self.old.unfinished) }
         ensures tasks { OnOk result (self.new.tasks ≡ tasks.Close ∷ self.old.tasks) }
         ensures names { self.new.names ≡ self.old.names }
+        ensures tags { self.new.tags ≡ self.old.tags }
     {
         let parts = Vec::new(alloc);
         self.unfinished.push(ResolvedExpr {
@@ -340,7 +362,11 @@ impl<'a, 's> Resolving<'a, 's> {
             ExprNode::Filtered(operand, predicates) => {
                 Ok(self.open_filtered(alloc, place, operand, predicates.as_slice())?)
             }
-            ExprNode::Direct(_) => Ok(self.leaf(alloc, place, Construct::Empty)?),
+            ExprNode::Direct(element) => {
+                let attributes = element.attributes.as_slice();
+                let content = element.content.as_slice();
+                self.open_direct(alloc, place, &element.name, attributes, content)
+            }
             ExprNode::Document(content) => {
                 Ok(self.open_one(alloc, place, Construct::Document, content)?)
             }
@@ -606,6 +632,7 @@ impl<'a, 's> Resolving<'a, 's> {
         ensures unfinished { OnOk result (self.new.unfinished ≡ resolved_at place construct no_resolved ∷ self.old.unfinished) }
         ensures tasks { OnOk result (self.new.tasks ≡ tasks.Tree inner.entry ∷ tasks.Close ∷ self.old.tasks) }
         ensures names { self.new.names ≡ self.old.names }
+        ensures tags { self.new.tags ≡ self.old.tags }
     {
         self.begin(alloc, place, construct)?;
         self.tasks.push(Task::Tree(inner))

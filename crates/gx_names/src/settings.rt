@@ -22,7 +22,7 @@ use gx_types::schemas::Schemas;
 use std::alloc::{AllocError, Global};
 
 // The prefixes that are declared, with the places of their declarations.
-type DeclaredPrefixes = NestedMap<Text, Place>;
+pub(crate) type DeclaredPrefixes = NestedMap<Text, Place>;
 
 // The namespaces that are imported, with the places of their imports.
 type ImportedNamespaces = NestedMap<Text, Place>;
@@ -170,7 +170,7 @@ fn check_import_prefix(
 }
 
 #[tactic(auto, unfolding(crate::specs::SettingRefusals::is_reserved_prefix))]
-fn is_reserved_prefix(prefix: &Text) -> bool
+pub(crate) fn is_reserved_prefix(prefix: &Text) -> bool
     ensures { result ≡ is_reserved_prefix prefix.now }
 {
     let prefix = prefix.as_str();
@@ -178,7 +178,7 @@ fn is_reserved_prefix(prefix: &Text) -> bool
 }
 
 #[tactic(auto, unfolding(crate::specs::SettingRefusals::is_reserved_uri))]
-fn is_reserved_uri(uri: &Text) -> bool
+pub(crate) fn is_reserved_uri(uri: &Text) -> bool
     ensures { result ≡ is_reserved_uri uri.now }
 {
     let uri = uri.as_str();

@@ -31,7 +31,7 @@ pub enum BindingWord {
 }
 
 /// What stands at the root of a part of a query, with what it has beside its parts: one variant for each construct (XQuery 1.0,
-/// section 3). A binding, a clause, a sort key and a branch of a typeswitch are parts of their own.
+/// section 3). A binding, a clause, a sort key, a branch of a typeswitch and an attribute of a direct element are parts of their own.
 #[derive(Debug, Drop)]
 pub enum Construct {
     /// A numeric literal.
@@ -102,6 +102,12 @@ pub enum Construct {
     Element(Name),
     /// `attribute q { .. }`, or without a part `attribute q {}`.
     Attribute(Name),
+    /// A direct element. Its parts are its attributes, but for namespace declarations, and then the parts of its content.
+    DirectElement(Name),
+    /// An attribute of a direct element, with the parts of its value.
+    DirectAttribute(SharedName),
+    /// White space alone in the content of a direct element, which stays only where boundary-space is preserved.
+    Blank(Text),
 }
 
 /// A part of a query in which each name is resolved: a construct over its parts, which are in the order of the text.

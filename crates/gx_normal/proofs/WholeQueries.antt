@@ -25,7 +25,8 @@ use Rattle.gx_core.specs.declared.expression.Core.{Core}
 use Rattle.gx_names.specs.declared.refusal.Refusal.{Refusal}
 use Rattle.gx_names.specs.declared.tree.Declaration.{Declaration}
 use Rattle.gx_names.specs.Environment.{Environment, Functions, element_name, plain_name}
-use Rattle.gx_names.specs.Refusals.{is_declared_type, is_document_element, is_document_test, is_document_type, doubled_variable, external_refusals, definition_refusals, definition_scope, scope_after, definitions_refusals, functions_with, main_refusals, with_functions, query_refusals}
+use Rattle.gx_names.specs.Refusals.{is_declared_type, is_document_element, is_document_test, is_document_type, doubled_variable, external_refusals, definition_refusals, definition_scope, scope_after, definitions_refusals, functions_with, main_refusals, with_functions, bodies_after, query_refusals}
+use Rattle.gx_names.specs.Reaching.{Bodies}
 use Rattle.gx_names.specs.TreeRefusals.{binder_refusals, tree_refusals}
 use Rattle.gx_names.specs.Resolution.{declaration_resolved, declarations_resolved, query_resolved}
 use Rattle.gx_names.specs.SettingRefusals.{prolog_environment, settings_refusals}
@@ -99,29 +100,30 @@ kind_is_untyped environment (Some (sequences.Items (written.Kind test) indicated
 abbrev AreUntyped : List Declaration → Type 0
 AreUntyped declarations = (numbers : Numbers) (free : ℕ) → ExternalsAreUntyped (declarations_of declarations numbers free)
 
-one_more : (environment : Environment) (earlier : Functions) (place : Place) (node : DefinitionNode) (others : List Declaration) → HasNoSchema environment → definition_refusals environment earlier place node ≡ [] → AreUntyped others
+one_more : (environment : Environment) (bodies : Bodies) (earlier : Functions) (place : Place) (node : DefinitionNode) (others : List Declaration) → HasNoSchema environment → definition_refusals environment bodies earlier place node ≡ []
+    → AreUntyped others
     → AreUntyped (declaration_resolved environment place node ∷ others)
-one_more environment earlier place (definitions.Variable binder kind (initial.Value value)) others none h rest numbers free = rest _ _
-one_more environment earlier place (definitions.Variable binder kind initial.External) others none h rest numbers free =
+one_more environment bodies earlier place (definitions.Variable binder kind (initial.Value value)) others none h rest numbers free = rest _ _
+one_more environment bodies earlier place (definitions.Variable binder kind initial.External) others none h rest numbers free =
     let external = front_is_empty (external_refusals environment place binder kind) (binder_refusals environment binder kind) h in
     let bound = rest_is_empty (external_refusals environment place binder kind) (binder_refusals environment binder kind) h in
     let asked = rest_is_empty (doubled_variable environment place binder) (refused_if (not (is_document_type environment kind)) place GLXS0004) external in
     let written = rest_is_empty (prefix_refusals (plain_name environment binder.name) binder.place) (written_type_refusals environment kind) bound in
     (kind_is_untyped environment kind none (not_refused (is_document_type environment kind) place GLXS0004 asked) written, rest _ _)
-one_more environment earlier place (definitions.Function name parameters result body) others none h rest numbers free = rest numbers free
+one_more environment bodies earlier place (definitions.Function name parameters result body) others none h rest numbers free = rest numbers free
 
 still_none : (node : DefinitionNode) (environment : Environment) → HasNoSchema environment → HasNoSchema (definition_scope node environment)
 still_none (definitions.Variable binder kind initialiser) environment none = none
 still_none (definitions.Function name parameters result body) environment none = none
 
-all_untyped : (ds : List Definition) (earlier : Functions) (environment : Environment) → HasNoSchema environment → definitions_refusals ds earlier environment ≡ [] → AreUntyped (declarations_resolved ds environment)
-all_untyped [] earlier environment none h numbers free = tt
-all_untyped (d ∷ ds) earlier environment none h numbers free =
+all_untyped : (ds : List Definition) (bodies : Bodies) (earlier : Functions) (environment : Environment) → HasNoSchema environment → definitions_refusals ds bodies earlier environment ≡ [] → AreUntyped (declarations_resolved ds environment)
+all_untyped [] bodies earlier environment none h numbers free = tt
+all_untyped (d ∷ ds) bodies earlier environment none h numbers free =
     let after = functions_with environment.namespaces d.place d.node earlier in
     let scope = definition_scope d.node environment in
-    one_more environment earlier d.place d.node (declarations_resolved ds scope) none
-    (front_is_empty (definition_refusals environment earlier d.place d.node) (definitions_refusals ds after scope) h)
-    (all_untyped ds after scope (still_none d.node environment none) (rest_is_empty (definition_refusals environment earlier d.place d.node) (definitions_refusals ds after scope) h))
+    one_more environment bodies earlier d.place d.node (declarations_resolved ds scope) none
+    (front_is_empty (definition_refusals environment bodies earlier d.place d.node) (definitions_refusals ds bodies after scope) h)
+    (all_untyped ds bodies after scope (still_none d.node environment none) (rest_is_empty (definition_refusals environment bodies earlier d.place d.node) (definitions_refusals ds bodies after scope) h))
     numbers free
 
 -- ---- whole queries
@@ -137,9 +139,10 @@ whole_named (refusal ∷ others) whole core e = absurd (cc)
 pub named_queries_have_untyped_documents : NamedQueriesHaveUntypedDocuments
 named_queries_have_untyped_documents query core e =
     let environment = with_functions query.definitions (prolog_environment no_declarations query.settings) in
+    let bodies = bodies_after environment query.definitions [] in
     let whole = query_core (query_resolved no_declarations query) in
     let none = none_refused (query_refusals no_declarations query) whole core e in
     let main = rest_is_empty (settings_refusals [] [] query.settings) (main_refusals environment query.definitions query.body) none in
-    let variables = front_is_empty (definitions_refusals query.definitions [] environment) (tree_refusals (scope_after query.definitions environment) query.body) main in
+    let variables = front_is_empty (definitions_refusals query.definitions bodies [] environment) (tree_refusals (scope_after query.definitions environment) query.body) main in
     subst (λ (c : Core). ExternalsAreUntyped c.declarations) (whole_named (query_refusals no_declarations query) whole core e)
-    (all_untyped query.definitions [] environment refl variables [] 1)
+    (all_untyped query.definitions bodies [] environment refl variables [] 1)
