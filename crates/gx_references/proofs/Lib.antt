@@ -1,0 +1,7 @@
+mod Passing
+mod Steps
+mod Circles
+mod Tables
+mod SearchSteps
+mod Endless
+mod PublicLaws
