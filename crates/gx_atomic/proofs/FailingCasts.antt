@@ -1,5 +1,5 @@
 -- A cast that fails has a code.
-use Rattle.std.proofs.Common.{◌≡◌, ℤ, Bool, true, false, ◌&&◌, ◌||◌, List, ℕ, Some, Option, Result, Ok, Err, refl, subst, if◌then◌else◌}
+use Rattle.std.proofs.Common.{◌≡◌, ℤ, Bool, true, false, ◌&&◌, ◌||◌, List, ℕ, Some, None, Option, Result, Ok, Err, refl, subst, if◌then◌else◌}
 use Rattle.std.specs.Prelude.{int_le, codes}
 use Rattle.gx_base.specs.Text.{same_text}
 use Rattle.gx_base.specs.declared.type_name.Builtin.{Builtin}
@@ -17,10 +17,13 @@ use Rattle.gx_facets.specs.declared.AtomValue.TheVariants.{Untyped, Str, Truth, 
 use Rattle.gx_facets.specs.declared.ValueRead.{ValueRead}
 use Rattle.gx_facets.specs.declared.ValueRead.TheVariants as reads
 use Rattle.gx_facets.specs.Value.{least_of, greatest_of, value_of, integer_within, value_of_decimal, boolean_value, lexical_form}
+use Rattle.gx_facets.specs.declared.restriction.Facets.{Facets}
 use Rattle.gx_types.specs.SchemaSet.{SchemaSet}
+use Rattle.gx_types.specs.SimpleType.{AtomicMeaning, declared_atomic}
+use Rattle.gx_types.specs.SimpleValue.{is_admitted}
 use Rattle.gx_atomic.specs.declared.casting.CastError.{CastError}
 use Rattle.gx_atomic.specs.declared.casting.CastError.TheVariants.{FORG0001, FOCA0001, FOCA0003, FOCA0006, Memory}
-use Rattle.gx_atomic.specs.Cast.{fault_at, with_fault, read_at, to_boolean, integer_to_decimal, to_decimal, to_integer, in_type_range, within_type, cast_value, as_type, cast_of}
+use Rattle.gx_atomic.specs.Cast.{fault_at, with_fault, read_at, to_boolean, integer_to_decimal, to_decimal, to_integer, in_type_range, within_type, cast_value, where_admitted, cast_to_bottom, cast_to_atomic, cast_to, as_type, cast_of}
 use Rattle.gx_atomic.specs.Laws.{CastsFailWithCodes, HasCode}
 
 -- a text is read, or has a fault of its own
@@ -116,10 +119,25 @@ typed_fails : (kind : TypeName) (cast : Result AtomValue CastError) → Fails ca
 typed_fails kind (Ok value) h = tt
 typed_fails kind (Err error) h = h
 
+admitted_fails : (facets : List Facets) (cast : Result AtomValue CastError) → Fails cast → Fails (where_admitted facets cast)
+admitted_fails facets (Ok value) h = chosen_fails (is_admitted facets value) (Ok value) (Err FORG0001) tt (_, refl)
+admitted_fails facets (Err error) h = h
+
+bottom_fails : (kind : Builtin) (value : AtomValue) → Fails (cast_to_bottom kind value)
+bottom_fails types.UntypedAtomic value = (_, refl)
+bottom_fails kind value = value_fails kind value
+
+atomic_fails : (found : Option AtomicMeaning) (value : AtomValue) → Fails (cast_to_atomic found value)
+atomic_fails None value = (_, refl)
+atomic_fails (Some meaning) value = admitted_fails meaning.facets (cast_to_bottom meaning.bottom value) (bottom_fails meaning.bottom value)
+
+to_type_fails : (schemas : SchemaSet) (to : TypeName) (value : AtomValue) → Fails (cast_to schemas to value)
+to_type_fails schemas (names.Builtin kind) value = value_fails kind value
+to_type_fails schemas (names.Named name) value = atomic_fails (declared_atomic schemas (names.Named name)) value
+to_type_fails schemas (names.Anonymous number) value = atomic_fails (declared_atomic schemas (names.Anonymous number)) value
+
 cast_fails : (schemas : SchemaSet) (a : Atomic) (to : TypeName) → Fails (cast_of schemas a to)
-cast_fails schemas a (names.Builtin kind) = typed_fails (names.Builtin kind) (cast_value kind a.value) (value_fails kind a.value)
-cast_fails schemas a (names.Named name) = (_, refl)
-cast_fails schemas a (names.Anonymous number) = (_, refl)
+cast_fails schemas a to = typed_fails to (cast_to schemas to a.value) (to_type_fails schemas to a.value)
 
 pub fail_with_codes : CastsFailWithCodes
 fail_with_codes schemas a to error e = subst Fails e (cast_fails schemas a to)

@@ -1,5 +1,5 @@
 -- What a cast gives fits its target.
-use Rattle.std.proofs.Common.{◌≡◌, zero, suc, Bool, true, false, cond, Some, None, Result, Ok, Err, refl, ap, sym, subst}
+use Rattle.std.proofs.Common.{◌≡◌, zero, suc, Bool, true, false, cond, List, length, Option, Some, None, Result, Ok, Err, refl, ap, sym, subst}
 use Rattle.std.specs.Bool.{IsTrue}
 use Rattle.std.specs.Prelude.{ℤ}
 use Rattle.gx_base.specs.declared.type_name.Builtin.{Builtin}
@@ -14,12 +14,19 @@ use Rattle.gx_facets.specs.declared.AtomValue.{AtomValue}
 use Rattle.gx_facets.specs.declared.AtomValue.TheVariants.{Untyped, Str, Truth, Num}
 use Rattle.gx_facets.specs.declared.Atomic.{Atomic}
 use Rattle.gx_facets.specs.Value.{lexical_form, value_of_decimal}
+use Rattle.gx_facets.specs.declared.restriction.Facets.{Facets}
+use Rattle.gx_types.specs.BaseChain.{own_content, base_chain, end_of_chain}
 use Rattle.gx_types.specs.SchemaSet.{SchemaSet}
+use Rattle.gx_types.specs.SimpleType.{all_facets, built_in, atomic_of_content}
+use Rattle.gx_types.specs.SimpleValue.{is_admitted}
+use Rattle.gx_types.specs.declared.declaration.Content.{Content}
+use Rattle.gx_types.specs.declared.declaration.Content.TheVariants as contents
+use Rattle.gx_types.proofs.BaseChains.{along_chain}
 use Rattle.gx_types.specs.SameItemType.{same_type_name}
 use Rattle.gx_types.specs.Derivation.{bases_of, Bases, base_of, Leads, LeadsTo}
 use Rattle.gx_atomic.specs.declared.casting.CastError.{CastError}
 use Rattle.gx_atomic.specs.declared.casting.CastError.TheVariants.{FORG0001, FOCA0001}
-use Rattle.gx_atomic.specs.Cast.{with_fault, to_boolean, to_decimal, to_integer, in_type_range, within_type, cast_value, as_type}
+use Rattle.gx_atomic.specs.Cast.{with_fault, to_boolean, to_decimal, to_integer, in_type_range, within_type, cast_value, where_admitted, cast_to_bottom, cast_to_atomic, cast_to, as_type}
 use Rattle.gx_atomic.specs.Fit.{FitsKind, FitsItsType}
 use Rattle.gx_atomic.proofs.BooleanText.{by_boolean}
 use Rattle.gx_atomic.specs.Laws.{CastsFitTheirTarget}
@@ -196,14 +203,86 @@ module _ (schemas : SchemaSet) where
   gives_kind types.UnsignedByte value = integer_cast types.UnsignedByte value (up (bases_of schemas) types.UnsignedByte types.UnsignedShort refl (unsigned_short (bases_of schemas)))
   gives_kind types.Positive value = integer_cast types.Positive value (up (bases_of schemas) types.Positive types.NonNegative refl (non_negative (bases_of schemas)))
 
-  as_type_fits : (kind : Builtin) (cast : Result AtomValue CastError) (b : Atomic) → GivesKind kind cast → as_type (names.Builtin kind) cast ≡ Ok b
-      → (b.kind ≡ names.Builtin kind) × FitsItsType schemas b
+  -- ---- declared types
+
+  -- a cast gives a value of the kind that a type has
+  abbrev Gives : TypeName → Result AtomValue CastError → Type 0
+  Gives t (Ok value) = FitsKind schemas value t
+  Gives t (Err error) = Unit {0}
+
+  abbrev IsTyped : AtomValue → Type 0
+  IsTyped (Untyped text) = ⊥
+  IsTyped (Str text) = Unit {0}
+  IsTyped (Truth b) = Unit {0}
+  IsTyped (Num n) = Unit {0}
+
+  typed_unless : (b : Builtin) → (b ≡ types.UntypedAtomic → ⊥) → (value : AtomValue) → FitsKind schemas value (names.Builtin b) → IsTyped value
+  typed_unless b differ (Untyped text) h = differ (cc)
+  typed_unless b differ (Str text) h = tt
+  typed_unless b differ (Truth t) h = tt
+  typed_unless b differ (Num n) h = tt
+
+  -- a value of the built-in type that is not untyped
+  abbrev GivesTyped : Builtin → Result AtomValue CastError → Type 0
+  GivesTyped b (Ok value) = FitsKind schemas value (names.Builtin b) × IsTyped value
+  GivesTyped b (Err error) = Unit {0}
+
+  typed_cast : (b : Builtin) → (b ≡ types.UntypedAtomic → ⊥) → (cast : Result AtomValue CastError) → GivesKind b cast → GivesTyped b cast
+  typed_cast b differ (Ok value) h = (h, typed_unless b differ value h)
+  typed_cast b differ (Err error) h = tt
+
+  bottom_gives : (b : Builtin) (value : AtomValue) → GivesTyped b (cast_to_bottom b value)
+  bottom_gives types.UntypedAtomic value = tt
+  bottom_gives kind value = typed_cast kind (λ e. cc) (cast_value kind value) (gives_kind kind value)
+
+  -- what is of the kind of a base is of that of the type
+  over_base : (value : AtomValue) → IsTyped value → (t base : TypeName) → ((b : Builtin) → same_type_name t (names.Builtin b) ≡ false)
+      → base_of (bases_of schemas) t ≡ Some base → FitsKind schemas value base → FitsKind schemas value t
+  over_base (Untyped text) typed t base differ e h = absurd typed
+  over_base (Str text) typed t base differ e h = by_base (bases_of schemas) t base (names.Builtin types.Str) e h
+  over_base (Truth b) typed t base differ e h = by_base (bases_of schemas) t base (names.Builtin types.Boolean) e h
+  over_base (Num (Int i)) typed t base differ e h = by_base (bases_of schemas) t base (names.Builtin types.Integer) e h
+  over_base (Num (Dec u)) typed t base differ e h =
+      (by_base (bases_of schemas) t base (names.Builtin types.Decimal) e h.0, not_by_base (bases_of schemas) t base (names.Builtin types.Integer) (differ types.Integer) e h.1)
+
+  chosen_gives : (test : Bool) (t : TypeName) (value : AtomValue) → FitsKind schemas value t → Gives t (cond test (Ok value) (Err FORG0001))
+  chosen_gives true t value h = h
+  chosen_gives false t value h = tt
+
+  admitted_gives : (t : TypeName) (b : Builtin) (facets : List Facets) (cast : Result AtomValue CastError) → end_of_chain (base_chain schemas.types t) t ≡ names.Builtin b
+      → GivesTyped b cast → Gives t (where_admitted facets cast)
+  admitted_gives t b facets (Ok value) e h =
+      chosen_gives (is_admitted facets value) t value (along_chain schemas.types (FitsKind schemas value) (over_base value h.1) (length schemas.types) t b e h.0)
+  admitted_gives t b facets (Err error) e h = tt
+
+  by_end : (t end : TypeName) (facets : List Facets) (value : AtomValue) → end_of_chain (base_chain schemas.types t) t ≡ end
+      → Gives t (where_admitted facets (cast_to_bottom (built_in end) value))
+  by_end t (names.Builtin b) facets value e = admitted_gives t b facets (cast_to_bottom b value) e (bottom_gives b value)
+  by_end t (names.Named name) facets value e = tt
+  by_end t (names.Anonymous number) facets value e = tt
+
+  by_content : (t : TypeName) (content : Option Content) (value : AtomValue) → Gives t (cast_to_atomic (atomic_of_content schemas.types t content) value)
+  by_content t None value = tt
+  by_content t (Some (contents.Atomic facets)) value = by_end t (end_of_chain (base_chain schemas.types t) t) (all_facets schemas.types t) value refl
+  by_content t (Some (contents.List item facets)) value = tt
+  by_content t (Some (contents.Simple kind facets)) value = tt
+  by_content t (Some (contents.Complex mixed model)) value = tt
+
+  to_type_gives : (t : TypeName) (value : AtomValue) → Gives t (cast_to schemas t value)
+  to_type_gives (names.Builtin kind) value = given (cast_value kind value) (gives_kind kind value)
+    where
+      given : (cast : Result AtomValue CastError) → GivesKind kind cast → Gives (names.Builtin kind) cast
+      given (Ok x) h = h
+      given (Err error) h = tt
+  to_type_gives (names.Named name) value = by_content (names.Named name) (own_content schemas.types (names.Named name)) value
+  to_type_gives (names.Anonymous number) value = by_content (names.Anonymous number) (own_content schemas.types (names.Anonymous number)) value
+
+  as_type_fits : (kind : TypeName) (cast : Result AtomValue CastError) (b : Atomic) → Gives kind cast → as_type kind cast ≡ Ok b
+      → (b.kind ≡ kind) × FitsItsType schemas b
   as_type_fits kind (Ok value) b g e =
-      let same : b ≡ record { value = value; kind = names.Builtin kind } = cc in
+      let same : b ≡ record { value = value; kind = kind } = cc in
       (ap (λ (a : Atomic). a.kind) same, subst (FitsItsType schemas) (sym same) g)
   as_type_fits kind (Err error) b g e = absurd (cc)
 
 pub casts_fit : CastsFitTheirTarget
-casts_fit schemas a b (names.Builtin kind) e = as_type_fits schemas kind (cast_value kind a.value) b (gives_kind schemas kind a.value) e
-casts_fit schemas a b (names.Named name) e = absurd (cc)
-casts_fit schemas a b (names.Anonymous number) e = absurd (cc)
+casts_fit schemas a b to e = as_type_fits schemas to (cast_to schemas to a.value) b (to_type_gives schemas to a.value) e

@@ -7,4 +7,6 @@ pub mod Comparing
 pub mod Fitting
 pub mod OwnType
 pub mod TargetValues
+pub mod DeclaredCasts
+pub mod TextCasts
 pub mod PublicLaws

@@ -44,7 +44,7 @@ integer_stays : (kind : Builtin) (value : AtomValue) → IsIntegerWithin (least_
 integer_stays kind (Num (Int i)) p = rw (in_range kind i p.1 p.2) refl
 integer_stays kind _ p = absurd p
 
-stays : PrintedValuesReadBack → (kind : Builtin) (value : AtomValue) → FitsType kind value → cast_value kind value ≡ Ok value
+pub stays : PrintedValuesReadBack → (kind : Builtin) (value : AtomValue) → FitsType kind value → cast_value kind value ≡ Ok value
 stays back types.AnyType value p = absurd p
 stays back types.Untyped value p = absurd p
 stays back types.AnySimple value p = absurd p

@@ -17,7 +17,10 @@ use Rattle.gx_facets.specs.declared.ValueRead.{ValueRead}
 use Rattle.gx_facets.specs.declared.ValueRead.TheVariants as reads
 use Rattle.gx_facets.specs.WhiteSpace.{replaced, collapsed}
 use Rattle.gx_facets.specs.Value.{value_of, printed_value, least_of, greatest_of}
+use Rattle.gx_facets.specs.declared.restriction.Facets.{Facets}
 use Rattle.gx_types.specs.SchemaSet.{SchemaSet}
+use Rattle.gx_types.specs.SimpleType.{AtomicMeaning, declared_atomic}
+use Rattle.gx_types.specs.SimpleValue.{is_admitted}
 use Rattle.gx_atomic.specs.declared.casting.CastError.{CastError}
 use Rattle.gx_atomic.specs.declared.casting.CastError.TheVariants.{FORG0001, FOCA0001, FOCA0003, FOCA0006, Memory}
 
@@ -95,16 +98,35 @@ cast_value types.Boolean value = to_boolean value
 cast_value types.Decimal value = to_decimal value
 cast_value kind value = within_type kind (to_integer value)
 
--- ---- to each type; declared types are no targets as yet
+-- ---- to a declared type (17.2): the cast to the built-in type at which its bases end, and then restricted
+
+-- a value that a facet does not admit is none of the type
+abbrev pub where_admitted : List Facets → Result AtomValue CastError → Result AtomValue CastError
+where_admitted facets (Ok value) = if is_admitted facets value then Ok value else Err FORG0001
+where_admitted facets (Err error) = Err error
+
+-- no type is declared over xs:untypedAtomic
+abbrev pub cast_to_bottom : Builtin → AtomValue → Result AtomValue CastError
+cast_to_bottom types.UntypedAtomic value = Err FORG0001
+cast_to_bottom kind value = cast_value kind value
+
+-- a type that is not atomic is no target
+abbrev pub cast_to_atomic : Option AtomicMeaning → AtomValue → Result AtomValue CastError
+cast_to_atomic None value = Err FORG0001
+cast_to_atomic (Some meaning) value = where_admitted meaning.facets (cast_to_bottom meaning.bottom value)
+
+-- ---- to each type
+
+abbrev pub cast_to : SchemaSet → TypeName → AtomValue → Result AtomValue CastError
+cast_to schemas (names.Builtin kind) value = cast_value kind value
+cast_to schemas t value = cast_to_atomic (declared_atomic schemas t) value
 
 abbrev pub as_type : TypeName → Result AtomValue CastError → Result Atomic CastError
 as_type kind (Ok value) = Ok (record { value = value; kind = kind })
 as_type kind (Err error) = Err error
 
 abbrev pub cast_of : SchemaSet → Atomic → TypeName → Result Atomic CastError
-cast_of schemas a (names.Builtin kind) = as_type (names.Builtin kind) (cast_value kind a.value)
-cast_of schemas a (names.Named name) = Err FORG0001
-cast_of schemas a (names.Anonymous number) = Err FORG0001
+cast_of schemas a to = as_type to (cast_to schemas to a.value)
 
 -- ---- the call answers this, unless memory runs out
 

@@ -1,5 +1,6 @@
 -- The laws of casts and comparisons.
-use Rattle.std.specs.Prelude.{◌≡◌, ◌≢◌, ◌↔◌, Bool, true, false, not, ◌||◌, List, [], ◌∷◌, ◌++◌, All, Some, is_some, Ok, Err, IsSome}
+use Rattle.std.specs.Prelude.{◌≡◌, ◌≢◌, ◌↔◌, ℕ, Bool, true, false, not, ◌||◌, List, [], ◌∷◌, ◌++◌, All, Some, is_some, Ok, Err, IsSome}
+use Rattle.std.specs.Bool.{IsTrue}
 use Rattle.std.specs.declared.cmp.Ordering.{Ordering}
 use Rattle.std.specs.declared.cmp.Ordering.TheVariants.{Equal}
 use Rattle.gx_base.specs.declared.code.Code.{Code}
@@ -12,7 +13,13 @@ use Rattle.gx_facets.specs.declared.AtomValue.TheVariants.{Untyped, Str, Truth, 
 use Rattle.gx_facets.specs.declared.Atomic.{Atomic}
 use Rattle.gx_facets.specs.Value.{same_family, printed_value}
 use Rattle.gx_facets.specs.ValueSpace.{FitsType}
+use Rattle.gx_facets.specs.declared.restriction.Facets.{Facets}
+use Rattle.gx_types.specs.BaseChain.{own_content}
+use Rattle.gx_types.specs.SchemaInvariant.{is_nameable}
 use Rattle.gx_types.specs.SchemaSet.{SchemaSet}
+use Rattle.gx_types.specs.SimpleType.{all_facets, bottom_of}
+use Rattle.gx_types.specs.SimpleValue.{is_admitted, values_of_text}
+use Rattle.gx_types.specs.declared.declaration.Content.TheVariants as contents
 use Rattle.gx_atomic.specs.declared.casting.CastError.{CastError}
 use Rattle.gx_atomic.specs.declared.casting.CastError.TheVariants.{FORG0001}
 use Rattle.gx_atomic.specs.declared.comparison.Op.{Op}
@@ -105,3 +112,23 @@ CastsToTheOwnTypeChangeNothing =
 abbrev pub CastsOfPrintedValuesGoBack : Type 0
 CastsOfPrintedValuesGoBack =
     (kind : Builtin) (value : AtomValue) → FitsType kind value → cast_value kind (Str (printed_value value)) ≡ Ok value
+
+-- what a cast to an atomic type that is declared gives is a value of the built-in type at which its bases end, and each facet of it
+-- and of its bases admits the value
+abbrev pub CastsToDeclaredTypesAreAdmitted : Type 0
+CastsToDeclaredTypesAreAdmitted =
+    (schemas : SchemaSet) (a b : Atomic) (t : TypeName) (facets : Facets) → HasNumberInRange a.value → own_content schemas.types t ≡ Some (contents.Atomic facets)
+    → cast_of schemas a t ≡ Ok b → FitsType (bottom_of schemas.types t) b.value × (is_admitted (all_facets schemas.types t) b.value ≡ true)
+
+-- such a value, cast to its own type, stays as it is
+abbrev pub CastsToTheOwnDeclaredTypeChangeNothing : Type 0
+CastsToTheOwnDeclaredTypeChangeNothing =
+    (schemas : SchemaSet) (a : Atomic) (facets : Facets) → own_content schemas.types a.kind ≡ Some (contents.Atomic facets) → IsTrue (is_nameable (bottom_of schemas.types a.kind))
+    → FitsType (bottom_of schemas.types a.kind) a.value → is_admitted (all_facets schemas.types a.kind) a.value ≡ true → cast_of schemas a a.kind ≡ Ok a
+
+-- a text is cast to an atomic type that is declared as it is read at that type, to a value wherever it has one
+abbrev pub TextsAreCastAsTheyAreRead : Type 0
+TextsAreCastAsTheyAreRead =
+    (schemas : SchemaSet) (a : Atomic) (t : TypeName) (text : List ℕ) (facets : Facets) (b : Atomic)
+    → own_content schemas.types t ≡ Some (contents.Atomic facets) → IsTrue (is_nameable (bottom_of schemas.types t)) → a.value ≡ Str text
+    → (cast_of schemas a t ≡ Ok b) ↔ (values_of_text schemas t text ≡ Ok (b ∷ []))

@@ -1,8 +1,9 @@
 // Casts of atomic values.
 ghost use Rattle.std.specs.Prelude.{◌≡◌, ◌&&◌, int_le, ℤ, Result, Option, Some, None};
 ghost use Rattle.gx_facets.specs.Value.{printed_value, value_of};
-ghost use Rattle.gx_types.specs.SchemaSet.{SchemaSet};
-ghost use Rattle.gx_atomic.specs.Cast.{Casts, CastsValue, cast_of, cast_value, in_type_range, fault_at, read_at, integer_to_decimal, to_boolean, to_decimal, to_integer, within_type, code_of};
+ghost use Rattle.gx_types.specs.SimpleType.{declared_atomic};
+ghost use Rattle.gx_types.specs.SimpleView.{atomic_view};
+ghost use Rattle.gx_atomic.specs.Cast.{Casts, CastsValue, cast_of, cast_to, cast_to_atomic, cast_to_bottom, cast_value, in_type_range, fault_at, read_at, integer_to_decimal, to_boolean, to_decimal, to_integer, within_type, code_of};
 
 use gx_base::code::Code;
 use gx_base::text::Text;
@@ -13,6 +14,7 @@ use gx_facets::{
 };
 use gx_num::{Number, is_zero, to_dec, to_int};
 use gx_types::schemas::Schemas;
+use gx_types::simple_type::{AtomicType, declared_atomic_type};
 use std::alloc::{AllocError, Global};
 
 /// Why a cast has no value: the code of the dynamic error (Functions and Operators, appendix C), or want of memory.
@@ -56,8 +58,9 @@ impl From<AllocError> for CastError {
     }
 }
 
-/// The value cast to the type (Functions and Operators, section 17). The targets are the built-in atomic types as yet: a
-/// cast to xs:anyAtomicType, to a type that is not atomic or to one that is not built-in is FORG0001.
+/// The value cast to the type (Functions and Operators, section 17): to a declared atomic type the value cast to the built-in
+/// type at which its bases end. FORG0001 also where a facet of a declared type or of one of its bases does not admit that
+/// value, and where the target is xs:anyAtomicType or is not an atomic type.
 pub fn cast(
     alloc: Global,
     schemas: &Schemas,
@@ -66,22 +69,61 @@ pub fn cast(
 ) -> Result<Atomic, CastError>
     ensures { Casts result (cast_of schemas.now a.now to.now) }
 {
-    cast_in_any_schemas(alloc, a, to)
+    let value = cast_to(alloc, schemas, &a.value, to)?;
+    let kind = to.clone()?;
+    Ok(Atomic { value, kind })
 }
 
-/// The value cast to the type, as `cast` has it, which is the same in all schemas as yet.
-pub fn cast_in_any_schemas(alloc: Global, a: &Atomic, to: &TypeName) -> Result<Atomic, CastError>
-    ensures { (schemas : SchemaSet) → Casts result (cast_of schemas a.now to.now) }
+fn cast_to(
+    alloc: Global,
+    schemas: &Schemas,
+    value: &AtomValue,
+    to: &TypeName,
+) -> Result<AtomValue, CastError>
+    ensures { CastsValue result (cast_to schemas.now to.now value.now) }
 {
     match to {
-        TypeName::Builtin(kind) => {
-            let value = cast_to_builtin(alloc, &a.value, *kind)?;
-            Ok(Atomic {
-                value,
-                kind: TypeName::Builtin(*kind),
-            })
-        }
-        TypeName::Named(_) | TypeName::Anonymous(_) => Err(CastError::FORG0001),
+        TypeName::Builtin(kind) => cast_to_builtin(alloc, value, *kind),
+        TypeName::Named(_) | TypeName::Anonymous(_) => cast_to_declared(alloc, schemas, value, to),
+    }
+}
+
+fn cast_to_declared(
+    alloc: Global,
+    schemas: &Schemas,
+    value: &AtomValue,
+    to: &TypeName,
+) -> Result<AtomValue, CastError>
+    ensures { CastsValue result (cast_to_atomic (declared_atomic schemas.now to.now) value.now) }
+{
+    match declared_atomic_type(alloc, schemas, to)? {
+        Some(kind) => cast_to_atomic(alloc, value, &kind),
+        None => Err(CastError::FORG0001),
+    }
+}
+
+fn cast_to_atomic(
+    alloc: Global,
+    value: &AtomValue,
+    kind: &AtomicType<'_>,
+) -> Result<AtomValue, CastError>
+    ensures { CastsValue result (cast_to_atomic (Some (atomic_view kind.now)) value.now) }
+{
+    let given = cast_to_bottom(alloc, value, kind.bottom)?;
+    if kind.admits(&given) {
+        Ok(given)
+    } else {
+        Err(CastError::FORG0001)
+    }
+}
+
+// To a built-in type at which the bases of a declared type end.
+fn cast_to_bottom(alloc: Global, value: &AtomValue, kind: Builtin) -> Result<AtomValue, CastError>
+    ensures { CastsValue result (cast_to_bottom kind value.now) }
+{
+    match kind {
+        Builtin::UntypedAtomic => Err(CastError::FORG0001),
+        _ => cast_to_builtin(alloc, value, kind),
     }
 }
 

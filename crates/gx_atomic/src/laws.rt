@@ -1,6 +1,7 @@
 // Laws of the definitions that the contracts cite.
 ghost use Rattle.gx_atomic.specs.Laws.{OperatorsAreContraries, ValuesAreEqualToThemselves, EmptyListsCompareFalse, FirstPairDecides, ComparableByFamilies, ComparisonsFailInOneWay};
 ghost use Rattle.gx_atomic.specs.Laws.{CastsFitTheirTarget, CastsFailWithCodes, CastsGiveValuesOfTheirTarget, CastsToTheOwnTypeChangeNothing, CastsOfPrintedValuesGoBack};
+ghost use Rattle.gx_atomic.specs.Laws.{CastsToDeclaredTypesAreAdmitted, CastsToTheOwnDeclaredTypeChangeNothing, TextsAreCastAsTheyAreRead};
 
 use gx_facets::laws::{printed_values_read_back, read_values_fit};
 
@@ -65,3 +66,23 @@ pub fn casts_of_printed_values_go_back()
 {
     printed_values_read_back();
 }
+
+/// What a cast to an atomic type that is declared gives is a value of the built-in type at which its bases end, and each facet of
+/// it and of its bases admits the value.
+pub fn casts_to_declared_types_are_admitted()
+    ensures { CastsToDeclaredTypesAreAdmitted }
+{
+    read_values_fit();
+}
+
+/// Such a value, cast to its own type, stays as it is.
+pub fn casts_to_the_own_declared_type_change_nothing()
+    ensures { CastsToTheOwnDeclaredTypeChangeNothing }
+{
+    printed_values_read_back();
+}
+
+/// A text is cast to an atomic type that is declared as it is read at that type: to the same value, wherever there is one.
+pub fn texts_are_cast_as_they_are_read()
+    ensures { TextsAreCastAsTheyAreRead }
+{}

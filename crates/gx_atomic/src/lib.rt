@@ -7,7 +7,7 @@ mod effective;
 mod fit;
 pub mod laws;
 
-pub use casting::{CastError, cast, cast_in_any_schemas};
+pub use casting::{CastError, cast};
 pub use comparison::{Op, compare_any, compare_single, try_compare_any};
 pub use effective::effective_boolean_value;
 pub use fit::fits;

@@ -105,7 +105,9 @@ impl<'a> Evaluation<'a> {
         match pending {
             Pending::Evaluate(expression) => self.open(alloc, schemas, forest, expression),
             Pending::Change(operator, first) => self.apply_change(alloc, forest, operator, first),
-            Pending::Single(operator, first) => self.apply_single(alloc, forest, operator, first),
+            Pending::Single(operator, first) => {
+                self.apply_single(alloc, schemas, forest, operator, first)
+            }
             Pending::Right(operator, first, right) => {
                 self.open_right(alloc, operator, first, right)
             }
@@ -158,11 +160,12 @@ impl<'a> Evaluation<'a> {
                 Ok(self.open_part(condition, Pending::Choose(first, chosen, otherwise))?)
             }
             TypedForm::Cast(operand, kind, allows_empty) => {
-                self.open_single(alloc, forest, Single::Cast(kind, *allows_empty), operand)
+                let cast = Single::Cast(kind, *allows_empty);
+                self.open_single(alloc, schemas, forest, cast, operand)
             }
             TypedForm::Castable(operand, kind, allows_empty) => {
                 let castable = Single::Castable(kind, *allows_empty);
-                self.open_single(alloc, forest, castable, operand)
+                self.open_single(alloc, schemas, forest, castable, operand)
             }
             TypedForm::Step(axis, test, number) => {
                 self.append_step(alloc, schemas, forest, *axis, test, *number)
@@ -172,9 +175,11 @@ impl<'a> Evaluation<'a> {
             TypedForm::DataOf(operand) => Ok(self.open_change(Change::Data, operand)?),
             TypedForm::NoContext => Err(Failure::Wrong),
             TypedForm::Call(function, arguments) => {
-                self.open_call(alloc, forest, *function, arguments.as_slice())
+                self.open_call(alloc, schemas, forest, *function, arguments.as_slice())
             }
-            TypedForm::Neg(operand) => self.open_single(alloc, forest, Single::Neg, operand),
+            TypedForm::Neg(operand) => {
+                self.open_single(alloc, schemas, forest, Single::Neg, operand)
+            }
             TypedForm::Binary(operator, left, right) => {
                 Ok(self.open_part(left, Pending::Right(*operator, first, right))?)
             }
@@ -221,17 +226,18 @@ impl<'a> Evaluation<'a> {
     fn single_at_hand(
         &self,
         alloc: Global,
+        schemas: &Schemas,
         forest: &Forest,
         operator: Single<'a>,
         operand: &TypedExpr,
     ) -> Result<Option<Answer>, Failure>
-        ensures value { (k : Context) → IfOk result (λ found. IfSome found (λ r.
+        ensures value { let k = context_over schemas.now in IfOk result (λ found. IfSome found (λ r.
             denoted k (single_operator operator.entry) (meaning k operand.now ∷ []) (items_of self.now.scope) forest.now ≡ gives (answer_items r) forest.now)) }
         ensures fits { IfOk result (λ found. IfSome found AnswerFits) }
-        ensures failed { (k : Context) → IfErr result (λ e. FailsSo e (denoted k (single_operator operator.entry) (meaning k operand.now ∷ []) (items_of self.now.scope) forest.now)) }
+        ensures failed { let k = context_over schemas.now in IfErr result (λ e. FailsSo e (denoted k (single_operator operator.entry) (meaning k operand.now ∷ []) (items_of self.now.scope) forest.now)) }
     {
         match at_hand(&self.scope, operand)? {
-            Some(hand) => Ok(Some(of_one(alloc, forest, operator, hand.as_slice())?)),
+            Some(hand) => Ok(Some(of_one(alloc, schemas, forest, operator, hand.as_slice())?)),
             None => Ok(None),
         }
     }
@@ -261,16 +267,17 @@ impl<'a> Evaluation<'a> {
     fn open_single(
         &mut self,
         alloc: Global,
+        schemas: &Schemas,
         forest: &Forest,
         operator: Single<'a>,
         operand: &'a TypedExpr,
     ) -> Result<(), Failure>
-        ensures value { (k : Context) → OnOk result (outcome_of k forest.now self.new
+        ensures value { let k = context_over schemas.now in OnOk result (outcome_of k forest.now self.new
             ≡ outcome_behind k forest.now (denoted k (single_operator operator.entry) (meaning k operand.now ∷ []) (items_of self.old.scope) forest.now) self.old) }
-        ensures failed { (k : Context) → IfErr result (λ e. FailsSo e
+        ensures failed { let k = context_over schemas.now in IfErr result (λ e. FailsSo e
             (outcome_behind k forest.now (denoted k (single_operator operator.entry) (meaning k operand.now ∷ []) (items_of self.old.scope) forest.now) self.old)) }
     {
-        if let Some(answer) = self.single_at_hand(alloc, forest, operator, operand)? {
+        if let Some(answer) = self.single_at_hand(alloc, schemas, forest, operator, operand)? {
             return Ok(put(answer, &mut self.values)?);
         }
         let first = self.values.len();
@@ -304,13 +311,14 @@ impl<'a> Evaluation<'a> {
     fn open_call(
         &mut self,
         alloc: Global,
+        schemas: &Schemas,
         forest: &Forest,
         function: Function,
         arguments: &'a [TypedExpr],
     ) -> Result<(), Failure>
-        ensures value { (k : Context) → OnOk result (outcome_of k forest.now self.new
+        ensures value { let k = context_over schemas.now in OnOk result (outcome_of k forest.now self.new
             ≡ outcome_behind k forest.now (denoted k (operators.Call function) (map (meaning k) arguments.now) (items_of self.old.scope) forest.now) self.old) }
-        ensures failed { (k : Context) → IfErr result (λ e. FailsSo e
+        ensures failed { let k = context_over schemas.now in IfErr result (λ e. FailsSo e
             (outcome_behind k forest.now (denoted k (operators.Call function) (map (meaning k) arguments.now) (items_of self.old.scope) forest.now) self.old)) }
     {
         match arguments {
@@ -318,7 +326,13 @@ impl<'a> Evaluation<'a> {
                 let answer = called_with_none(function)?;
                 Ok(put(answer, &mut self.values)?)
             }
-            [argument] => self.open_single(alloc, forest, Single::Call(function), argument),
+            [argument] => self.open_single(
+                alloc,
+                schemas,
+                forest,
+                Single::Call(function),
+                argument,
+            ),
             _ => Ok(self.open_arguments(function, arguments)?),
         }
     }
@@ -484,15 +498,16 @@ impl<'a> Evaluation<'a> {
     fn apply_single(
         &mut self,
         alloc: Global,
+        schemas: &Schemas,
         forest: &Forest,
         operator: Single<'a>,
         first: usize,
     ) -> Result<(), Failure>
-        ensures value { (k : Context) → OnOk result (outcome_of k forest.now self.new ≡ outcome_with k forest.now (work.Single operator.entry first) self.old) }
-        ensures failed { (k : Context) → IfErr result (λ e. FailsSo e (outcome_with k forest.now (work.Single operator.entry first) self.old)) }
+        ensures value { let k = context_over schemas.now in OnOk result (outcome_of k forest.now self.new ≡ outcome_with k forest.now (work.Single operator.entry first) self.old) }
+        ensures failed { let k = context_over schemas.now in IfErr result (λ e. FailsSo e (outcome_with k forest.now (work.Single operator.entry first) self.old)) }
     {
         let (_, operand) = cut_at(self.values.as_slice(), first);
-        let answer = of_one(alloc, forest, operator, operand)?;
+        let answer = of_one(alloc, schemas, forest, operator, operand)?;
         self.values.truncate(first);
         Ok(put(answer, &mut self.values)?)
     }

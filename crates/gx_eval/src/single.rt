@@ -1,7 +1,6 @@
 // Operators of one operand.
 
 ghost use Rattle.std.specs.Prelude.{◌≡◌, ◌∷◌, [], Result, Err, IfOk, IfErr, is_ok, Bool, true};
-ghost use Rattle.gx_types.specs.SchemaSet.{SchemaSet};
 ghost use Rattle.gx_facets.specs.declared.Atomic.{Atomic};
 ghost use Rattle.gx_atomic.specs.declared.casting.CastError.{CastError};
 ghost use Rattle.gx_atomic.specs.Cast.{Casts, cast_of};
@@ -10,11 +9,12 @@ ghost use Rattle.gx_model.specs.Forest.{Forest as PlainForest};
 ghost use Rattle.gx_model.specs.Item.{atom};
 ghost use Rattle.gx_core.specs.Outcome.{gives};
 ghost use Rattle.gx_core.specs.Arithmetic.{negation};
-ghost use Rattle.gx_core.specs.Meaning.{Context, acts};
+ghost use Rattle.gx_core.specs.Meaning.{acts};
 ghost use Rattle.gx_core.specs.Casting.{cast_outcome, cast_items, castable_items};
 ghost use Rattle.gx_eval.specs.Answering.{answer_items, AnswerFits};
 ghost use Rattle.gx_eval.specs.Failing.{FailsSo};
 ghost use Rattle.gx_eval.specs.Operators.{single_operator};
+ghost use Rattle.gx_eval.specs.Resume.{context_over};
 ghost use Rattle.gx_eval.specs.declared.failure.Failure.TheVariants.{Memory};
 
 use crate::answer::Answer;
@@ -22,12 +22,13 @@ use crate::arithmetic::negated;
 use crate::calling::called_with_one;
 use crate::comparison::cast_failure;
 use crate::failure::Failure;
-use gx_atomic::{CastError, cast_in_any_schemas};
+use gx_atomic::CastError;
 use gx_base::type_name::TypeName;
 use gx_facets::Atomic;
 use gx_funcs::function::{Function, truth_atom};
 use gx_model::forest::Forest;
 use gx_model::item::{ItemForm, ModelItem};
+use gx_types::schemas::Schemas;
 use std::alloc::Global;
 
 // A strict operator of one operand, but for atomization.
@@ -42,18 +43,21 @@ pub(crate) enum Single<'a> {
 // What an operator of one operand makes of it.
 pub(crate) fn of_one(
     alloc: Global,
+    schemas: &Schemas,
     forest: &Forest,
     operator: Single<'_>,
     operand: &[ModelItem],
 ) -> Result<Answer, Failure>
-    ensures value { (k : Context) → IfOk result (λ r. acts k (single_operator operator.entry) (operand.now ∷ []) forest.now ≡ gives (answer_items r) forest.now) }
+    ensures value { let k = context_over schemas.now in IfOk result (λ r. acts k (single_operator operator.entry) (operand.now ∷ []) forest.now ≡ gives (answer_items r) forest.now) }
     ensures fits { IfOk result (λ r. AnswerFits r) }
-    ensures failed { (k : Context) → IfErr result (λ e. FailsSo e (acts k (single_operator operator.entry) (operand.now ∷ []) forest.now)) }
+    ensures failed { let k = context_over schemas.now in IfErr result (λ e. FailsSo e (acts k (single_operator operator.entry) (operand.now ∷ []) forest.now)) }
 {
     match operator {
         Single::Neg => negation(operand),
-        Single::Cast(kind, allows_empty) => cast(alloc, kind, allows_empty, operand),
-        Single::Castable(kind, allows_empty) => castable(alloc, kind, allows_empty, operand),
+        Single::Cast(kind, allows_empty) => cast(alloc, schemas, kind, allows_empty, operand),
+        Single::Castable(kind, allows_empty) => {
+            castable(alloc, schemas, kind, allows_empty, operand)
+        }
         Single::Call(function) => called_with_one(alloc, forest, function, operand),
     }
 }
@@ -76,17 +80,18 @@ fn negation(operand: &[ModelItem]) -> Result<Answer, Failure>
 #[tactic(auto, using(crate::proofs::Operands::many_are_not_cast))]
 fn cast(
     alloc: Global,
+    schemas: &Schemas,
     kind: &TypeName,
     allows_empty: bool,
     operand: &[ModelItem],
 ) -> Result<Answer, Failure>
-    ensures value { (schemas : SchemaSet) (forest : PlainForest) → IfOk result (λ r. cast_items schemas kind.now allows_empty operand.now forest ≡ gives (answer_items r) forest) }
+    ensures value { (forest : PlainForest) → IfOk result (λ r. cast_items schemas.now kind.now allows_empty operand.now forest ≡ gives (answer_items r) forest) }
     ensures fits { IfOk result (λ r. AnswerFits r) }
-    ensures failed { (schemas : SchemaSet) (forest : PlainForest) → IfErr result (λ e. FailsSo e (cast_items schemas kind.now allows_empty operand.now forest)) }
+    ensures failed { (forest : PlainForest) → IfErr result (λ e. FailsSo e (cast_items schemas.now kind.now allows_empty operand.now forest)) }
 {
     match operand {
         [] if allows_empty => Ok(Answer::Nothing),
-        [x] => match cast_of(alloc, kind, x) {
+        [x] => match cast_of(alloc, schemas, kind, x) {
             Ok(atomic) => Ok(Answer::One(atomic)),
             Err(failure) => Err(failure),
         },
@@ -98,17 +103,18 @@ fn cast(
 #[tactic(auto, using(crate::proofs::Operands::many_are_not_castable))]
 fn castable(
     alloc: Global,
+    schemas: &Schemas,
     kind: &TypeName,
     allows_empty: bool,
     operand: &[ModelItem],
 ) -> Result<Answer, Failure>
-    ensures value { (schemas : SchemaSet) (forest : PlainForest) → IfOk result (λ r. castable_items schemas kind.now allows_empty operand.now forest ≡ gives (answer_items r) forest) }
+    ensures value { (forest : PlainForest) → IfOk result (λ r. castable_items schemas.now kind.now allows_empty operand.now forest ≡ gives (answer_items r) forest) }
     ensures fits { IfOk result (λ r. AnswerFits r) }
-    ensures failed { (schemas : SchemaSet) (forest : PlainForest) → IfErr result (λ e. FailsSo e (castable_items schemas kind.now allows_empty operand.now forest)) }
+    ensures failed { (forest : PlainForest) → IfErr result (λ e. FailsSo e (castable_items schemas.now kind.now allows_empty operand.now forest)) }
 {
     match operand {
         [] => Ok(Answer::One(truth_atom(allows_empty))),
-        [x] => match castability(alloc, kind, x) {
+        [x] => match castability(alloc, schemas, kind, x) {
             Ok(atomic) => Ok(Answer::One(atomic)),
             Err(failure) => Err(failure),
         },
@@ -116,32 +122,47 @@ fn castable(
     }
 }
 
-fn cast_of(alloc: Global, kind: &TypeName, item: &ModelItem) -> Result<Atomic, Failure>
-    ensures value { (schemas : SchemaSet) (optional : Bool) (forest : PlainForest) → IfOk result (λ r. cast_items schemas kind.now optional (item.now ∷ []) forest ≡ gives (atom r ∷ []) forest) }
-    ensures failed { (schemas : SchemaSet) (optional : Bool) (forest : PlainForest) → IfErr result (λ e. FailsSo e (cast_items schemas kind.now optional (item.now ∷ []) forest)) }
+fn cast_of(
+    alloc: Global,
+    schemas: &Schemas,
+    kind: &TypeName,
+    item: &ModelItem,
+) -> Result<Atomic, Failure>
+    ensures value { (optional : Bool) (forest : PlainForest) → IfOk result (λ r. cast_items schemas.now kind.now optional (item.now ∷ []) forest ≡ gives (atom r ∷ []) forest) }
+    ensures failed { (optional : Bool) (forest : PlainForest) → IfErr result (λ e. FailsSo e (cast_items schemas.now kind.now optional (item.now ∷ []) forest)) }
 {
     match &item.form {
-        ItemForm::Atom(value) => cast_of_atom(alloc, kind, value),
+        ItemForm::Atom(value) => cast_of_atom(alloc, schemas, kind, value),
         ItemForm::Node(_) => Err(Failure::Wrong),
     }
 }
 
-fn cast_of_atom(alloc: Global, kind: &TypeName, value: &Atomic) -> Result<Atomic, Failure>
-    ensures value { (schemas : SchemaSet) (forest : PlainForest) → IfOk result (λ r. cast_outcome (cast_of schemas value.now kind.now) forest ≡ gives (atom r ∷ []) forest) }
-    ensures failed { (schemas : SchemaSet) (forest : PlainForest) → IfErr result (λ e. FailsSo e (cast_outcome (cast_of schemas value.now kind.now) forest)) }
+fn cast_of_atom(
+    alloc: Global,
+    schemas: &Schemas,
+    kind: &TypeName,
+    value: &Atomic,
+) -> Result<Atomic, Failure>
+    ensures value { (forest : PlainForest) → IfOk result (λ r. cast_outcome (cast_of schemas.now value.now kind.now) forest ≡ gives (atom r ∷ []) forest) }
+    ensures failed { (forest : PlainForest) → IfErr result (λ e. FailsSo e (cast_outcome (cast_of schemas.now value.now kind.now) forest)) }
 {
-    match cast_in_any_schemas(alloc, value, kind) {
+    match gx_atomic::cast(alloc, schemas, value, kind) {
         Ok(atomic) => Ok(atomic),
         Err(error) => Err(cast_failure(error)),
     }
 }
 
-fn castability(alloc: Global, kind: &TypeName, item: &ModelItem) -> Result<Atomic, Failure>
-    ensures value { (schemas : SchemaSet) (optional : Bool) (forest : PlainForest) → IfOk result (λ a. castable_items schemas kind.now optional (item.now ∷ []) forest ≡ gives (atom a ∷ []) forest) }
-    ensures failed { (schemas : SchemaSet) (optional : Bool) (forest : PlainForest) → IfErr result (λ e. FailsSo e (castable_items schemas kind.now optional (item.now ∷ []) forest)) }
+fn castability(
+    alloc: Global,
+    schemas: &Schemas,
+    kind: &TypeName,
+    item: &ModelItem,
+) -> Result<Atomic, Failure>
+    ensures value { (optional : Bool) (forest : PlainForest) → IfOk result (λ a. castable_items schemas.now kind.now optional (item.now ∷ []) forest ≡ gives (atom a ∷ []) forest) }
+    ensures failed { (optional : Bool) (forest : PlainForest) → IfErr result (λ e. FailsSo e (castable_items schemas.now kind.now optional (item.now ∷ []) forest)) }
 {
     match &item.form {
-        ItemForm::Atom(value) => match castability_of_atom(alloc, kind, value) {
+        ItemForm::Atom(value) => match castability_of_atom(alloc, schemas, kind, value) {
             Ok(atomic) => Ok(atomic),
             Err(failure) => Err(failure),
         },
@@ -149,11 +170,16 @@ fn castability(alloc: Global, kind: &TypeName, item: &ModelItem) -> Result<Atomi
     }
 }
 
-fn castability_of_atom(alloc: Global, kind: &TypeName, value: &Atomic) -> Result<Atomic, Failure>
-    ensures value { (schemas : SchemaSet) → IfOk result (λ a. a ≡ truth_atom (is_ok (cast_of schemas value.now kind.now))) }
+fn castability_of_atom(
+    alloc: Global,
+    schemas: &Schemas,
+    kind: &TypeName,
+    value: &Atomic,
+) -> Result<Atomic, Failure>
+    ensures value { IfOk result (λ a. a ≡ truth_atom (is_ok (cast_of schemas.now value.now kind.now))) }
     ensures failed { IfErr result (λ e. e ≡ Memory) }
 {
-    match cast_in_any_schemas(alloc, value, kind) {
+    match gx_atomic::cast(alloc, schemas, value, kind) {
         Ok(given) => Ok(with_cast(given)),
         Err(error) => without_cast(error),
     }

@@ -9,3 +9,7 @@ pub mod DerivationOrder
 pub mod TimesTakes
 pub mod Distinct
 pub mod PublicLaws
+pub mod BaseChains
+pub mod ListItems
+pub mod Admitted
+pub mod SimpleExamples

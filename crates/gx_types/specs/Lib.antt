@@ -20,3 +20,8 @@ pub mod ItemTakes
 pub mod Takes
 pub mod Laws
 pub mod DerivationLaws
+pub mod BaseChain
+pub mod SimpleType
+pub mod SimpleValue
+pub mod ListReading
+pub mod SimpleView

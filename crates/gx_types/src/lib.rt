@@ -11,5 +11,7 @@ pub mod occurrence;
 pub mod schemas;
 pub mod sequence_type;
 pub mod shape;
+pub mod simple_type;
+pub mod simple_value;
 pub mod step;
 pub mod type_rules;

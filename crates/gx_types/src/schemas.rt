@@ -83,6 +83,13 @@ impl Schemas {
         global_element(self.elements.as_slice(), name)
     }
 
+    /// The target namespace of each file, empty where it has none.
+    pub fn targets(&self) -> &[Text]
+        ensures { result.now ≡ self.now.targets }
+    {
+        self.targets.as_slice()
+    }
+
     /// The target namespace of the file of a number, counted from 0, empty where it has none; None exactly past the last file.
     pub fn target(&self, file: u32) -> Option<&Text>
         ensures { option_copied result ≡ slice_get self.now.targets file }

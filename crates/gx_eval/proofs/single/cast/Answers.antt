@@ -6,13 +6,13 @@ use Rattle.gx_eval.proofs.Operands.{the_single}
 use Rattle.gx_eval.proofs.single.cast.Goals as goal
 
 pub returns-in-Ok-clause-value : goal.returns-in-Ok-clause-value
-returns-in-Ok-clause-value c = λ schemas forest.
+returns-in-Ok-clause-value c = λ forest.
     let l : length c.args.operand.now ≡ 1 = omega arith in
-    ap (λ (xs : Items). cast_items schemas c.args.kind.now c.args.allows_empty xs forest) (the_single c.args.operand.now c.x-item.result l c.x-item.is)
-    ∙ c.in-Ok.ensures.value schemas c.args.allows_empty forest
+    ap (λ (xs : Items). cast_items c.args.schemas.now c.args.kind.now c.args.allows_empty xs forest) (the_single c.args.operand.now c.x-item.result l c.x-item.is)
+    ∙ c.in-Ok.ensures.value c.args.allows_empty forest
 
 pub returns-in-Err-clause-failed : goal.returns-in-Err-clause-failed
-returns-in-Err-clause-failed c = λ schemas forest.
+returns-in-Err-clause-failed c = λ forest.
     let l : length c.args.operand.now ≡ 1 = omega arith in
-    subst (λ (xs : Items). FailsSo c.in-Err.failure (cast_items schemas c.args.kind.now c.args.allows_empty xs forest)) (sym (the_single c.args.operand.now c.x-item.result l c.x-item.is))
-    (c.in-Err.ensures.failed schemas c.args.allows_empty forest)
+    subst (λ (xs : Items). FailsSo c.in-Err.failure (cast_items c.args.schemas.now c.args.kind.now c.args.allows_empty xs forest)) (sym (the_single c.args.operand.now c.x-item.result l c.x-item.is))
+    (c.in-Err.ensures.failed c.args.allows_empty forest)

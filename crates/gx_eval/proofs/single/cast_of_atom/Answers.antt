@@ -9,9 +9,9 @@ use Rattle.gx_eval.proofs.Operands.{failed_cast}
 use Rattle.gx_eval.proofs.single.cast_of_atom.Goals as goal
 
 pub returns-in-Ok-clause-value : goal.returns-in-Ok-clause-value
-returns-in-Ok-clause-value c = λ schemas forest. ap (λ (r : Result Atomic CastError). cast_outcome r forest) (c.in-Ok.ensures schemas)
+returns-in-Ok-clause-value c = λ forest. ap (λ (r : Result Atomic CastError). cast_outcome r forest) c.in-Ok.ensures
 
 pub returns-in-Err-clause-failed : goal.returns-in-Err-clause-failed
-returns-in-Err-clause-failed c = λ schemas forest.
-    subst (λ (f : Failure). FailsSo f (cast_outcome (cast_of schemas c.args.value.now c.args.kind.now) forest)) (sym c.cast_failure.ensures)
-    (failed_cast c.in-Err.error (cast_of schemas c.args.value.now c.args.kind.now) forest (c.in-Err.ensures schemas))
+returns-in-Err-clause-failed c = λ forest.
+    subst (λ (f : Failure). FailsSo f (cast_outcome (cast_of c.args.schemas.now c.args.value.now c.args.kind.now) forest)) (sym c.cast_failure.ensures)
+    (failed_cast c.in-Err.error (cast_of c.args.schemas.now c.args.value.now c.args.kind.now) forest c.in-Err.ensures)

@@ -2,25 +2,27 @@ use Rattle.std.proofs.Common.{◌≡◌, ap, sym, ◌∙◌}
 use Rattle.std.proofs.lemmas.Result.{err_from_is_err_and}
 use Rattle.gx_model.specs.Item.{Items}
 use Rattle.gx_core.specs.Outcome.{gives}
-use Rattle.gx_core.specs.Meaning.{meaning}
+use Rattle.gx_core.specs.Meaning.{Context, meaning}
 use Rattle.gx_eval.specs.Answering.{answer_items}
 use Rattle.gx_eval.specs.BoundItems.{hand_items}
-use Rattle.gx_eval.specs.Resume.{items_of}
+use Rattle.gx_eval.specs.Resume.{context_over, items_of}
 use Rattle.gx_eval.proofs.Resuming.{one_at_hand, one_fails_at_hand}
 use Rattle.gx_eval.proofs.evaluation.Evaluation.single_at_hand.Goals as goal
 
 pub returns-in_err-of_one-in-Some-clause-failed : goal.returns-in_err-of_one-in-Some-clause-failed
-returns-in_err-of_one-in-Some-clause-failed c = λ k.
+returns-in_err-of_one-in-Some-clause-failed c =
+    let k : Context = context_over c.args.schemas.now in
     let forest = c.args.forest.now in
     let e : meaning k c.args.operand.now (items_of c.args.self.now.scope) forest ≡ gives (hand_items c.in-Some.hand) forest = rw c.in-Some.is at (c.in_ok-hand.ensures k forest) in
     let p = err_from_is_err_and c.from_residual-in_err-of_one-in-Some.result c.from_residual-in_err-of_one-in-Some.ensures.1 in
     rw (p.1, p.2)
     (one_fails_at_hand k c.args.operator (meaning k c.args.operand.now) (items_of c.args.self.now.scope) forest c.as_slice.result.now _ (e ∙ ap (λ (v : Items). gives v forest) (sym c.as_slice.ensures))
-    (c.in_err-of_one-in-Some.ensures.failed k))
+    c.in_err-of_one-in-Some.ensures.failed)
 
 pub returns-in_ok-of_one-in-Some-clause-value : goal.returns-in_ok-of_one-in-Some-clause-value
-returns-in_ok-of_one-in-Some-clause-value c = λ k.
+returns-in_ok-of_one-in-Some-clause-value c =
+    let k : Context = context_over c.args.schemas.now in
     let forest = c.args.forest.now in
     let e : meaning k c.args.operand.now (items_of c.args.self.now.scope) forest ≡ gives (hand_items c.in-Some.hand) forest = rw c.in-Some.is at (c.in_ok-hand.ensures k forest) in
     one_at_hand k c.args.operator (meaning k c.args.operand.now) (items_of c.args.self.now.scope) forest c.as_slice.result.now (answer_items c.in_ok-of_one-in-Some.field-0) (e ∙ ap (λ (v : Items). gives v forest) (sym c.as_slice.ensures))
-    (c.in_ok-of_one-in-Some.ensures.value k)
+    c.in_ok-of_one-in-Some.ensures.value

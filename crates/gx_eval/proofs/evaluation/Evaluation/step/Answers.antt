@@ -10,7 +10,7 @@ returns-in-Change-clause-failed c =
 
 pub returns-in-Single-clause-failed : goal.returns-in-Single-clause-failed
 returns-in-Single-clause-failed c =
-    subst (λ (p : Pending). IfErr c.apply_single.result (λ e. FailsSo e (outcome_with (context_over c.args.schemas.now) c.args.forest.now p c.args.self.now))) (sym c.in-Single.is) (c.apply_single.ensures.failed (context_over c.args.schemas.now))
+    subst (λ (p : Pending). IfErr c.apply_single.result (λ e. FailsSo e (outcome_with (context_over c.args.schemas.now) c.args.forest.now p c.args.self.now))) (sym c.in-Single.is) c.apply_single.ensures.failed
 
 pub returns-in-Right-clause-failed : goal.returns-in-Right-clause-failed
 returns-in-Right-clause-failed c =
