@@ -12,7 +12,7 @@ use Rattle.gx_parse.specs.declared.members.Members.{Members}
 use Rattle.gx_parse.specs.declared.members.Members.TheVariants.{Operands}
 use Rattle.gx_syntax.specs.Nodes.{Node, Made, Tree, Operator, Join, tree, joined_to, chain_value}
 use Rattle.gx_syntax.specs.Tokens.{one_of}
-use Rattle.gx_syntax.specs.Grammar.{Phrase, at_tokens, operator, more, query_language, place_in}
+use Rattle.gx_syntax.specs.Grammar.{Phrase, at_tokens, infix_operator, more, query_language, place_in}
 use Rattle.gx_scan.specs.Reading.{call, read_in}
 use Rattle.gx_parse.specs.Parsing.{set_of, join_of, member_of, last_of, most_of, read_chain, KeepsTree}
 
@@ -92,36 +92,36 @@ module _ (text : List ℕ) (n : ℕ) (m : Members) where
   unfolding read_in read_chain more
   chain_ends count t taken a b e h =
       ran_map nothing (λ w. joined_to (join_of m) t w) a b (read_in text n (members (suc count)))
-      (ran_right (query_language (place_in text)) (call text (suc n)) (at_tokens (one_of (set_of m) ∷ [])) (operator (place_in text) (set_of m) & (member_of (place_in text) n m & members count)) empty nothing taken a b b e h
+      (ran_right (query_language (place_in text)) (call text (suc n)) (at_tokens (one_of (set_of m) ∷ [])) (infix_operator (place_in text) (set_of m) & (member_of (place_in text) n m & members count)) empty nothing taken a b b e h
       (ran_empty (query_language (place_in text)) (call text (suc n)) b))
 
   abbrev rest_of : ℕ → SyntaxTree → Made → Made → State → Reading SyntaxTree
   rest_of count t o y r = go_on (read_in text n (members count) r) (λ w q. Ok (joined_to (join_of m) t (pair o (pair y w)), q))
 
   abbrev steps_of : ℕ → SyntaxTree → State → Reading SyntaxTree
-  steps_of count t s = go_on (read_in text n (operator (place_in text) (set_of m)) s) (λ o x. go_on (read_in text n (member_of (place_in text) n m) x) (λ y r. rest_of count t o y r))
+  steps_of count t s = go_on (read_in text n (infix_operator (place_in text) (set_of m)) s) (λ o x. go_on (read_in text n (member_of (place_in text) n m) x) (λ y r. rest_of count t o y r))
 
   abbrev paired : ℕ → State → Reading Made
   paired count s =
-      go_on (read_in text n (operator (place_in text) (set_of m)) s)
+      go_on (read_in text n (infix_operator (place_in text) (set_of m)) s)
       (λ o x. go_on (go_on (read_in text n (member_of (place_in text) n m) x) (λ y r. go_on (read_in text n (members count) r) (λ w q. Ok (pair y w, q)))) (λ p q. Ok (pair o p, q)))
 
   steps_same : (count : ℕ) (t : SyntaxTree) (s : State) → go_on (paired count s) (λ w q. Ok (joined_to (join_of m) t w, q)) ≡ steps_of count t s
   steps_same count t s =
-      go_on_twice (read_in text n (operator (place_in text) (set_of m)) s) _ _
-      ∙ go_on_each (read_in text n (operator (place_in text) (set_of m)) s) _ _
+      go_on_twice (read_in text n (infix_operator (place_in text) (set_of m)) s) _ _
+      ∙ go_on_each (read_in text n (infix_operator (place_in text) (set_of m)) s) _ _
       (λ o x. go_on_twice (go_on (read_in text n (member_of (place_in text) n m) x) (λ y r. go_on (read_in text n (members count) r) (λ w q. Ok (pair y w, q)))) _ _
       ∙ go_on_twice (read_in text n (member_of (place_in text) n m) x) _ _
       ∙ go_on_each (read_in text n (member_of (place_in text) n m) x) _ _ (λ y r. go_on_twice (read_in text n (members count) r) _ _))
 
   -- one more
   pub chain_goes_on : {E : Type 0} (count : ℕ) (t u v : SyntaxTree) (place : Place) (w : Word) (kept : SyntaxTree) (result : Result SyntaxTree E) (taken : Bool) (a b c d e z : Standing) → taken ≡ true → Looked taken a b (at_tokens (one_of (set_of m) ∷ []))
-      → Ran (node (Operator place w)) b c (read_in text n (operator (place_in text) (set_of m))) → Ran (tree u) c d (read_in text n (member_of (place_in text) n m))
+      → Ran (node (Operator place w)) b c (read_in text n (infix_operator (place_in text) (set_of m))) → Ran (tree u) c d (read_in text n (member_of (place_in text) n m))
       → IfOk result (λ x. x ≡ join_of m place w t u) → KeepsTree kept result d e → Ran v e z (read_chain text n m count kept) → Ran v a z (read_chain text n m (suc count) t)
   unfolding read_in read_chain more
   chain_goes_on count t u v place w kept result taken a b c d e z f h i j k l r =
       ran_looked v taken a b z (at_tokens (one_of (set_of m) ∷ [])) (steps_of count t) (read_chain text n m (suc count) t) h
-      (ran_bind (node (Operator place w)) v b c z (read_in text n (operator (place_in text) (set_of m))) (λ o x. go_on (read_in text n (member_of (place_in text) n m) x) (λ y q. rest_of count t o y q)) i
+      (ran_bind (node (Operator place w)) v b c z (read_in text n (infix_operator (place_in text) (set_of m))) (λ o x. go_on (read_in text n (member_of (place_in text) n m) x) (λ y q. rest_of count t o y q)) i
       (ran_bind (tree u) v c d z (read_in text n (member_of (place_in text) n m)) (λ y q. rest_of count t (node (Operator place w)) y q) j
       (ran_kept kept (join_of m place w t u) result v d e z (read_chain text n m count) k l r)))
       (λ s q. ap (λ x. go_on (if x then (paired count (notes s ((at_tokens (one_of (set_of m) ∷ [])).seen s.rest))) else (Ok (nothing, notes s ((at_tokens (one_of (set_of m) ∷ [])).seen s.rest)))) (λ p r. Ok (joined_to (join_of m) t p, r))) (sym q ∙ f)

@@ -24,7 +24,7 @@ use Rattle.gx_scan.specs.Names.{name_made}
 use Rattle.gx_syntax.specs.Nodes.{Node, Made, Arguments, Found, Operator, Tree, name_at, name_length, named_value, second_value, signed_value, condition_value, parenthesised_value, arguments_value, trees_in, is_minus, tree, chain_value, joined_to}
 use Rattle.gx_syntax.specs.Tokens.{Token, one_of, gap, gap_then_open, gap_not_open, gap_then_dollar, gap_then_neither, barred, qname}
 use Rattle.gx_syntax.specs.Direct.{direct_step}
-use Rattle.gx_syntax.specs.Grammar.{Phrase, word_of, lexeme, at_tokens, operator, more, more_signs, single, rules, expression, ladder, other_operand, other_step, step, dots, literal, variable_step, parenthesised_step, more_arguments, arguments_in, arguments, behind_plain_name, behind_any_name, filtered_step, test_or_literal, path_from, signed_path, condition, branched, branched_or_name, begun, behind_keyword, opened_or_name, named_single, is_name, is_reserved, is_single, level_at, two, chain, query_language, place_in}
+use Rattle.gx_syntax.specs.Grammar.{Phrase, word_of, lexeme, at_tokens, keyword, operator, infix_operator, more, more_signs, single, rules, expression, ladder, other_operand, other_step, step, dots, literal, variable_step, parenthesised_step, more_arguments, arguments_in, arguments, behind_plain_name, behind_any_name, filtered_step, test_or_literal, path_from, signed_path, condition, branched, branched_or_name, begun, behind_keyword, opened_or_name, named_single, is_name, is_reserved, is_single, level_at, two, chain, query_language, place_in}
 use Rattle.gx_syntax.specs.Casts.{casts}
 use Rattle.gx_syntax.specs.declared.word.Opening.{Opening}
 use Rattle.gx_syntax.specs.Binding.{opening_named, opened}
@@ -126,11 +126,11 @@ module _ (text : List ℕ) (n : ℕ) where
     no_more ws (suc k) t taken a b e l f h = chain_ends text n m k t taken a b f (subst (λ s. Looked taken a b (at_tokens (one_of s ∷ []))) e h)
 
     pub one_more : {E : Type 0} (ws : WordSet) (k j : ℕ) (t u v : SyntaxTree) (place : Place) (w : Word) (kept : SyntaxTree) (result : Result SyntaxTree E) (taken : Bool) (a b c d e z : Standing) → ws ≡ set_of m → k ≡ suc j → taken ≡ true
-        → Looked taken a b (at_tokens (one_of ws ∷ [])) → Ran (node (Operator place w)) b c (read_in text n (operator (place_in text) ws)) → Ran (tree u) c d (read_in text n (member_of (place_in text) n m))
+        → Looked taken a b (at_tokens (one_of ws ∷ [])) → Ran (node (Operator place w)) b c (read_in text n (infix_operator (place_in text) ws)) → Ran (tree u) c d (read_in text n (member_of (place_in text) n m))
         → IfOk result (λ x. x ≡ join_of m place w t u) → KeepsTree kept result d e → Ran v e z (read_chain text n m j kept) → Ran v a z (read_chain text n m k t)
     one_more ws k j t u v place w kept result taken a b c d e z g l f h i r o q x =
         subst (λ y. Ran v a z (read_chain text n m y t)) (sym l)
-        (chain_goes_on text n m j t u v place w kept result taken a b c d e z f (subst (λ s. Looked taken a b (at_tokens (one_of s ∷ []))) g h) (subst (λ s. Ran (node (Operator place w)) b c (read_in text n (operator (place_in text) s))) g i) r o q x)
+        (chain_goes_on text n m j t u v place w kept result taken a b c d e z f (subst (λ s. Looked taken a b (at_tokens (one_of s ∷ []))) g h) (subst (λ s. Ran (node (Operator place w)) b c (read_in text n (infix_operator (place_in text) s))) g i) r o q x)
 
   -- steps that do not begin with a name
 
@@ -242,21 +242,21 @@ module _ (text : List ℕ) (n : ℕ) where
   looked_left taken Lost b g h = ap left_of h
 
   pub condition_read : (v : Made) (place : Place) (x y z : Made) (test chosen otherwise : SyntaxTree) (s0 s1 s2 s3 s4 s5 s6 s7 s8 : Standing) → place ≡ place_in text (left_of s0 + name_length v) → Ran nothing s0 s1 (read_one gap_then_open) → Ran nothing s1 s2 (read_one gap)
-      → Ran (tree test) s2 s3 (read_in text n (expression (place_in text) n)) → Ran x s3 s4 (read_in text n (lexeme (word_of word.Close))) → Ran y s4 s5 (read_in text n (lexeme (word_of word.Then))) → Ran (tree chosen) s5 s6 (call text (suc n) (single n))
-      → Ran z s6 s7 (read_in text n (lexeme (word_of word.Else))) → Ran (tree otherwise) s7 s8 (call text (suc n) (single n)) → Ran (tree (located place (conditional test chosen otherwise))) s0 s8 (read_in text n (condition (place_in text) n v))
+      → Ran (tree test) s2 s3 (read_in text n (expression (place_in text) n)) → Ran x s3 s4 (read_in text n (lexeme (word_of word.Close))) → Ran y s4 s5 (read_in text n (keyword word.Then)) → Ran (tree chosen) s5 s6 (call text (suc n) (single n))
+      → Ran z s6 s7 (read_in text n (keyword word.Else)) → Ran (tree otherwise) s7 s8 (call text (suc n) (single n)) → Ran (tree (located place (conditional test chosen otherwise))) s0 s8 (read_in text n (condition (place_in text) n v))
   unfolding condition
   condition_read v place x y z test chosen otherwise s0 s1 s2 s3 s4 s5 s6 s7 s8 e a b c d f g h i =
       subst (λ p. Ran (tree (located p (conditional test chosen otherwise))) s0 s8 (read_in text n (condition (place_in text) n v))) (sym e)
       (in_made text n (λ left u. condition_value (place_in text (left + name_length v)) u)
-      (token gap_then_open & token gap & expression (place_in text) n & lexeme (word_of word.Close) & lexeme (word_of word.Then) & rule (single n) & lexeme (word_of word.Else) & rule (single n))
+      (token gap_then_open & token gap & expression (place_in text) n & lexeme (word_of word.Close) & keyword word.Then & rule (single n) & keyword word.Else & rule (single n))
       (pair nothing (pair nothing (pair (tree test) (pair x (pair y (pair (tree chosen) (pair z (tree otherwise)))))))) s0 s8
       (in_both text n (token gap_then_open) _ nothing _ s0 s1 s8 (in_token text n gap_then_open nothing s0 s1 a)
       (in_both text n (token gap) _ nothing _ s1 s2 s8 (in_token text n gap nothing s1 s2 b)
       (in_both text n (expression (place_in text) n) _ (tree test) _ s2 s3 s8 c
       (in_both text n (lexeme (word_of word.Close)) _ x _ s3 s4 s8 d
-      (in_both text n (lexeme (word_of word.Then)) _ y _ s4 s5 s8 f
+      (in_both text n (keyword word.Then) _ y _ s4 s5 s8 f
       (in_both text n (rule (single n)) _ (tree chosen) _ s5 s6 s8 (in_rule text n n (tree chosen) s5 s6 g)
-      (in_both text n (lexeme (word_of word.Else)) (rule (single n)) z (tree otherwise) s6 s7 s8 h (in_rule text n n (tree otherwise) s7 s8 i)))))))))
+      (in_both text n (keyword word.Else) (rule (single n)) z (tree otherwise) s6 s7 s8 h (in_rule text n n (tree otherwise) s7 s8 i)))))))))
 
   -- parentheses
   abbrev inside : Phrase

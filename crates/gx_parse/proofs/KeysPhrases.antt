@@ -10,7 +10,7 @@ use Rattle.gx_syntax.specs.declared.word.Barrier.TheVariants as barrier
 use Rattle.gx_syntax.specs.declared.word.Word.TheVariants as word
 use Rattle.gx_syntax.specs.Nodes.{Made, second_value, tree}
 use Rattle.gx_syntax.specs.Tokens.{barred}
-use Rattle.gx_syntax.specs.Grammar.{Phrase, single, word_of, lexeme, at_tokens, place_in}
+use Rattle.gx_syntax.specs.Grammar.{Phrase, single, word_of, lexeme, keyword, at_tokens, place_in}
 use Rattle.gx_scan.specs.Reading.{call, read_in, read_one}
 use Rattle.gx_syntax.specs.Bound.{key_order}
 use Rattle.gx_parse.specs.Lists.{items_before, OneMore}
@@ -78,14 +78,14 @@ module _ (text : List ℕ) (n : ℕ) where
       (stays_done (items_before key_made h.others nothing) c z (read_in text n (more_keys (place_in text) n 63)) m.1 h.holds)
       (in_both text n (key (place_in text) n) (more_keys (place_in text) n 63) nothing (items_before key_made h.others nothing) a c z (m.2 nothing) h.holds)
 
-  pub ordered_read : (x y : Made) (none begun list : List Key) (s0 s1 a c z : Standing) → reads x s0 s1 (lexeme (word_of word.Order)) → reads y s1 a (lexeme (word_of word.By)) → none ≡ [] → OneMore key_made none begun a c (read_in text n (key (place_in text) n))
+  pub ordered_read : (x y : Made) (none begun list : List Key) (s0 s1 a c z : Standing) → reads x s0 s1 (lexeme (word_of word.Order)) → reads y s1 a (keyword word.By) → none ≡ [] → OneMore key_made none begun a c (read_in text n (key (place_in text) n))
       → Added begun list (λ others. reads (items_before key_made others nothing) c z (more_keys (place_in text) n 63)) → reads (items_before key_made list nothing) s0 z (ordered (place_in text) n)
   unfolding ordered
   ordered_read x y none begun list s0 s1 a c z f g e m h =
       let keys = items_before key_made list nothing in
       let members = key (place_in text) n & more_keys (place_in text) n 63 in
-      in_made text n (λ left v. second_value (second_value v)) (lexeme (word_of word.Order) & lexeme (word_of word.By) & members) (pair x (pair y keys)) s0 z
-      (in_both text n (lexeme (word_of word.Order)) (lexeme (word_of word.By) & members) x (pair y keys) s0 s1 z f (in_both text n (lexeme (word_of word.By)) members y keys s1 a z g (keys_read none begun list a c z e m h)))
+      in_made text n (λ left v. second_value (second_value v)) (lexeme (word_of word.Order) & keyword word.By & members) (pair x (pair y keys)) s0 z
+      (in_both text n (lexeme (word_of word.Order)) (keyword word.By & members) x (pair y keys) s0 s1 z f (in_both text n (keyword word.By) members y keys s1 a z g (keys_read none begun list a c z e m h)))
 
   abbrev stable_part : Phrase
   stable_part = made (λ left v. order_clause_made true (second_value v)) (lexeme (word_of word.Stable) & ordered (place_in text) n)

@@ -3,6 +3,7 @@ pub mod BoundPhrases
 pub mod Calls
 pub mod CastsPhrases
 pub mod Chains
+pub mod ContentPhrases
 pub mod DirectPhrases
 pub mod Ended
 pub mod Expressions

@@ -17,8 +17,10 @@ use Rattle.gx_syntax.specs.declared.word.WordSet.TheVariants as set
 use Rattle.gx_parse.specs.declared.parts.Sign.{Sign}
 use Rattle.gx_parse.specs.declared.members.Members.{Members}
 use Rattle.gx_syntax.specs.Nodes.{Node, Made, Found, Operator, Name, operator_value, number_value, name_value, name_at, variable_value, dots_value, signed_by, is_minus, tree}
-use Rattle.gx_syntax.specs.Tokens.{Token, one_of, gap, barred, number, number_end, qname}
-use Rattle.gx_syntax.specs.Grammar.{Phrase, word_of, lexeme, at_tokens, operator, stop, numeral, name, variable_step, dots, more_signs, single, query_language, place_in}
+use Rattle.gx_syntax.specs.Words.{is_keyword}
+use Rattle.gx_syntax.specs.Tokens.{Token, one_of, gap, barred, number, number_end, qname, word_end}
+use Rattle.gx_syntax.specs.Basics.{word_gap, keyword_found}
+use Rattle.gx_syntax.specs.Grammar.{Phrase, word_of, lexeme, at_tokens, keyword, operator, infix_operator, stop, numeral, name, variable_step, dots, more_signs, single, query_language, place_in}
 use Rattle.gx_scan.specs.Reading.{call, read_in, read_one, read_number}
 use Rattle.gx_parse.specs.Parsing.{set_of, last_of, is_pair, barrier_of, signs_before, wrapped, KeepsTree}
 use Rattle.gx_syntax.specs.Numeral.{number_in}
@@ -63,6 +65,26 @@ module _ (text : List ℕ) (n : ℕ) where
   pub operator_reads : (set : WordSet) (place : Place) (w : Word) (a b : Standing) → place ≡ place_in text (left_of a) → Ran (pair (node (Found w)) nothing) a b (read_in text n (lexeme (one_of set))) → Ran (node (Operator place w)) a b (read_in text n (operator (place_in text) set))
   unfolding operator
   operator_reads set place w a b e h = subst (λ p. Ran (node (Operator p w)) a b (read_in text n (operator (place_in text) set))) (sym e) (in_made (λ left v. operator_value (place_in text left) v) (lexeme (one_of set)) (pair (node (Found w)) nothing) a b h)
+
+  word_gap_reads : (k : Bool) (a b c : Standing) → Ran nothing a b (read_one (word_end k)) → Ran nothing b c (read_one gap) → Ran (pair nothing nothing) a c (read_in text n (word_gap k))
+  word_gap_reads k a b c h i = in_both (token (word_end k)) (token gap) nothing nothing a b c (in_token (word_end k) nothing a b h) (in_token gap nothing b c i)
+
+  -- a word in front of an expression, without its value
+  pub ended_reads : (w : Word) (k : Bool) (v : Made) (a b c d : Standing) → Ran v a b (read_one (one_of (set.Only w))) → Ran nothing b c (read_one (word_end k)) → Ran nothing c d (read_one gap) → Ran nothing a d (read_in text n (made (λ left u. nothing) (token (word_of w) & word_gap k)))
+  ended_reads w k v a b c d h i j =
+      in_made (λ left u. nothing) (token (word_of w) & word_gap k) (pair v (pair nothing nothing)) a d (in_both (token (word_of w)) (word_gap k) v (pair nothing nothing) a b d (in_token (word_of w) v a b h) (word_gap_reads k b c d i j))
+
+  pub keyword_reads : (w : Word) (v : Made) (a b c d : Standing) → Ran v a b (read_one (one_of (set.Only w))) → Ran nothing b c (read_one (word_end true)) → Ran nothing c d (read_one gap) → Ran nothing a d (read_in text n (keyword w))
+  unfolding keyword
+  keyword_reads w v a b c d h i j = ended_reads w true v a b c d h i j
+
+  pub infix_reads : (ws : WordSet) (place : Place) (w : Word) (k : Bool) (a b c d : Standing) → place ≡ place_in text (left_of a) → k ≡ is_keyword w → Ran (node (Found w)) a b (read_one (one_of ws)) → Ran nothing b c (read_one (word_end k)) → Ran nothing c d (read_one gap)
+      → Ran (node (Operator place w)) a d (read_in text n (infix_operator (place_in text) ws))
+  unfolding infix_operator
+  infix_reads ws place w k a b c d e f h i j =
+      subst (λ p. Ran (node (Operator p w)) a d (read_in text n (infix_operator (place_in text) ws))) (sym e)
+      (in_made (λ left v. operator_value (place_in text left) v) (keyed (one_of ws) (λ v. word_gap (keyword_found v))) (pair (node (Found w)) (pair nothing nothing)) a d
+      (in_keyed (one_of ws) (λ v. word_gap (keyword_found v)) (node (Found w)) (pair nothing nothing) a b d h (subst (λ q. Ran (pair nothing nothing) b d (read_in text n (word_gap q))) f (word_gap_reads k b c d i j))))
 
   -- `last` is what stands behind the last member, and `ws` are the words between members
   module _ (m : Members) (ws : WordSet) (same : ws ≡ set_of m) where

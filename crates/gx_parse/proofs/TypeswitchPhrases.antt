@@ -15,7 +15,7 @@ use Rattle.gx_syntax.specs.declared.word.Branching.{Branching}
 use Rattle.gx_syntax.specs.declared.word.Branching.TheVariants as branching_is
 use Rattle.gx_syntax.specs.Nodes.{Made, name_length, tree}
 use Rattle.gx_syntax.specs.Tokens.{gap, gap_then_open, barred_words}
-use Rattle.gx_syntax.specs.Grammar.{Phrase, single, word_of, lexeme, at_tokens, branched, condition, expression, typeswitch, place_in}
+use Rattle.gx_syntax.specs.Grammar.{Phrase, single, word_of, lexeme, keyword, at_tokens, branched, condition, expression, typeswitch, place_in}
 use Rattle.gx_scan.specs.Reading.{call, read_in, read_one}
 use Rattle.gx_syntax.specs.Types.{sequence_type}
 use Rattle.gx_syntax.specs.Bound.{case_variable, default_variable}
@@ -34,21 +34,21 @@ module _ (text : List ℕ) (n : ℕ) where
   reads v a b A = Ran v a b (read_in text n A)
 
   pub case_head_read : (place : Place) (x v k y : Made) (s0 s1 s2 s3 s4 : Standing) → place ≡ place_in text (left_of s0) → reads x s0 s1 (lexeme (word_of word.Case)) → reads v s1 s2 (case_variable (place_in text)) → reads k s2 s3 (sequence_type (place_in text))
-      → reads y s3 s4 (lexeme (word_of word.Return)) → reads (case_head_value place (pair x (pair v (pair k y)))) s0 s4 (case_head (place_in text))
+      → reads y s3 s4 (keyword word.Return) → reads (case_head_value place (pair x (pair v (pair k y)))) s0 s4 (case_head (place_in text))
   unfolding case_head
   case_head_read place x v k y s0 s1 s2 s3 s4 e f g h i =
       subst (λ p. reads (case_head_value p (pair x (pair v (pair k y)))) s0 s4 (case_head (place_in text))) (sym e)
-      (in_made text n (λ left v. case_head_value (place_in text left) v) (lexeme (word_of word.Case) & case_variable (place_in text) & sequence_type (place_in text) & lexeme (word_of word.Return)) (pair x (pair v (pair k y))) s0 s4
+      (in_made text n (λ left v. case_head_value (place_in text left) v) (lexeme (word_of word.Case) & case_variable (place_in text) & sequence_type (place_in text) & keyword word.Return) (pair x (pair v (pair k y))) s0 s4
       (in_both text n (lexeme (word_of word.Case)) _ x _ s0 s1 s4 f
-      (in_both text n (case_variable (place_in text)) _ v _ s1 s2 s4 g (in_both text n (sequence_type (place_in text)) (lexeme (word_of word.Return)) k y s2 s3 s4 h i))))
+      (in_both text n (case_variable (place_in text)) _ v _ s1 s2 s4 g (in_both text n (sequence_type (place_in text)) (keyword word.Return) k y s2 s3 s4 h i))))
 
-  pub default_head_read : (place : Place) (x v y : Made) (s0 s1 s2 s3 : Standing) → place ≡ place_in text (left_of s0) → reads x s0 s1 (lexeme (word_of word.Default)) → reads v s1 s2 (default_variable (place_in text)) → reads y s2 s3 (lexeme (word_of word.Return))
+  pub default_head_read : (place : Place) (x v y : Made) (s0 s1 s2 s3 : Standing) → place ≡ place_in text (left_of s0) → reads x s0 s1 (lexeme (word_of word.Default)) → reads v s1 s2 (default_variable (place_in text)) → reads y s2 s3 (keyword word.Return)
       → reads (default_head_value place (pair x (pair v y))) s0 s3 (default_head (place_in text))
   unfolding default_head
   default_head_read place x v y s0 s1 s2 s3 e f g h =
       subst (λ p. reads (default_head_value p (pair x (pair v y))) s0 s3 (default_head (place_in text))) (sym e)
-      (in_made text n (λ left v. default_head_value (place_in text left) v) (lexeme (word_of word.Default) & default_variable (place_in text) & lexeme (word_of word.Return)) (pair x (pair v y)) s0 s3
-      (in_both text n (lexeme (word_of word.Default)) _ x _ s0 s1 s3 f (in_both text n (default_variable (place_in text)) (lexeme (word_of word.Return)) v y s1 s2 s3 g h)))
+      (in_made text n (λ left v. default_head_value (place_in text left) v) (lexeme (word_of word.Default) & default_variable (place_in text) & keyword word.Return) (pair x (pair v y)) s0 s3
+      (in_both text n (lexeme (word_of word.Default)) _ x _ s0 s1 s3 f (in_both text n (default_variable (place_in text)) (keyword word.Return) v y s1 s2 s3 g h)))
 
   pub case_read : (h : CaseHead) (t : SyntaxTree) (a b c : Standing) → reads (case_head_made h) a b (case_head (place_in text)) → Ran (tree t) b c (call text (suc n) (single n)) → reads (pair (case_head_made h) (tree t)) a c (case (place_in text) n)
   unfolding case

@@ -1,16 +1,17 @@
 // The reader of the parts of FLWOR expressions and quantified ones that hold no expressions.
 
-ghost use Rattle.std.specs.Prelude.{◌≡◌, ℕ, List, zero};
+ghost use Rattle.std.specs.Prelude.{◌≡◌, ◌&&◌, ℕ, List, zero};
 ghost use Rattle.gx_ast.specs.SyntaxView.{bindings_of};
 ghost use Rattle.gx_grammar.specs.Value.{node, nothing};
 ghost use Rattle.gx_grammar.specs.Ran.{Ran, Standing};
-ghost use Rattle.gx_syntax.specs.Binding.{first_bound, head, more_bindings, position_of};
+ghost use Rattle.gx_syntax.specs.Binding.{has_levels, bound_to, first_bound, head, more_bindings, position_of};
 ghost use Rattle.gx_syntax.specs.Bound.{bound, bound_made, bound_type, kind_made, position, position_made};
 ghost use Rattle.gx_syntax.specs.Grammar.{Phrase, place_in};
 ghost use Rattle.gx_parse.specs.Lists.{Grown, clause_made, head_made};
 ghost use Rattle.gx_syntax.specs.Nodes.{BindingClause};
 ghost use Rattle.gx_scan.specs.Reading.{read_in};
 ghost use Rattle.gx_syntax.specs.Types.{Gave};
+ghost use Rattle.gx_syntax.specs.Words.{is_keyword};
 ghost use Rattle.gx_syntax.specs.declared.word.Binder.{Binder as BinderOf};
 
 use crate::bound::{bound, bound_type, position};
@@ -67,21 +68,39 @@ fn position_of(reader: &mut Reader<'_>, source: &Source<'_>, binder: Binder) -> 
     }
 }
 
+// Whether the word is a keyword, and an expression may stand behind it, where so many may stand one inside another.
+fn leads_single(levels: u8, word: Word) -> bool
+    ensures { result ≡ (has_levels levels && is_keyword word) }
+{
+    levels > 0 && word.is_keyword()
+}
+
+// Reads the word in front of what a variable is bound to.
+fn bound_to(reader: &mut Reader<'_>, levels: u8, binder: Binder)
+    ensures { (text : List ℕ) (n : ℕ) → Ran nothing reader.old reader.new (read_in text n (bound_to (place_in text) levels binder)) }
+{
+    let word = binder.word();
+    reader.word(WordSet::Only(word));
+    reader.word_end(leads_single(levels, word));
+    reader.gap();
+}
+
 // Reads what stands between a variable and what it is bound to.
 fn head_behind(
     reader: &mut Reader<'_>,
     source: &Source<'_>,
+    levels: u8,
     binder: Binder,
     variable: Option<Variable>,
 ) -> Option<BoundVariable>
-    ensures { (n : ℕ) (before : Phrase) (a : Standing) → Gave bound_made variable a reader.old (read_in source.now n before) → Gave head_made result a reader.new (read_in source.now n (head (place_in source.now) binder before)) }
+    ensures { (n : ℕ) (before : Phrase) (a : Standing) → Gave bound_made variable a reader.old (read_in source.now n before) → Gave head_made result a reader.new (read_in source.now n (head (place_in source.now) levels binder before)) }
 {
     let Some(variable) = variable else {
         return None;
     };
     let kind = kind_of(reader, source);
     let position = position_of(reader, source, binder);
-    lexeme(reader, WordSet::Only(binder.word()));
+    bound_to(reader, levels, binder);
     Some(BoundVariable {
         variable,
         kind,
@@ -93,24 +112,26 @@ fn head_behind(
 pub fn first_head(
     reader: &mut Reader<'_>,
     source: &Source<'_>,
+    levels: u8,
     binder: Binder,
 ) -> Option<BoundVariable>
-    ensures { (n : ℕ) → Gave head_made result reader.old reader.new (read_in source.now n (head (place_in source.now) binder (first_bound (place_in source.now)))) }
+    ensures { (n : ℕ) → Gave head_made result reader.old reader.new (read_in source.now n (head (place_in source.now) levels binder (first_bound (place_in source.now)))) }
 {
     let variable = first_bound(reader, source);
-    head_behind(reader, source, binder, variable)
+    head_behind(reader, source, levels, binder, variable)
 }
 
 /// Reads what stands in front of what a variable is bound to (XQuery 1.0, sections 3.8.1 and 3.9).
 pub fn next_head(
     reader: &mut Reader<'_>,
     source: &Source<'_>,
+    levels: u8,
     binder: Binder,
 ) -> Option<BoundVariable>
-    ensures { (n : ℕ) → Gave head_made result reader.old reader.new (read_in source.now n (head (place_in source.now) binder (bound (place_in source.now)))) }
+    ensures { (n : ℕ) → Gave head_made result reader.old reader.new (read_in source.now n (head (place_in source.now) levels binder (bound (place_in source.now)))) }
 {
     let variable = bound(reader, source);
-    head_behind(reader, source, binder, variable)
+    head_behind(reader, source, levels, binder, variable)
 }
 
 /// Reads a comma behind as many bindings as may stand, if one stands there.

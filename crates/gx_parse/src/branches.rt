@@ -11,7 +11,7 @@ ghost use Rattle.gx_scan.specs.Reading.{read_in};
 ghost use Rattle.gx_syntax.specs.Typeswitch.{case, case_made, cases, more_cases};
 
 use crate::operators::expression;
-use crate::parts::{keep, lexeme};
+use crate::parts::{keep, keyword, lexeme};
 use crate::singles::single;
 use crate::trees;
 use crate::typeswitch::{case_head, default_head, last_case, with_case};
@@ -48,9 +48,9 @@ fn condition(reader: &mut Reader<'_>, source: &Source<'_>, levels: u8, place: Pl
     reader.gap();
     let test = expression(reader, source, levels);
     lexeme(reader, WordSet::Only(Word::Close));
-    lexeme(reader, WordSet::Only(Word::Then));
+    keyword(reader, Word::Then);
     let chosen = single(reader, source, levels);
-    lexeme(reader, WordSet::Only(Word::Else));
+    keyword(reader, Word::Else);
     let otherwise = single(reader, source, levels);
     let made = trees::condition(source.alloc(), place, test, chosen, otherwise);
     keep(reader, made)

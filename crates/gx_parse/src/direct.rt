@@ -1,13 +1,13 @@
 // The reader of direct constructors (XQuery 1.0, section 3.7.1).
 
-ghost use Rattle.std.specs.Prelude.{ℕ, List, suc};
+ghost use Rattle.std.specs.Prelude.{◌≡◌, ◌++◌, ℕ, List, suc};
 ghost use Rattle.gx_ast.specs.SyntaxView.{attribute_parts_of, attributes_of, parts_of};
 ghost use Rattle.gx_grammar.specs.Grammar.{rule};
 ghost use Rattle.gx_grammar.specs.Ran.{Ran};
 ghost use Rattle.gx_grammar.specs.Value.{no_item, node, nothing};
 ghost use Rattle.gx_syntax.specs.Basics.{name, nested, within};
-ghost use Rattle.gx_syntax.specs.Direct.{attribute, attribute_value, attributes, behind_attribute, brace_piece, cdata, content, content_if_any, content_piece, content_pieces, direct_step, element_at, end_tag, piece_made, plain_piece, reference_piece, start_of, symbol_piece, text_piece, value_in, value_piece, value_pieces};
-ghost use Rattle.gx_parse.specs.DirectReading.{MadeOrLost, attribute_made};
+ghost use Rattle.gx_syntax.specs.Direct.{attribute, attribute_value, attributes, behind_attribute, brace_piece, cdata, content, content_if_any, content_piece, direct_step, element_at, end_tag, piece_made, plain_piece, reference_piece, start_of, symbol_piece, text_piece, value_in, value_piece, value_pieces};
+ghost use Rattle.gx_parse.specs.DirectReading.{MadeOrLost, OnePiece, attribute_made, ends_text};
 ghost use Rattle.gx_syntax.specs.Grammar.{place_in};
 ghost use Rattle.gx_parse.specs.Lists.{OneMore};
 ghost use Rattle.gx_scan.specs.Names.{name_made};
@@ -20,7 +20,7 @@ ghost use Rattle.gx_syntax.specs.Types.{Gave, named};
 use crate::operators::expression;
 use crate::parts::{keep, with_item};
 use crate::strings::push;
-use crate::trees;
+use crate::trees::{self, fitted};
 use gx_ast::expression::{AttributePart, DirectAttribute, Expr, Part};
 use gx_ast::name::QName;
 use gx_base::text_builder::TextBuilder;
@@ -30,6 +30,13 @@ use gx_scan::source::Source;
 use gx_syntax::pieces::{Piece, attribute_value_of, content_of};
 use gx_syntax::runs::{Quote, Run};
 use gx_syntax::word::{Barrier, Word, WordSet};
+
+// The parts of the content that was read so far, and the pieces behind them, which come to no parts yet.
+#[derive(Drop)]
+struct ContentRead {
+    parts: Vec<Part>,
+    pieces: Vec<Piece>,
+}
 
 /// Reads a direct element with the gap behind it.
 #[cycle(parsing)]
@@ -162,7 +169,7 @@ fn value_parts(
     ensures { MadeOrLost result.items (attribute_value_of pieces.items) reader.old reader.new }
 {
     match attribute_value_of(source.alloc(), pieces) {
-        Ok(parts) => parts,
+        Ok(parts) => fitted(parts),
         Err(_) => {
             reader.lose();
             Vec::new(source.alloc())
@@ -327,8 +334,75 @@ fn end_tag(reader: &mut Reader<'_>, source: &Source<'_>, name: &ReadName)
 fn content(reader: &mut Reader<'_>, source: &Source<'_>, levels: u8) -> Vec<Part>
     ensures { Ran (node (PartsAre (parts_of result.items))) reader.old reader.new (read_in source.now levels (content (rule (within levels)) (rule (nested levels)) (start_of levels))) }
 {
-    let pieces = content_pieces(reader, source, levels);
-    content_parts(reader, source, pieces)
+    let parts = Vec::new(source.alloc());
+    let pieces = Vec::new(source.alloc());
+    let mut read = ContentRead { parts, pieces };
+    let mut left = reader.left();
+    while reader.looks_at_content_piece(levels) {
+        let piece = content_piece(reader, source, levels);
+        read = with_piece(reader, source, read, piece);
+        if left == 0 {
+            return all_parts(reader, source, read);
+        }
+        left -= 1;
+    }
+    all_parts(reader, source, read)
+}
+
+// The content with a piece more. An element or an enclosed expression ends the text in front of it, so that what was read
+// becomes parts there, and no second list of all pieces is kept.
+fn with_piece(
+    reader: &mut Reader<'_>,
+    source: &Source<'_>,
+    read: ContentRead,
+    piece: Piece,
+) -> ContentRead
+    ensures { OnePiece (read.parts.items, read.pieces.items) piece (result.parts.items, result.pieces.items) reader.old reader.new }
+{
+    let ends_text = ends_text(&piece);
+    let ContentRead { parts, pieces } = read;
+    let pieces = with_item(reader, pieces, piece);
+    let read = ContentRead { parts, pieces };
+    if !ends_text {
+        return read;
+    }
+    let parts = all_parts(reader, source, read);
+    ContentRead {
+        parts,
+        pieces: Vec::new(source.alloc()),
+    }
+}
+
+// Whether the piece ends the text in front of it.
+fn ends_text(piece: &Piece) -> bool
+    ensures { result ≡ ends_text piece.now }
+{
+    matches!(piece, Piece::Element(_) | Piece::Enclosed(_))
+}
+
+// The parts of all that was read; others where memory does not suffice.
+fn all_parts(reader: &mut Reader<'_>, source: &Source<'_>, read: ContentRead) -> Vec<Part>
+    ensures { MadeOrLost result.items (read.parts.items ++ content_of read.pieces.items) reader.old reader.new }
+{
+    let ContentRead { parts, pieces } = read;
+    let further = content_parts(reader, source, pieces);
+    with_parts(reader, parts, further)
+}
+
+// The parts with further ones; others where memory does not suffice.
+fn with_parts(reader: &mut Reader<'_>, parts: Vec<Part>, further: Vec<Part>) -> Vec<Part>
+    ensures { MadeOrLost result.items (parts.items ++ further.items) reader.old reader.new }
+{
+    let mut list = parts;
+    if list.is_empty() {
+        return further;
+    }
+    let mut further = further;
+    if list.append(&mut further).is_err() {
+        reader.lose();
+        return list;
+    }
+    list
 }
 
 // The parts of content; none where memory does not suffice.
@@ -342,24 +416,6 @@ fn content_parts(reader: &mut Reader<'_>, source: &Source<'_>, pieces: Vec<Piece
             Vec::new(source.alloc())
         }
     }
-}
-
-// Reads the pieces of the content of an element.
-#[cycle(parsing)]
-fn content_pieces(reader: &mut Reader<'_>, source: &Source<'_>, levels: u8) -> Vec<Piece>
-    ensures { Ran (listed_before piece_made result.items no_item) reader.old reader.new (read_in source.now levels (content_pieces (rule (within levels)) (rule (nested levels)) (start_of levels))) }
-{
-    let mut list = Vec::new(source.alloc());
-    let mut left = reader.left();
-    while reader.looks_at_content_piece(levels) {
-        let piece = content_piece(reader, source, levels);
-        list = with_item(reader, list, piece);
-        if left == 0 {
-            return list;
-        }
-        left -= 1;
-    }
-    list
 }
 
 // Reads a piece of the content of an element.

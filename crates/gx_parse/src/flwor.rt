@@ -17,7 +17,7 @@ ghost use Rattle.gx_syntax.specs.declared.word.Word.TheVariants as word;
 use crate::binding::{clause_of, first_head, last_binding, next_head, with_binding, with_clause};
 use crate::bound::key_order;
 use crate::keys::{last_key, with_key};
-use crate::parts::{keep, lexeme, operator};
+use crate::parts::{keep, keyword, lexeme};
 use crate::singles::single;
 use crate::trees;
 use gx_ast::expression::{Binding, Clause, Expr, Key};
@@ -40,9 +40,9 @@ pub fn quantified(
     ensures { (v : Made) → place ≡ place_in source.now (left_of reader.old + name_length v) → Ran (tree result) reader.old reader.new (read_in source.now levels (quantified (place_in source.now) levels every v)) }
 {
     reader.dollar();
-    let head = first_head(reader, source, Binder::Quantifier);
+    let head = first_head(reader, source, levels, Binder::Quantifier);
     let list = bindings(reader, source, levels, Binder::Quantifier, head);
-    lexeme(reader, WordSet::Only(Word::Satisfies));
+    keyword(reader, Word::Satisfies);
     let condition = single(reader, source, levels);
     let made = trees::quantified(source.alloc(), place, every, list, condition);
     keep(reader, made)
@@ -61,14 +61,14 @@ pub fn flwor(
 {
     reader.dollar();
     let binder = word.binder();
-    let head = first_head(reader, source, binder);
+    let head = first_head(reader, source, levels, binder);
     let list = bindings(reader, source, levels, binder, head);
     let first = clause_of(word, place, list);
     let begun = with_clause(reader, Vec::new(source.alloc()), first);
     let clauses = more_clauses(reader, source, levels, begun);
     let stable = reader.looks_at(WordSet::Only(Word::Stable));
     let keys = order_clause(reader, source, levels, stable);
-    lexeme(reader, WordSet::Only(Word::Return));
+    keyword(reader, Word::Return);
     let returned = single(reader, source, levels);
     let made = trees::flwor(source.alloc(), place, clauses, stable, keys, returned);
     keep(reader, made)
@@ -95,7 +95,7 @@ fn ordered(reader: &mut Reader<'_>, source: &Source<'_>, levels: u8) -> Vec<Key>
     ensures { Ran (items_before key_made result.items nothing) reader.old reader.new (read_in source.now levels (ordered (place_in source.now) levels)) }
 {
     lexeme(reader, WordSet::Only(Word::Order));
-    lexeme(reader, WordSet::Only(Word::By));
+    keyword(reader, Word::By);
     let first = key(reader, source, levels);
     let begun = with_key(reader, Vec::new(source.alloc()), first);
     more_keys(reader, source, levels, begun)
@@ -163,7 +163,7 @@ fn clause(reader: &mut Reader<'_>, source: &Source<'_>, levels: u8) -> Clause
     let word = ClauseWord::of(reader.word(WordSet::Binders));
     let binder = word.binder();
     reader.gap();
-    let head = next_head(reader, source, binder);
+    let head = next_head(reader, source, levels, binder);
     let list = bindings(reader, source, levels, binder, head);
     clause_of(word, place, list)
 }
@@ -181,7 +181,8 @@ fn last_clause(
     if !reader.looks_at(WordSet::Only(Word::Where)) {
         return clauses;
     }
-    let (place, _word) = operator(reader, source, WordSet::Only(Word::Where));
+    let place = source.place(reader.left());
+    keyword(reader, Word::Where);
     let condition = single(reader, source, levels);
     with_clause(reader, clauses, Clause::Where(place, condition))
 }
@@ -219,7 +220,7 @@ fn more_bindings(
             return list;
         }
         lexeme(reader, WordSet::Only(Word::Comma));
-        let head = next_head(reader, source, binder);
+        let head = next_head(reader, source, levels, binder);
         list = binding(reader, source, levels, head, list);
     }
     last_binding(reader);

@@ -8,7 +8,7 @@ ghost use Rattle.gx_scan.specs.Reading.{read_in};
 
 use crate::casts::casts;
 use crate::members::Members;
-use crate::parts::{joined, keep, last, more_signs, operator, with_signs};
+use crate::parts::{infix_operator, joined, keep, last, more_signs, operator, with_signs};
 use crate::paths::{filtered, other_step, path, step};
 use crate::singles::single;
 use crate::trees;
@@ -43,7 +43,7 @@ pub fn further(
         if !reader.looks_at(set) {
             return tree;
         }
-        let (place, word) = operator(reader, source, set);
+        let (place, word) = infix_operator(reader, source, set);
         let next = member(reader, source, levels, members);
         let made = joined(source, members, place, word, tree, next);
         tree = keep(reader, made);

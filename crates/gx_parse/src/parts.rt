@@ -3,7 +3,7 @@
 ghost use Rattle.std.specs.Prelude.{◌≡◌, ℕ, List, IfOk};
 ghost use Rattle.gx_grammar.specs.Value.{node, nothing, pair};
 ghost use Rattle.gx_grammar.specs.Ran.{Makes, Ran};
-ghost use Rattle.gx_syntax.specs.Grammar.{dots, lexeme, more_signs, numeral, operator, place_in, variable_step};
+ghost use Rattle.gx_syntax.specs.Grammar.{dots, infix_operator, keyword, lexeme, more_signs, numeral, operator, place_in, variable_step};
 ghost use Rattle.gx_syntax.specs.Nodes.{Found, Operator, tree};
 ghost use Rattle.gx_parse.specs.Lists.{Grown};
 ghost use Rattle.gx_parse.specs.Parsing.{KeepsTree, join_of, last_of, signs_made, wrapped};
@@ -56,6 +56,26 @@ pub fn operator(reader: &mut Reader<'_>, source: &Source<'_>, set: WordSet) -> (
     let place = source.place(reader.left());
     let word = lexeme(reader, set);
     (place, word)
+}
+
+/// Reads an operator with an operand behind it.
+pub fn infix_operator(reader: &mut Reader<'_>, source: &Source<'_>, set: WordSet) -> (Place, Word)
+    ensures { (n : ℕ) → Ran (node (Operator result.0 result.1)) reader.old reader.new (read_in source.now n (infix_operator (place_in source.now) set)) }
+{
+    let place = source.place(reader.left());
+    let word = reader.word(set);
+    reader.word_end(word.is_keyword());
+    reader.gap();
+    (place, word)
+}
+
+/// Reads a keyword with an expression behind it.
+pub fn keyword(reader: &mut Reader<'_>, word: Word)
+    ensures { (text : List ℕ) (n : ℕ) → Ran nothing reader.old reader.new (read_in text n (keyword word)) }
+{
+    reader.word(WordSet::Only(word));
+    reader.word_end(true);
+    reader.gap();
 }
 
 /// Reads what may stand behind the last member of a chain.

@@ -24,6 +24,15 @@ use gx_syntax::kind_words::{KindWord, TestContent};
 use gx_syntax::word::{ComputedNode, NamedNode, Word};
 use std::alloc::{AllocError, Global};
 
+/// The items in no more memory than they take, where that can be had.
+pub fn fitted<T>(items: Vec<T>) -> Vec<T>
+    ensures { result.items ≡ items.items }
+{
+    let mut list = items;
+    list.shrink_to_fit();
+    list
+}
+
 /// An expression that stands for none, and takes no memory.
 pub fn missing() -> Expr {
     Expr {
@@ -308,8 +317,8 @@ pub fn direct(
     let name = name.at(alloc, name_place)?;
     let node = ExprNode::Direct(DirectElement {
         name,
-        attributes,
-        content,
+        attributes: fitted(attributes),
+        content: fitted(content),
     });
     Ok(Expr { place, node })
 }

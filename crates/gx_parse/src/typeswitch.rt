@@ -11,7 +11,7 @@ ghost use Rattle.gx_syntax.specs.Types.{sequence_type, type_made};
 ghost use Rattle.gx_syntax.specs.Typeswitch.{case_head, case_head_made, default_head, default_head_made, more_cases};
 
 use crate::bound::{case_variable, default_variable};
-use crate::parts::lexeme;
+use crate::parts::{keyword, lexeme};
 use crate::types::sequence_type;
 use gx_ast::expression::Case;
 use gx_ast::name::Variable;
@@ -49,7 +49,7 @@ pub fn case_head(reader: &mut Reader<'_>, source: &Source<'_>) -> CaseHead
     lexeme(reader, WordSet::Only(Word::Case));
     let variable = variable_of_case(reader, source);
     let kind = type_of_case(reader, source);
-    lexeme(reader, WordSet::Only(Word::Return));
+    keyword(reader, Word::Return);
     CaseHead {
         place,
         variable,
@@ -74,7 +74,7 @@ pub fn default_head(reader: &mut Reader<'_>, source: &Source<'_>) -> DefaultHead
     let place = source.place(reader.left());
     lexeme(reader, WordSet::Only(Word::Default));
     let variable = variable_of_default(reader, source);
-    lexeme(reader, WordSet::Only(Word::Return));
+    keyword(reader, Word::Return);
     DefaultHead { place, variable }
 }
 

@@ -1,11 +1,11 @@
 // Numeric literals at the front of a text.
 
-ghost use Rattle.std.specs.Prelude.{◌≡◌, ◌++◌, ◌≤◌, ◌-◌, take, length, Bool, true, false, IfOk, MatchOption, Some, None, string_bytes, Err, Ok, if◌then◌else◌};
-ghost use Rattle.gx_grammar.specs.Tokens.{all_pass, behind_run};
+ghost use Rattle.std.specs.Prelude.{◌≡◌, ◌++◌, ◌≤◌, ◌-◌, [], ◌∷◌, take, length, Bool, true, false, IfOk, MatchOption, Some, None, string_bytes, Err, Ok, if◌then◌else◌};
+ghost use Rattle.gx_grammar.specs.Tokens.{all_pass, behind_run, seen_word};
 ghost use Rattle.gx_syntax.specs.Characters.{is_digit};
 ghost use Rattle.gx_syntax.specs.Numeral.{any_digit, has_point, number_of};
 ghost use Rattle.gx_scan.specs.Numbers.{IsNoNumber, LiteralIs, behind_literal};
-ghost use Rattle.gx_syntax.specs.Tokens.{begins_number};
+ghost use Rattle.gx_syntax.specs.Tokens.{begins_number, starts_fraction};
 
 use crate::characters::is_digit;
 use gx_num::{Number, read_dec, read_int};
@@ -98,6 +98,26 @@ fn number_of(alloc: Global, text: &[char]) -> Result<Option<Number>, AllocError>
             Ok(value) => Ok(Some(Number::Int(value))),
             Err(_) => Ok(None),
         }
+    }
+}
+
+/// How many characters are left behind a `.` at the front, or where there is none.
+pub fn point_seen(text: &[char]) -> usize
+    ensures { result ≡ seen_word (46 ∷ []) text.now }
+{
+    match text {
+        ['.', tail @ ..] => tail.len(),
+        _ => text.len(),
+    }
+}
+
+/// Whether a `.` with a digit behind it stands at the front.
+pub fn starts_fraction(text: &[char]) -> bool
+    ensures { result ≡ starts_fraction text.now }
+{
+    match text {
+        ['.', character, ..] => is_digit(*character),
+        _ => false,
     }
 }
 

@@ -12,7 +12,7 @@ ghost use Rattle.gx_syntax.specs.Nodes.{Found, name_length};
 ghost use Rattle.gx_scan.specs.Indications.{found_made};
 ghost use Rattle.gx_scan.specs.Names.{name_made};
 ghost use Rattle.gx_scan.specs.Reading.{Ended, NameRead, read_number, read_one};
-ghost use Rattle.gx_syntax.specs.Tokens.{barred, barred_words, gap, gap_not_open, gap_then_dollar, gap_then_neither, gap_then_open, indication, local_wildcard, ncname, number_end, one_of, reference, text_run, leading, constructor, no_constructor};
+ghost use Rattle.gx_syntax.specs.Tokens.{barred, barred_words, gap, gap_not_open, gap_then_dollar, gap_then_neither, gap_then_open, indication, local_wildcard, ncname, number_end, one_of, reference, text_run, leading, constructor, no_constructor, word_end};
 ghost use Rattle.gx_scan.specs.Reading.{Added};
 ghost use Rattle.gx_syntax.specs.Direct.{content_pieces_of, start_of, value_pieces_of};
 ghost use Rattle.gx_syntax.specs.Tokens.{blank, cdata_text, import_words, no_attribute, no_element, setter_words, tag_name, white};
@@ -30,7 +30,7 @@ use crate::markup::{
     look_at_value_piece, look_at_white, starts_element,
 };
 use crate::names::{ReadName, find_local_wildcard, find_name, find_ncname};
-use crate::numbers::{LiteralFound, find_number};
+use crate::numbers::{LiteralFound, find_number, point_seen, starts_fraction};
 use crate::references::{find_part, find_reference};
 use crate::runs::{find_text, push_characters, push_text};
 use crate::scan::{find, find_only};
@@ -252,6 +252,24 @@ impl Reader<'_> {
             if is_name_start(*character) {
                 self.end = Some(End::GaveUp(Refused::Unfit(self.far)));
             }
+        }
+    }
+
+    /// Reads the end of a word, behind which no `.` with a digit stands where the word is a keyword.
+    #[tactic(auto, unfolding(crate::specs::Reading::read_one))]
+    pub fn word_end(&mut self, keyword: bool)
+        ensures { Ran nothing self.old self.new (read_one (word_end keyword)) }
+    {
+        if self.end.is_some() {
+            return;
+        }
+        if !keyword {
+            self.far = self.far.min(self.rest.len());
+            return;
+        }
+        self.far = self.far.min(point_seen(self.rest));
+        if starts_fraction(self.rest) {
+            self.end = Some(End::GaveUp(Refused::Unfit(self.far)));
         }
     }
 

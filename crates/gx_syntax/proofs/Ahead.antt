@@ -34,7 +34,7 @@ use Rattle.gx_syntax.specs.Characters.{is_word_character, no_character}
 use Rattle.gx_syntax.specs.Words.{letters_of, ends_at, ending_of, words_of}
 use Rattle.gx_syntax.specs.Nodes.{Node, Made, Found, join_binary, join_path, join_comma, second_value}
 use Rattle.gx_syntax.specs.Tokens.{Token, one_of, qname, ncname, gap, leading, local_wildcard, IsGapHere, scan_gap_here, IsQName, IsNCName, scan_ncname, seen_local_part, starts_local_part, HasLocalPart, IsTheWord, IsGapWith, OpensGapWith, second_of_two, scan_colon, entries, derives, opens, scan, seen, faults, shape_of}
-use Rattle.gx_syntax.specs.Grammar.{Phrase, word_of, single, is_single, level_at, operator, more, chain, two, expression, step_of, after_name, after_axis, arguments, behind_any_name, path_from, filtered_step, more_predicates, predicate, signed_path, other_operand, ladder, begun, branched_or_name, opened_or_name, named_single, rules, behind_single, query_language, constructed, constructed_by}
+use Rattle.gx_syntax.specs.Grammar.{Phrase, word_of, single, is_single, level_at, operator, infix_operator, more, chain, two, expression, step_of, after_name, after_axis, arguments, behind_any_name, path_from, filtered_step, more_predicates, predicate, signed_path, other_operand, ladder, begun, branched_or_name, opened_or_name, named_single, rules, behind_single, query_language, constructed, constructed_by}
 use Rattle.gx_syntax.specs.NodeTests.{if_wildcard, wildcard_or, any_step}
 use Rattle.gx_syntax.specs.Casts.{casts, type_test, cast_test, behind_cast}
 use Rattle.gx_syntax.specs.Fronts.{fronts}
@@ -130,12 +130,12 @@ module _ (at : ℕ → Place) where
 
   -- the operators stand behind an operand
   in_two : (k n : ℕ) (F first : Phrase) (us vs : List Token) → Leftmost (query_language at) (fronts at) F (ladder at k n first) (operators at (level_at k) ∷ us) vs → Leftmost (query_language at) (fronts at) F (two at (set.Operators (level_at k)) (ladder at k n first) (ladder at k n (signed_path at n 64))) us vs
-  unfolding two more operator
+  unfolding two more infix_operator
   in_two k n F first us vs l = leftmost_made (leftmost_both l)
 
   in_chain : (k n : ℕ) (F first : Phrase) (us vs : List Token) → Leftmost (query_language at) (fronts at) F (ladder at k n first) (operators at (level_at k) ∷ us) vs
       → Leftmost (query_language at) (fronts at) F (chain at join_binary (set.Operators (level_at k)) (ladder at k n first) (ladder at k n (signed_path at n 64)) barrier.Single) us vs
-  unfolding chain more operator
+  unfolding chain more infix_operator
   in_chain k n F first us vs l = leftmost_made (leftmost_both l)
 
   ladder_leftmost : (k n : ℕ) (F first : Phrase) (us vs : List Token) → Leftmost (query_language at) (fronts at) F first (innermost at k us) vs → Leftmost (query_language at) (fronts at) F (ladder at k n first) us vs
@@ -146,7 +146,7 @@ module _ (at : ℕ → Place) where
       [ true ↦ in_two k n F first us vs (ladder_leftmost k n F first (operators at (level_at k) ∷ us) vs l) | false ↦ in_chain k n F first us vs (ladder_leftmost k n F first (operators at (level_at k) ∷ us) vs l) ]
 
   path_leftmost : (n : ℕ) (F first : Phrase) (us vs : List Token) → Leftmost (query_language at) (fronts at) F first (word_of word.OpenBracket ∷ one_of set.Slashes ∷ us) vs → Leftmost (query_language at) (fronts at) F (path_from at n first) us vs
-  unfolding path_from chain filtered_step more_predicates predicate more operator
+  unfolding path_from chain filtered_step more_predicates predicate more infix_operator
   path_leftmost n F first us vs l = leftmost_made (leftmost_both (leftmost_made (leftmost_both l)))
 
   -- what may follow the name of a step and its gap, in front of a comma or at the end
@@ -442,7 +442,7 @@ module _ (at : ℕ → Place) where
         go t (inr i) d = absurd i
 
     expression_leftmost : Leftmost (query_language at) (fronts at) (rule (single 40)) (expression at 40) [] (word_of word.Comma ∷ [])
-    unfolding expression chain more operator
+    unfolding expression chain more infix_operator
     expression_leftmost = leftmost_made (leftmost_both leftmost_here)
 
     pub expression_avoids : Avoids (query_language at) (leads ∷ []) (Until (query_language at) (expression at 40) AtEnd) (BeforeCut (query_language at) (expression at 40) Nowhere)

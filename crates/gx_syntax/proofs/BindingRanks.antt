@@ -7,10 +7,9 @@ use Rattle.gx_syntax.specs.declared.word.Binder.{Binder}
 use Rattle.gx_syntax.specs.declared.word.Binder.TheVariants as binder
 use Rattle.gx_syntax.specs.Words.{binder_in}
 use Rattle.gx_syntax.specs.Nodes.{Made}
-use Rattle.gx_syntax.specs.Basics.{operator}
-use Rattle.gx_syntax.specs.Grammar.{Phrase, query_language}
+use Rattle.gx_syntax.specs.Grammar.{Phrase, keyword, query_language}
 use Rattle.gx_syntax.specs.Bound.{bound, bound_type, position}
-use Rattle.gx_syntax.specs.Binding.{first_bound, position_of, head, binding, further_binding, more_bindings, bindings, clause, word_found, last_clause, more_clauses, flwor, quantified}
+use Rattle.gx_syntax.specs.Binding.{first_bound, position_of, bound_to, head, binding, further_binding, more_bindings, bindings, clause, word_found, last_clause, more_clauses, flwor, quantified}
 use Rattle.gx_syntax.specs.Fronts.{rank}
 use Rattle.gx_syntax.proofs.CastsRanks.{written_low, sequence_low}
 use Rattle.gx_syntax.proofs.KeysRanks.{order_clause_low}
@@ -33,9 +32,9 @@ module _ (at : ℕ → Place) (n : ℕ) (below : n < suc n) where
   position_low binder.Let = tt
   position_low binder.Quantifier = tt
 
-  head_low : (b : Binder) (variable : Phrase) → Low variable → Low (head at b variable)
-  unfolding head bound_type
-  head_low b variable v = (v, ((((tt, tt), sequence_low at (suc n)), tt), (position_low b, (tt, tt))))
+  head_low : (b : Binder) (variable : Phrase) → Low variable → Low (head at n b variable)
+  unfolding head bound_to bound_type
+  head_low b variable v = (v, ((((tt, tt), sequence_low at (suc n)), tt), (position_low b, (tt, (tt, tt)))))
 
   binding_low : (b : Binder) (variable : Phrase) → Low variable → Low (binding at n b variable)
   unfolding binding
@@ -55,8 +54,8 @@ module _ (at : ℕ → Place) (n : ℕ) (below : n < suc n) where
   clause_low = λ v. (tt, bindings_low (binder_in (word_found v)) (bound at) bound_low)
 
   last_clause_low : Low (last_clause at n)
-  unfolding last_clause operator
-  last_clause_low = ((((tt, tt), below), tt), tt)
+  unfolding last_clause keyword
+  last_clause_low = ((((tt, (tt, tt)), below), tt), tt)
 
   more_clauses_low : (k : ℕ) → Low (more_clauses at n k)
   unfolding more_clauses
@@ -64,9 +63,9 @@ module _ (at : ℕ → Place) (n : ℕ) (below : n < suc n) where
   more_clauses_low (suc k) = ((clause_low, more_clauses_low k), last_clause_low)
 
   pub flwor_low : (b : ClauseWord) (v : Made) → Low (flwor at n b v)
-  unfolding flwor
-  flwor_low b v = (tt, (bindings_low (binder_in b) (first_bound at) first_bound_low, (more_clauses_low 63, (order_clause_low at n below, ((tt, tt), below)))))
+  unfolding flwor keyword
+  flwor_low b v = (tt, (bindings_low (binder_in b) (first_bound at) first_bound_low, (more_clauses_low 63, (order_clause_low at n below, ((tt, (tt, tt)), below)))))
 
   pub quantified_low : (every : Bool) (v : Made) → Low (quantified at n every v)
-  unfolding quantified
-  quantified_low every v = (tt, (bindings_low binder.Quantifier (first_bound at) first_bound_low, ((tt, tt), below)))
+  unfolding quantified keyword
+  quantified_low every v = (tt, (bindings_low binder.Quantifier (first_bound at) first_bound_low, ((tt, (tt, tt)), below)))

@@ -14,11 +14,10 @@ use Rattle.gx_syntax.specs.declared.word.Binder.TheVariants as binder
 use Rattle.gx_syntax.specs.Words.{binder_in}
 use Rattle.gx_syntax.specs.Nodes.{Made}
 use Rattle.gx_syntax.specs.Tokens.{Token, one_of, barred_words, shape_of}
-use Rattle.gx_syntax.specs.Basics.{operator}
-use Rattle.gx_syntax.specs.Grammar.{Phrase, single, word_of, behind_single, query_language}
+use Rattle.gx_syntax.specs.Grammar.{Phrase, single, word_of, keyword, behind_single, query_language}
 use Rattle.gx_syntax.specs.Bound.{bound, bound_type, position}
 use Rattle.gx_syntax.specs.Keys.{ordered, order_clause}
-use Rattle.gx_syntax.specs.Binding.{first_bound, position_of, head, binding, further_binding, more_bindings, bindings, clause, word_found, last_clause, more_clauses, flwor, quantified}
+use Rattle.gx_syntax.specs.Binding.{first_bound, position_of, bound_to, head, binding, further_binding, more_bindings, bindings, clause, word_found, last_clause, more_clauses, flwor, quantified}
 use Rattle.gx_syntax.specs.Fronts.{fronts}
 use Rattle.gx_syntax.proofs.Shapes.{lawful, shaped}
 use Rattle.gx_syntax.proofs.TypesSorted.{written_sorted}
@@ -38,15 +37,15 @@ module _ (at : ℕ → Place) (right : AreFronts (query_language at) (fronts at)
 
   -- bindings, whose variable is read whatever follows
 
-  head_sorted : (b : Binder) (variable : Phrase) (us : List Token) → ((vs : List Token) → Sorts variable vs) → Sorts (head at b variable) us
-  unfolding head position_of bound_type position
-  head_sorted binder.For variable us s = (s _, (bound_type_sorted at right (word_of word.At ∷ word_of word.In ∷ []) refl refl, (position_sorted at right (word_of word.In ∷ []) refl, (tt, tt))))
-  head_sorted binder.Let variable us s = (s _, (bound_type_sorted at right (word_of word.Assign ∷ []) refl refl, (tt, (tt, tt))))
-  head_sorted binder.Quantifier variable us s = (s _, (bound_type_sorted at right (word_of word.In ∷ []) refl refl, (tt, (tt, tt))))
+  head_sorted : (n : ℕ) (b : Binder) (variable : Phrase) (us : List Token) → ((vs : List Token) → Sorts variable vs) → Sorts (head at n b variable) us
+  unfolding head bound_to position_of bound_type position
+  head_sorted n binder.For variable us s = (s _, (bound_type_sorted at right (word_of word.At ∷ word_of word.In ∷ []) refl refl, (position_sorted at right (word_of word.In ∷ []) refl, (tt, (tt, tt)))))
+  head_sorted n binder.Let variable us s = (s _, (bound_type_sorted at right (word_of word.Assign ∷ []) refl refl, (tt, (tt, (tt, tt)))))
+  head_sorted n binder.Quantifier variable us s = (s _, (bound_type_sorted at right (word_of word.In ∷ []) refl refl, (tt, (tt, (tt, tt)))))
 
   binding_sorted : (n : ℕ) (b : Binder) (variable : Phrase) (us : List Token) → ((vs : List Token) → Sorts variable vs) → AllOf (IsIn (behind_single at)) us → Sorts (binding at n b variable) us
   unfolding binding
-  binding_sorted n b variable us s f = (head_sorted b variable _ s, f)
+  binding_sorted n b variable us s f = (head_sorted n b variable _ s, f)
 
   further_sorted : (n : ℕ) (b : Binder) (us : List Token) → AllOf (IsIn (behind_single at)) us → Sorts (further_binding at n b) us
   unfolding further_binding
@@ -112,16 +111,16 @@ module _ (at : ℕ → Place) (right : AreFronts (query_language at) (fronts at)
   clause_sorted n us e f = λ v. (tt, bindings_sorted n (binder_in (word_found v)) (bound at) us (λ vs. bound_sorted at right vs) e f)
 
   last_clause_sorted : (n : ℕ) → Sorts (last_clause at n) behind_clauses
-  unfolding last_clause operator
+  unfolding last_clause keyword
   last_clause_sorted n = (
     tokens_choose (query_language at) (lawful at) (fronts at) right (word_of word.Where ∷ []) _ empty behind_clauses
         (record { takes = refl; first = (inl refl, tt); full = (refl, tt); opening = ((λ x o. open_first (open_made (open_first (open_made (open_first (open_token o)))))), tt); apart = apart (word_of word.Where ∷ []) behind_clauses refl }),
-    (((tt, tt), are_behind), tt),
+    (((tt, (tt, tt)), are_behind), tt),
     tt,
   )
 
   more_clauses_sorted : (n k : ℕ) → Sorts (more_clauses at n k) behind_clauses
-  unfolding more_clauses clause last_clause operator
+  unfolding more_clauses clause last_clause keyword
   more_clauses_sorted n zero = (
     tokens_choose (query_language at) (lawful at) (fronts at) right (barred_words set.Binders ∷ []) _ (last_clause at n) behind_clauses
         (record { takes = refl; first = (inl refl, tt); full = (refl, tt); opening = ((λ x o. open_token o), tt); apart = apart (barred_words set.Binders ∷ []) (word_of word.Where ∷ behind_clauses) refl }),
@@ -142,12 +141,12 @@ module _ (at : ℕ → Place) (right : AreFronts (query_language at) (fronts at)
   )
 
   pub flwor_sorted : (n : ℕ) (b : ClauseWord) (v : Made) (us : List Token) → AllOf (IsIn (behind_single at)) us → Sorts (flwor at n b v) us
-  unfolding flwor more_clauses clause last_clause operator order_clause ordered
+  unfolding flwor keyword more_clauses clause last_clause order_clause ordered
   flwor_sorted n b v us f = (
     tt,
     (
       bindings_sorted n (binder_in b) (first_bound at) (behind_clause (one_of set.Binders)) (λ vs. first_bound_sorted vs) refl (is_binder, (is_where, are_behind)),
-      (more_clauses_sorted n 63, (order_clause_sorted at right n, ((tt, tt), f))),
+      (more_clauses_sorted n 63, (order_clause_sorted at right n, ((tt, (tt, tt)), f))),
     ),
   )
 
@@ -155,5 +154,5 @@ module _ (at : ℕ → Place) (right : AreFronts (query_language at) (fronts at)
   is_satisfies = inr (inr (inr (inr (inr (inr (inr (inr (inl refl))))))))
 
   pub quantified_sorted : (n : ℕ) (every : Bool) (v : Made) (us : List Token) → AllOf (IsIn (behind_single at)) us → Sorts (quantified at n every v) us
-  unfolding quantified
-  quantified_sorted n every v us f = (tt, (bindings_sorted n binder.Quantifier (first_bound at) (word_of word.Satisfies ∷ []) (λ vs. first_bound_sorted vs) refl (is_satisfies, tt), ((tt, tt), f)))
+  unfolding quantified keyword
+  quantified_sorted n every v us f = (tt, (bindings_sorted n binder.Quantifier (first_bound at) (word_of word.Satisfies ∷ []) (λ vs. first_bound_sorted vs) refl (is_satisfies, tt), ((tt, (tt, tt)), f)))

@@ -2,7 +2,7 @@
 use Rattle.std.proofs.Common.{ℕ, zero, suc, ◌<◌}
 use Rattle.gx_base.specs.declared.place.Place.{Place}
 use Rattle.gx_grammar.specs.Levels.{HasRanksBelow}
-use Rattle.gx_syntax.specs.Grammar.{Phrase, query_language}
+use Rattle.gx_syntax.specs.Grammar.{Phrase, keyword, query_language}
 use Rattle.gx_syntax.specs.Bound.{direction, extreme, key_order}
 use Rattle.gx_syntax.specs.Keys.{key, further_key, more_keys, ordered, order_clause}
 use Rattle.gx_syntax.specs.Fronts.{rank}
@@ -21,8 +21,8 @@ module _ (at : ℕ → Place) (n : ℕ) (below : n < suc n) where
   more_keys_low (suc k) = ((((tt, tt), key_low), more_keys_low k), tt)
 
   ordered_low : Low (ordered at n)
-  unfolding ordered
-  ordered_low = ((tt, tt), ((tt, tt), (key_low, more_keys_low 63)))
+  unfolding ordered keyword
+  ordered_low = ((tt, tt), ((tt, (tt, tt)), (key_low, more_keys_low 63)))
 
   pub order_clause_low : Low (order_clause at n)
   unfolding order_clause

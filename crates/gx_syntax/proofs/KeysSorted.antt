@@ -9,7 +9,7 @@ use Rattle.gx_grammar.proofs.PublicLaws.{computed_apart, tokens_choose}
 use Rattle.gx_syntax.specs.declared.word.Word.TheVariants as word
 use Rattle.gx_syntax.specs.declared.word.WordSet.TheVariants as set
 use Rattle.gx_syntax.specs.Tokens.{Token, one_of, shape_of}
-use Rattle.gx_syntax.specs.Grammar.{Phrase, word_of, behind_single, query_language}
+use Rattle.gx_syntax.specs.Grammar.{Phrase, word_of, keyword, behind_single, query_language}
 use Rattle.gx_syntax.specs.Bound.{direction, extreme, key_order}
 use Rattle.gx_syntax.specs.Keys.{key, further_key, more_keys, ordered, order_clause}
 use Rattle.gx_syntax.specs.Fronts.{fronts}
@@ -68,8 +68,8 @@ module _ (at : ℕ → Place) (right : AreFronts (query_language at) (fronts at)
   )
 
   ordered_sorted : (n : ℕ) → Sorts (ordered at n) behind_keys
-  unfolding ordered more_keys further_key
-  ordered_sorted n = ((tt, tt), ((tt, tt), (key_sorted n, more_keys_sorted n 63)))
+  unfolding ordered keyword more_keys further_key
+  ordered_sorted n = ((tt, tt), ((tt, (tt, tt)), (key_sorted n, more_keys_sorted n 63)))
 
   -- before `return`
   pub order_clause_sorted : (n : ℕ) → Sorts (order_clause at n) behind_keys

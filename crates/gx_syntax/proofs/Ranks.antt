@@ -11,7 +11,7 @@ use Rattle.gx_syntax.specs.declared.word.WordSet.{WordSet}
 use Rattle.gx_syntax.specs.declared.word.WordSet.TheVariants as set
 use Rattle.gx_syntax.specs.Nodes.{Made, Join, join_binary, join_path, join_comma}
 use Rattle.gx_syntax.specs.Tokens.{Token, gap, gap_then_open, gap_not_open, gap_then_neither}
-use Rattle.gx_syntax.specs.Grammar.{Production, single, within, nested, Phrase, at_tokens, is_single, level_at, is_name, is_reserved, operator, more, stop, chain, two, expression, numeral, literal, name, variable_step, dots, parenthesised_step, more_arguments, arguments_in, arguments, after_name, after_axis, step_of, behind_plain_name, behind_any_name, test_or_literal, other_step, step, predicate, more_predicates, filtered_step, path_from, more_signs, signed_path, other_operand, ladder, condition, typeswitch, branched, branched_or_name, begun, behind_keyword, opened_or_name, named_single, rules, query_language, computed, braced, constructor_name, named_node, no_node, constructed, constructed_by}
+use Rattle.gx_syntax.specs.Grammar.{Production, single, within, nested, Phrase, at_tokens, is_single, level_at, is_name, is_reserved, keyword, operator, infix_operator, more, stop, chain, two, expression, numeral, literal, name, variable_step, dots, parenthesised_step, more_arguments, arguments_in, arguments, after_name, after_axis, step_of, behind_plain_name, behind_any_name, test_or_literal, other_step, step, predicate, more_predicates, filtered_step, path_from, more_signs, signed_path, other_operand, ladder, condition, typeswitch, branched, branched_or_name, begun, behind_keyword, opened_or_name, named_single, rules, query_language, computed, braced, constructor_name, named_node, no_node, constructed, constructed_by}
 use Rattle.gx_syntax.specs.declared.word.Opening.{Opening}
 use Rattle.gx_syntax.specs.Computed.{computed_named, node_named}
 use Rattle.gx_syntax.specs.declared.word.ComputedNode.{ComputedNode}
@@ -49,6 +49,10 @@ module _ (at : ℕ → Place) where
   unfolding operator
   operator_low n ws = (tt, tt)
 
+  infix_low : (n : ℕ) (ws : WordSet) → Low n (infix_operator at ws)
+  unfolding infix_operator
+  infix_low n ws = λ v. (tt, tt)
+
   stop_low : (n : ℕ) (ws : WordSet) (b : Barrier) → Low n (stop at ws b)
   unfolding stop
   stop_low n ws b = ((operator_low n ws, tt), tt)
@@ -56,7 +60,7 @@ module _ (at : ℕ → Place) where
   more_low : (n : ℕ) (ws : WordSet) (operand last : Phrase) → Low n operand → Low n last → (count : ℕ) → Low n (more at ws operand last count)
   unfolding more
   more_low n ws operand last h k zero = k
-  more_low n ws operand last h k (suc count) = ((operator_low n ws, (h, more_low n ws operand last h k count)), tt)
+  more_low n ws operand last h k (suc count) = ((infix_low n ws, (h, more_low n ws operand last h k count)), tt)
 
   chain_low : (n : ℕ) (join : Join) (ws : WordSet) (first operand : Phrase) (b : Barrier) → Low n first → Low n operand → Low n (chain at join ws first operand b)
   unfolding chain
@@ -64,7 +68,7 @@ module _ (at : ℕ → Place) where
 
   two_low : (n : ℕ) (ws : WordSet) (first operand : Phrase) → Low n first → Low n operand → Low n (two at ws first operand)
   unfolding two more
-  two_low n ws first operand f h = (f, ((operator_low n ws, (h, tt)), tt))
+  two_low n ws first operand f h = (f, ((infix_low n ws, (h, tt)), tt))
 
   below : (n : ℕ) → n < suc n
   below n = omega arith
@@ -263,8 +267,8 @@ module _ (at : ℕ → Place) where
   -- Singles
 
   condition_low : (n : ℕ) (v : Made) → Low (suc n) (condition at n v)
-  unfolding condition
-  condition_low n v = (tt, (tt, (expression_low n, ((tt, tt), ((tt, tt), (below n, ((tt, tt), below n)))))))
+  unfolding condition keyword
+  condition_low n v = (tt, (tt, (expression_low n, ((tt, tt), ((tt, (tt, tt)), (below n, ((tt, (tt, tt)), below n)))))))
 
   plain_low : (n : ℕ) (v : Made) → Low (suc n) (ladder at 8 n (path_from at n (behind_plain_name at gap_not_open v)))
   plain_low n v = ladder_low 8 n (path_from at n (behind_plain_name at gap_not_open v)) (path_low n (behind_plain_name at gap_not_open v) (plain_name_low (suc n) gap_not_open v))

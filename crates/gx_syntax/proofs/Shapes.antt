@@ -23,7 +23,7 @@ use Rattle.gx_syntax.specs.declared.word.Word.{Word}
 use Rattle.gx_syntax.specs.Nodes.{Node, Made}
 use Rattle.gx_syntax.specs.Numeral.{IsDigits, OpensNumeral, is_small, scan_literal}
 use Rattle.gx_syntax.specs.declared.word.Barrier.{Barrier}
-use Rattle.gx_syntax.specs.Tokens.{Token, one_of, constructor, no_constructor, qname, number, number_end, gap, gap_then_open, gap_not_open, barred, indication, entries, IsNCName, IsGapHere, begins_at, barrier_fault, limit_code, number_code, derives, opens, faults, begins_gap, begins_number, shape_of, text_run, reference, white, blank, no_attribute, no_element, tag_open, tag_name, cdata_text, ncname, local_wildcard, gap_then_dollar, gap_then_neither, barred_words, begins_dollar, leading, begins_word}
+use Rattle.gx_syntax.specs.Tokens.{Token, one_of, constructor, no_constructor, word_end, qname, number, number_end, gap, gap_then_open, gap_not_open, barred, indication, entries, IsNCName, IsGapHere, begins_at, barrier_fault, limit_code, number_code, derives, opens, faults, begins_gap, begins_number, shape_of, text_run, reference, white, blank, no_attribute, no_element, tag_open, tag_name, cdata_text, ncname, local_wildcard, gap_then_dollar, gap_then_neither, barred_words, begins_dollar, leading, begins_word}
 use Rattle.gx_syntax.specs.declared.runs.Run.{Run}
 use Rattle.gx_syntax.specs.References.{is_text}
 use Rattle.gx_syntax.proofs.ReferenceTokens.{reference_begins, fault_begins, reference_opened}
@@ -267,3 +267,4 @@ module _ (at : ℕ → Place) where
   shaped (leading w ws) = (leading_stand w ws, leading_open w ws)
   shaped constructor = (constructors_stand, constructors_open)
   shaped no_constructor = tt
+  shaped (word_end b) = tt

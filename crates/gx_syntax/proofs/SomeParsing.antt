@@ -23,7 +23,7 @@ use Rattle.gx_syntax.specs.Numeral.{is_small, scan_literal}
 use Rattle.gx_syntax.specs.References.{closes}
 use Rattle.gx_syntax.specs.Words.{words_of}
 use Rattle.gx_syntax.specs.Nodes.{Node, Made, Whole}
-use Rattle.gx_syntax.specs.Tokens.{Token, one_of, qname, number, number_end, gap, gap_then_open, gap_not_open, barred, indication, text_run, reference, white, blank, no_attribute, no_element, starts_element, constructor, no_constructor, tag_name, cdata_text, ncname, local_wildcard, gap_then_dollar, gap_then_neither, barred_words, entries, faults, begins_at, scan_reference, limit_code, number_code, reference_code, leading}
+use Rattle.gx_syntax.specs.Tokens.{Token, one_of, qname, number, number_end, gap, gap_then_open, gap_not_open, barred, indication, text_run, reference, white, blank, no_attribute, no_element, starts_element, constructor, no_constructor, word_end, tag_name, cdata_text, ncname, local_wildcard, gap_then_dollar, gap_then_neither, barred_words, entries, faults, begins_at, scan_reference, limit_code, number_code, reference_code, leading}
 use Rattle.gx_syntax.specs.Grammar.{Phrase, query_language, place_in}
 use Rattle.gx_syntax.specs.Prolog.{query, query_in}
 use Rattle.gx_syntax.specs.Levels.{more_than}
@@ -88,6 +88,8 @@ token_codes (barred_words ws) x code e = inl (word_codes (scan_one_of (entries (
 token_codes (leading w ws) x code e = absurd (not_none code e)
 token_codes constructor x code e = absurd (not_none code e)
 token_codes no_constructor x code e = absurd (not_none code e)
+token_codes (word_end true) x code e = absurd (not_none code e)
+token_codes (word_end false) x code e = absurd (not_none code e)
 
 module _ (at : ℕ → Place) where
   codes_of : {A : Phrase} {x z : List ℕ} {code : ℕ} → Halts (query_language at) A x code z → IsCode code

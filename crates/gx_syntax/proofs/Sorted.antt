@@ -3,7 +3,7 @@ use Rattle.std.proofs.Common.{◌≡◌, ◌≢◌, ℕ, zero, suc, ◌<◌, ◌
 use Rattle.std.specs.List.{list_all}
 use Rattle.gx_base.specs.declared.place.Place.{Place}
 use Rattle.gx_grammar.specs.Grammar.{token, empty, ◌&◌, keyed, choose, many, rule, made}
-use Rattle.gx_grammar.specs.Opening.{open_token, open_first, open_second, open_made}
+use Rattle.gx_grammar.specs.Opening.{open_token, open_first, open_second, open_key, open_made}
 use Rattle.gx_grammar.specs.Laws.{LawfulTokens}
 use Rattle.gx_grammar.specs.Levels.{takes_some, AreTakings}
 use Rattle.gx_grammar.specs.First.{by_character, IsIn, AllOf, first_of, first_behind, head_passes, HasHead, AreApart, Stands, AreFronts, IsSorted, CharacterChooses, TokensChoose}
@@ -23,7 +23,7 @@ use Rattle.gx_grammar.specs.Value.{nothing}
 use Rattle.gx_syntax.specs.Nodes.{Node, Made, Join, join_binary, join_path, join_comma, second_value}
 use Rattle.gx_syntax.specs.declared.word.Barrier.{Barrier}
 use Rattle.gx_syntax.specs.Tokens.{Token, one_of, qname, number, number_end, gap, gap_then_open, gap_not_open, gap_then_dollar, barred, begins_sign, shape_of, takes, derives, faults, constructor}
-use Rattle.gx_syntax.specs.Grammar.{Production, single, within, nested, behind, Phrase, lexeme, word_of, at_tokens, is_single, level_at, is_name, is_reserved, operator, more, stop, chain, two, expression, numeral, literal, name, variable_step, dots, parenthesised_step, more_arguments, arguments_in, arguments, after_name, after_axis, step_of, behind_plain_name, behind_any_name, test_or_literal, other_step, step, predicate, more_predicates, filtered_step, path_from, more_signs, signed_path, other_operand, ladder, condition, typeswitch, branched, branched_or_name, begun, behind_keyword, opened_or_name, named_single, rules, behind_single, query_language, computed, braced, constructor_name, named_node, no_node, constructed, constructed_by}
+use Rattle.gx_syntax.specs.Grammar.{Production, single, within, nested, behind, Phrase, lexeme, word_of, at_tokens, is_single, level_at, is_name, is_reserved, keyword, operator, infix_operator, more, stop, chain, two, expression, numeral, literal, name, variable_step, dots, parenthesised_step, more_arguments, arguments_in, arguments, after_name, after_axis, step_of, behind_plain_name, behind_any_name, test_or_literal, other_step, step, predicate, more_predicates, filtered_step, path_from, more_signs, signed_path, other_operand, ladder, condition, typeswitch, branched, branched_or_name, begun, behind_keyword, opened_or_name, named_single, rules, behind_single, query_language, computed, braced, constructor_name, named_node, no_node, constructed, constructed_by}
 use Rattle.gx_syntax.specs.Casts.{casts, type_test, cast_test, casts_fit, behind_cast}
 use Rattle.gx_syntax.specs.Fronts.{fronts}
 use Rattle.gx_syntax.specs.declared.word.Opening.{Opening}
@@ -109,33 +109,33 @@ module _ (at : ℕ → Place) where
   )
 
   more_sorted : (ws : WordSet) (operand : Phrase) (b : Barrier) (us : List Token) → all_apart shape_of (one_of ws ∷ []) us ≡ true → Sorts operand (one_of ws ∷ us) → (k : ℕ) → Sorts (more at ws operand (stop at ws b) k) us
-  unfolding more stop operator
+  unfolding more stop operator infix_operator
   more_sorted ws operand b us e s zero = stop_sorted ws b us e
   more_sorted ws operand b us e s (suc zero) = (
     tokens_choose (query_language at) (lawful at) (fronts at) right (one_of ws ∷ []) _ empty us
-        (record { takes = refl; first = (inl refl, tt); full = (refl, tt); opening = ((λ x o. open_first (open_made (open_first (open_token o)))), tt); apart = apart (one_of ws ∷ []) us e }),
-    ((tt, tt), (s, more_sorted ws operand b us e s zero)),
+        (record { takes = refl; first = (inl refl, tt); full = (refl, tt); opening = ((λ x o. open_first (open_made (open_key o))), tt); apart = apart (one_of ws ∷ []) us e }),
+    ((λ v. (tt, tt)), (s, more_sorted ws operand b us e s zero)),
     tt,
   )
   more_sorted ws operand b us e s (suc (suc k)) = (
     tokens_choose (query_language at) (lawful at) (fronts at) right (one_of ws ∷ []) _ empty us
-        (record { takes = refl; first = (inl refl, tt); full = (refl, tt); opening = ((λ x o. open_first (open_made (open_first (open_token o)))), tt); apart = apart (one_of ws ∷ []) us e }),
-    ((tt, tt), (s, more_sorted ws operand b us e s (suc k))),
+        (record { takes = refl; first = (inl refl, tt); full = (refl, tt); opening = ((λ x o. open_first (open_made (open_key o))), tt); apart = apart (one_of ws ∷ []) us e }),
+    ((λ v. (tt, tt)), (s, more_sorted ws operand b us e s (suc k))),
     tt,
   )
 
   chain_sorted : (join : Join) (ws : WordSet) (first operand : Phrase) (b : Barrier) (us : List Token) → all_apart shape_of (one_of ws ∷ []) us ≡ true → Sorts first (one_of ws ∷ us) → Sorts operand (one_of ws ∷ us) → Sorts (chain at join ws first operand b) us
-  unfolding chain more operator
+  unfolding chain more infix_operator
   chain_sorted join ws first operand b us e f s = (f, more_sorted ws operand b us e s 63)
 
   two_sorted : (ws : WordSet) (first operand : Phrase) (us : List Token) → all_apart shape_of (one_of ws ∷ []) us ≡ true → Sorts first (one_of ws ∷ us) → Sorts operand us → Sorts (two at ws first operand) us
-  unfolding two more operator
+  unfolding two more infix_operator
   two_sorted ws first operand us e f s = (
     f,
     (
       tokens_choose (query_language at) (lawful at) (fronts at) right (one_of ws ∷ []) _ empty us
-          (record { takes = refl; first = (inl refl, tt); full = (refl, tt); opening = ((λ x o. open_first (open_made (open_first (open_token o)))), tt); apart = apart (one_of ws ∷ []) us e }),
-      ((tt, tt), (s, tt)),
+          (record { takes = refl; first = (inl refl, tt); full = (refl, tt); opening = ((λ x o. open_first (open_made (open_key o))), tt); apart = apart (one_of ws ∷ []) us e }),
+      ((λ v. (tt, tt)), (s, tt)),
       tt,
     ),
   )
@@ -597,14 +597,14 @@ module _ (at : ℕ → Place) where
   all_behind = among (behind_single at) (behind_single at) (λ u h. h)
 
   condition_sorted : (n : ℕ) (v : Made) → Sorts (condition at n v) (behind_single at)
-  unfolding condition
+  unfolding condition keyword
   condition_sorted n v = (
     tt,
     (
       tt,
       (
         expression_sorted n (word_of word.Close ∷ []) refl (inr (inl refl), tt),
-        ((tt, tt), ((tt, tt), ((inr (inr (inr (inl refl))), tt), ((tt, tt), all_behind)))),
+        ((tt, tt), ((tt, (tt, tt)), ((inr (inr (inr (inl refl))), tt), ((tt, (tt, tt)), all_behind)))),
       ),
     ),
   )
@@ -613,13 +613,13 @@ module _ (at : ℕ → Place) where
   begun_path_sorted n first f = ladder_sorted 8 n (path_from at n first) (behind_single at) levels_fit (path_sorted n first (innermost 8 (behind_single at)) inside_fits f)
 
   if_apart : (n : ℕ) (v : Made) → AllOf (λ u. AllOf (λ t. AreApart (query_language at) t u) (gap_then_open ∷ [])) (first_behind (query_language at) (fronts at) (ladder at 8 n (path_from at n (behind_plain_name at gap_not_open v))) (behind_single at))
-  unfolding ladder casts type_test cast_test two chain path_from filtered_step more_predicates predicate behind_plain_name more stop operator
+  unfolding ladder casts type_test cast_test two chain path_from filtered_step more_predicates predicate behind_plain_name more stop operator infix_operator
   if_apart n v =
       ((gaps_apart at, tt), apart (gap_then_open ∷ []) (word_of word.OpenBracket ∷ one_of set.Slashes ∷ word_of word.Cast ∷ word_of word.Castable ∷ word_of word.Treat ∷ word_of word.Instance ∷ operators level.Intersect ∷ operators level.Union ∷ operators level.Product ∷ operators level.Sum ∷ operators level.Range ∷ operators level.Comparison ∷ operators level.And ∷ operators level.Or ∷ behind_single at) refl)
 
   typeswitch_sorted : (n : ℕ) (v : Made) → Sorts (typeswitch at n v) (behind_single at)
   unfolding typeswitch cases more_cases case case_head default_head
-  typeswitch_sorted n v = (tt, (tt, (expression_sorted n (word_of word.Close ∷ []) refl (inr (inl refl), tt), ((tt, tt), (cases_sorted at right n, (default_head_sorted at right [], all_behind))))))
+  typeswitch_sorted n v = (tt, (tt, (expression_sorted n (word_of word.Close ∷ []) refl (inr (inl refl), tt), ((tt, tt), (cases_sorted at right n, (default_head_sorted at right _, all_behind))))))
 
   branched_sorted : (n : ℕ) (v : Made) (b : Branching) → Sorts (branched at n b v) (behind_single at)
   unfolding branched
@@ -661,7 +661,7 @@ module _ (at : ℕ → Place) where
   )
 
   keyword_apart : (n : ℕ) (v : Made) → AllOf (λ u. AllOf (λ t. AreApart (query_language at) t u) (gap_then_dollar ∷ [])) (first_behind (query_language at) (fronts at) (ladder at 8 n (path_from at n (behind_keyword at n v))) (behind_single at))
-  unfolding ladder casts type_test cast_test two chain path_from filtered_step more_predicates predicate behind_keyword behind_plain_name more stop operator
+  unfolding ladder casts type_test cast_test two chain path_from filtered_step more_predicates predicate behind_keyword behind_plain_name more stop operator infix_operator
   keyword_apart n v = ((dollar_open_apart at, tt), ((dollar_neither_apart at, tt), apart (gap_then_dollar ∷ []) behind_word refl))
 
   opened_or_name_sorted : (n : ℕ) (v : Made) (o : Option Opening) → Sorts (opened_or_name at n v o) (behind_single at)

@@ -4,11 +4,11 @@ use Rattle.gx_base.specs.declared.place.Place.{Place}
 use Rattle.gx_base.specs.WhiteSpace.{is_white_space}
 use Rattle.gx_grammar.specs.Value.{Value, nothing, characters, node, pair}
 use Rattle.gx_grammar.specs.First.{Stands, head_passes}
-use Rattle.gx_grammar.specs.Tokens.{LawfulToken, no_fault, IsWord, IsNamed, IsRun, IsFrontOf, all_pass, opens_name, opens_run, seen_name, seen_run, seen_word}
+use Rattle.gx_grammar.specs.Tokens.{LawfulToken, no_fault, IsWord, IsNamed, IsRun, IsFrontOf, all_pass, opens_name, opens_run, scan_word, seen_name, seen_run, seen_word}
 use Rattle.gx_grammar.specs.Gaps.{Gap, gap_ends, gap_white, comment_begins, OpensGap, opens_end, opens_paren, opens_white, opens_begin, seen_gap}
 use Rattle.gx_grammar.specs.Words.{Entry, IsOneOf, OpensOneOf, scan_one_of, seen_one_of, spellings}
 use Rattle.gx_grammar.specs.Joined.{Tells}
-use Rattle.gx_grammar.specs.Fitting.{fault_of, fault_where}
+use Rattle.gx_grammar.specs.Fitting.{Never, scan_never, fault_of, fault_where}
 use Rattle.gx_grammar.specs.Apart.{Spells, OpensWord, all_words_apart, is}
 use Rattle.std.proofs.lemmas.Bool.{and_parts}
 use Rattle.gx_grammar.proofs.PublicLaws.{fitting_firm, head_cut, lawful_barred, lawful_either, lawful_fitting, lawful_gap, lawful_joined, lawful_name, lawful_one_of, lawful_optional, lawful_run, lawful_stop, lawful_walk, lawful_word, one_of_opened, one_of_opening, one_of_spells}
@@ -26,7 +26,7 @@ use Rattle.gx_syntax.specs.declared.word.Barrier.{Barrier}
 use Rattle.gx_syntax.specs.Tokens.{Token, one_of, qname, number, number_end, gap, gap_then_open, gap_not_open, barred, indication, entry_of, entries, IsNCName, scan_ncname, behind_colon, IsColon, scan_colon, OpensColon, IsLocalPart, OpensLocalPart, scan_local_part, seen_local_part, starts_local_part, HasLocalPart, scan_has_local_part, IsQName, OpensQName, no_value, IsGapHere, scan_gap_here, IsParenthesis, scan_parenthesis, OpensParenthesis, scan_no_parenthesis, OpensNothing, indicators, first_of_two, IsIndicator, OpensIndicator, scan_indicator, seen_indicator, stops_type, IsNoIndicator, scan_no_indicator, begins_at, barrier_fault, limit_code, number_code, derives, opens, scan, seen, faults, takes, begins_gap, begins_number, text_run, reference, white, blank, no_attribute, no_element, tag_open, element_fault, tag_name, cdata_text, ncname, local_wildcard, wildcard_letters, IsLocalWildcard, scan_local_wildcard, starts_local_wildcard, no_characters, begins_attribute, cdata_value, cdata_walk, entity_words, gap_then_dollar, gap_then_neither, barred_words, IsDollar, scan_dollar, OpensDollar, stops_name, IsNeither, scan_neither, word_fault, leading, second_of_two, IsGapWith, OpensGapWith, scan_gap_with, seen_gap_with, IsTheWord, OpensTheWord, scan_the_word}
 use Rattle.gx_syntax.specs.References.{is_text, text_value}
 use Rattle.gx_syntax.proofs.ReferenceTokens.{reference_lawful, number_shorter}
-use Rattle.gx_syntax.specs.Tokens.{scan_qname, seen_qname, constructor, no_constructor, IsBrace, OpensBrace, scan_brace, IsGapBrace, OpensGapBrace, scan_gap_brace, seen_gap_brace, IsConstructor, OpensConstructor, scan_constructor, seen_constructor, front_of_two}
+use Rattle.gx_syntax.specs.Tokens.{scan_qname, seen_qname, constructor, no_constructor, IsBrace, OpensBrace, scan_brace, IsGapBrace, OpensGapBrace, scan_gap_brace, seen_gap_brace, IsConstructor, OpensConstructor, scan_constructor, seen_constructor, front_of_two, word_end, starts_fraction, OpensPoint}
 use Rattle.gx_syntax.proofs.ConstructorTokens.{no_constructor_lawful}
 
 pub set_apart : (ws : WordSet) → all_words_apart (spellings (entries (words_of ws))) ≡ true
@@ -174,6 +174,28 @@ then_neither_lawful : LawfulToken (derives gap_then_neither) (opens gap_then_nei
 then_neither_lawful =
     lawful_joined IsGapHere (OpensGap is_xml_character 0) scan_gap_here (seen_gap is_xml_character 0) gap_lawful IsNeither OpensNothing scan_neither (seen_word [])
     (lawful_word nothing [] stops_name) no_value
+
+-- the ends of words
+
+fraction_grows : (x z : List ℕ) → starts_fraction x ≡ false → (starts_fraction (x ++ z) ≡ false) ⊎ OpensPoint x
+fraction_grows [] z e = inr (46 ∷ [], refl)
+fraction_grows (c ∷ []) [] e = inl refl
+fraction_grows (c ∷ []) (d ∷ z) e = go (46 == c) refl
+  where
+    go : (b : Bool) → (46 == c) ≡ b → (starts_fraction (c ∷ d ∷ z) ≡ false) ⊎ OpensPoint (c ∷ [])
+    go true f = inr ([], ap (λ a. a ∷ []) (eqb-true 46 c f))
+    go false f = inl (ap (λ b. b && is_digit d) f)
+fraction_grows (c ∷ d ∷ x) z e = inl e
+
+fraction_stays : (x z : List ℕ) → starts_fraction (x ++ z) ≡ false → starts_fraction x ≡ false
+fraction_stays [] z e = refl
+fraction_stays (c ∷ []) z e = refl
+fraction_stays (c ∷ d ∷ x) z e = e
+
+no_fraction_lawful : LawfulToken (derives (word_end true)) (opens (word_end true)) (scan (word_end true)) (seen (word_end true)) no_fault
+no_fraction_lawful =
+    lawful_optional Never OpensPoint scan_never (seen_word (46 ∷ [])) (lawful_stop (IsWord nothing (46 ∷ []) no_character) OpensPoint (scan_word nothing (46 ∷ []) no_character) (seen_word (46 ∷ [])) no_fault (lawful_word nothing (46 ∷ []) no_character) no_fault refl) starts_fraction nothing
+    (record { begins = λ v x y d. absurd d; stays = fraction_stays; grows = fraction_grows; empty = (46 ∷ [], refl) })
 
 -- constructors
 
@@ -392,6 +414,8 @@ token_lawful (barred_words ws) =
 token_lawful (leading w ws) = leading_lawful w ws
 token_lawful constructor = constructor_lawful
 token_lawful no_constructor = no_constructor_lawful constructor_lawful
+token_lawful (word_end true) = no_fraction_lawful
+token_lawful (word_end false) = lawful_word nothing [] no_character
 
 named_shorter : {value : List ℕ → Made} (first test stop : ℕ → Bool) (v : Made) (x y : List ℕ) → IsNamed value first test stop v x y → length y < length x
 named_shorter first test stop v x y d = omega (arith, ap length d.whole, ap length d.others.spelled, length-append d.others.run y)
@@ -472,3 +496,4 @@ tokens_taken constructor v x y e d =
     let g = gap_behind j.front d.between j.between j.begins in
     omega (arith, n, g, ap length j.ends.spelled)
 tokens_taken no_constructor v x y e d = absurd (cc)
+tokens_taken (word_end b) v x y e d = absurd (cc)

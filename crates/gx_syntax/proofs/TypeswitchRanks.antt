@@ -2,7 +2,7 @@
 use Rattle.std.proofs.Common.{ℕ, zero, suc, ◌<◌}
 use Rattle.gx_base.specs.declared.place.Place.{Place}
 use Rattle.gx_grammar.specs.Levels.{HasRanksBelow}
-use Rattle.gx_syntax.specs.Grammar.{Phrase, query_language}
+use Rattle.gx_syntax.specs.Grammar.{Phrase, keyword, query_language}
 use Rattle.gx_syntax.specs.Bound.{case_variable, default_variable}
 use Rattle.gx_syntax.specs.Typeswitch.{case_head, case, more_cases, cases, default_head}
 use Rattle.gx_syntax.specs.Fronts.{rank}
@@ -14,8 +14,8 @@ module _ (at : ℕ → Place) (n : ℕ) (below : n < suc n) where
   Low A = HasRanksBelow (query_language at) rank (suc n) A
 
   case_head_low : Low (case_head at)
-  unfolding case_head case_variable
-  case_head_low = ((tt, tt), (((bound_low at n below, (tt, tt)), tt), (sequence_low at (suc n), (tt, tt))))
+  unfolding case_head keyword case_variable
+  case_head_low = ((tt, tt), (((bound_low at n below, (tt, tt)), tt), (sequence_low at (suc n), (tt, (tt, tt)))))
 
   case_low : Low (case at n)
   unfolding case
@@ -31,5 +31,5 @@ module _ (at : ℕ → Place) (n : ℕ) (below : n < suc n) where
   cases_low = (case_low, more_cases_low 63)
 
   pub default_head_low : Low (default_head at)
-  unfolding default_head default_variable
-  default_head_low = ((tt, tt), ((bound_low at n below, tt), (tt, tt)))
+  unfolding default_head keyword default_variable
+  default_head_low = ((tt, tt), ((bound_low at n below, tt), (tt, (tt, tt))))

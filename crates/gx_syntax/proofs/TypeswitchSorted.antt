@@ -10,7 +10,7 @@ use Rattle.gx_syntax.specs.declared.word.Word.TheVariants as word
 use Rattle.gx_syntax.specs.declared.word.WordSet.TheVariants as set
 use Rattle.gx_base.specs.NameCharacters.{is_ncname_start}
 use Rattle.gx_syntax.specs.Tokens.{Token, barred_words, shape_of}
-use Rattle.gx_syntax.specs.Grammar.{Phrase, word_of, behind_single, query_language}
+use Rattle.gx_syntax.specs.Grammar.{Phrase, word_of, keyword, behind_single, query_language}
 use Rattle.gx_syntax.specs.Types.{sequence_type}
 use Rattle.gx_syntax.specs.Typeswitch.{case_head, case, more_cases, cases, default_head}
 use Rattle.gx_syntax.specs.Fronts.{fronts}
@@ -38,8 +38,8 @@ module _ (at : ℕ → Place) (right : AreFronts (query_language at) (fronts at)
   behind_cases = word_of word.Default ∷ []
 
   case_head_sorted : (us : List Token) → Sorts (case_head at) us
-  unfolding case_head sequence_type is_ncname_start
-  case_head_sorted us = ((tt, tt), (case_variable_sorted at right _ refl, (sequence_type_sorted at right (word_of word.Return ∷ []) refl, (tt, tt))))
+  unfolding case_head keyword sequence_type is_ncname_start
+  case_head_sorted us = ((tt, tt), (case_variable_sorted at right _ refl, (sequence_type_sorted at right (word_of word.Return ∷ []) refl, (tt, (tt, tt)))))
 
   case_sorted : (n : ℕ) (us : List Token) → AllOf (IsIn (behind_single at)) us → Sorts (case at n) us
   unfolding case
@@ -72,5 +72,5 @@ module _ (at : ℕ → Place) (right : AreFronts (query_language at) (fronts at)
   cases_sorted n = (case_sorted n (word_of word.Case ∷ behind_cases) (is_case, (is_default, tt)), more_cases_sorted n 63)
 
   pub default_head_sorted : (us : List Token) → Sorts (default_head at) us
-  unfolding default_head
-  default_head_sorted us = ((tt, tt), (default_variable_sorted at right (word_of word.Return ∷ []) refl, (tt, tt)))
+  unfolding default_head keyword
+  default_head_sorted us = ((tt, tt), (default_variable_sorted at right (word_of word.Return ∷ []) refl, (tt, (tt, tt))))

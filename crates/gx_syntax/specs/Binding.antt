@@ -4,7 +4,7 @@
 --   Let ::= "let" Given ("," Given)*          Given ::= Var As? ":=" Single
 --   Some ::= ("some" | "every") In ("," In)* "satisfies" Single          In ::= Var As? "in" Single
 -- A FLWOR has at most 64 of the clauses `for` and `let`, and each of them, `some` and `every` at most 64 bindings.
-use Rattle.std.specs.Prelude.{ℕ, zero, suc, ◌+◌, List, [], ◌∷◌, codes, Bool, true, false, Option, Some, None, if◌then◌else◌}
+use Rattle.std.specs.Prelude.{ℕ, zero, suc, ◌+◌, List, [], ◌∷◌, ◌&&◌, codes, Bool, true, false, Option, Some, None, if◌then◌else◌}
 use Rattle.gx_base.specs.declared.place.Place.{Place}
 use Rattle.gx_ast.specs.SyntaxTree.{SyntaxTree, Bindings, Clauses, at as located, flwor as flwor_form, quantified as quantified_form, no_binding, a_binding, no_clause, for_clause, let_clause, where_clause}
 use Rattle.gx_ast.specs.declared.sequence_type.BoundVariable.{BoundVariable}
@@ -18,10 +18,10 @@ use Rattle.gx_syntax.specs.declared.word.Opening.{Opening}
 use Rattle.gx_syntax.specs.declared.word.Opening.TheVariants as opening_is
 use Rattle.gx_syntax.specs.declared.word.Binder.{Binder}
 use Rattle.gx_syntax.specs.declared.word.Binder.TheVariants as binder
-use Rattle.gx_syntax.specs.Words.{clause_word_of, binder_in, binding_word}
-use Rattle.gx_syntax.specs.Nodes.{Made, Tree, Found, Operator, MaybeBound, MaybeType, Binds, BindingClause, WhereClause, second_value, name_length, tree}
+use Rattle.gx_syntax.specs.Words.{clause_word_of, binder_in, binding_word, is_keyword}
+use Rattle.gx_syntax.specs.Nodes.{Made, Tree, Found, MaybeBound, MaybeType, Binds, BindingClause, WhereClause, second_value, name_length, tree}
 use Rattle.gx_syntax.specs.Tokens.{Token, one_of, gap, gap_then_dollar, barred_words}
-use Rattle.gx_syntax.specs.Basics.{Phrase, single, word_of, lexeme, at_tokens, operator, is_name}
+use Rattle.gx_syntax.specs.Basics.{Phrase, single, word_of, lexeme, word_gap, keyword, at_tokens, is_name}
 use Rattle.gx_syntax.specs.Types.{written_name}
 use Rattle.gx_syntax.specs.Bound.{bound_value, position_made, bound, bound_type, position}
 use Rattle.gx_syntax.specs.Keys.{is_stable, clause_keys, order_clause}
@@ -62,9 +62,9 @@ abbrev pub clause_value : Place → Made → Made
 clause_value place (pair w (pair space bs)) = node (BindingClause (word_found w) place (bindings_in bs))
 clause_value place _ = nothing
 
-abbrev pub where_value : Made → Made
-where_value (pair (node (Operator place w)) (node (Tree t))) = node (WhereClause place t)
-where_value _ = nothing
+abbrev pub where_value : Place → Made → Made
+where_value place (pair w (node (Tree t))) = node (WhereClause place t)
+where_value place _ = nothing
 
 -- a `$`, the first bindings, the other clauses, how they are ordered, `return` and an expression
 abbrev pub flwor_value : ClauseWord → Place → Made → Made
@@ -75,6 +75,11 @@ flwor_value b place _ = nothing
 abbrev pub quantified_value : Bool → Place → Made → Made
 quantified_value every place (pair dollar (pair bs (pair w (node (Tree t))))) = tree (located place (quantified_form every (bindings_in bs) t))
 quantified_value every place _ = nothing
+
+-- A Single may stand there. Where none may, the first character of one passes the limit, whether it is joined with a keyword or not.
+abbrev pub has_levels : ℕ → Bool
+has_levels zero = false
+has_levels (suc n) = true
 
 -- The place of a token is `at` of the number of characters that are left there.
 module _ (at : ℕ → Place) where
@@ -88,12 +93,16 @@ module _ (at : ℕ → Place) where
   position_of binder.Let = made (λ left v. position_made None) empty
   position_of binder.Quantifier = made (λ left v. position_made None) empty
 
+  -- the word in front of what a variable is bound to
+  unfoldable pub bound_to : ℕ → Binder → Phrase
+  bound_to n b = made (λ left v. nothing) (token (word_of (binding_word b)) & word_gap (has_levels n && is_keyword (binding_word b)))
+
   -- what stands in front of the expression of a binding
-  unfoldable pub head : Binder → Phrase → Phrase
-  head b variable = made (λ left v. head_value v) (variable & bound_type at & position_of b & lexeme (word_of (binding_word b)))
+  unfoldable pub head : ℕ → Binder → Phrase → Phrase
+  head n b variable = made (λ left v. head_value v) (variable & bound_type at & position_of b & bound_to n b)
 
   unfoldable pub binding : ℕ → Binder → Phrase → Phrase
-  binding n b variable = head b variable & rule (single n)
+  binding n b variable = head n b variable & rule (single n)
 
   unfoldable pub further_binding : ℕ → Binder → Phrase
   further_binding n b = made (λ left v. second_value v) (lexeme (word_of word.Comma) & binding n b (bound at))
@@ -111,7 +120,7 @@ module _ (at : ℕ → Place) where
   clause n = made (λ left v. clause_value (at left) v) (keyed (one_of set.Binders) (λ w. token gap & bindings n (binder_in (word_found w)) (bound at)))
 
   unfoldable pub last_clause : ℕ → Phrase
-  last_clause n = choose (at_tokens (word_of word.Where ∷ [])) (made (λ left v. where_value v) (operator at (set.Only word.Where) & rule (single n)) & empty) empty
+  last_clause n = choose (at_tokens (word_of word.Where ∷ [])) (made (λ left v. where_value (at left) v) (keyword word.Where & rule (single n)) & empty) empty
 
   -- at most so many further clauses of `for` and `let`, and then one of `where`, if it stands there
   unfoldable pub more_clauses : ℕ → ℕ → Phrase
@@ -122,13 +131,13 @@ module _ (at : ℕ → Place) where
   unfoldable pub flwor : ℕ → ClauseWord → Made → Phrase
   flwor n b v =
       made (λ left u. flwor_value b (at (left + name_length v)) u)
-      (token gap_then_dollar & bindings n (binder_in b) first_bound & more_clauses n 63 & order_clause at n & lexeme (word_of word.Return) & rule (single n))
+      (token gap_then_dollar & bindings n (binder_in b) first_bound & more_clauses n 63 & order_clause at n & keyword word.Return & rule (single n))
 
   -- a quantified expression behind its first word
   unfoldable pub quantified : ℕ → Bool → Made → Phrase
   quantified n every v =
       made (λ left u. quantified_value every (at (left + name_length v)) u)
-      (token gap_then_dollar & bindings n binder.Quantifier first_bound & lexeme (word_of word.Satisfies) & rule (single n))
+      (token gap_then_dollar & bindings n binder.Quantifier first_bound & keyword word.Satisfies & rule (single n))
 
   -- what a name begins, behind it
   unfoldable pub opened : ℕ → Opening → Made → Phrase

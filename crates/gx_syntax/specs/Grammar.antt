@@ -36,7 +36,7 @@ use Rattle.gx_syntax.specs.Characters.{is_digit}
 use Rattle.gx_syntax.specs.declared.word.Barrier.{Barrier}
 use Rattle.gx_syntax.specs.Tokens.{Token, one_of, qname, number, number_end, gap, gap_then_open, gap_not_open, barred, gap_then_dollar, gap_then_neither, barred_words, no_element, reference, text_run, derives, opens, scan, seen, faults, constructor, no_constructor}
 pub use Rattle.gx_syntax.specs.Basics.{Production, single, within, nested, Phrase, lexeme, word_of, at_tokens, is_name}
-unfoldable pub use Rattle.gx_syntax.specs.Basics.{operator, name}
+unfoldable pub use Rattle.gx_syntax.specs.Basics.{keyword, operator, infix_operator, name}
 use Rattle.gx_syntax.specs.Casts.{casts}
 use Rattle.gx_syntax.specs.Computed.{computed_named, node_named, computed_value, constructor_value, named_node_value}
 use Rattle.gx_syntax.specs.declared.word.ComputedNode.{ComputedNode}
@@ -95,7 +95,7 @@ module _ (at : ℕ → Place) where
   -- at most so many further operands, each behind an operator; where none is left, what stands there at last
   unfoldable pub more : WordSet → Phrase → Phrase → ℕ → Phrase
   more ws operand last zero = last
-  more ws operand last (suc n) = choose (at_tokens (one_of ws ∷ [])) (operator at ws & operand & more ws operand last n) empty
+  more ws operand last (suc n) = choose (at_tokens (one_of ws ∷ [])) (infix_operator at ws & operand & more ws operand last n) empty
 
   -- one more operator, behind which no operand may stand
   unfoldable pub stop : WordSet → Barrier → Phrase
@@ -241,7 +241,7 @@ module _ (at : ℕ → Place) where
   unfoldable pub condition : ℕ → Made → Phrase
   condition n v =
       made (λ left u. condition_value (at (left + name_length v)) u)
-      (token gap_then_open & token gap & expression n & lexeme (word_of word.Close) & lexeme (word_of word.Then) & rule (single n) & lexeme (word_of word.Else) & rule (single n))
+      (token gap_then_open & token gap & expression n & lexeme (word_of word.Close) & keyword word.Then & rule (single n) & keyword word.Else & rule (single n))
 
   -- a typeswitch behind its word
   unfoldable pub typeswitch : ℕ → Made → Phrase

@@ -11,7 +11,7 @@ use Rattle.gx_syntax.specs.declared.word.Barrier.TheVariants as barrier
 use Rattle.gx_syntax.specs.declared.word.Word.TheVariants as word
 use Rattle.gx_syntax.specs.Nodes.{Made, Tree, Found, Ordering, second_value, tree}
 use Rattle.gx_syntax.specs.Tokens.{barred}
-use Rattle.gx_syntax.specs.Basics.{Phrase, single, word_of, lexeme, at_tokens}
+use Rattle.gx_syntax.specs.Basics.{Phrase, single, word_of, lexeme, keyword, at_tokens}
 use Rattle.gx_syntax.specs.Bound.{order_made, key_order}
 
 abbrev pub key_made : Key → Made
@@ -49,7 +49,7 @@ module _ (at : ℕ → Place) where
 
   -- `order by` with 1 to 64 keys
   unfoldable pub ordered : ℕ → Phrase
-  ordered n = made (λ left v. second_value (second_value v)) (lexeme (word_of word.Order) & lexeme (word_of word.By) & key n & more_keys n 63)
+  ordered n = made (λ left v. second_value (second_value v)) (lexeme (word_of word.Order) & keyword word.By & key n & more_keys n 63)
 
   -- the clause that orders, if it stands there
   unfoldable pub order_clause : ℕ → Phrase

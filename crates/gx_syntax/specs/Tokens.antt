@@ -75,6 +75,8 @@ pub data Token : Type 0 where
   constructor : Token
   -- no characters, where that does not stand, nor a name with a `-` or a `.`, which is no keyword
   no_constructor : Token
+  -- the end of a word, which has no characters; behind a keyword no `.` with a digit stands
+  word_end : Bool → Token
 
 abbrev pub entry_of : Word → Entry Made
 entry_of w = record { spelling = spelling_of w; value = node (Found w) }
@@ -260,6 +262,20 @@ starts_constructor x = is_some (scan_constructor x) || begins_no_word x
 
 abbrev pub NoConstructor : Made → List ℕ → List ℕ → Type 0
 NoConstructor = IsOptional Never starts_constructor nothing
+
+-- keywords
+
+-- a `.` with a digit behind it stands at the front
+abbrev pub starts_fraction : List ℕ → Bool
+starts_fraction [] = false
+starts_fraction (c ∷ []) = false
+starts_fraction (c ∷ d ∷ x) = (46 == c) && is_digit d
+
+abbrev pub NoFraction : Made → List ℕ → List ℕ → Type 0
+NoFraction = IsOptional Never starts_fraction nothing
+
+abbrev pub OpensPoint : List ℕ → Type 0
+OpensPoint x = IsFrontOf x (46 ∷ [])
 
 -- two words
 
@@ -469,6 +485,8 @@ derives (barred_words ws) = Never
 derives (leading w ws) = AreJoined (IsTheWord w) (IsGapWith ws) second_of_two
 derives constructor = IsConstructor
 derives no_constructor = NoConstructor
+derives (word_end true) = NoFraction
+derives (word_end false) = IsWord nothing [] no_character
 
 abbrev pub opens : Token → List ℕ → Type 0
 opens (one_of ws) = OpensOneOf (entries (words_of ws))
@@ -497,6 +515,8 @@ opens (barred_words ws) = OpensOneOf (entries (words_of ws))
 opens (leading w ws) = OpensJoined (IsTheWord w) (OpensTheWord w) (OpensGapWith ws)
 opens constructor = OpensConstructor
 opens no_constructor = OpensConstructor
+opens (word_end true) = OpensPoint
+opens (word_end false) = OpensNothing
 
 abbrev pub scan : Token → List ℕ → Option (Made × List ℕ)
 scan (one_of ws) = scan_one_of (entries (words_of ws))
@@ -525,6 +545,8 @@ scan (barred_words ws) = scan_never
 scan (leading w ws) = scan_joined (scan_the_word w) (scan_gap_with ws) second_of_two
 scan constructor = scan_constructor
 scan no_constructor = scan_optional scan_never starts_constructor nothing
+scan (word_end true) = scan_optional scan_never starts_fraction nothing
+scan (word_end false) = scan_word nothing [] no_character
 
 abbrev pub seen : Token → List ℕ → ℕ
 seen (one_of ws) = seen_one_of (entries (words_of ws))
@@ -553,6 +575,8 @@ seen (barred_words ws) = seen_one_of (entries (words_of ws))
 seen (leading w ws) = seen_joined (scan_the_word w) (seen_word (letters_of w)) (seen_gap_with ws)
 seen constructor = seen_constructor
 seen no_constructor = seen_constructor
+seen (word_end true) = seen_word (46 ∷ [])
+seen (word_end false) = seen_word []
 
 abbrev pub faults : Token → List ℕ → Option ℕ
 faults number = λ x. fault_of {V = Made} number_code is_small (scan_literal x)
@@ -575,6 +599,7 @@ takes cdata_text = false
 takes gap_then_neither = false
 takes (local_wildcard b) = false
 takes no_constructor = false
+takes (word_end b) = false
 takes _ = true
 
 -- the characters that begin a gap with a `(` behind it
@@ -615,6 +640,7 @@ shape_of (barred_words ws) = spelled (spellings (entries (words_of ws)))
 shape_of (leading w ws) = headed (begins_word w)
 shape_of constructor = headed is_ncname_start
 shape_of no_constructor = shapeless
+shape_of (word_end b) = shapeless
 
 -- the words that begin a declaration
 abbrev pub version_words : Token

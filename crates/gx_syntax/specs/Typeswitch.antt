@@ -16,7 +16,7 @@ use Rattle.gx_syntax.specs.declared.word.Branching.{Branching}
 use Rattle.gx_syntax.specs.declared.word.Branching.TheVariants as branching_is
 use Rattle.gx_syntax.specs.Nodes.{Made, Tree, MaybeBound, TypeOf, HeadOfCase, HeadOfDefault, tree}
 use Rattle.gx_syntax.specs.Tokens.{barred_words}
-use Rattle.gx_syntax.specs.Basics.{Phrase, single, word_of, lexeme, at_tokens, is_name}
+use Rattle.gx_syntax.specs.Basics.{Phrase, single, word_of, lexeme, keyword, at_tokens, is_name}
 use Rattle.gx_syntax.specs.Types.{sequence_type}
 use Rattle.gx_syntax.specs.Bound.{case_variable, default_variable}
 
@@ -56,7 +56,7 @@ typeswitch_value place _ = nothing
 module _ (at : ℕ → Place) where
   -- what stands in front of the expression of a case
   unfoldable pub case_head : Phrase
-  case_head = made (λ left v. case_head_value (at left) v) (lexeme (word_of word.Case) & case_variable at & sequence_type at & lexeme (word_of word.Return))
+  case_head = made (λ left v. case_head_value (at left) v) (lexeme (word_of word.Case) & case_variable at & sequence_type at & keyword word.Return)
 
   unfoldable pub case : ℕ → Phrase
   case n = case_head & rule (single n)
@@ -72,4 +72,4 @@ module _ (at : ℕ → Place) where
 
   -- what stands in front of the expression of the default
   unfoldable pub default_head : Phrase
-  default_head = made (λ left v. default_head_value (at left) v) (lexeme (word_of word.Default) & default_variable at & lexeme (word_of word.Return))
+  default_head = made (λ left v. default_head_value (at left) v) (lexeme (word_of word.Default) & default_variable at & keyword word.Return)

@@ -1,5 +1,5 @@
 -- How the words and symbols are spelled.
-use Rattle.std.specs.Prelude.{ℕ, List, [], ◌∷◌, codes, Bool, ◌==◌, ◌||◌}
+use Rattle.std.specs.Prelude.{ℕ, List, [], ◌∷◌, codes, Bool, true, false, ◌==◌, ◌||◌}
 use Rattle.gx_grammar.specs.Words.{Spelling}
 use Rattle.gx_syntax.specs.declared.word.Word.{Word}
 use Rattle.gx_syntax.specs.declared.word.Word.TheVariants.{Comma, Open, Close, Dollar, Or, And, Equal, NotEqual, Less, LessOrEqual, Greater, GreaterOrEqual, Precedes, Follows, ValueEqual, ValueNotEqual, ValueLess, ValueLessOrEqual, ValueGreater, ValueGreaterOrEqual, Is, To, Plus, Minus, Times, Divide, DivideInteger, Modulo, Union, Bar, Intersect, Except, Slash, Slashes, Dot, Dots, Then, Else, CloseBracket, CloseBrace, Semicolon, Return, Satisfies, Case, Default, Order, Stable, For, Let, Where, Ascending, Descending, Empty, Question, Element, SchemaElement, Instance, Of, Treat, Castable, Cast, As, At, Greatest, Least, Quote, Apostrophe, QuoteEnd, ApostropheEnd, TwoQuotes, TwoApostrophes, LessEntity, GreaterEntity, AmpersandEntity, QuoteEntity, ApostropheEntity, TagOpen, TagEnd, EmptyTagEnd, EndTagOpen, CdataOpen, BraceOpen, TwoOpenBraces, TwoCloseBraces, Equals, OpenBracket, AtSign, Colons, AnyPrefix, AnyName, In, Assign, By, XQuery, Version, DoubleVersion, SingleVersion, Encoding, Declare, Namespace, BoundarySpace, Preserve, Strip, Construction, Ordering, Ordered, CopyNamespaces, NoPreserve, NoInherit, Import, Schema, Variable, External, Function}
@@ -203,6 +203,14 @@ ends_at end.Apostrophe = λ c. c == 39
 ends_at end.Tag = λ c. c == 47 || c == 33
 ends_at end.Brace = λ c. c == 123
 ends_at end.Colon = λ c. c == 58
+
+-- the word ends as a name does
+abbrev pub ends_as_name : Ending → Bool
+ends_as_name end.Name = true
+ends_as_name _ = false
+
+abbrev pub is_keyword : Word → Bool
+is_keyword w = ends_as_name (ending_of w)
 
 abbrev pub spelling_of : Word → Spelling
 spelling_of w = record { word = letters_of w; test = ends_at (ending_of w) }

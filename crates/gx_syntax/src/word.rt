@@ -1,7 +1,7 @@
 // The words and symbols of the query language.
 
 ghost use Rattle.std.specs.Prelude.{◌≡◌};
-ghost use Rattle.gx_syntax.specs.Words.{binder_in, binding_word, clause_word_of, ending_of, letters_of, operators_of, words_of, definer_of, setter_of};
+ghost use Rattle.gx_syntax.specs.Words.{binder_in, binding_word, clause_word_of, ending_of, is_keyword, letters_of, operators_of, words_of, definer_of, setter_of};
 
 use std::slice;
 
@@ -312,6 +312,13 @@ impl Word {
             Word::ApostropheEnd => Ending::Apostrophe,
             _ => Ending::Name,
         }
+    }
+
+    /// Whether the word is a keyword, and not a symbol.
+    pub fn is_keyword(self) -> bool
+        ensures { result ≡ is_keyword self }
+    {
+        matches!(self.ending(), Ending::Name)
     }
 }
 

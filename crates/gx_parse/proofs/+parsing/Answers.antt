@@ -38,14 +38,15 @@ use Rattle.gx_ast.specs.SyntaxView.{attribute_parts_of, attributes_of, parts_of}
 use Rattle.gx_grammar.specs.Value.{no_item}
 use Rattle.gx_grammar.specs.First.{by_character}
 use Rattle.gx_base.specs.NameCharacters.{is_ncname_start}
-use Rattle.gx_syntax.specs.Basics.{within, nested}
+use Rattle.gx_syntax.specs.Basics.{within}
 use Rattle.gx_syntax.specs.Nodes.{Found, PartsAre, ValueIs}
 use Rattle.gx_parse.specs.Repeated.{listed_before}
-use Rattle.gx_syntax.specs.Direct.{attribute, content_piece, content_pieces_of, element_at, piece_made, start_of, value_piece, value_pieces_of}
+use Rattle.gx_syntax.specs.Direct.{attribute, element_at, piece_made, value_piece, value_pieces_of}
 use Rattle.gx_parse.specs.DirectReading.{attribute_made}
+use Rattle.gx_parse.proofs.ContentPhrases.{content_begins, content_ends, content_full, content_more}
 use Rattle.gx_parse.proofs.Repeated.{Begun, all_listed, many_begin, many_end, many_full, many_more}
 use Rattle.gx_parse.proofs.PrologPhrases.{no_more as no_item_added, one_more as item_added}
-use Rattle.gx_parse.proofs.DirectPhrases.{attribute_read, attribute_stops, attributes_read, content_cdata, content_element, content_plain, content_read, content_reference, contents_are, direct_read, doubled_brace, element_read, element_stops, enclosed_read, filled_read, nested_none, nested_read, no_content_read, plain_brace, plain_close, plain_text, value_double, value_doubled, value_plain, value_read, value_reference, value_single, values_are, within_none, within_read}
+use Rattle.gx_parse.proofs.DirectPhrases.{attribute_read, attribute_stops, attributes_read, content_cdata, content_element, content_plain, content_reference, direct_read, doubled_brace, element_read, element_stops, enclosed_read, filled_read, nested_none, nested_read, no_content_read, plain_brace, plain_close, plain_text, value_double, value_doubled, value_plain, value_read, value_reference, value_single, values_are, within_none, within_read}
 use Rattle.gx_syntax.specs.Computed.{computed_form, empty_form, named_form, named_node_value}
 use Rattle.gx_syntax.specs.Grammar.{braced, computed, constructed, named_node}
 use Rattle.gx_syntax.specs.NodeTests.{axis_test}
@@ -66,8 +67,8 @@ operators::further-returns-then-not-looks_at t c = λ before a h.
 pub operators::further-loop-preserved : goal.operators::further-loop-preserved
 operators::further-loop-preserved t c = λ v z h.
     c.loop.invariant v z
-    (one_more c.args.source.now c.args.levels c.args.members c.set-set.result (most_of c.args.members - c.loop.counter) (most_of c.args.members - (c.loop.counter + 1)) c.loop.tree c.member-next.result v c.operator-word.result.0 c.operator-word.result.1 c.keep-tree.result c.joined-made.result c.looks_at.result
-    c.loop.reader c.looks_at.new.self c.operator-word.new.reader c.member-next.new.reader c.keep-tree.new.reader z c.set-set.ensures (omega (arith, c.loop-test.true, c.most-end.ensures)) c.if-not-looks_at.false c.looks_at.ensures (c.operator-word.ensures c.args.levels) c.member-next.ensures c.joined-made.ensures c.keep-tree.ensures h)
+    (one_more c.args.source.now c.args.levels c.args.members c.set-set.result (most_of c.args.members - c.loop.counter) (most_of c.args.members - (c.loop.counter + 1)) c.loop.tree c.member-next.result v c.infix_operator-word.result.0 c.infix_operator-word.result.1 c.keep-tree.result c.joined-made.result c.looks_at.result
+    c.loop.reader c.looks_at.new.self c.infix_operator-word.new.reader c.member-next.new.reader c.keep-tree.new.reader z c.set-set.ensures (omega (arith, c.loop-test.true, c.most-end.ensures)) c.if-not-looks_at.false c.looks_at.ensures (c.infix_operator-word.ensures c.args.levels) c.member-next.ensures c.joined-made.ensures c.keep-tree.ensures h)
 
 pub operators::further-returns : goal.operators::further-returns
 operators::further-returns t c = λ before a h.
@@ -214,8 +215,8 @@ pub flwor::quantified-returns : goal.flwor::quantified-returns
 flwor::quantified-returns t c = λ v e.
     ran_keeps c.keep.result (at c.args.place (quantified_form c.args.every (bindings_of c.bindings-list.result.items) c.single-condition.result)) c.quantified-made.result c.args.reader.now c.single-condition.new.reader c.keep.new.reader
     (read_in c.args.source.now c.args.levels (quantified (place_in c.args.source.now) c.args.levels c.args.every v))
-    (quantified_read c.args.source.now c.args.levels c.args.every v _ c.args.place c.bindings-list.result.items c.single-condition.result c.args.reader.now c.dollar.new.self c.bindings-list.new.reader c.lexeme.new.reader c.single-condition.new.reader e c.dollar.ensures
-    (c.bindings-list.ensures (head (place_in c.args.source.now) binder.Quantifier (first_bound (place_in c.args.source.now))) c.dollar.new.self (c.first_head-head.ensures c.args.levels)) (c.lexeme.ensures c.args.source.now c.args.levels) c.single-condition.ensures)
+    (quantified_read c.args.source.now c.args.levels c.args.every v _ c.args.place c.bindings-list.result.items c.single-condition.result c.args.reader.now c.dollar.new.self c.bindings-list.new.reader c.keyword.new.reader c.single-condition.new.reader e c.dollar.ensures
+    (c.bindings-list.ensures (head (place_in c.args.source.now) c.args.levels binder.Quantifier (first_bound (place_in c.args.source.now))) c.dollar.new.self (c.first_head-head.ensures c.args.levels)) (c.keyword.ensures c.args.source.now c.args.levels) c.single-condition.ensures)
     c.quantified-made.ensures c.keep.ensures
 
 pub flwor::flwor-returns : goal.flwor::flwor-returns
@@ -223,10 +224,10 @@ flwor::flwor-returns t c = λ v e.
     ran_keeps c.keep.result (at c.args.place (flwor_form (clauses_of c.more_clauses-clauses.result.items) c.looks_at-stable.result (keys_of c.order_clause-keys.result.items) c.single-returned.result)) c.flwor-made.result c.args.reader.now c.single-returned.new.reader c.keep.new.reader
     (read_in c.args.source.now c.args.levels (flwor (place_in c.args.source.now) c.args.levels c.args.word v))
     (flwor_read c.args.source.now c.args.levels c.args.word c.binder-binder.result v _ c.args.place c.bindings-list.result.items c.clause_of-first.result c.with_clause-begun.result.items c.more_clauses-clauses.result.items c.looks_at-stable.result c.order_clause-keys.result.items c.single-returned.result
-    c.args.reader.now c.dollar.new.self c.bindings-list.new.reader c.with_clause-begun.new.reader c.more_clauses-clauses.new.reader c.order_clause-keys.new.reader c.lexeme.new.reader c.single-returned.new.reader c.binder-binder.ensures e c.dollar.ensures
-    (c.bindings-list.ensures (head (place_in c.args.source.now) c.binder-binder.result (first_bound (place_in c.args.source.now))) c.dollar.new.self (c.first_head-head.ensures c.args.levels)) c.clause_of-first.ensures
+    c.args.reader.now c.dollar.new.self c.bindings-list.new.reader c.with_clause-begun.new.reader c.more_clauses-clauses.new.reader c.order_clause-keys.new.reader c.keyword.new.reader c.single-returned.new.reader c.binder-binder.ensures e c.dollar.ensures
+    (c.bindings-list.ensures (head (place_in c.args.source.now) c.args.levels c.binder-binder.result (first_bound (place_in c.args.source.now))) c.dollar.new.self (c.first_head-head.ensures c.args.levels)) c.clause_of-first.ensures
     (subst (λ us. Grown us c.clause_of-first.result c.with_clause-begun.result.items c.bindings-list.new.reader c.with_clause-begun.new.reader) c.new.ensures.items c.with_clause-begun.ensures)
-    c.more_clauses-clauses.ensures (c.order_clause-keys.ensures c.more_clauses-clauses.new.reader c.looks_at-stable.ensures) (c.lexeme.ensures c.args.source.now c.args.levels) c.single-returned.ensures)
+    c.more_clauses-clauses.ensures (c.order_clause-keys.ensures c.more_clauses-clauses.new.reader c.looks_at-stable.ensures) (c.keyword.ensures c.args.source.now c.args.levels) c.single-returned.ensures)
     c.flwor-made.ensures c.keep.ensures
 
 pub flwor::order_clause-returns-then-stable : goal.flwor::order_clause-returns-then-stable
@@ -245,8 +246,8 @@ flwor::ordered-returns t c =
     let text = c.args.source.now in
     let n = c.args.levels in
     let item = read_in text n (key (place_in text) n) in
-    ordered_read text n _ _ c.new.result.items c.with_key-begun.result.items c.more_keys.result.items c.args.reader.now c.lexeme.new.reader c.lexeme-2.new.reader c.with_key-begun.new.reader c.more_keys.new.reader (c.lexeme.ensures text n) (c.lexeme-2.ensures text n) c.new.ensures.items
-    (one_grown key_made c.new.result.items c.with_key-begun.result.items c.key-first.result c.lexeme-2.new.reader c.key-first.new.reader c.with_key-begun.new.reader item c.key-first.ensures c.with_key-begun.ensures) c.more_keys.ensures
+    ordered_read text n _ _ c.new.result.items c.with_key-begun.result.items c.more_keys.result.items c.args.reader.now c.lexeme.new.reader c.keyword.new.reader c.with_key-begun.new.reader c.more_keys.new.reader (c.lexeme.ensures text n) (c.keyword.ensures text n) c.new.ensures.items
+    (one_grown key_made c.new.result.items c.with_key-begun.result.items c.key-first.result c.keyword.new.reader c.key-first.new.reader c.with_key-begun.new.reader item c.key-first.ensures c.with_key-begun.ensures) c.more_keys.ensures
 
 pub flwor::more_keys-loop-init : goal.flwor::more_keys-loop-init
 flwor::more_keys-loop-init t c = gone_start key_made c.args.keys.items c.args.reader.now _ _ (λ w z h. h)
@@ -328,7 +329,7 @@ flwor::more_clauses-returns t c =
 pub flwor::clause-returns : goal.flwor::clause-returns
 flwor::clause-returns t c =
     clause_read c.args.source.now c.args.levels c.place-place.result c.word.result c.of-word.result c.binder-binder.result c.bindings-list.result.items c.clause_of.result c.args.reader.now c.word.new.self c.gap.new.self c.next_head-head.new.reader c.bindings-list.new.reader (c.place-place.ensures ∙ ap (place_in c.args.source.now) c.left.ensures)
-    c.of-word.ensures c.binder-binder.ensures c.word.ensures c.gap.ensures (c.bindings-list.ensures (head (place_in c.args.source.now) c.binder-binder.result (bound (place_in c.args.source.now))) c.gap.new.self (c.next_head-head.ensures c.args.levels)) c.clause_of.ensures
+    c.of-word.ensures c.binder-binder.ensures c.word.ensures c.gap.ensures (c.bindings-list.ensures (head (place_in c.args.source.now) c.args.levels c.binder-binder.result (bound (place_in c.args.source.now))) c.gap.new.self (c.next_head-head.ensures c.args.levels)) c.clause_of.ensures
 
 pub flwor::last_clause-returns-then-not-looks_at : goal.flwor::last_clause-returns-then-not-looks_at
 flwor::last_clause-returns-then-not-looks_at t c = record { others = []; is = sym (append-nil c.args.clauses.items); holds = no_where c.args.source.now c.args.levels c.looks_at.result c.args.reader.now c.looks_at.new.self c.if-not-looks_at.true c.looks_at.ensures }
@@ -339,8 +340,8 @@ flwor::last_clause-returns t c =
     let n = c.args.levels in
     let part = read_in text n (where_part text n) in
     one_added clause_made c.args.clauses.items c.with_clause.result.items c.args.reader.now c.looks_at.new.self c.with_clause.new.reader part (read_in text n (last_clause (place_in text) n))
-    (one_grown clause_made c.args.clauses.items c.with_clause.result.items (Where c.operator-word.result.0 c.single-condition.result) c.looks_at.new.self c.single-condition.new.reader c.with_clause.new.reader part
-    (where_read text n c.operator-word.result.0 c.operator-word.result.1 c.single-condition.result c.looks_at.new.self c.operator-word.new.reader c.single-condition.new.reader (c.operator-word.ensures n) c.single-condition.ensures) c.with_clause.ensures)
+    (one_grown clause_made c.args.clauses.items c.with_clause.result.items (Where c.place-place.result c.single-condition.result) c.looks_at.new.self c.single-condition.new.reader c.with_clause.new.reader part
+    (where_read text n c.place-place.result nothing c.single-condition.result c.looks_at.new.self c.keyword.new.reader c.single-condition.new.reader (c.place-place.ensures ∙ ap (place_in text) c.left.ensures) (c.keyword.ensures text n) c.single-condition.ensures) c.with_clause.ensures)
     (λ v h. a_where text n v c.looks_at.result c.args.reader.now c.looks_at.new.self c.with_clause.new.reader c.if-not-looks_at.false c.looks_at.ensures h)
 
 pub flwor::bindings-returns : goal.flwor::bindings-returns
@@ -362,7 +363,7 @@ flwor::more_bindings-loop-preserved t c =
     let text = c.args.source.now in
     let n = c.args.levels in
     let b = c.args.binder in
-    let next = head (place_in text) b (bound (place_in text)) in
+    let next = head (place_in text) n b (bound (place_in text)) in
     gone_step binding_made c.args.bindings.items c.loop.list.items c.binding-list.result.items c.args.reader.now c.loop.reader c.lexeme.new.reader c.binding-list.new.reader (read_in text n (more_bindings (place_in text) n b 63)) (read_in text n (more_bindings (place_in text) n b (63 - c.loop.counter)))
     (read_in text n (next & rule (single n))) (read_in text n (more_bindings (place_in text) n b (63 - (c.loop.counter + 1)))) c.loop.invariant
     (λ v w z h k. bindings_more text n b (63 - c.loop.counter) (63 - (c.loop.counter + 1)) _ v w c.looks_at.result c.loop.reader c.looks_at.new.self c.lexeme.new.reader c.binding-list.new.reader z (omega (arith, c.loop-test.true)) c.if-not-looks_at.false c.looks_at.ensures (c.lexeme.ensures text n) h k)
@@ -466,8 +467,8 @@ branches::case-returns t c = case_read c.args.source.now c.args.levels c.case_he
 pub branches::condition-returns : goal.branches::condition-returns
 branches::condition-returns t c = λ v e.
     ran_keeps c.keep.result (at c.args.place (conditional c.expression-test.result c.single-chosen.result c.single-otherwise.result)) c.condition-made.result c.args.reader.now c.single-otherwise.new.reader c.keep.new.reader (read_in c.args.source.now c.args.levels (condition (place_in c.args.source.now) c.args.levels v))
-    (condition_read c.args.source.now c.args.levels v c.args.place _ _ _ c.expression-test.result c.single-chosen.result c.single-otherwise.result c.args.reader.now c.parenthesis.new.self c.gap.new.self c.expression-test.new.reader c.lexeme.new.reader c.lexeme-2.new.reader c.single-chosen.new.reader c.lexeme-3.new.reader c.single-otherwise.new.reader
-    e c.parenthesis.ensures c.gap.ensures c.expression-test.ensures (c.lexeme.ensures c.args.source.now c.args.levels) (c.lexeme-2.ensures c.args.source.now c.args.levels) c.single-chosen.ensures (c.lexeme-3.ensures c.args.source.now c.args.levels) c.single-otherwise.ensures)
+    (condition_read c.args.source.now c.args.levels v c.args.place _ _ _ c.expression-test.result c.single-chosen.result c.single-otherwise.result c.args.reader.now c.parenthesis.new.self c.gap.new.self c.expression-test.new.reader c.lexeme.new.reader c.keyword.new.reader c.single-chosen.new.reader c.keyword-2.new.reader c.single-otherwise.new.reader
+    e c.parenthesis.ensures c.gap.ensures c.expression-test.ensures (c.lexeme.ensures c.args.source.now c.args.levels) (c.keyword.ensures c.args.source.now c.args.levels) c.single-chosen.ensures (c.keyword-2.ensures c.args.source.now c.args.levels) c.single-otherwise.ensures)
     c.condition-made.ensures c.keep.ensures
 
 pub paths::parenthesised-returns-then-starts_with : goal.paths::parenthesised-returns-then-starts_with
@@ -910,48 +911,23 @@ direct::content_if_any-returns t c =
     filled_read c.args.source.now c.args.levels (name_made c.args.name.now) (node (Found c.word-2.result)) (c.end_tag.ensures c.args.levels).0 (node (PartsAre (parts_of c.content-parts.result.items))) c.starts_with.result c.args.reader.now c.starts_with.new.self c.word-2.new.self c.content-parts.new.reader c.end_tag.new.reader
     c.if-starts_with.false c.starts_with.ensures c.word-2.ensures c.content-parts.ensures (c.end_tag.ensures c.args.levels).1
 
+pub direct::content-loop-reader-init : goal.direct::content-loop-reader-init
+direct::content-loop-reader-init t c = content_begins c.args.source.now c.args.levels c.new-parts.result.items c.new-pieces.result.items c.left-left.result c.args.reader.now c.new-parts.ensures.items c.new-pieces.ensures.items c.left-left.ensures
+
+pub direct::content-returns-then-left-eq0 : goal.direct::content-returns-then-left-eq0
+direct::content-returns-then-left-eq0 t c =
+    content_full c.args.source.now c.args.levels (c.loop-reader.read.parts.items, c.loop-reader.read.pieces.items) (c.with_piece-read.result.parts.items, c.with_piece-read.result.pieces.items) c.content_piece-piece.result c.all_parts.result.items c.loop-reader.left c.looks_at_content_piece.result
+    c.args.reader.now c.loop-reader.reader c.looks_at_content_piece.new.self c.content_piece-piece.new.reader c.with_piece-read.new.reader c.all_parts.new.reader c.loop-reader.invariant c.if-left-eq0.true c.loop-reader-test.true c.looks_at_content_piece.ensures c.content_piece-piece.ensures c.with_piece-read.ensures c.all_parts.ensures
+
+pub direct::content-loop-reader-preserved : goal.direct::content-loop-reader-preserved
+direct::content-loop-reader-preserved t c =
+    content_more c.args.source.now c.args.levels (c.loop-reader.read.parts.items, c.loop-reader.read.pieces.items) (c.with_piece-read.result.parts.items, c.with_piece-read.result.pieces.items) c.content_piece-piece.result c.loop-reader.left (c.loop-reader.left - 1) c.looks_at_content_piece.result
+    c.args.reader.now c.loop-reader.reader c.looks_at_content_piece.new.self c.content_piece-piece.new.reader c.with_piece-read.new.reader c.loop-reader.invariant (omega (arith, c.if-left-eq0.false)) c.loop-reader-test.true c.looks_at_content_piece.ensures c.content_piece-piece.ensures c.with_piece-read.ensures
+
 pub direct::content-returns : goal.direct::content-returns
 direct::content-returns t c =
-    content_read c.args.source.now c.args.levels c.content_pieces-pieces.result.items c.content_parts.result.items c.args.reader.now c.content_pieces-pieces.new.reader c.content_parts.new.reader c.content_pieces-pieces.ensures c.content_parts.ensures
-
-pub direct::content_pieces-loop-reader-init : goal.direct::content_pieces-loop-reader-init
-direct::content_pieces-loop-reader-init t c =
-    let g = at_tokens (content_pieces_of (start_of c.args.levels)) in
-    let item = content_piece (rule (within c.args.levels)) (rule (nested c.args.levels)) in
-    subst (λ us. Begun c.args.source.now c.args.levels g item piece_made [] us c.left-left.result c.args.reader.now c.args.reader.now) (sym c.new-list.ensures.items)
-    (many_begin c.args.source.now c.args.levels g item piece_made [] c.left-left.result c.args.reader.now c.left-left.ensures)
-
-pub direct::content_pieces-returns-then-left-eq0 : goal.direct::content_pieces-returns-then-left-eq0
-direct::content_pieces-returns-then-left-eq0 t c =
-    let text = c.args.source.now in
-    let n = c.args.levels in
-    let g = at_tokens (content_pieces_of (start_of n)) in
-    let item = content_piece (rule (within n)) (rule (nested n)) in
-    contents_are text n (listed_before piece_made c.with_item-list.result.items no_item) c.args.reader.now c.with_item-list.new.reader
-    (all_listed text n g item piece_made c.with_item-list.result.items c.args.reader.now c.with_item-list.new.reader
-    (many_full text n g item piece_made [] c.loop-reader.list.items c.with_item-list.result.items c.loop-reader.left c.looks_at_content_piece.result c.args.reader.now c.loop-reader.reader c.looks_at_content_piece.new.self c.with_item-list.new.reader
-    c.loop-reader.invariant c.if-left-eq0.true c.loop-reader-test.true c.looks_at_content_piece.ensures
-    (item_added piece_made c.loop-reader.list.items c.with_item-list.result.items c.content_piece-piece.result c.looks_at_content_piece.new.self c.content_piece-piece.new.reader c.with_item-list.new.reader (read_in text n item) c.content_piece-piece.ensures c.with_item-list.ensures)))
-
-pub direct::content_pieces-loop-reader-preserved : goal.direct::content_pieces-loop-reader-preserved
-direct::content_pieces-loop-reader-preserved t c =
-    let text = c.args.source.now in
-    let n = c.args.levels in
-    let g = at_tokens (content_pieces_of (start_of n)) in
-    let item = content_piece (rule (within n)) (rule (nested n)) in
-    many_more text n g item piece_made [] c.loop-reader.list.items c.with_item-list.result.items c.loop-reader.left (c.loop-reader.left - 1) c.looks_at_content_piece.result c.args.reader.now c.loop-reader.reader c.looks_at_content_piece.new.self c.with_item-list.new.reader
-    c.loop-reader.invariant (omega (arith, c.if-left-eq0.false)) c.loop-reader-test.true c.looks_at_content_piece.ensures
-    (item_added piece_made c.loop-reader.list.items c.with_item-list.result.items c.content_piece-piece.result c.looks_at_content_piece.new.self c.content_piece-piece.new.reader c.with_item-list.new.reader (read_in text n item) c.content_piece-piece.ensures c.with_item-list.ensures)
-
-pub direct::content_pieces-returns : goal.direct::content_pieces-returns
-direct::content_pieces-returns t c =
-    let text = c.args.source.now in
-    let n = c.args.levels in
-    let g = at_tokens (content_pieces_of (start_of n)) in
-    let item = content_piece (rule (within n)) (rule (nested n)) in
-    contents_are text n (listed_before piece_made c.loop-reader.list.items no_item) c.args.reader.now c.looks_at_content_piece.new.self
-    (all_listed text n g item piece_made c.loop-reader.list.items c.args.reader.now c.looks_at_content_piece.new.self
-    (many_end text n g item piece_made [] c.loop-reader.list.items c.loop-reader.left c.looks_at_content_piece.result c.args.reader.now c.loop-reader.reader c.looks_at_content_piece.new.self c.loop-reader.invariant c.loop-reader-test.false c.looks_at_content_piece.ensures))
+    content_ends c.args.source.now c.args.levels (c.loop-reader.read.parts.items, c.loop-reader.read.pieces.items) c.all_parts-2.result.items c.loop-reader.left c.looks_at_content_piece.result c.args.reader.now c.loop-reader.reader c.looks_at_content_piece.new.self c.all_parts-2.new.reader
+    c.loop-reader.invariant c.loop-reader-test.false c.looks_at_content_piece.ensures c.all_parts-2.ensures
 
 pub direct::content_piece-returns-then-starts_with : goal.direct::content_piece-returns-then-starts_with
 direct::content_piece-returns-then-starts_with t c =

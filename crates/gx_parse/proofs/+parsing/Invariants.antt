@@ -15,9 +15,10 @@ use Rattle.gx_parse.specs.Lists.{Gone, binding_made, clause_made}
 use Rattle.gx_grammar.specs.Grammar.{rule}
 use Rattle.gx_grammar.specs.First.{by_character}
 use Rattle.gx_base.specs.NameCharacters.{is_ncname_start}
-use Rattle.gx_syntax.specs.Basics.{within, nested, at_tokens}
-use Rattle.gx_syntax.specs.Direct.{attribute, content_piece, content_pieces_of, piece_made, start_of, value_piece, value_pieces_of}
+use Rattle.gx_syntax.specs.Basics.{within, at_tokens}
+use Rattle.gx_syntax.specs.Direct.{attribute, piece_made, value_piece, value_pieces_of}
 use Rattle.gx_parse.specs.DirectReading.{attribute_made}
+use Rattle.gx_parse.proofs.ContentPhrases.{ContentSoFar}
 use Rattle.gx_parse.proofs.Repeated.{Begun}
 use Rattle.gx_parse.proofs.+parsing.Given as goal
 
@@ -227,9 +228,6 @@ decreases-direct::attributes l = 1024 * l.levels + 8
 abbrev pub decreases-direct::content_piece : goal.decreases-direct::content_piece
 decreases-direct::content_piece l = 1024 * l.levels + 3
 
-abbrev pub decreases-direct::content_pieces : goal.decreases-direct::content_pieces
-decreases-direct::content_pieces l = 1024 * l.levels + 4
-
 abbrev pub decreases-direct::content : goal.decreases-direct::content
 decreases-direct::content l = 1024 * l.levels + 5
 
@@ -254,8 +252,8 @@ invariant-direct::value_pieces-loop-quote l = Begun l.source l.levels (at_tokens
 abbrev pub decreases-direct::value_pieces-loop-quote : goal.decreases-direct::value_pieces-loop-quote
 decreases-direct::value_pieces-loop-quote l = l.left
 
-abbrev pub invariant-direct::content_pieces-loop-reader : goal.invariant-direct::content_pieces-loop-reader
-invariant-direct::content_pieces-loop-reader l = Begun l.source l.levels (at_tokens (content_pieces_of (start_of l.levels))) (content_piece (rule (within l.levels)) (rule (nested l.levels))) piece_made [] l.list.items l.left l.initial.reader l.reader
+abbrev pub invariant-direct::content-loop-reader : goal.invariant-direct::content-loop-reader
+invariant-direct::content-loop-reader l = ContentSoFar l.source l.levels (l.read.parts.items, l.read.pieces.items) l.left l.initial.reader l.reader
 
-abbrev pub decreases-direct::content_pieces-loop-reader : goal.decreases-direct::content_pieces-loop-reader
-decreases-direct::content_pieces-loop-reader l = l.left
+abbrev pub decreases-direct::content-loop-reader : goal.decreases-direct::content-loop-reader
+decreases-direct::content-loop-reader l = l.left

@@ -7,10 +7,10 @@ use Rattle.gx_parse.proofs.binding.head_behind.Goals as goal
 pub returns-in_default : goal.returns-in_default
 returns-in_default c = λ n before a h.
     let done = rw c.in_default.is at h in
-    (done.0, (λ v. head_stops c.args.source.now n c.args.binder before nothing v a c.args.reader.now done.0 (done.1 nothing)))
+    (done.0, (λ v. head_stops c.args.source.now n c.args.levels c.args.binder before nothing v a c.args.reader.now done.0 (done.1 nothing)))
 
 pub returns : goal.returns
 returns c = λ n before a h.
     let got = rw c.in-Some.is at h in
-    head_read c.args.source.now n c.args.binder c.word.result before (bound_made c.in-Some.variable) (kind_made c.kind_of-kind.result) (position_made c.position_of-position.result) _ a c.args.reader.now c.kind_of-kind.new.reader c.position_of-position.new.reader c.lexeme.new.reader
-    c.word.ensures got (c.kind_of-kind.ensures n) (c.position_of-position.ensures n) (c.lexeme.ensures c.args.source.now n)
+    head_read c.args.source.now n c.args.levels c.args.binder before (bound_made c.in-Some.variable) (kind_made c.kind_of-kind.result) (position_made c.position_of-position.result) nothing a c.args.reader.now c.kind_of-kind.new.reader c.position_of-position.new.reader c.bound_to.new.reader got (c.kind_of-kind.ensures n)
+    (c.position_of-position.ensures n) (c.bound_to.ensures c.args.source.now n)
