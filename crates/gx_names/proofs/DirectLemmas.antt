@@ -3,9 +3,9 @@ use Rattle.std.proofs.Common.{◌≡◌, List, [], ◌∷◌, ◌++◌, ℕ, Opt
 use Rattle.gx_base.specs.declared.place.Place.{Place}
 use Rattle.gx_ast.specs.SyntaxTree.{Attributes, AttributeParts, Parts, no_attribute, an_attribute}
 use Rattle.gx_names.specs.declared.refusal.Refusal.{Refusal}
-use Rattle.gx_names.specs.declared.tree.Construct.{Construct}
+use Rattle.gx_resolved.specs.declared.tree.Construct.{Construct}
 use Rattle.gx_names.specs.Environment.{Environment}
-use Rattle.gx_names.specs.ResolvedTree.{ResolvedTree, ResolvedTrees, resolved_at, no_resolved, a_resolved, and_parts}
+use Rattle.gx_resolved.specs.ResolvedTree.{ResolvedTree, ResolvedTrees, resolved_at, no_resolved, a_resolved, and_parts}
 use Rattle.gx_names.specs.declared.resolving.Task.{Task}
 use Rattle.gx_names.specs.TreeRefusals.{AttributeNames, attributes_refusals, parts_refusals}
 use Rattle.gx_names.specs.Resolving.{refusals_left, adopted, all_adopted, closed}

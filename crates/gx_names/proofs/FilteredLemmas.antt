@@ -1,8 +1,8 @@
 -- A tree of an operand and what follows it.
 use Rattle.std.proofs.Common.{◌≡◌, List, ◌∷◌}
 use Rattle.gx_base.specs.declared.place.Place.{Place}
-use Rattle.gx_names.specs.declared.tree.Construct.{Construct}
-use Rattle.gx_names.specs.ResolvedTree.{ResolvedTree, ResolvedTrees, resolved_at, a_resolved, one_resolved}
+use Rattle.gx_resolved.specs.declared.tree.Construct.{Construct}
+use Rattle.gx_resolved.specs.ResolvedTree.{ResolvedTree, ResolvedTrees, resolved_at, a_resolved, one_resolved}
 use Rattle.gx_names.specs.Resolving.{adopted, all_adopted, closed}
 use Rattle.gx_names.proofs.ResolvingLemmas.{all_closed}
 

@@ -1,7 +1,7 @@
 -- The URI of a name with a prefix.
 use Rattle.std.proofs.Common.{◌≡◌, ◌≢◌, ℕ, List, [], ◌∷◌, Some, refl}
 use Rattle.gx_base.specs.Text.{same_text}
-use Rattle.gx_names.specs.NestedMap.{innermost_value}
+use Rattle.gx_resolved.specs.NestedMap.{innermost_value}
 use Rattle.gx_names.specs.Environment.{Namespaces, if_not_empty, uri_of}
 
 pub uri_of_prefixed : (namespaces : Namespaces) (unprefixed prefix : List ℕ) → prefix ≢ [] → uri_of namespaces unprefixed prefix ≡ if_not_empty (innermost_value same_text namespaces prefix)

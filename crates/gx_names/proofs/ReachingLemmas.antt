@@ -14,13 +14,13 @@ use Rattle.gx_ast.specs.declared.query.DefinitionNode.TheVariants as definitions
 use Rattle.gx_names.specs.declared.signature.Signature.{Signature}
 use Rattle.gx_names.specs.declared.uses.Use.{Use}
 use Rattle.gx_names.specs.declared.uses.Use.TheVariants as uses
-use Rattle.gx_names.specs.NestedMap.{innermost_value}
+use Rattle.gx_resolved.specs.NestedMap.{innermost_value}
 use Rattle.gx_names.specs.Signature.{same_signature}
 use Rattle.gx_names.specs.Environment.{Environment, Variables, binder_of, or_nameless, plain_name}
 use Rattle.gx_names.specs.Refusals.{definition_scope}
 use Rattle.gx_names.specs.Reaching.{Bodies, uses_in, is_function_of, is_at_hand, are_at_hand, are_settled, some_pass, is_call, calls_are_settled}
 use Rattle.gx_names.specs.Searching.{Settled, is_looked_at, is_met, IsSettled, Searches}
-use Rattle.gx_names.proofs.NestedLemmas.{equal_keys}
+use Rattle.gx_resolved.proofs.NestedLemmas.{equal_keys}
 
 laws : IsEquivalence same_signature
 laws = search (comparing, rules)

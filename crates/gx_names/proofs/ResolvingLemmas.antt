@@ -9,13 +9,13 @@ use Rattle.gx_ast.specs.SyntaxView.{trees_of}
 use Rattle.gx_names.specs.declared.refusal.Refusal.{Refusal}
 use Rattle.gx_names.specs.declared.refusal.NameRefusal.{NameRefusal}
 use Rattle.gx_names.specs.declared.refusal.NameRefusal.TheVariants.{Refused, Memory}
-use Rattle.gx_names.specs.declared.tree.Construct.{Construct}
+use Rattle.gx_resolved.specs.declared.tree.Construct.{Construct}
 use Rattle.gx_names.specs.Refused.{IsFirstRefusal, Judges, Proceeds}
 use Rattle.gx_names.specs.Environment.{Environment, with_variable, with_optional, without_variable, without_optional}
 use Rattle.gx_names.specs.TreeRefusals.{count_trees, call_refusals, form_refusals, trees_refusals}
 use Rattle.gx_names.specs.TreeResolution.{call_resolved, form_resolved, trees_resolved}
-use Rattle.gx_names.specs.ResolvedTree.{ResolvedTree, ResolvedTrees, resolved_at, no_resolved, a_resolved, one_resolved, and_parts}
-use Rattle.gx_names.specs.ResolvedView.{resolved_parts}
+use Rattle.gx_resolved.specs.ResolvedTree.{ResolvedTree, ResolvedTrees, resolved_at, no_resolved, a_resolved, one_resolved, and_parts}
+use Rattle.gx_resolved.specs.ResolvedView.{resolved_parts}
 use Rattle.gx_names.specs.Resolving.{and_part, adopted, all_adopted, closed}
 
 -- ---- refusals

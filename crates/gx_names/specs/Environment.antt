@@ -11,7 +11,7 @@ use Rattle.gx_ast.specs.declared.name.Variable.{Variable}
 use Rattle.gx_types.specs.SchemaSet.{SchemaSet}
 use Rattle.gx_names.specs.declared.signature.Signature.{Signature}
 use Rattle.gx_names.specs.Signature.{same_signature}
-use Rattle.gx_names.specs.NestedMap.{innermost_value}
+use Rattle.gx_resolved.specs.NestedMap.{innermost_value}
 
 -- prefixes with their URIs, the innermost first; the empty prefix has the default element namespace, and the empty URI none
 abbrev pub Namespaces : Type 0

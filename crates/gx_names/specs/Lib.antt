@@ -1,11 +1,4 @@
-pub mod NestedMap
-pub mod NestedBindings
-pub mod Stacked
 pub mod Signature
-pub mod ResolvedTree
-pub mod ResolvedCode
-pub mod ResolvedView
-pub mod ResolvedParts
 pub mod Environment
 pub mod TypeNames
 pub mod Steps

@@ -4,7 +4,7 @@ use Rattle.std.specs.List.{list_any, list_all, filter}
 use Rattle.gx_names.specs.declared.signature.Signature.{Signature}
 use Rattle.gx_names.specs.declared.uses.Use.{Use}
 use Rattle.gx_names.specs.declared.uses.Use.TheVariants as uses
-use Rattle.gx_names.specs.NestedMap.{innermost_value}
+use Rattle.gx_resolved.specs.NestedMap.{innermost_value}
 use Rattle.gx_names.specs.Signature.{same_signature}
 use Rattle.gx_names.specs.Environment.{Variables, binder_of}
 

@@ -24,7 +24,7 @@ use Rattle.gx_ast.specs.SyntaxTree.{SyntaxTree}
 use Rattle.gx_types.specs.SameItemType.{same_type_name}
 use Rattle.gx_types.specs.SchemaSet.{SchemaSet, global_type}
 use Rattle.gx_names.specs.declared.refusal.Refusal.{Refusal}
-use Rattle.gx_names.specs.NestedMap.{innermost_value}
+use Rattle.gx_resolved.specs.NestedMap.{innermost_value}
 use Rattle.gx_names.specs.declared.signature.Signature.{Signature}
 use Rattle.gx_names.specs.Signature.{same_signature}
 use Rattle.gx_names.specs.declared.uses.Use.{Use}
@@ -195,5 +195,5 @@ main_refusals environment definitions body =
 -- a whole query
 abbrev pub query_refusals : SchemaSet → Query → List Refusal
 query_refusals schemas query =
-    settings_refusals [] [] query.settings
+    settings_refusals [] [] schemas.targets query.settings
     ++ main_refusals (with_functions query.definitions (prolog_environment schemas query.settings)) query.definitions query.body

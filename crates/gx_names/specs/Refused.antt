@@ -3,7 +3,7 @@ use Rattle.std.specs.Prelude.{◌≡◌, List, [], Some, Result, Ok, Err}
 use Rattle.gx_names.specs.declared.refusal.Refusal.{Refusal}
 use Rattle.gx_names.specs.declared.refusal.NameRefusal.{NameRefusal}
 use Rattle.gx_names.specs.declared.refusal.NameRefusal.TheVariants.{Refused, Memory}
-use Rattle.gx_names.specs.Stacked.{first}
+use Rattle.gx_resolved.specs.Stacked.{first}
 
 -- the first of these refusals is the answer
 abbrev pub IsFirstRefusal : NameRefusal → List Refusal → Type 0

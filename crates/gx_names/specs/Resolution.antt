@@ -18,14 +18,14 @@ use Rattle.gx_ast.specs.declared.sequence_type.SequenceType.{SequenceType}
 use Rattle.gx_ast.specs.SyntaxTree.{SyntaxTree}
 use Rattle.gx_types.specs.SchemaSet.{SchemaSet}
 use Rattle.gx_types.specs.SequenceType.{SequenceType as ResolvedType}
-use Rattle.gx_names.specs.declared.tree.BoundName.{BoundName}
-use Rattle.gx_names.specs.declared.tree.Declaration.{Declaration}
-use Rattle.gx_names.specs.declared.tree.Declaration.TheVariants as declared
-use Rattle.gx_names.specs.declared.tree.External.{External}
-use Rattle.gx_names.specs.declared.tree.FunctionDeclaration.{FunctionDeclaration}
-use Rattle.gx_names.specs.declared.tree.Global.{Global}
-use Rattle.gx_names.specs.declared.tree.Resolved.{Resolved}
-use Rattle.gx_names.specs.declared.tree.Settings.{Settings}
+use Rattle.gx_resolved.specs.declared.tree.BoundName.{BoundName}
+use Rattle.gx_resolved.specs.declared.tree.Declaration.{Declaration}
+use Rattle.gx_resolved.specs.declared.tree.Declaration.TheVariants as declared
+use Rattle.gx_resolved.specs.declared.tree.External.{External}
+use Rattle.gx_resolved.specs.declared.tree.FunctionDeclaration.{FunctionDeclaration}
+use Rattle.gx_resolved.specs.declared.tree.Global.{Global}
+use Rattle.gx_resolved.specs.declared.tree.Resolved.{Resolved}
+use Rattle.gx_resolved.specs.declared.tree.Settings.{Settings}
 use Rattle.gx_names.specs.Environment.{Environment, called_name, or_nameless}
 use Rattle.gx_names.specs.Refusals.{definition_scope, scope_after, with_functions, with_parameters}
 use Rattle.gx_names.specs.SettingRefusals.{prolog_environment}

@@ -8,10 +8,10 @@ use Rattle.gx_names.specs.declared.resolving.Rest.{Rest}
 use Rattle.gx_names.specs.declared.resolving.Task.{Task}
 use Rattle.gx_names.specs.declared.resolving.Task.TheVariants.{Tree, Trees, Clauses, Keys, Cases, Default, Bind, BindOptional, Unbind, UnbindOptional, Written, Target, Attributes, AttributeParts, Parts, LeaveTag, Close}
 use Rattle.gx_names.specs.declared.resolving.Resolving.{Resolving}
-use Rattle.gx_names.specs.ResolvedTree.{ResolvedTree, ResolvedTrees, resolved_at, no_resolved, a_resolved, one_resolved, and_parts}
+use Rattle.gx_resolved.specs.ResolvedTree.{ResolvedTree, ResolvedTrees, resolved_at, no_resolved, a_resolved, one_resolved, and_parts}
 use Rattle.gx_names.specs.Environment.{Environment, with_variable, with_optional, without_variable, without_optional}
 use Rattle.gx_names.specs.TypeNames.{type_refusals, target_refusals}
-use Rattle.gx_names.specs.Stacked.{first}
+use Rattle.gx_resolved.specs.Stacked.{first}
 use Rattle.gx_names.specs.StartTags.{without_namespaces}
 use Rattle.gx_names.specs.TreeRefusals.{AttributeNames, bound_refusals, with_bound, tree_refusals, trees_refusals, bindings_refusals, clauses_refusals, keys_refusals, cases_refusals, default_refusals, attribute_names_with, direct_attribute_refusals, attributes_refusals, attribute_parts_refusals, parts_refusals}
 use Rattle.gx_names.specs.TreeResolution.{bound_resolved, tree_resolved, trees_resolved, bindings_resolved, clauses_resolved, keys_resolved, cases_resolved, default_resolved, attributes_resolved, attribute_parts_resolved, parts_resolved}

@@ -6,7 +6,7 @@ use Rattle.gx_base.specs.declared.code.Code.TheVariants.{XQST0022, XQST0070, XQS
 use Rattle.gx_ast.specs.declared.name.QName.{QName}
 use Rattle.gx_ast.specs.SyntaxTree.{Attributes, AttributeParts, no_attribute, an_attribute, no_attribute_part, attribute_text, attribute_enclosed}
 use Rattle.gx_names.specs.declared.refusal.Refusal.{Refusal}
-use Rattle.gx_names.specs.NestedMap.{innermost_value}
+use Rattle.gx_resolved.specs.NestedMap.{innermost_value}
 use Rattle.gx_names.specs.Environment.{Environment, is_word}
 use Rattle.gx_names.specs.TypeNames.{refused_if}
 use Rattle.gx_names.specs.SettingRefusals.{DeclaredPrefixes, is_reserved_prefix, is_reserved_uri}

@@ -15,9 +15,9 @@ use Rattle.gx_ast.specs.SyntaxTree.{SyntaxTree, SyntaxForm, SyntaxTrees, Binding
 use Rattle.gx_funcs.specs.declared.function.Function.{Function}
 use Rattle.gx_funcs.specs.Function.{function_named}
 use Rattle.gx_names.specs.declared.refusal.Refusal.{Refusal}
-use Rattle.gx_names.specs.declared.tree.Construct.{Construct}
-use Rattle.gx_names.specs.declared.tree.Construct.TheVariants as constructs
-use Rattle.gx_names.specs.NestedMap.{innermost_value}
+use Rattle.gx_resolved.specs.declared.tree.Construct.{Construct}
+use Rattle.gx_resolved.specs.declared.tree.Construct.TheVariants as constructs
+use Rattle.gx_resolved.specs.NestedMap.{innermost_value}
 use Rattle.gx_names.specs.Environment.{Environment, function_uri, is_declared_function, element_name, plain_name, called_name, or_nameless, binder_of, with_variable, with_optional}
 use Rattle.gx_names.specs.TypeNames.{refused_if, where_named, unless_found, prefix_refusals, written_type_refusals, type_refusals, target_refusals}
 use Rattle.gx_names.specs.Steps.{step_refusals}

@@ -10,12 +10,12 @@ use Rattle.gx_ast.specs.declared.sequence_type.DefaultHead.{DefaultHead}
 use Rattle.gx_ast.specs.declared.sequence_type.SequenceType.{SequenceType}
 use Rattle.gx_ast.specs.SyntaxTree.{SyntaxTree, SyntaxForm, SyntaxTrees, Bindings, Clauses, Keys, Cases, Attributes, AttributeParts, Parts, at, number, string, variable, parenthesised, empty_sequence, context_item, call, comma, flwor, quantified, typeswitch, conditional, binary, instance_of, treat_as, castable_as, cast_as, signed, path, axis_step, parent_step, filtered, direct, document_node, text_node, element_node, empty_element, attribute_node, empty_attribute, no_tree, a_tree, no_binding, a_binding, no_clause, for_clause, let_clause, where_clause, no_key, a_key, no_case, a_case, no_attribute, an_attribute, no_attribute_part, attribute_text, attribute_enclosed, no_part, blank_part, text_part, element_part, enclosed_part}
 use Rattle.gx_funcs.specs.declared.function.Function.TheVariants as functions
-use Rattle.gx_names.specs.declared.tree.BindingWord.{BindingWord}
-use Rattle.gx_names.specs.declared.tree.BindingWord.TheVariants as words
-use Rattle.gx_names.specs.declared.tree.BoundName.{BoundName}
-use Rattle.gx_names.specs.declared.tree.Construct.{Construct}
-use Rattle.gx_names.specs.declared.tree.Construct.TheVariants as constructs
-use Rattle.gx_names.specs.ResolvedTree.{ResolvedTree, ResolvedTrees, resolved_at, no_resolved, a_resolved, one_resolved, two_resolved, three_resolved, and_parts}
+use Rattle.gx_resolved.specs.declared.tree.BindingWord.{BindingWord}
+use Rattle.gx_resolved.specs.declared.tree.BindingWord.TheVariants as words
+use Rattle.gx_resolved.specs.declared.tree.BoundName.{BoundName}
+use Rattle.gx_resolved.specs.declared.tree.Construct.{Construct}
+use Rattle.gx_resolved.specs.declared.tree.Construct.TheVariants as constructs
+use Rattle.gx_resolved.specs.ResolvedTree.{ResolvedTree, ResolvedTrees, resolved_at, no_resolved, a_resolved, one_resolved, two_resolved, three_resolved, and_parts}
 use Rattle.gx_names.specs.Environment.{Environment, element_name, plain_name, called_name, or_nameless, binder_of, with_optional}
 use Rattle.gx_names.specs.TypeNames.{type_written, atomic_named}
 use Rattle.gx_names.specs.Steps.{axis_of_step, step_tested}

@@ -8,12 +8,12 @@ ghost use Rattle.gx_names.specs.Environment.{plain_name};
 
 use crate::names::Names;
 use crate::refusal::NameRefusal;
-use crate::tree::{BindingWord, BoundName, Construct};
 use crate::type_names::{check_written_type, refused, type_checked, type_written};
 use gx_ast::name::Variable;
 use gx_ast::sequence_type::{BoundVariable, CaseHead, SequenceType};
 use gx_base::code::Code;
 use gx_base::name::SharedName;
+use gx_resolved::tree::{BindingWord, BoundName, Construct};
 use std::alloc::{AllocError, Global};
 
 /// The variable that is bound, with its type.

@@ -1,6 +1,6 @@
 // Sort keys, and the branches of a typeswitch.
 
-ghost use Rattle.std.specs.Prelude.{◌≡◌, ◌∷◌, ◌++◌, OnOk};
+ghost use Rattle.std.specs.Prelude.{◌≡◌, ◌++◌, OnOk};
 ghost use Rattle.gx_ast.specs.SyntaxTree.{typeswitch};
 ghost use Rattle.gx_ast.specs.SyntaxView.{cases_of};
 ghost use Rattle.gx_names.specs.declared.resolving.Task.TheVariants as tasks;
@@ -12,10 +12,10 @@ ghost use Rattle.gx_names.specs.TreeResolution.{form_resolved};
 use crate::binders::{case_construct, optional_name};
 use crate::refusal::NameRefusal;
 use crate::resolving::{Resolving, Task};
-use crate::tree::Construct;
 use gx_ast::expression::{Case, Expr, Key};
 use gx_ast::sequence_type::DefaultHead;
 use gx_base::place::Place;
+use gx_resolved::tree::Construct;
 use std::alloc::{AllocError, Global};
 
 impl<'a, 's> Resolving<'a, 's> {

@@ -1,6 +1,6 @@
 // Computed constructors.
 
-ghost use Rattle.std.specs.Prelude.{◌≡◌, ◌∷◌, ◌++◌, OnOk, IfOk};
+ghost use Rattle.std.specs.Prelude.{◌≡◌, ◌++◌, OnOk, IfOk};
 ghost use Rattle.gx_ast.specs.SyntaxTree.{attribute_node, element_node, empty_attribute, empty_element};
 ghost use Rattle.gx_names.specs.Refused.{Judges, Proceeds};
 ghost use Rattle.gx_names.specs.Environment.{element_name};
@@ -13,12 +13,12 @@ use crate::names::Names;
 use crate::refusal::NameRefusal;
 use crate::resolving::Resolving;
 use crate::start_tags::is_xmlns;
-use crate::tree::Construct;
 use crate::type_names::refused;
 use gx_ast::expression::Expr;
 use gx_ast::name::QName;
 use gx_base::code::Code;
 use gx_base::place::Place;
+use gx_resolved::tree::Construct;
 use std::alloc::Global;
 
 impl<'a, 's> Resolving<'a, 's> {

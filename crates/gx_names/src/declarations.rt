@@ -3,8 +3,8 @@
 ghost use Rattle.std.specs.Prelude.{◌≡◌, ◌++◌, [], ◌∷◌, IfOk, OnOk};
 ghost use Rattle.gx_names.specs.Refused.{Judges};
 ghost use Rattle.gx_base.specs.declared.place.Place.{Place as DeclaredAt};
-ghost use Rattle.gx_names.specs.declared.tree.Declaration.TheVariants as declared;
-ghost use Rattle.gx_names.specs.Environment.{Environment as Scope, Functions as FunctionList, called_name, or_nameless, plain_name, with_variable};
+ghost use Rattle.gx_resolved.specs.declared.tree.Declaration.TheVariants as declared;
+ghost use Rattle.gx_names.specs.Environment.{Environment as Scope, Functions as FunctionList, called_name, or_nameless, plain_name};
 ghost use Rattle.gx_names.specs.Refusals.{bodies_after, bodies_with, call_order_refusals, definition_refusals, definition_scope, definitions_refusals, doubled_parameter, doubled_variable, external_refusals, function_refusals, functions_with, heading_refusals, is_document_element, is_document_test, is_document_type, is_kept_namespace, is_schema_namespace, is_standard_namespace, parameters_refusals, scope_after, with_functions, with_parameters, with_signature, without_parameters};
 ghost use Rattle.gx_names.specs.Resolution.{declaration_resolved, declarations_resolved, external_resolved, function_resolved, global_resolved, parameters_resolved, result_resolved};
 ghost use Rattle.gx_names.specs.Searching.{IsSettled};
@@ -15,14 +15,10 @@ ghost use Rattle.gx_names.specs.TreeResolution.{binder_resolved, tree_resolved};
 
 use crate::binders::bound_name;
 use crate::names::Names;
-use crate::nested_map::NestedMap;
 use crate::reaching::{Bodies, Settled, calls_are_settled};
 use crate::refusal::NameRefusal;
 use crate::resolve::resolve_tree;
 use crate::signature::Signature;
-use crate::tree::{
-    BoundName, Declaration, External, FunctionDeclaration, Global as GlobalVariable, ResolvedExpr,
-};
 use crate::type_names::{check_written_type, element_tested, refused, type_written};
 use crate::uses::{SharedUses, Use, tree_uses};
 use gx_ast::expression::Expr;
@@ -35,6 +31,10 @@ use gx_base::name::{Name, SharedName};
 use gx_base::place::Place;
 use gx_base::text::Text;
 use gx_base::type_name::{Builtin, TypeName};
+use gx_resolved::nested_map::NestedMap;
+use gx_resolved::tree::{
+    BoundName, Declaration, External, FunctionDeclaration, Global as GlobalVariable, ResolvedExpr,
+};
 use gx_types::sequence_type::Ty;
 use std::alloc::{AllocError, Global};
 

@@ -7,18 +7,16 @@ ghost use Rattle.gx_names.specs.declared.resolving.Task.TheVariants as tasks;
 ghost use Rattle.gx_names.specs.Refused.{Judges, Proceeds};
 ghost use Rattle.gx_names.specs.Environment.{element_name};
 ghost use Rattle.gx_names.specs.Resolving.{adopted, attribute_left_refusals, innermost_tag, refusals_left, refusals_of_rest, refusals_with, trees_behind, trees_left, trees_of_rest, trees_with};
-ghost use Rattle.gx_names.specs.ResolvedTree.{and_parts, resolved_at};
+ghost use Rattle.gx_resolved.specs.ResolvedTree.{and_parts, resolved_at};
 ghost use Rattle.gx_names.specs.StartTags.{namespaces_refusals, with_namespaces, without_namespaces};
 ghost use Rattle.gx_names.specs.TreeRefusals.{attribute_names_with, attributes_refusals, direct_attribute_refusals, form_refusals, parts_refusals};
 ghost use Rattle.gx_names.specs.TreeResolution.{attribute_parts_resolved, attributes_resolved, blank_resolved, direct_attribute_resolved, direct_element_resolved, form_resolved, parts_resolved, text_resolved};
 ghost use Rattle.gx_names.specs.TypeNames.{prefix_refusals};
 
 use crate::names::Names;
-use crate::nested_map::NestedMap;
 use crate::refusal::NameRefusal;
 use crate::resolving::{AttributeNames, Resolving, Task};
 use crate::start_tags::{check_namespaces, declare_namespaces, declares_namespace};
-use crate::tree::Construct;
 use crate::type_names::refused;
 use gx_ast::expression::{AttributePart, DirectAttribute, Part};
 use gx_ast::name::QName;
@@ -26,6 +24,8 @@ use gx_base::code::Code;
 use gx_base::name::SharedName;
 use gx_base::place::Place;
 use gx_base::text::Text;
+use gx_resolved::nested_map::NestedMap;
+use gx_resolved::tree::Construct;
 use std::alloc::{AllocError, Global};
 
 impl<'a, 's> Resolving<'a, 's> {

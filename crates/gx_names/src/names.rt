@@ -4,13 +4,13 @@ ghost use Rattle.std.specs.Prelude.{◌≡◌, [], ◌∷◌, IfOk, OnOk, drop, 
 ghost use Rattle.std.specs.Str.{chars};
 ghost use Rattle.gx_names.specs.Environment.{expanded, known_namespaces};
 
-use crate::nested_map::NestedMap;
 use crate::signature::Signature;
 use crate::type_names::or_nameless;
 use gx_ast::name::{QName, Variable};
 use gx_base::name::{Name, SharedName};
 use gx_base::place::Place;
 use gx_base::text::Text;
+use gx_resolved::nested_map::NestedMap;
 use gx_types::schemas::Schemas;
 use std::alloc::{AllocError, Global};
 use std::marker::Model;

@@ -10,9 +10,9 @@ ghost use Rattle.gx_names.specs.Reaching.{calls_are_settled, is_at_hand, is_call
 ghost use Rattle.gx_names.specs.Searching.{IsSettled, Searches};
 
 use crate::names::Names;
-use crate::nested_map::NestedMap;
 use crate::signature::Signature;
 use crate::uses::{SharedUses, Use};
+use gx_resolved::nested_map::NestedMap;
 use std::alloc::{AllocError, Global};
 
 /// The functions that are declared, with what their bodies use.

@@ -1,8 +1,8 @@
 // Whole queries.
 
-ghost use Rattle.std.specs.Prelude.{◌≡◌, [], IfOk};
+ghost use Rattle.std.specs.Prelude.{◌≡◌, IfOk};
 ghost use Rattle.gx_names.specs.Refused.{Judges};
-ghost use Rattle.gx_names.specs.Refusals.{main_refusals, query_refusals, with_functions};
+ghost use Rattle.gx_names.specs.Refusals.{main_refusals, query_refusals};
 ghost use Rattle.gx_names.specs.Resolution.{main_resolved, query_resolved};
 ghost use Rattle.gx_names.specs.TreeRefusals.{tree_refusals};
 ghost use Rattle.gx_names.specs.TreeResolution.{tree_resolved};
@@ -12,9 +12,9 @@ use crate::names::Names;
 use crate::refusal::NameRefusal;
 use crate::resolving::Resolving;
 use crate::settings::{prolog_names, settings_with};
-use crate::tree::{Resolved, ResolvedExpr, Settings};
 use gx_ast::expression::Expr;
 use gx_ast::query::{Definition, Query};
+use gx_resolved::tree::{Resolved, ResolvedExpr, Settings};
 use gx_types::schemas::Schemas;
 use std::alloc::Global;
 

@@ -4,24 +4,20 @@ ghost use Rattle.std.specs.Prelude.{◌≡◌, ◌≢◌, [], ◌∷◌, ◌++�
 ghost use Rattle.gx_ast.specs.SyntaxTree.{call, cast_as, castable_as, conditional, filtered, instance_of, treat_as};
 ghost use Rattle.gx_ast.specs.SyntaxView.{keys_of, trees_of};
 ghost use Rattle.gx_names.specs.declared.resolving.Task.TheVariants as tasks;
-ghost use Rattle.gx_names.specs.declared.tree.Construct.TheVariants as constructs;
+ghost use Rattle.gx_resolved.specs.declared.tree.Construct.TheVariants as constructs;
 ghost use Rattle.gx_names.specs.TreeRefusals.{call_refusals, form_refusals, keys_refusals, tree_refusals, use_refusals};
 ghost use Rattle.gx_names.specs.Steps.{step_refusals, step_tested, axis_of_step};
 ghost use Rattle.gx_names.specs.Refused.{Judges, Proceeds};
-ghost use Rattle.gx_names.specs.ResolvedTree.{and_parts, no_resolved, one_resolved, resolved_at, three_resolved, two_resolved};
+ghost use Rattle.gx_resolved.specs.ResolvedTree.{and_parts, no_resolved, one_resolved, resolved_at, two_resolved};
 ghost use Rattle.gx_names.specs.TreeResolution.{call_resolved, form_resolved, keys_resolved, tree_resolved, use_resolved};
-ghost use Rattle.gx_names.specs.Stacked.{first};
+ghost use Rattle.gx_resolved.specs.Stacked.{first};
 ghost use Rattle.gx_names.specs.Resolving.{adopted, all_adopted, bound_rest_refusals, bound_rest_resolved, refusals_of_rest, refusals_with, rest_refusals, rest_resolved, trees_behind, trees_left, trees_of_rest, trees_with, with_part};
 
 use crate::binders::bound_construct;
-use crate::dismantle::dismantle;
 use crate::names::Names;
-use crate::nested_map::NestedMap;
 use crate::refusal::NameRefusal;
-use crate::stack::Stack;
 use crate::start_tags::leave_namespaces;
 use crate::steps::{axis_of_step, check_step, step_tested};
-use crate::tree::{BindingWord, Construct, ResolvedExpr};
 use crate::type_names::{atomic_named, check_target, check_type, refused, type_written};
 use gx_ast::expression::{
     AttributePart, Binding, Case, Clause, DirectAttribute, Expr, ExprNode, Key, Part,
@@ -32,6 +28,10 @@ use gx_base::code::Code;
 use gx_base::name::SharedName;
 use gx_base::place::Place;
 use gx_funcs::function::find_local;
+use gx_resolved::dismantle::dismantle;
+use gx_resolved::nested_map::NestedMap;
+use gx_resolved::stack::Stack;
+use gx_resolved::tree::{BindingWord, Construct, ResolvedExpr};
 use std::alloc::{AllocError, Global};
 
 // What follows in a FLWOR or a quantified expression: bindings of a clause with that word, clauses, sort keys, and what is returned.

@@ -1,23 +1,22 @@
 // The first part of a prolog.
 
-ghost use Rattle.std.specs.Prelude.{◌≡◌, ◌++◌, [], ◌∷◌, IfOk, OnOk};
+ghost use Rattle.std.specs.Prelude.{◌≡◌, [], IfOk, OnOk};
 ghost use Rattle.gx_base.specs.declared.code.Code.TheVariants.{XQST0070};
-ghost use Rattle.gx_names.specs.Environment.{is_word};
 ghost use Rattle.gx_names.specs.TypeNames.{refused_if};
 ghost use Rattle.gx_names.specs.Refused.{Judges};
 ghost use Rattle.gx_names.specs.Resolution.{default_settings, setting_with, settings_with};
-ghost use Rattle.gx_names.specs.SettingRefusals.{declared_prefix_refusals, declared_with, import_prefix_refusals, imported_with, is_reserved_prefix, is_reserved_uri, namespaces_after, namespaces_with, prolog_environment, setting_refusals, settings_refusals};
+ghost use Rattle.gx_names.specs.SettingRefusals.{declared_prefix_refusals, declared_with, has_other_target, import_prefix_refusals, import_refusals, imported_with, is_reserved_prefix, is_reserved_uri, namespaces_after, namespaces_with, prolog_environment, setting_refusals, settings_refusals, targets_behind};
 
 use crate::names::Names;
-use crate::nested_map::NestedMap;
 use crate::refusal::NameRefusal;
-use crate::tree::Settings;
 use crate::type_names::refused;
 use gx_ast::query::{SchemaPrefix, Setting, SettingNode};
 use gx_ast::sequence_type::EmptyOrder;
 use gx_base::code::Code;
 use gx_base::place::Place;
 use gx_base::text::Text;
+use gx_resolved::nested_map::NestedMap;
+use gx_resolved::tree::Settings;
 use gx_types::schemas::Schemas;
 use std::alloc::{AllocError, Global};
 
@@ -27,17 +26,24 @@ pub(crate) type DeclaredPrefixes = NestedMap<Text, Place>;
 // The namespaces that are imported, with the places of their imports.
 type ImportedNamespaces = NestedMap<Text, Place>;
 
+// What stands before a declaration: the prefixes that are declared, and the namespaces that are imported.
+#[derive(Drop)]
+struct Before {
+    declared: DeclaredPrefixes,
+    imported: ImportedNamespaces,
+}
+
 /// What names stand for behind the first part of the prolog.
 pub(crate) fn prolog_names<'s>(
     alloc: Global,
     schemas: &'s Schemas,
     settings: &[Setting],
 ) -> Result<Names<'s>, NameRefusal>
-    ensures refusals { Judges result (settings_refusals [] [] settings.now) }
+    ensures refusals { Judges result (settings_refusals [] [] schemas.now.targets settings.now) }
     ensures names { IfOk result (λ n. n ≡ prolog_environment schemas.now settings.now) }
 {
     let mut names = Names::new(alloc, schemas)?;
-    match declare_settings(alloc, &mut names, settings) {
+    match declare_settings(alloc, &mut names, schemas.targets(), settings) {
         Ok(()) => Ok(names),
         Err(refusal) => Err(refusal),
     }
@@ -46,30 +52,35 @@ pub(crate) fn prolog_names<'s>(
 fn declare_settings(
     alloc: Global,
     names: &mut Names<'_>,
+    targets: &[Text],
     settings: &[Setting],
 ) -> Result<(), NameRefusal>
-    ensures refusals { Judges result (settings_refusals [] [] settings.now) }
+    ensures refusals { Judges result (settings_refusals [] [] targets.now settings.now) }
     ensures names { OnOk result (names.new ≡ record names.old { namespaces = namespaces_after settings.now names.old.namespaces }) }
 {
-    let mut declared = NestedMap::new(alloc);
-    let mut imported = NestedMap::new(alloc);
-    add_settings(alloc, names, &mut declared, &mut imported, settings)
+    let mut before = Before {
+        declared: NestedMap::new(alloc),
+        imported: NestedMap::new(alloc),
+    };
+    add_settings(alloc, names, &mut before, targets, settings)
 }
 
 #[tactic(auto, using(crate::proofs::ResolvingLemmas::refused_before))]
 fn add_settings(
     alloc: Global,
     names: &mut Names<'_>,
-    declared: &mut DeclaredPrefixes,
-    imported: &mut ImportedNamespaces,
+    before: &mut Before,
+    targets: &[Text],
     settings: &[Setting],
 ) -> Result<(), NameRefusal>
-    ensures refusals { Judges result (settings_refusals declared.old imported.old settings.now) }
+    ensures refusals { Judges result (settings_refusals before.old.declared before.old.imported targets.now settings.now) }
     ensures names { OnOk result (names.new ≡ record names.old { namespaces = namespaces_after settings.now names.old.namespaces }) }
 {
+    let mut files = targets;
     let mut left = settings;
     while let Some((setting, others)) = left.split_first() {
-        add_setting(alloc, names, declared, imported, setting)?;
+        add_setting(alloc, names, before, files, setting)?;
+        files = targets_behind(&setting.node, files);
         left = others;
     }
     Ok(())
@@ -79,45 +90,94 @@ fn add_settings(
 fn add_setting(
     alloc: Global,
     names: &mut Names<'_>,
-    declared: &mut DeclaredPrefixes,
-    imported: &mut ImportedNamespaces,
+    before: &mut Before,
+    targets: &[Text],
     setting: &Setting,
 ) -> Result<(), NameRefusal>
-    ensures refusals { Judges result (setting_refusals declared.old imported.old setting.now.place setting.now.node) }
+    ensures refusals { Judges result (setting_refusals before.old.declared before.old.imported targets.now setting.now.place setting.now.node) }
     ensures names { OnOk result (names.new ≡ record names.old { namespaces = namespaces_with setting.now.node names.old.namespaces }) }
-    ensures declared { OnOk result (declared.new ≡ declared_with setting.now.place setting.now.node declared.old) }
-    ensures imported { OnOk result (imported.new ≡ imported_with setting.now.place setting.now.node imported.old) }
+    ensures declared { OnOk result (before.new.declared ≡ declared_with setting.now.place setting.now.node before.old.declared) }
+    ensures imported { OnOk result (before.new.imported ≡ imported_with setting.now.place setting.now.node before.old.imported) }
 {
-    check_setting(declared, imported, setting.place, &setting.node)?;
-    declare_prefix(declared, setting.place, &setting.node)?;
-    note_import(imported, setting.place, &setting.node)?;
+    check_setting(before, targets, setting.place, &setting.node)?;
+    declare_prefix(&mut before.declared, setting.place, &setting.node)?;
+    note_import(&mut before.imported, setting.place, &setting.node)?;
     Ok(bind_prefix(alloc, names, &setting.node)?)
 }
 
 #[tactic(auto, using(crate::proofs::ResolvingLemmas::refused_before))]
 fn check_setting(
-    declared: &DeclaredPrefixes,
-    imported: &ImportedNamespaces,
+    before: &Before,
+    targets: &[Text],
     place: Place,
     setting: &SettingNode,
 ) -> Result<(), NameRefusal>
-    ensures { Judges result (setting_refusals declared.now imported.now place setting.now) }
+    ensures { Judges result (setting_refusals before.now.declared before.now.imported targets.now place setting.now) }
 {
+    let declared = &before.declared;
     match setting {
         SettingNode::Namespace(prefix, uri) => check_prefix(declared, place, &prefix.name, uri),
         SettingNode::DefaultElementNamespace(uri) => check_default(place, uri),
-        SettingNode::Schema(prefix, uri, _) => {
+        SettingNode::Schema(prefix, uri, locations) => {
             check_import_prefix(declared, place, prefix, uri)?;
-            match imported.find(uri) {
-                Some(_) => Err(refused(place, Code::XQST0058)),
-                None => Ok(()),
-            }
+            check_import(&before.imported, targets, place, uri, locations.as_slice())
         }
         SettingNode::BoundarySpace(_)
         | SettingNode::Construction
         | SettingNode::Ordering
         | SettingNode::EmptyOrder(_)
         | SettingNode::CopyNamespaces => Ok(()),
+    }
+}
+
+// An import of a namespace that no import before has, of files with that target.
+#[tactic(auto, using(crate::proofs::ResolvingLemmas::refused_before))]
+fn check_import(
+    imported: &ImportedNamespaces,
+    targets: &[Text],
+    place: Place,
+    uri: &Text,
+    locations: &[Text],
+) -> Result<(), NameRefusal>
+    ensures { Judges result (import_refusals imported.now targets.now place uri.now locations.now) }
+{
+    if imported.find(uri).is_some() {
+        return Err(refused(place, Code::XQST0058));
+    }
+    if has_other_target(uri, locations, targets) {
+        return Err(refused(place, Code::XQST0059));
+    }
+    Ok(())
+}
+
+// Whether a file that an import names has another target namespace.
+fn has_other_target(uri: &Text, locations: &[Text], targets: &[Text]) -> bool
+    ensures { result ≡ has_other_target uri.now locations.now targets.now }
+{
+    let mut named = locations;
+    let mut files = targets;
+    while let Some((_, others)) = named.split_first() {
+        let Some((target, behind)) = files.split_first() else {
+            return false;
+        };
+        if *target != *uri {
+            return true;
+        }
+        named = others;
+        files = behind;
+    }
+    false
+}
+
+// The targets of the files that are named behind a declaration.
+fn targets_behind<'s>(setting: &SettingNode, targets: &'s [Text]) -> &'s [Text]
+    ensures { result.now ≡ targets_behind setting.now targets.now }
+{
+    match setting {
+        SettingNode::Schema(_, _, locations) => {
+            targets.get(locations.as_slice().len()..).unwrap_or(&[])
+        }
+        _ => targets,
     }
 }
 

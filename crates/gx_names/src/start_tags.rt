@@ -1,12 +1,11 @@
 // The namespaces that start tags of direct elements declare.
 
-ghost use Rattle.std.specs.Prelude.{◌≡◌, [], ◌∷◌, IfOk, OnOk, Some, option_copied};
+ghost use Rattle.std.specs.Prelude.{◌≡◌, [], IfOk, OnOk, Some, option_copied};
 ghost use Rattle.gx_ast.specs.SyntaxView.{attribute_parts_of, attributes_of};
 ghost use Rattle.gx_names.specs.Refused.{Judges};
 ghost use Rattle.gx_names.specs.StartTags.{declared_prefix, declares_namespace, has_enclosed, is_behind_xmlns, is_unbinding, is_xmlns, literal_value, namespace_refusals, namespaces_refusals, prefixes_with, with_namespace, with_namespaces, without_namespace, without_namespaces};
 
 use crate::names::Names;
-use crate::nested_map::NestedMap;
 use crate::refusal::NameRefusal;
 use crate::settings::{DeclaredPrefixes, is_reserved_prefix, is_reserved_uri};
 use crate::type_names::refused;
@@ -16,6 +15,7 @@ use gx_base::code::Code;
 use gx_base::place::Place;
 use gx_base::text::Text;
 use gx_base::text_builder::TextBuilder;
+use gx_resolved::nested_map::NestedMap;
 use std::alloc::{AllocError, Global};
 
 // ---- names

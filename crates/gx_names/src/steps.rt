@@ -3,7 +3,7 @@
 ghost use Rattle.std.specs.Prelude.{◌≡◌, [], IfOk, unwrap_or};
 ghost use Rattle.gx_names.specs.Refused.{Judges};
 ghost use Rattle.gx_names.specs.Environment.{uri_of};
-ghost use Rattle.gx_names.specs.Steps.{attribute_asked, axis_of_step, axis_of_test, axis_or, axis_written, element_asked, kind_tested, kind_written, name_refusals, name_tested, node_name, node_test_refusals, node_tested, step_refusals, step_tested};
+ghost use Rattle.gx_names.specs.Steps.{attribute_asked, axis_of_step, axis_written, element_asked, kind_tested, kind_written, name_refusals, name_tested, node_name, step_refusals, step_tested};
 
 use crate::names::Names;
 use crate::refusal::NameRefusal;

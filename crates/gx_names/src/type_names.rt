@@ -1,6 +1,6 @@
 // Types as they are written, with their names resolved.
 
-ghost use Rattle.std.specs.Prelude.{◌≡◌, IfOk, option_copied};
+ghost use Rattle.std.specs.Prelude.{◌≡◌, IfOk};
 ghost use Rattle.gx_ast.specs.declared.sequence_type.ItemType.TheVariants as written;
 ghost use Rattle.gx_names.specs.Refused.{Judges};
 ghost use Rattle.gx_names.specs.declared.refusal.NameRefusal.TheVariants as refusals;

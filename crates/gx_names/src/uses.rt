@@ -13,9 +13,7 @@ ghost use Rattle.gx_names.specs.Using.{rest_uses, scope_of_rest, scope_with, use
 use crate::names::Names;
 use crate::resolving::{Rest, Task};
 use crate::signature::Signature;
-use crate::stack::Stack;
 use crate::start_tags::{declare_namespaces, leave_namespaces};
-use crate::tree::BindingWord;
 use gx_ast::expression::{
     AttributePart, Binding, Case, Clause, DirectAttribute, Expr, ExprNode, Key, Part,
 };
@@ -23,6 +21,8 @@ use gx_ast::name::QName;
 use gx_ast::sequence_type::DefaultHead;
 use gx_base::name::SharedName;
 use gx_base::place::Place;
+use gx_resolved::stack::Stack;
+use gx_resolved::tree::BindingWord;
 use std::alloc::{AllocError, Global};
 use std::marker::Model;
 use std::rc::Rc;

@@ -1,4 +1,3 @@
 pub mod MakingLemmas
 pub mod NumberedVariables
 pub mod SearchLemmas
-pub mod WholeQueries

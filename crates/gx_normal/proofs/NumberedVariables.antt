@@ -12,18 +12,18 @@ use Rattle.gx_types.specs.declared.step.Test.{Test}
 use Rattle.gx_types.specs.declared.step.Test.TheVariants as tests
 use Rattle.gx_funcs.specs.declared.function.Function.{Function}
 use Rattle.gx_funcs.specs.declared.function.Function.TheVariants as functions
-use Rattle.gx_names.specs.declared.tree.BoundName.{BoundName}
-use Rattle.gx_names.specs.declared.tree.Construct.{Construct}
-use Rattle.gx_names.specs.declared.tree.Construct.TheVariants as written
-use Rattle.gx_names.specs.declared.tree.Declaration.{Declaration}
-use Rattle.gx_names.specs.declared.tree.Declaration.TheVariants as declared
-use Rattle.gx_names.specs.ResolvedTree.{ResolvedTree, ResolvedTrees, resolved_at, no_resolved, a_resolved}
+use Rattle.gx_resolved.specs.declared.tree.BoundName.{BoundName}
+use Rattle.gx_resolved.specs.declared.tree.Construct.{Construct}
+use Rattle.gx_resolved.specs.declared.tree.Construct.TheVariants as written
+use Rattle.gx_resolved.specs.declared.tree.Declaration.{Declaration}
+use Rattle.gx_resolved.specs.declared.tree.Declaration.TheVariants as declared
+use Rattle.gx_resolved.specs.ResolvedTree.{ResolvedTree, ResolvedTrees, resolved_at, no_resolved, a_resolved}
 use Rattle.gx_core.specs.declared.expression.BinaryOp.{BinaryOp}
 use Rattle.gx_core.specs.declared.expression.Core.{Core}
 use Rattle.gx_core.specs.declared.expression.CoreDeclaration.{CoreDeclaration}
 use Rattle.gx_core.specs.declared.expression.CoreDeclaration.TheVariants.{Global}
 use Rattle.gx_core.specs.declared.operator.Operator.TheVariants as operators
-use Rattle.gx_core.specs.Expression.{CoreExpression, At, Parts, no_parts, a_part, all_parts, core_at}
+use Rattle.gx_core.specs.Expression.{CoreExpression, At, no_parts, all_parts}
 use Rattle.gx_core.specs.Invariant.{is_among, IsScoped, ArePartsScoped, numbers_bound, numbers_bound_in, AreDistinct, scope_behind, AreValuesScoped, declared_numbers, HasValueOrType, HasQueryVariablesInOrder}
 use Rattle.gx_normal.specs.Constructs.{within, data_around, boolean_around, core_sequence, operator_at, call_at, call_of, empty_at, of_one, data_at, conditional_at, and_at, or_at, signed_at, cast_at, castable_at, let_at, operator_in_core, joined_by, joining, context_item_at, step_at, path_at}
 use Rattle.gx_normal.specs.Normalisation.{Numbers, Focus, same_place, number_at, variable_at, numbered_binder, of_two, of_three, joined_at, constructed, core_of, construct_core, cores_of, flwor_core, path_core, external_binder, declarations_of, behind_declarations, main_core}

@@ -1,8 +1,8 @@
 -- The parts of making Core from constructs.
 use Rattle.std.specs.Prelude.{List, Option, None, Some}
 use Rattle.gx_base.specs.declared.place.Place.{Place}
-use Rattle.gx_names.specs.declared.tree.Construct.{Construct}
-use Rattle.gx_names.specs.declared.tree.Construct.TheVariants as written
+use Rattle.gx_resolved.specs.declared.tree.Construct.{Construct}
+use Rattle.gx_resolved.specs.declared.tree.Construct.TheVariants as written
 use Rattle.gx_core.specs.Expression.{CoreExpression}
 use Rattle.gx_normal.specs.Constructs.{within, core_sequence, empty_at, of_one, signed_at, cast_at, castable_at, joining}
 use Rattle.gx_normal.specs.Normalisation.{of_two, joined_at}

@@ -1,24 +1,18 @@
 -- From resolved trees to Core: the numbers of variables, and what each construct stands for (XQuery 1.0 and XPath 2.0 Formal Semantics, section 4).
-use Rattle.std.specs.Prelude.{◌≡◌, ℕ, ◌+◌, Bool, false, ◌==◌, ◌&&◌, List, [], ◌∷◌, Option, None, Some}
+use Rattle.std.specs.Prelude.{ℕ, ◌+◌, Bool, false, ◌==◌, ◌&&◌, List, [], ◌∷◌, Option, None, Some}
 use Rattle.gx_base.specs.declared.place.Place.{Place}
-use Rattle.gx_base.specs.declared.code.Code.{Code}
-use Rattle.gx_ast.specs.declared.query.Query.{Query}
-use Rattle.gx_types.specs.SchemaSet.{SchemaSet}
 use Rattle.gx_types.specs.SequenceType.{SequenceType, item}
 use Rattle.gx_types.specs.declared.item_type.ItemType.TheVariants as items
 use Rattle.gx_types.specs.declared.step.Axis.TheVariants as axes
 use Rattle.gx_types.specs.declared.step.Test.TheVariants as tests
-use Rattle.gx_names.specs.declared.refusal.Refusal.{Refusal}
-use Rattle.gx_names.specs.Refusals.{query_refusals}
-use Rattle.gx_names.specs.Resolution.{query_resolved}
-use Rattle.gx_names.specs.declared.tree.BoundName.{BoundName}
-use Rattle.gx_names.specs.declared.tree.Construct.{Construct}
-use Rattle.gx_names.specs.declared.tree.Construct.TheVariants as written
-use Rattle.gx_names.specs.declared.tree.Declaration.{Declaration}
-use Rattle.gx_names.specs.declared.tree.Declaration.TheVariants as declared
-use Rattle.gx_names.specs.declared.tree.Resolved.{Resolved}
-use Rattle.gx_names.specs.NestedMap.{innermost_value}
-use Rattle.gx_names.specs.ResolvedTree.{ResolvedTree, ResolvedTrees, resolved_at, no_resolved, a_resolved}
+use Rattle.gx_resolved.specs.declared.tree.BoundName.{BoundName}
+use Rattle.gx_resolved.specs.declared.tree.Construct.{Construct}
+use Rattle.gx_resolved.specs.declared.tree.Construct.TheVariants as written
+use Rattle.gx_resolved.specs.declared.tree.Declaration.{Declaration}
+use Rattle.gx_resolved.specs.declared.tree.Declaration.TheVariants as declared
+use Rattle.gx_resolved.specs.declared.tree.Resolved.{Resolved}
+use Rattle.gx_resolved.specs.NestedMap.{innermost_value}
+use Rattle.gx_resolved.specs.ResolvedTree.{ResolvedTree, ResolvedTrees, resolved_at, no_resolved, a_resolved}
 use Rattle.gx_funcs.specs.Function.{string_atom}
 use Rattle.gx_core.specs.declared.expression.Binder.{Binder}
 use Rattle.gx_core.specs.declared.expression.Core.{Core}
@@ -161,15 +155,3 @@ main_core declarations body =
 
 abbrev pub query_core : Resolved → Core
 query_core query = main_core query.declarations query.body
-
--- the Core of a query as it is written, or the first refusal
-pub data NamedQuery : Type 0 where
-  named_query : (core : Core) → NamedQuery
-  unknown_name : (place : Place) (code : Code) → NamedQuery
-
-abbrev pub unless_refused : List Refusal → Core → NamedQuery
-unless_refused [] core = named_query core
-unless_refused (refusal ∷ others) core = unknown_name refusal.place refusal.code
-
-abbrev pub query_named : SchemaSet → Query → NamedQuery
-query_named schemas query = unless_refused (query_refusals schemas query) (query_core (query_resolved schemas query))

@@ -5,9 +5,6 @@ use Rattle.gx_ast.specs.declared.expression.BinaryOperator.{BinaryOperator}
 use Rattle.gx_ast.specs.declared.expression.BinaryOperator.TheVariants.{Is, Before, After, Union, Intersect, Except}
 use Rattle.gx_ast.specs.declared.name.Axis.{Axis}
 use Rattle.gx_ast.specs.declared.name.Axis.TheVariants as axes
-use Rattle.gx_ast.specs.declared.query.Setting.{Setting}
-use Rattle.gx_ast.specs.declared.query.SettingNode.{SettingNode}
-use Rattle.gx_ast.specs.declared.query.SettingNode.TheVariants as settings
 use Rattle.gx_ast.specs.declared.query.Definition.{Definition}
 use Rattle.gx_ast.specs.declared.query.DefinitionNode.{DefinitionNode}
 use Rattle.gx_ast.specs.declared.query.DefinitionNode.TheVariants as definitions
@@ -101,15 +98,6 @@ abbrev mutual
   unbuilt_clauses (let_clause place bindings others) = earlier_place (unbuilt_bindings bindings) (unbuilt_clauses others)
   unbuilt_clauses (where_clause place condition others) = Some place
 
--- an import of a schema, at `import`
-abbrev pub unbuilt_setting : Place → SettingNode → Option Place
-unbuilt_setting place (settings.Schema prefix uri locations) = Some place
-unbuilt_setting place _ = None
-
-abbrev pub unbuilt_settings : List Setting → Option Place
-unbuilt_settings [] = None
-unbuilt_settings (s ∷ ss) = earlier_place (unbuilt_setting s.place s.node) (unbuilt_settings ss)
-
 -- whether the test of an element has a name
 abbrev pub has_name : Option TestedName → Bool
 has_name None = false
@@ -135,4 +123,4 @@ unbuilt_definitions (d ∷ ds) = earlier_place (unbuilt_definition d.place d.nod
 
 -- the declarations in their order, and then the body
 abbrev pub unbuilt_query : Query → Option Place
-unbuilt_query query = earlier_place (unbuilt_settings query.settings) (earlier_place (unbuilt_definitions query.definitions) (first_unbuilt query.body))
+unbuilt_query query = earlier_place (unbuilt_definitions query.definitions) (first_unbuilt query.body)

@@ -3,10 +3,9 @@
 ghost use Rattle.std.specs.Prelude.{◌≡◌, IfOk, MatchOption, Some, None};
 ghost use Rattle.gx_core.specs.Arithmetic.{number_atom};
 ghost use Rattle.gx_funcs.specs.Function.{string_atom};
-ghost use Rattle.gx_core.specs.Expression.{CoreExpression, core_at, no_parts, one_part, two_parts};
+ghost use Rattle.gx_core.specs.Expression.{CoreExpression, core_at, no_parts, one_part};
 ghost use Rattle.gx_core.specs.ExpressionView.{operator_of, parts_of};
-ghost use Rattle.gx_num.specs.declared.Number.TheVariants as numbers;
-ghost use Rattle.gx_normal.specs.Constructs.{boolean_around, call_at, call_of, cast_at, castable_at, conditional_at, data_at, empty_at, joining, of_one, let_at, operator_in_core, data_around, literal_at, operator_at, core_sequence, signed_at, within, context_item_at, step_at, path_at};
+ghost use Rattle.gx_normal.specs.Constructs.{boolean_around, call_at, call_of, cast_at, castable_at, conditional_at, data_at, empty_at, joining, of_one, let_at, operator_in_core, data_around, literal_at, signed_at, within, context_item_at, step_at, path_at};
 ghost use Rattle.gx_normal.specs.Normalisation.{constructed, of_two, of_three};
 ghost use Rattle.gx_normal.specs.Making.{made_of_one, made_of_two, operation_at};
 
@@ -17,8 +16,8 @@ use gx_base::type_name::{Builtin, TypeName};
 use gx_core::expression::{BinaryOp, Binder, CoreExpr, CoreForm, E};
 use gx_facets::{AtomValue, Atomic};
 use gx_funcs::function::{Function, string_atom};
-use gx_names::tree::Construct;
 use gx_num::Number;
+use gx_resolved::tree::Construct;
 use gx_types::step::{Axis, Test};
 use std::alloc::{AllocError, Global};
 

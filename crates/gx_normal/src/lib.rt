@@ -2,7 +2,6 @@
 #![tactic(auto)]
 
 mod construct;
-pub mod laws;
 pub mod normalise;
 mod normalising;
 pub mod unbuilt;

@@ -8,9 +8,9 @@ ghost use Rattle.gx_normal.specs.Normalisation.{behind_declarations, core_of, de
 use crate::normalising::{Normalising, Numbers, numbered_binder};
 use gx_core::declarations::Declarations;
 use gx_core::expression::{Binder, Core, CoreDeclaration, CoreExpr};
-use gx_names::dismantle::dismantle;
-use gx_names::nested_map::NestedMap;
-use gx_names::tree::{BoundName, Declaration, Resolved, ResolvedExpr};
+use gx_resolved::dismantle::dismantle;
+use gx_resolved::nested_map::NestedMap;
+use gx_resolved::tree::{BoundName, Declaration, Resolved, ResolvedExpr};
 use gx_types::item_type::ItemType;
 use gx_types::sequence_type::Ty;
 use std::alloc::{AllocError, Global};

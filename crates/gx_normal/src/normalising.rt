@@ -1,7 +1,7 @@
 // A normalisation in its midst: the tasks that are left, and the Core expressions that are there.
 
 ghost use Rattle.std.specs.Prelude.{◌≡◌, ◌≢◌, [], ◌∷◌, length, None, IfOk, IfSome, IsNone, OnOk};
-ghost use Rattle.gx_names.specs.ResolvedView.{resolved_parts};
+ghost use Rattle.gx_resolved.specs.ResolvedView.{resolved_parts};
 ghost use Rattle.gx_normal.specs.Normalisation.{constructed, core_of, cores_of, number_at, numbered_binder, path_core, variable_at};
 ghost use Rattle.gx_normal.specs.Normalising.{added, core_left, IsOnePart, left_behind, left_of, left_with};
 ghost use Rattle.gx_normal.specs.declared.normalising.Task.TheVariants as tasks;
@@ -10,9 +10,9 @@ use crate::construct::{at, construct, context_item, empty, let_in, path, step};
 use gx_base::place::Place;
 use gx_core::dismantle::dismantle;
 use gx_core::expression::{Binder, CoreExpr, CoreForm};
-use gx_names::nested_map::NestedMap;
-use gx_names::stack::Stack;
-use gx_names::tree::{BoundName, Construct, ResolvedExpr};
+use gx_resolved::nested_map::NestedMap;
+use gx_resolved::stack::Stack;
+use gx_resolved::tree::{BoundName, Construct, ResolvedExpr};
 use gx_types::step::{Axis, Test};
 use std::alloc::{AllocError, Global};
 

@@ -1,14 +1,14 @@
 // The first production of a query that is not built yet.
 
 ghost use Rattle.std.specs.Prelude.{◌≡◌, ◌∷◌, IfOk, OnOk};
-ghost use Rattle.gx_ast.specs.SyntaxView.{bindings_of, keys_of, trees_of};
+ghost use Rattle.gx_ast.specs.SyntaxView.{keys_of, trees_of};
 ghost use Rattle.gx_normal.specs.declared.unbuilt.Pending.TheVariants as pendings;
-ghost use Rattle.gx_normal.specs.Searching.{first_in, first_of_all};
-ghost use Rattle.gx_normal.specs.Unbuilt.{first_unbuilt, earlier_place, unbuilt_bindings, unbuilt_definition, unbuilt_definitions, unbuilt_keys, unbuilt_operator, unbuilt_predicates, unbuilt_query, unbuilt_settings, unbuilt_if, is_far_axis, has_name, names_element};
+ghost use Rattle.gx_normal.specs.Searching.{first_of_all};
+ghost use Rattle.gx_normal.specs.Unbuilt.{first_unbuilt, earlier_place, unbuilt_definition, unbuilt_definitions, unbuilt_keys, unbuilt_operator, unbuilt_predicates, unbuilt_query, unbuilt_if, is_far_axis, has_name, names_element};
 
 use gx_ast::expression::{BinaryOperator, Binding, Clause, Expr, ExprNode, Key};
 use gx_ast::name::Axis;
-use gx_ast::query::{Definition, DefinitionNode, Initialiser, Query, Setting, SettingNode};
+use gx_ast::query::{Definition, DefinitionNode, Initialiser, Query};
 use gx_ast::sequence_type::{ItemType, KindTest, SequenceType, TestedName};
 use gx_base::place::Place;
 use gx_core::stack::Stack;
@@ -28,27 +28,10 @@ pub(crate) enum Pending<'a> {
 pub fn unbuilt_query(alloc: Global, query: &Query) -> Result<Option<Place>, AllocError>
     ensures { IfOk result (λ place. place ≡ unbuilt_query query.now) }
 {
-    if let Some(place) = unbuilt_settings(query.settings.as_slice()) {
-        return Ok(Some(place));
-    }
     if let Some(place) = unbuilt_definitions(alloc, query.definitions.as_slice())? {
         return Ok(Some(place));
     }
     first_unbuilt(alloc, &query.body)
-}
-
-// The first import of a schema.
-fn unbuilt_settings(settings: &[Setting]) -> Option<Place>
-    ensures { result ≡ unbuilt_settings settings.now }
-{
-    let mut left = settings;
-    while let Some((setting, others)) = left.split_first() {
-        if let SettingNode::Schema(_, _, _) = &setting.node {
-            return Some(setting.place);
-        }
-        left = others;
-    }
-    None
 }
 
 fn unbuilt_definitions(

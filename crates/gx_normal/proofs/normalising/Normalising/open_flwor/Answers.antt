@@ -1,7 +1,7 @@
 use Rattle.std.proofs.Common.{ℕ, List, length, ap, sym, ◌∙◌}
-use Rattle.gx_names.specs.ResolvedTree.{ResolvedTree}
+use Rattle.gx_resolved.specs.ResolvedTree.{ResolvedTree}
 use Rattle.gx_core.specs.Expression.{CoreExpression}
-use Rattle.gx_normal.specs.Normalising.{Left, added, core_left}
+use Rattle.gx_normal.specs.Normalising.{added, core_left}
 use Rattle.gx_normal.proofs.MakingLemmas.{first_returned, first_without_value, first_let, on_ok_then, none_left}
 use Rattle.gx_normal.proofs.normalising.Normalising.open_flwor.Goals as goal
 

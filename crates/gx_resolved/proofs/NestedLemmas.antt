@@ -2,11 +2,11 @@
 use Rattle.std.proofs.Common.{◌≡◌, Bool, true, false, cond, List, [], ◌∷◌, Option, Some, None, refl, ◌∙◌, ap, subst, if◌then◌else◌}
 use Rattle.std.specs.Cmp.{IsEquivalence}
 use Rattle.indexmap.specs.IndexMap.{get, Updates}
-use Rattle.gx_names.specs.declared.nested_map.Binding.{Binding}
+use Rattle.gx_resolved.specs.declared.nested_map.Binding.{Binding}
 use Rattle.std.specs.Prelude.{MatchOption}
-use Rattle.gx_names.specs.Stacked.{first}
-use Rattle.gx_names.specs.NestedMap.{innermost_value, flattened}
-use Rattle.gx_names.specs.NestedBindings.{pairs, Index, IsIndexOf}
+use Rattle.gx_resolved.specs.Stacked.{first}
+use Rattle.gx_resolved.specs.NestedMap.{innermost_value, flattened}
+use Rattle.gx_resolved.specs.NestedBindings.{pairs, Index, IsIndexOf}
 
 module _ {K V : Type 0} (eq : K → K → Bool) where
   -- equal keys have one value

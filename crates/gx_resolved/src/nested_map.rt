@@ -1,7 +1,7 @@
 // Bindings of keys that stand one inside another.
 
 ghost use Rattle.std.specs.Prelude.{◌≡◌, [], ◌∷◌, OnOk, IfOk, drop, option_copied};
-ghost use Rattle.gx_names.specs.NestedMap.{innermost_value};
+ghost use Rattle.gx_resolved.specs.NestedMap.{innermost_value};
 
 use crate::stack::Stack;
 use indexmap::IndexMap;
@@ -25,7 +25,7 @@ pub struct NestedMap<K: Eq + Hash, V> {
 
 impl<K: Eq + Hash, V> Model for NestedMap<K, V> {
     ghost use Rattle.std.specs.Prelude.{List};
-    ghost use Rattle.gx_names.specs.NestedBindings.{IsIndexOf, pairs};
+    ghost use Rattle.gx_resolved.specs.NestedBindings.{IsIndexOf, pairs};
 
     ghost Value = { List (K × V) };
 

@@ -2,8 +2,8 @@
 use Rattle.std.specs.Prelude.{◌+◌, ◌≤◌, max, List, [], ◌∷◌}
 use Rattle.std.proofs.Common.{arith}
 use denote.Param.Weighed.{most}
-use Rattle.gx_names.specs.ResolvedTree.{ResolvedTree, resolved_size, all_resolved_size}
-use Rattle.gx_names.specs.ResolvedView.{resolved_parts}
+use Rattle.gx_resolved.specs.ResolvedTree.{ResolvedTree, resolved_size, all_resolved_size}
+use Rattle.gx_resolved.specs.ResolvedView.{resolved_parts}
 
 most_resolved : (trees : List ResolvedTree) → most (λ t. resolved_size t + 1) trees ≤ 1 + all_resolved_size (resolved_parts trees)
 most_resolved [] = omega arith

@@ -2,7 +2,7 @@
 
 ghost use Rattle.std.specs.Prelude.{◌≡◌, [], ◌∷◌, OnOk, OnErr, reverse, option_copied};
 ghost use Rattle.std.specs.Option.{MatchOption};
-ghost use Rattle.gx_names.specs.Stacked.{first};
+ghost use Rattle.gx_resolved.specs.Stacked.{first};
 
 use std::alloc::{AllocError, Global};
 use std::marker::Model;

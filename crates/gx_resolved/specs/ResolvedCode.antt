@@ -3,8 +3,8 @@ use Rattle.std.specs.Prelude.{◌≡◌, refl}
 use Rattle.std.proofs.Common.{◌∙◌, ap}
 use base.Stored.{Gv, gnil, gcons, Coded}
 use Rattle.gx_base.specs.Stored.{stored_place, place_once}
-use Rattle.gx_names.specs.contracts.tree.Construct.{the_row}
-use Rattle.gx_names.specs.ResolvedTree.{ResolvedTree, ResolvedTrees, resolved_at, no_resolved, a_resolved}
+use Rattle.gx_resolved.specs.contracts.tree.Construct.{the_row}
+use Rattle.gx_resolved.specs.ResolvedTree.{ResolvedTree, ResolvedTrees, resolved_at, no_resolved, a_resolved}
 
 abbrev mutual
   store_resolved : ResolvedTree → Gv

@@ -119,21 +119,21 @@ pub struct ResolvedExpr {
 }
 
 impl Model for ResolvedExpr {
-    ghost use Rattle.gx_names.specs.ResolvedTree.{ResolvedTree, resolved_size};
-    ghost use Rattle.gx_names.specs.ResolvedCode.{resolved_code};
+    ghost use Rattle.gx_resolved.specs.ResolvedTree.{ResolvedTree, resolved_size};
+    ghost use Rattle.gx_resolved.specs.ResolvedCode.{resolved_code};
 
     ghost Value = { ResolvedTree };
 
     ghost coded = { resolved_code };
 
-    ghost use Rattle.gx_names.specs.ResolvedView.{resolved_parts};
-    ghost use Rattle.gx_names.specs.ResolvedTree.{resolved_at};
+    ghost use Rattle.gx_resolved.specs.ResolvedView.{resolved_parts};
+    ghost use Rattle.gx_resolved.specs.ResolvedTree.{resolved_at};
 
     ghost view = { λ e. resolved_at e.place e.construct (resolved_parts e.parts.items) };
 
     ghost size = { resolved_size };
 
-    ghost use Rattle.gx_names.specs.ResolvedParts.{resolved_parts_are_smaller};
+    ghost use Rattle.gx_resolved.specs.ResolvedParts.{resolved_parts_are_smaller};
 
     ghost size_decreases = { λ e h. resolved_parts_are_smaller e.parts.items };
 }

@@ -1,6 +1,6 @@
 use Rattle.std.proofs.Common.{◌∙◌}
-use Rattle.gx_names.proofs.NestedLemmas.{is_popped}
-use Rattle.gx_names.proofs.nested_map.NestedMap.unbind.Goals as goal
+use Rattle.gx_resolved.proofs.NestedLemmas.{is_popped}
+use Rattle.gx_resolved.proofs.nested_map.NestedMap.unbind.Goals as goal
 
 pub invariant_of-self-2 : goal.invariant_of-self-2
 invariant_of-self-2 g c =

@@ -1,7 +1,7 @@
 -- Queries in which each name is resolved, as plain trees: a construct over its parts.
 use Rattle.std.specs.Prelude.{ℕ, ◌+◌}
 use Rattle.gx_base.specs.declared.place.Place.{Place}
-use Rattle.gx_names.specs.declared.tree.Construct.{Construct}
+use Rattle.gx_resolved.specs.declared.tree.Construct.{Construct}
 
 mutual
   pub data ResolvedTree : Type 0 where

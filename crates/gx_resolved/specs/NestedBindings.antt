@@ -3,8 +3,8 @@ use Rattle.std.specs.Prelude.{◌≡◌, Bool, List, [], ◌∷◌, Option, map}
 use Rattle.std.specs.declared.hash.FoldHasher.{FoldHasher}
 use Rattle.std.specs.declared.hash.BuildHasherDefault.{BuildHasherDefault}
 use Rattle.indexmap.specs.IndexMap.{IndexMap, get}
-use Rattle.gx_names.specs.declared.nested_map.Binding.{Binding}
-use Rattle.gx_names.specs.NestedMap.{innermost_value, flattened}
+use Rattle.gx_resolved.specs.declared.nested_map.Binding.{Binding}
+use Rattle.gx_resolved.specs.NestedMap.{innermost_value, flattened}
 
 abbrev pub pairs : {K V : Type 0} → List (Binding K V) → List (K × V)
 pairs bindings = map (λ b. (b.key, b.value)) bindings

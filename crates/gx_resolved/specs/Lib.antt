@@ -1,0 +1,7 @@
+pub mod NestedMap
+pub mod NestedBindings
+pub mod Stacked
+pub mod ResolvedTree
+pub mod ResolvedCode
+pub mod ResolvedView
+pub mod ResolvedParts
