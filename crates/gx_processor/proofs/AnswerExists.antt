@@ -1,10 +1,13 @@
 -- The words and the files have an answer.
-use Rattle.std.proofs.Common.{◌≡◌, ℕ, Bool, true, false, List, [], ◌∷◌, ◌++◌, ◌+◌, suc, length, Option, Some, None, refl, ap, ◌∙◌, arith, nat_le, ◌⊎◌, inl, inr}
+use Rattle.std.proofs.Common.{◌≡◌, ℕ, Bool, true, false, List, [], ◌∷◌, ◌++◌, ◌+◌, suc, map, length, Option, Some, None, refl, ap, ◌∙◌, arith, nat_le, inl, inr}
 use Rattle.std.specs.Bool.{MatchBool}
 use Rattle.std.specs.Str.{chars}
 use Rattle.gx_base.specs.declared.code.Code.TheVariants.{XPST0003, GLXS0001, SENR0001}
 use Rattle.gx_base.specs.declared.limits.TheConstants.{FILE_BYTES}
-use Rattle.gx_types.specs.SchemaSet.{no_declarations}
+use Rattle.gx_types.specs.SchemaSet.{SchemaSet}
+use Rattle.gx_types.specs.SchemaInvariant.{IsSchemaSet}
+use Rattle.gx_schema.specs.Import.{Imported, declares, breaks, imported}
+use Rattle.gx_schema.proofs.SchemaSets.{imports_are_schema_sets}
 use Rattle.gx_core.specs.declared.expression.Core.{Core}
 use Rattle.gx_core.specs.declared.typed.TypedCore.{TypedCore}
 use Rattle.gx_model.specs.Item.{Items}
@@ -13,16 +16,18 @@ use Rattle.gx_core.specs.Soundness.{typed_setting, Keeps}
 use Rattle.gx_core.specs.Expression.{outer_of}
 use Rattle.gx_core.specs.QueryMeaning.{query_outcome, query_type}
 use Rattle.gx_core.proofs.SoundQueries.{sound_queries_keep}
-use Rattle.gx_tree.specs.PlainTree.{PlainTree}
 use Rattle.gx_model.specs.Forest.{Forest}
-use Rattle.gx_xml.specs.Untyped.{untyped_document as tree_of_document}
+use Rattle.gx_xml.specs.Reading.{IsDocumentOf}
+use Rattle.gx_xml.specs.SourceTree.{SourceTree}
+use Rattle.gx_xml.specs.Untyped.{untyped_document}
 use Rattle.gx_xml.proofs.SomeReading.{a_reading_exists}
 use Rattle.gx_documents.specs.Bindings.{Misbound, misbound, files_bound}
-use Rattle.gx_documents.specs.Documents.{Files, IsDocumentTree, AreDocumentTrees, document_nodes}
+use Rattle.gx_documents.specs.Documents.{Files, AreDocumentTrees, document_nodes}
 use Rattle.gx_documents.proofs.DocumentTrees.{documents_are_honest}
-use Rattle.gx_normal.specs.Externals.{ExternalsAreUntyped}
-use Rattle.gx_normal.proofs.WholeQueries.{named_queries_have_untyped_documents}
+use Rattle.gx_processor.specs.UntypedDocuments.{ExternalsAreUntyped}
+use Rattle.gx_processor.proofs.WholeQueries.{named_queries_have_untyped_documents}
 use Rattle.gx_processor.specs.Externals.{external_words}
+use Rattle.gx_processor.specs.SchemaFiles.{schema_files, sources_of, file_name_at}
 use Rattle.gx_processor.proofs.HeadlineLemmas.{types_are_kept, length_bound}
 use Rattle.gx_static.specs.QueryJudgement.{QueryJudgement, query_typed, query_rejected, query_judged}
 use Rattle.gx_static.proofs.QueryLaws.{query_sound}
@@ -35,86 +40,119 @@ use Rattle.gx_syntax.proofs.SomeParsing.{a_parsing_exists}
 use Rattle.gx_subtype.proofs.SomeText.{an_answer_text_exists}
 use Rattle.gx_processor.specs.RuleCode.{rule_code}
 use Rattle.gx_normal.specs.Unbuilt.{unbuilt_query}
+use Rattle.gx_processor.specs.declared.status.Status.{Status}
 use Rattle.gx_processor.specs.declared.status.Status.TheVariants as status
-use Rattle.gx_normal.specs.Normalisation.{NamedQuery, named_query, unknown_name, query_named}
+use Rattle.gx_processor.specs.NamedQuery.{NamedQuery, named_query, unknown_name, query_named}
 use Rattle.gx_processor.specs.Command.{Command, run_file, check_file, query_file, command_of, texts_to_compare}
-use Rattle.gx_processor.specs.FaultLines.{line, usage_line, left_type_line, right_type_line, read_fault_line, code_line, placed_line, binding_line, long_document_line, document_line}
+use Rattle.gx_processor.specs.FaultLines.{line, usage_line, left_type_line, right_type_line, read_fault_line, code_line, placed_line, binding_line, long_document_line, document_line, import_line}
 use Rattle.gx_processor.specs.Serialisation.{serialised}
 use Rattle.gx_processor.specs.TypeBytes.{type_bytes}
-use Rattle.gx_processor.specs.Answer.{Answer, writes, refuses, can_be_written, AnswersTexts, AnswersOutcome, AnswersEvaluated, AnswersRead, AnswersLoaded, AnswersDocuments, AnswersBound, AnswersTyped, AnswersJudged, AnswersNamed, AnswersBuilt, AnswersParsed, AnswersBytes, AnswersFile, AnswersCommand, AnswersWords, AnAnswerExists}
+use Rattle.gx_processor.specs.Answer.{Answer, writes, refuses, can_be_written, AnswersTexts, AnswersOutcome, AnswersEvaluated, AnswersRead, AnswersLoaded, AnswersFiles, AnswersOver, AnswersBound, AnswersTyped, AnswersJudged, AnswersNamed, AnswersImported, AnswersBuilt, AnswersParsed, AnswersBytes, AnswersFile, AnswersCommand, AnswersWords, AnAnswerExists}
 
-outcome_answers : (t : SequenceType) (before : Forest) (o : Outcome Items) → Keeps (typed_setting no_declarations) before t o → (a : Answer) × AnswersOutcome o a
-outcome_answers t before (gives items forest) h = (writes (serialised forest items), refl)
-outcome_answers t before (raises code) h = (refuses status.Dynamic (code_line code), refl)
-outcome_answers t before wrong h = absurd h
+outcome_answers : (schemas : SchemaSet) (t : SequenceType) (before : Forest) (o : Outcome Items) → Keeps (typed_setting schemas) before t o → (a : Answer) × AnswersOutcome o a
+outcome_answers schemas t before (gives items forest) h = (writes (serialised forest items), refl)
+outcome_answers schemas t before (raises code) h = (refuses status.Dynamic (code_line code), refl)
+outcome_answers schemas t before wrong h = absurd h
 
 -- the outcome of a query that has a type is no type error, whatever its documents are
-evaluated_answers : (core : Core) (t : TypedCore) (documents : Forest) → AreDocumentTrees documents → length documents ≡ length (external_words core.declarations) → ExternalsAreUntyped core.declarations → query_judged no_declarations core ≡ query_typed t
-    → (a : Answer) × AnswersEvaluated core documents a
-evaluated_answers core t documents trees each untyped e =
-    outcome_answers (query_type t) documents (query_outcome no_declarations core (document_nodes documents) documents)
-    (types_are_kept query_sound sound_queries_keep documents_are_honest core t documents trees each untyped e)
+evaluated_answers : (schemas : SchemaSet) (core : Core) (t : TypedCore) (documents : Forest) → IsSchemaSet schemas → AreDocumentTrees documents → length documents ≡ length (external_words core.declarations) → ExternalsAreUntyped core.declarations
+    → query_judged schemas core ≡ query_typed t → (a : Answer) × AnswersEvaluated schemas core documents a
+evaluated_answers schemas core t documents invariant trees each untyped e =
+    outcome_answers schemas (query_type t) documents (query_outcome schemas core (document_nodes documents) documents)
+    (types_are_kept query_sound sound_queries_keep documents_are_honest schemas core t documents invariant trees each untyped e)
 
--- a document behind others
-trees_before : (before : Forest) (t : PlainTree) → AreDocumentTrees before → IsDocumentTree t → AreDocumentTrees (before ++ t ∷ [])
-trees_before [] t h k = (k, tt)
-trees_before (u ∷ before) t h k = (h.0, trees_before before t h.1 k)
+-- ---- documents, one behind another
 
-length_before : (before : Forest) (t : PlainTree) (n : ℕ) → length (before ++ t ∷ []) + n ≡ length before + suc n
-length_before [] t n = omega arith
-length_before (u ∷ before) t n = let rest = length_before before t n in omega (arith, rest)
+-- the roots of documents
+abbrev IsRoot : SourceTree → Type 0
+IsRoot root = (bytes : List ℕ) × IsDocumentOf bytes root
 
-read_answers : (file bytes : List ℕ) (Next : PlainTree → Answer → Type 0) → ((t : PlainTree) → IsDocumentTree t → (a : Answer) × Next t a) → (a : Answer) × AnswersRead file bytes Next a
-read_answers file bytes Next next =
-    elim (a_reading_exists bytes) [
-      | inl read ↦ (let n = next (tree_of_document read.0) (bytes, read.0, read.1, refl) in (n.0, inl (read.0, read.1, n.1)))
-      | inr refused' ↦ (refuses status.Document (document_line refused'.0 file refused'.1), inr (refused'.0, refused'.1, refused'.2, refl))
-    ]
+abbrev AreRoots : List SourceTree → Type 0
+AreRoots [] = Unit {0}
+AreRoots (root ∷ roots) = IsRoot root × AreRoots roots
 
-short_document : (file bytes : List ℕ) (short : Bool) (Next : PlainTree → Answer → Type 0) → ((t : PlainTree) → IsDocumentTree t → (a : Answer) × Next t a)
-    → (a : Answer) × MatchBool short (AnswersRead file bytes Next a) (a ≡ refuses status.Document (long_document_line file))
-short_document file bytes true Next next = read_answers file bytes Next next
-short_document file bytes false Next next = (refuses status.Document (long_document_line file), refl)
+roots_before : (before : List SourceTree) (root : SourceTree) → AreRoots before → IsRoot root → AreRoots (before ++ root ∷ [])
+roots_before [] root h k = (k, tt)
+roots_before (u ∷ before) root h k = (h.0, roots_before before root h.1 k)
 
-document_answers : (file : List ℕ) (held : Option (List ℕ)) (Next : PlainTree → Answer → Type 0) → ((t : PlainTree) → IsDocumentTree t → (a : Answer) × Next t a) → (a : Answer) × AnswersLoaded file held Next a
-document_answers file None Next next = (refuses status.ReadFault (read_fault_line file), refl)
-document_answers file (Some bytes) Next next = short_document file bytes (nat_le (length bytes) 16777216) Next next
+length_before : (before : List SourceTree) (root : SourceTree) (n : ℕ) → length (before ++ root ∷ []) + n ≡ length before + suc n
+length_before [] root n = omega arith
+length_before (u ∷ before) root n = let rest = length_before before root n in omega (arith, rest)
 
-documents_answers : (files : Files) (core : Core) (t : TypedCore) (names : List (List ℕ)) (before : Forest) → AreDocumentTrees before → length before + length names ≡ length (external_words core.declarations) → ExternalsAreUntyped core.declarations
-    → query_judged no_declarations core ≡ query_typed t → (a : Answer) × AnswersDocuments files core names before a
-documents_answers files core t [] before trees each untyped e = evaluated_answers core t before trees (omega (arith, each)) untyped e
-documents_answers files core t (name ∷ names) before trees each untyped e =
-    document_answers name (file_of files name) (λ u next. AnswersDocuments files core names (before ++ u ∷ []) next)
-    (λ u k. documents_answers files core t names (before ++ u ∷ []) (trees_before before u trees k) (length_before before u (length names) ∙ each) untyped e)
+-- their trees
+trees_of_roots : (roots : List SourceTree) → AreRoots roots → AreDocumentTrees (map untyped_document roots) × (length (map untyped_document roots) ≡ length roots)
+trees_of_roots [] h = (tt, refl)
+trees_of_roots (root ∷ roots) h =
+    let others = trees_of_roots roots h.1 in (((h.0.0, root, h.0.1, refl), others.0), ap suc others.1)
 
-bound_answers : (files : Files) (core : Core) (t : TypedCore) (bindings : List (List ℕ)) (fault : Option Misbound) → ExternalsAreUntyped core.declarations → query_judged no_declarations core ≡ query_typed t → (a : Answer) × AnswersBound files core bindings fault a
-bound_answers files core t bindings (Some fault) untyped e = (refuses status.Usage (binding_line fault), refl)
-bound_answers files core t bindings None untyped e =
-    documents_answers files core t (files_bound (external_words core.declarations) bindings) [] tt (omega (arith, length_bound (external_words core.declarations) bindings)) untyped e
+module _ (told : Status) where
+  read_answers : (file bytes : List ℕ) (Next : SourceTree → Answer → Type 0) → ((t : SourceTree) → IsRoot t → (a : Answer) × Next t a) → (a : Answer) × AnswersRead told file bytes Next a
+  read_answers file bytes Next next =
+      elim (a_reading_exists bytes) [
+        | inl read ↦ (let n = next read.0 (bytes, read.1) in (n.0, inl (read.0, read.1, n.1)))
+        | inr refused' ↦ (refuses told (document_line refused'.0 file refused'.1), inr (refused'.0, refused'.1, refused'.2, refl))
+      ]
 
-writable_answers : (files : Files) (core : Core) (t : TypedCore) (bindings : List (List ℕ)) (writable : Bool) → ExternalsAreUntyped core.declarations → query_judged no_declarations core ≡ query_typed t
-    → (a : Answer) × MatchBool writable (AnswersBound files core bindings (misbound (external_words core.declarations) bindings) a) (a ≡ refuses status.Query (placed_line SENR0001 (outer_of core.body)))
-writable_answers files core t bindings true untyped e = bound_answers files core t bindings (misbound (external_words core.declarations) bindings) untyped e
-writable_answers files core t bindings false untyped e = (refuses status.Query (placed_line SENR0001 (outer_of core.body)), refl)
+  short_document : (file bytes : List ℕ) (short : Bool) (Next : SourceTree → Answer → Type 0) → ((t : SourceTree) → IsRoot t → (a : Answer) × Next t a)
+      → (a : Answer) × MatchBool short (AnswersRead told file bytes Next a) (a ≡ refuses told (long_document_line file))
+  short_document file bytes true Next next = read_answers file bytes Next next
+  short_document file bytes false Next next = (refuses told (long_document_line file), refl)
 
-typed_answers : (files : Files) (command : Command) (core : Core) (t : TypedCore) → ExternalsAreUntyped core.declarations → query_judged no_declarations core ≡ query_typed t → (a : Answer) × AnswersTyped files command core t a
-typed_answers files (run_file name bindings) core t untyped e = writable_answers files core t bindings (can_be_written t) untyped e
-typed_answers files (check_file name) core t untyped e = (writes (type_bytes (query_type t)), refl)
+  document_answers : (file : List ℕ) (held : Option (List ℕ)) (Next : SourceTree → Answer → Type 0) → ((t : SourceTree) → IsRoot t → (a : Answer) × Next t a) → (a : Answer) × AnswersLoaded told file held Next a
+  document_answers file None Next next = (refuses status.ReadFault (read_fault_line file), refl)
+  document_answers file (Some bytes) Next next = short_document file bytes (nat_le (length bytes) 16777216) Next next
 
-judged_answers : (files : Files) (command : Command) (core : Core) (j : QueryJudgement) → ExternalsAreUntyped core.declarations → query_judged no_declarations core ≡ j → (a : Answer) × AnswersJudged files command core j a
-judged_answers files command core (query_typed t) untyped e = typed_answers files command core t untyped e
-judged_answers files command core (query_rejected place code) untyped e = (refuses status.Query (placed_line code place), refl)
+  files_answers : (files : Files) (names : List (List ℕ)) (before : List SourceTree) (count : ℕ) (Next : List SourceTree → Answer → Type 0) → AreRoots before → length before + length names ≡ count
+      → ((roots : List SourceTree) → AreRoots roots → length roots ≡ count → (a : Answer) × Next roots a) → (a : Answer) × AnswersFiles told files names before Next a
+  files_answers files [] before count Next are each next = next before are (omega (arith, each))
+  files_answers files (name ∷ names) before count Next are each next =
+      document_answers name (file_of files name) (λ u n. AnswersFiles told files names (before ++ u ∷ []) Next n)
+      (λ u k. files_answers files names (before ++ u ∷ []) count Next (roots_before before u are k) (length_before before u (length names) ∙ each) next)
 
-named_answers : (files : Files) (command : Command) (n : NamedQuery) → ((core : Core) → n ≡ named_query core → ExternalsAreUntyped core.declarations) → (a : Answer) × AnswersNamed files command n a
-named_answers files command (named_query core) untyped = judged_answers files command core (query_judged no_declarations core) (untyped core refl) refl
-named_answers files command (unknown_name place code) untyped = (refuses status.Query (placed_line code place), refl)
+-- ---- a query
 
-built_answers : (files : Files) (command : Command) (tree : SyntaxQuery) (unbuilt : Option Place) → (a : Answer) × AnswersBuilt files command tree unbuilt a
-built_answers files command tree None = named_answers files command (query_named no_declarations tree) (named_queries_have_untyped_documents tree)
-built_answers files command tree (Some place) = (refuses status.Query (placed_line XPST0003 place), refl)
+module _ (files : Files) (schemas : SchemaSet) (invariant : IsSchemaSet schemas) where
+  over_answers : (core : Core) (t : TypedCore) (roots : List SourceTree) → AreRoots roots → length roots ≡ length (external_words core.declarations) → ExternalsAreUntyped core.declarations → query_judged schemas core ≡ query_typed t
+      → (a : Answer) × AnswersOver schemas core roots a
+  over_answers core t roots are each untyped e =
+      let trees = trees_of_roots roots are in evaluated_answers schemas core t (map untyped_document roots) invariant trees.0 (trees.1 ∙ each) untyped e
+
+  bound_answers : (core : Core) (t : TypedCore) (bindings : List (List ℕ)) (fault : Option Misbound) → ExternalsAreUntyped core.declarations → query_judged schemas core ≡ query_typed t → (a : Answer) × AnswersBound files schemas core bindings fault a
+  bound_answers core t bindings (Some fault) untyped e = (refuses status.Usage (binding_line fault), refl)
+  bound_answers core t bindings None untyped e =
+      files_answers status.Document files (files_bound (external_words core.declarations) bindings) [] (length (external_words core.declarations)) (AnswersOver schemas core) tt
+      (omega (arith, length_bound (external_words core.declarations) bindings)) (λ roots are each. over_answers core t roots are each untyped e)
+
+  writable_answers : (core : Core) (t : TypedCore) (bindings : List (List ℕ)) (writable : Bool) → ExternalsAreUntyped core.declarations → query_judged schemas core ≡ query_typed t
+      → (a : Answer) × MatchBool writable (AnswersBound files schemas core bindings (misbound (external_words core.declarations) bindings) a) (a ≡ refuses status.Query (placed_line SENR0001 (outer_of core.body)))
+  writable_answers core t bindings true untyped e = bound_answers core t bindings (misbound (external_words core.declarations) bindings) untyped e
+  writable_answers core t bindings false untyped e = (refuses status.Query (placed_line SENR0001 (outer_of core.body)), refl)
+
+  typed_answers : (command : Command) (core : Core) (t : TypedCore) → ExternalsAreUntyped core.declarations → query_judged schemas core ≡ query_typed t → (a : Answer) × AnswersTyped files command schemas core t a
+  typed_answers (run_file name bindings) core t untyped e = writable_answers core t bindings (can_be_written schemas t) untyped e
+  typed_answers (check_file name) core t untyped e = (writes (type_bytes (query_type t)), refl)
+
+  judged_answers : (command : Command) (core : Core) (j : QueryJudgement) → ExternalsAreUntyped core.declarations → query_judged schemas core ≡ j → (a : Answer) × AnswersJudged files command schemas core j a
+  judged_answers command core (query_typed t) untyped e = typed_answers command core t untyped e
+  judged_answers command core (query_rejected place code) untyped e = (refuses status.Query (placed_line code place), refl)
+
+  named_answers : (command : Command) (n : NamedQuery) → ((core : Core) → n ≡ named_query core → ExternalsAreUntyped core.declarations) → (a : Answer) × AnswersNamed files command schemas n a
+  named_answers command (named_query core) untyped = judged_answers command core (query_judged schemas core) (untyped core refl) refl
+  named_answers command (unknown_name place code) untyped = (refuses status.Query (placed_line code place), refl)
+
+imported_answers : (files : Files) (command : Command) (tree : SyntaxQuery) (roots : List SourceTree) (told : Imported) → unbuilt_query tree ≡ None → imported (sources_of roots) ≡ told → (a : Answer) × AnswersImported files command tree (schema_files tree) told a
+imported_answers files command tree roots (declares schemas) built e =
+    named_answers files schemas (imports_are_schema_sets (sources_of roots) schemas e) command (query_named schemas tree) (λ core named. named_queries_have_untyped_documents schemas tree core built named)
+imported_answers files command tree roots (breaks rule file name) built e = (refuses status.Schema (import_line rule (file_name_at (schema_files tree) file) name), refl)
+
+built_answers : (files : Files) (command : Command) (tree : SyntaxQuery) (unbuilt : Option Place) → unbuilt_query tree ≡ unbuilt → (a : Answer) × AnswersBuilt files command tree unbuilt a
+built_answers files command tree None built =
+    files_answers status.Schema files (schema_files tree) [] (length (schema_files tree)) (λ roots next. AnswersImported files command tree (schema_files tree) (imported (sources_of roots)) next) tt (omega arith)
+    (λ roots are each. imported_answers files command tree roots (imported (sources_of roots)) built refl)
+built_answers files command tree (Some place) built = (refuses status.Query (placed_line XPST0003 place), refl)
 
 parsed_answers : (files : Files) (command : Command) (p : Parsing) → (a : Answer) × AnswersParsed files command p a
-parsed_answers files command (parsed tree) = built_answers files command tree (unbuilt_query tree)
+parsed_answers files command (parsed tree) = built_answers files command tree (unbuilt_query tree) refl
 parsed_answers files command (refused rule place) = (refuses status.Query (placed_line (rule_code rule) place), refl)
 
 file_answers : (files : Files) (command : Command) (bytes : List ℕ) (short : Bool) → (a : Answer) × MatchBool short (AnswersBytes files command bytes a) (a ≡ refuses status.Query (code_line GLXS0001))

@@ -1,16 +1,16 @@
 -- The words and the files have one answer.
-use Rattle.std.proofs.Common.{◌≡◌, ℕ, arith, Bool, true, false, ◌&&◌, List, [], ◌∷◌, ◌++◌, ◌⊎◌, inl, inr, length, Option, Some, None, refl, sym, ◌∙◌, ap, subst, nat_le, if◌then◌else◌}
+use Rattle.std.proofs.Common.{◌≡◌, ℕ, arith, Bool, true, false, ◌&&◌, List, [], ◌∷◌, ◌++◌, map, inl, inr, length, Option, Some, None, refl, sym, ◌∙◌, ap, subst, nat_le, if◌then◌else◌}
 use Rattle.std.specs.Prelude.{unwrap_or, codes, bytes_eq}
 use Rattle.std.specs.Bool.{MatchBool}
 use Rattle.std.specs.Str.{chars}
 use Rattle.std.proofs.lemmas.Slice.Eq.{bytes_eq-Decides}
 use Rattle.gx_subtype.proofs.OneText.{one_text}
 use Rattle.gx_base.specs.declared.code.Code.TheVariants.{GLXS0001, SENR0001}
-use Rattle.gx_types.specs.SchemaSet.{no_declarations}
+use Rattle.gx_types.specs.SchemaSet.{SchemaSet}
+use Rattle.gx_schema.specs.Import.{Imported, declares, breaks, imported}
 use Rattle.gx_core.specs.declared.expression.Core.{Core}
 use Rattle.gx_core.specs.declared.typed.TypedCore.{TypedCore}
 use Rattle.gx_core.specs.Expression.{outer_of}
-use Rattle.gx_tree.specs.PlainTree.{PlainTree}
 use Rattle.gx_model.specs.Forest.{Forest}
 use Rattle.gx_model.specs.Item.{Items}
 use Rattle.gx_core.specs.Outcome.{Outcome, gives, raises, wrong}
@@ -27,71 +27,81 @@ use Rattle.gx_processor.specs.declared.status.Status.{Status}
 use Rattle.gx_processor.specs.declared.status.Status.TheVariants as status
 use Rattle.gx_base.specs.declared.place.Place.{Place}
 use Rattle.gx_ast.specs.declared.query.Query.{Query as SyntaxQuery}
-use Rattle.gx_syntax.specs.Query.{Parsing, parsed, refused, Parses}
+use Rattle.gx_syntax.specs.Query.{Parsing, parsed, refused}
 use Rattle.gx_syntax.proofs.OneParsing.{one_parsing}
 use Rattle.gx_normal.specs.Unbuilt.{unbuilt_query}
-use Rattle.gx_normal.specs.Normalisation.{NamedQuery, named_query, unknown_name, query_named}
+use Rattle.gx_processor.specs.NamedQuery.{NamedQuery, named_query, unknown_name, query_named}
 use Rattle.gx_processor.specs.Command.{Command, run_file, check_file, query_file, command_of, command_named, is_operand, texts_to_compare}
 use Rattle.gx_processor.specs.Externals.{external_words}
+use Rattle.gx_processor.specs.SchemaFiles.{schema_files, sources_of}
 use Rattle.gx_processor.specs.FaultLines.{line, code_line, placed_line, long_document_line, document_line}
-use Rattle.gx_processor.specs.Answer.{Answer, writes, refuses, can_be_written, AnswersOutcome, AnswersEvaluated, AnswersRead, AnswersLoaded, AnswersDocuments, AnswersBound, AnswersTyped, AnswersJudged, AnswersNamed, AnswersBuilt, AnswersParsed, AnswersBytes, AnswersFile, AnswersCommand, AnswersTexts, AnswersWords, Answers, ChecksRefuseForRuns}
+use Rattle.gx_processor.specs.Answer.{Answer, writes, refuses, can_be_written, AnswersOutcome, AnswersEvaluated, AnswersRead, AnswersLoaded, AnswersFiles, AnswersOver, AnswersBound, AnswersTyped, AnswersJudged, AnswersNamed, AnswersImported, AnswersBuilt, AnswersParsed, AnswersBytes, AnswersFile, AnswersCommand, AnswersTexts, AnswersWords, Answers, ChecksRefuseForRuns}
 
 outcome_unique : (o : Outcome Items) (a b : Answer) → AnswersOutcome o a → AnswersOutcome o b → a ≡ b
 outcome_unique (gives items forest) a b h k = h ∙ sym k
 outcome_unique (raises code) a b h k = h ∙ sym k
 outcome_unique wrong a b h k = absurd h
 
-evaluated_unique : (core : Core) (forest : Forest) (a b : Answer) → AnswersEvaluated core forest a → AnswersEvaluated core forest b → a ≡ b
-evaluated_unique core forest a b h k = outcome_unique (query_outcome no_declarations core (document_nodes forest) forest) a b h k
+evaluated_unique : (schemas : SchemaSet) (core : Core) (forest : Forest) (a b : Answer) → AnswersEvaluated schemas core forest a → AnswersEvaluated schemas core forest b → a ≡ b
+evaluated_unique schemas core forest a b h k = outcome_unique (query_outcome schemas core (document_nodes forest) forest) a b h k
 
 -- the bytes of a document are read in one way
-read_unique : (file bytes : List ℕ) (Next : PlainTree → Answer → Type 0) (a b : Answer) → ((t : PlainTree) → Next t a → Next t b → a ≡ b) → AnswersRead file bytes Next a → AnswersRead file bytes Next b → a ≡ b
-read_unique file bytes Next a b next (inl h) (inl k) =
-    next (untyped_document h.0) h.2 (subst (λ (root : SourceTree). Next (untyped_document root) b) (one_document bytes k.0 h.0 k.1 h.1) k.2)
-read_unique file bytes Next a b next (inl h) (inr k) = absurd (not_refused bytes h.0 k.0 k.1 h.1 k.2)
-read_unique file bytes Next a b next (inr h) (inl k) = absurd (not_refused bytes k.0 h.0 h.1 k.1 h.2)
-read_unique file bytes Next a b next (inr h) (inr k) =
-    let same = one_refusal bytes h.0 k.0 h.1 k.1 h.2 k.2 in
-    h.3 ∙ ap (λ (rule : XmlRule). refuses status.Document (document_line rule file h.1)) same.0 ∙ ap (λ (place : Place). refuses status.Document (document_line k.0 file place)) same.1 ∙ sym k.3
+module _ (told : Status) where
+  read_unique : (file bytes : List ℕ) (Next : SourceTree → Answer → Type 0) (a b : Answer) → ((t : SourceTree) → Next t a → Next t b → a ≡ b) → AnswersRead told file bytes Next a → AnswersRead told file bytes Next b → a ≡ b
+  read_unique file bytes Next a b next (inl h) (inl k) =
+      next h.0 h.2 (subst (λ (root : SourceTree). Next root b) (one_document bytes k.0 h.0 k.1 h.1) k.2)
+  read_unique file bytes Next a b next (inl h) (inr k) = absurd (not_refused bytes h.0 k.0 k.1 h.1 k.2)
+  read_unique file bytes Next a b next (inr h) (inl k) = absurd (not_refused bytes k.0 h.0 h.1 k.1 h.2)
+  read_unique file bytes Next a b next (inr h) (inr k) =
+      let same = one_refusal bytes h.0 k.0 h.1 k.1 h.2 k.2 in
+      h.3 ∙ ap (λ (rule : XmlRule). refuses told (document_line rule file h.1)) same.0 ∙ ap (λ (place : Place). refuses told (document_line k.0 file place)) same.1 ∙ sym k.3
 
-held_unique : (file bytes : List ℕ) (short : Bool) (Next : PlainTree → Answer → Type 0) (c a b : Answer) → ((t : PlainTree) → Next t a → Next t b → a ≡ b)
-    → MatchBool short (AnswersRead file bytes Next a) (a ≡ c) → MatchBool short (AnswersRead file bytes Next b) (b ≡ c) → a ≡ b
-held_unique file bytes true Next c a b next h k = read_unique file bytes Next a b next h k
-held_unique file bytes false Next c a b next h k = h ∙ sym k
+  held_unique : (file bytes : List ℕ) (short : Bool) (Next : SourceTree → Answer → Type 0) (c a b : Answer) → ((t : SourceTree) → Next t a → Next t b → a ≡ b)
+      → MatchBool short (AnswersRead told file bytes Next a) (a ≡ c) → MatchBool short (AnswersRead told file bytes Next b) (b ≡ c) → a ≡ b
+  held_unique file bytes true Next c a b next h k = read_unique file bytes Next a b next h k
+  held_unique file bytes false Next c a b next h k = h ∙ sym k
 
-loaded_unique : (file : List ℕ) (bytes : Option (List ℕ)) (Next : PlainTree → Answer → Type 0) (a b : Answer) → ((t : PlainTree) → Next t a → Next t b → a ≡ b) → AnswersLoaded file bytes Next a → AnswersLoaded file bytes Next b → a ≡ b
-loaded_unique file None Next a b next h k = h ∙ sym k
-loaded_unique file (Some bytes) Next a b next h k = held_unique file bytes (nat_le (length bytes) 16777216) Next (refuses status.Document (long_document_line file)) a b next h k
+  loaded_unique : (file : List ℕ) (bytes : Option (List ℕ)) (Next : SourceTree → Answer → Type 0) (a b : Answer) → ((t : SourceTree) → Next t a → Next t b → a ≡ b) → AnswersLoaded told file bytes Next a → AnswersLoaded told file bytes Next b → a ≡ b
+  loaded_unique file None Next a b next h k = h ∙ sym k
+  loaded_unique file (Some bytes) Next a b next h k = held_unique file bytes (nat_le (length bytes) 16777216) Next (refuses told (long_document_line file)) a b next h k
 
-documents_unique : (files : Files) (core : Core) (names : List (List ℕ)) (forest : Forest) (a b : Answer) → AnswersDocuments files core names forest a → AnswersDocuments files core names forest b → a ≡ b
-documents_unique files core [] forest a b h k = evaluated_unique core forest a b h k
-documents_unique files core (name ∷ names) forest a b h k =
-    loaded_unique name (file_of files name) (λ t next. AnswersDocuments files core names (forest ++ t ∷ []) next) a b (λ t f g. documents_unique files core names (forest ++ t ∷ []) a b f g) h k
+  files_unique : (files : Files) (names : List (List ℕ)) (before : List SourceTree) (Next : List SourceTree → Answer → Type 0) (a b : Answer) → ((roots : List SourceTree) → Next roots a → Next roots b → a ≡ b)
+      → AnswersFiles told files names before Next a → AnswersFiles told files names before Next b → a ≡ b
+  files_unique files [] before Next a b next h k = next before h k
+  files_unique files (name ∷ names) before Next a b next h k =
+      loaded_unique name (file_of files name) (λ t n. AnswersFiles told files names (before ++ t ∷ []) Next n) a b (λ t f g. files_unique files names (before ++ t ∷ []) Next a b next f g) h k
 
-bound_unique : (files : Files) (core : Core) (bindings : List (List ℕ)) (fault : Option Misbound) (a b : Answer) → AnswersBound files core bindings fault a → AnswersBound files core bindings fault b → a ≡ b
-bound_unique files core bindings (Some fault) a b h k = h ∙ sym k
-bound_unique files core bindings None a b h k = documents_unique files core (files_bound (external_words core.declarations) bindings) [] a b h k
+bound_unique : (files : Files) (schemas : SchemaSet) (core : Core) (bindings : List (List ℕ)) (fault : Option Misbound) (a b : Answer) → AnswersBound files schemas core bindings fault a → AnswersBound files schemas core bindings fault b → a ≡ b
+bound_unique files schemas core bindings (Some fault) a b h k = h ∙ sym k
+bound_unique files schemas core bindings None a b h k =
+    files_unique status.Document files (files_bound (external_words core.declarations) bindings) [] (AnswersOver schemas core) a b (λ roots f g. evaluated_unique schemas core (map untyped_document roots) a b f g) h k
 
-run_unique : (files : Files) (core : Core) (bindings : List (List ℕ)) (fault : Option Misbound) (writable : Bool) (c a b : Answer)
-    → MatchBool writable (AnswersBound files core bindings fault a) (a ≡ c) → MatchBool writable (AnswersBound files core bindings fault b) (b ≡ c) → a ≡ b
-run_unique files core bindings fault true c a b h k = bound_unique files core bindings fault a b h k
-run_unique files core bindings fault false c a b h k = h ∙ sym k
+run_unique : (files : Files) (schemas : SchemaSet) (core : Core) (bindings : List (List ℕ)) (fault : Option Misbound) (writable : Bool) (c a b : Answer)
+    → MatchBool writable (AnswersBound files schemas core bindings fault a) (a ≡ c) → MatchBool writable (AnswersBound files schemas core bindings fault b) (b ≡ c) → a ≡ b
+run_unique files schemas core bindings fault true c a b h k = bound_unique files schemas core bindings fault a b h k
+run_unique files schemas core bindings fault false c a b h k = h ∙ sym k
 
-typed_unique : (files : Files) (command : Command) (core : Core) (t : TypedCore) (a b : Answer) → AnswersTyped files command core t a → AnswersTyped files command core t b → a ≡ b
-typed_unique files (run_file name bindings) core t a b h k =
-    run_unique files core bindings (misbound (external_words core.declarations) bindings) (can_be_written t) (refuses status.Query (placed_line SENR0001 (outer_of core.body))) a b h k
-typed_unique files (check_file name) core t a b h k = h ∙ sym k
+typed_unique : (files : Files) (command : Command) (schemas : SchemaSet) (core : Core) (t : TypedCore) (a b : Answer) → AnswersTyped files command schemas core t a → AnswersTyped files command schemas core t b → a ≡ b
+typed_unique files (run_file name bindings) schemas core t a b h k =
+    run_unique files schemas core bindings (misbound (external_words core.declarations) bindings) (can_be_written schemas t) (refuses status.Query (placed_line SENR0001 (outer_of core.body))) a b h k
+typed_unique files (check_file name) schemas core t a b h k = h ∙ sym k
 
-judged_unique : (files : Files) (command : Command) (core : Core) (j : QueryJudgement) (a b : Answer) → AnswersJudged files command core j a → AnswersJudged files command core j b → a ≡ b
-judged_unique files command core (query_typed t) a b h k = typed_unique files command core t a b h k
-judged_unique files command core (query_rejected place code) a b h k = h ∙ sym k
+judged_unique : (files : Files) (command : Command) (schemas : SchemaSet) (core : Core) (j : QueryJudgement) (a b : Answer) → AnswersJudged files command schemas core j a → AnswersJudged files command schemas core j b → a ≡ b
+judged_unique files command schemas core (query_typed t) a b h k = typed_unique files command schemas core t a b h k
+judged_unique files command schemas core (query_rejected place code) a b h k = h ∙ sym k
 
-named_unique : (files : Files) (command : Command) (n : NamedQuery) (a b : Answer) → AnswersNamed files command n a → AnswersNamed files command n b → a ≡ b
-named_unique files command (named_query core) a b h k = judged_unique files command core (query_judged no_declarations core) a b h k
-named_unique files command (unknown_name place code) a b h k = h ∙ sym k
+named_unique : (files : Files) (command : Command) (schemas : SchemaSet) (n : NamedQuery) (a b : Answer) → AnswersNamed files command schemas n a → AnswersNamed files command schemas n b → a ≡ b
+named_unique files command schemas (named_query core) a b h k = judged_unique files command schemas core (query_judged schemas core) a b h k
+named_unique files command schemas (unknown_name place code) a b h k = h ∙ sym k
+
+imported_unique : (files : Files) (command : Command) (tree : SyntaxQuery) (names : List (List ℕ)) (told : Imported) (a b : Answer) → AnswersImported files command tree names told a → AnswersImported files command tree names told b → a ≡ b
+imported_unique files command tree names (declares schemas) a b h k = named_unique files command schemas (query_named schemas tree) a b h k
+imported_unique files command tree names (breaks rule file name) a b h k = h ∙ sym k
 
 built_unique : (files : Files) (command : Command) (tree : SyntaxQuery) (unbuilt : Option Place) (a b : Answer) → AnswersBuilt files command tree unbuilt a → AnswersBuilt files command tree unbuilt b → a ≡ b
-built_unique files command tree None a b h k = named_unique files command (query_named no_declarations tree) a b h k
+built_unique files command tree None a b h k =
+    files_unique status.Schema files (schema_files tree) [] (λ roots next. AnswersImported files command tree (schema_files tree) (imported (sources_of roots)) next) a b
+    (λ roots f g. imported_unique files command tree (schema_files tree) (imported (sources_of roots)) a b f g) h k
 built_unique files command tree (Some place) a b h k = h ∙ sym k
 
 parsed_unique : (files : Files) (command : Command) (p : Parsing) (a b : Answer) → AnswersParsed files command p a → AnswersParsed files command p b → a ≡ b
@@ -170,19 +180,49 @@ answer_at words files command bytes a e f h =
     subst (λ (o : Option (List ℕ)). AnswersFile files command o a) f (answer_asked words files command a e h)
 
 -- what a check refuses, a run refuses
-judged_refused : (files : Files) (name : List ℕ) (bindings : List (List ℕ)) (core : Core) (j : QueryJudgement) (status : Status) (line : List ℕ) → AnswersJudged files (check_file name) core j (refuses status line)
-    → AnswersJudged files (run_file name bindings) core j (refuses status line)
-judged_refused files name bindings core (query_typed t) status line h = cc
-judged_refused files name bindings core (query_rejected place code) status line h = h
+judged_refused : (files : Files) (name : List ℕ) (bindings : List (List ℕ)) (schemas : SchemaSet) (core : Core) (j : QueryJudgement) (status : Status) (line : List ℕ) → AnswersJudged files (check_file name) schemas core j (refuses status line)
+    → AnswersJudged files (run_file name bindings) schemas core j (refuses status line)
+judged_refused files name bindings schemas core (query_typed t) status line h = cc
+judged_refused files name bindings schemas core (query_rejected place code) status line h = h
 
-named_refused : (files : Files) (name : List ℕ) (bindings : List (List ℕ)) (n : NamedQuery) (status : Status) (line : List ℕ) → AnswersNamed files (check_file name) n (refuses status line) → AnswersNamed files (run_file name bindings) n (refuses status line)
-named_refused files name bindings (named_query core) status line h = judged_refused files name bindings core (query_judged no_declarations core) status line h
-named_refused files name bindings (unknown_name place code) status line h = h
+named_refused : (files : Files) (name : List ℕ) (bindings : List (List ℕ)) (schemas : SchemaSet) (n : NamedQuery) (status : Status) (line : List ℕ) → AnswersNamed files (check_file name) schemas n (refuses status line)
+    → AnswersNamed files (run_file name bindings) schemas n (refuses status line)
+named_refused files name bindings schemas (named_query core) status line h = judged_refused files name bindings schemas core (query_judged schemas core) status line h
+named_refused files name bindings schemas (unknown_name place code) status line h = h
 
-built_refused : (files : Files) (name : List ℕ) (bindings : List (List ℕ)) (tree : SyntaxQuery) (unbuilt : Option Place) (status : Status) (line : List ℕ) → AnswersBuilt files (check_file name) tree unbuilt (refuses status line)
-    → AnswersBuilt files (run_file name bindings) tree unbuilt (refuses status line)
-built_refused files name bindings tree None status line h = named_refused files name bindings (query_named no_declarations tree) status line h
-built_refused files name bindings tree (Some place) status line h = h
+imported_refused : (files : Files) (name : List ℕ) (bindings : List (List ℕ)) (tree : SyntaxQuery) (names : List (List ℕ)) (told : Imported) (status : Status) (line : List ℕ) → AnswersImported files (check_file name) tree names told (refuses status line)
+    → AnswersImported files (run_file name bindings) tree names told (refuses status line)
+imported_refused files name bindings tree names (declares schemas) status line h = named_refused files name bindings schemas (query_named schemas tree) status line h
+imported_refused files name bindings tree names (breaks rule file construct) status line h = h
+
+-- what follows from the roots of files that hold documents follows from the files
+read_through : (told : Status) (file bytes : List ℕ) (Next Other : SourceTree → Answer → Type 0) (a : Answer) → ((t : SourceTree) → Next t a → Other t a) → AnswersRead told file bytes Next a → AnswersRead told file bytes Other a
+read_through told file bytes Next Other a f (inl h) = inl (h.0, h.1, f h.0 h.2)
+read_through told file bytes Next Other a f (inr h) = inr h
+
+held_through : (told : Status) (file bytes : List ℕ) (short : Bool) (Next Other : SourceTree → Answer → Type 0) (c a : Answer) → ((t : SourceTree) → Next t a → Other t a)
+    → MatchBool short (AnswersRead told file bytes Next a) (a ≡ c) → MatchBool short (AnswersRead told file bytes Other a) (a ≡ c)
+held_through told file bytes true Next Other c a f h = read_through told file bytes Next Other a f h
+held_through told file bytes false Next Other c a f h = h
+
+loaded_through : (told : Status) (file : List ℕ) (held : Option (List ℕ)) (Next Other : SourceTree → Answer → Type 0) (a : Answer) → ((t : SourceTree) → Next t a → Other t a) → AnswersLoaded told file held Next a → AnswersLoaded told file held Other a
+loaded_through told file None Next Other a f h = h
+loaded_through told file (Some bytes) Next Other a f h = held_through told file bytes (nat_le (length bytes) 16777216) Next Other (refuses told (long_document_line file)) a f h
+
+pub files_through : (told : Status) (files : Files) (names : List (List ℕ)) (before : List SourceTree) (Next Other : List SourceTree → Answer → Type 0) (a : Answer) → ((roots : List SourceTree) → Next roots a → Other roots a)
+    → AnswersFiles told files names before Next a → AnswersFiles told files names before Other a
+files_through told files [] before Next Other a f h = f before h
+files_through told files (name ∷ names) before Next Other a f h =
+    loaded_through told name (file_of files name) (λ t n. AnswersFiles told files names (before ++ t ∷ []) Next n) (λ t n. AnswersFiles told files names (before ++ t ∷ []) Other n) a
+    (λ t k. files_through told files names (before ++ t ∷ []) Next Other a f k) h
+
+built_refused : (files : Files) (name : List ℕ) (bindings : List (List ℕ)) (tree : SyntaxQuery) (unbuilt : Option Place) (told : Status) (line : List ℕ) → AnswersBuilt files (check_file name) tree unbuilt (refuses told line)
+    → AnswersBuilt files (run_file name bindings) tree unbuilt (refuses told line)
+built_refused files name bindings tree None told line h =
+    files_through status.Schema files (schema_files tree) [] (λ roots next. AnswersImported files (check_file name) tree (schema_files tree) (imported (sources_of roots)) next)
+    (λ roots next. AnswersImported files (run_file name bindings) tree (schema_files tree) (imported (sources_of roots)) next) (refuses told line)
+    (λ roots k. imported_refused files name bindings tree (schema_files tree) (imported (sources_of roots)) told line k) h
+built_refused files name bindings tree (Some place) told line h = h
 
 parsed_refused : (files : Files) (name : List ℕ) (bindings : List (List ℕ)) (p : Parsing) (status : Status) (line : List ℕ) → AnswersParsed files (check_file name) p (refuses status line) → AnswersParsed files (run_file name bindings) p (refuses status line)
 parsed_refused files name bindings (parsed tree) status line h = built_refused files name bindings tree (unbuilt_query tree) status line h

@@ -2,7 +2,6 @@
 use Rattle.std.proofs.Common.{◌≡◌, List, ℕ, [], ◌∷◌, ◌++◌, subst, string_bytes}
 use Rattle.gx_io.specs.LibraryUse.{LibraryFailed}
 use Rattle.gx_io.specs.SinkUse.{IsUntouched}
-use Rattle.gx_documents.specs.Documents.{Files}
 use Rattle.gx_processor.specs.declared.status.Status.{Status}
 use Rattle.gx_processor.specs.declared.status.Status.TheVariants as status
 use Rattle.gx_processor.specs.declared.reply.Reply.{Reply}

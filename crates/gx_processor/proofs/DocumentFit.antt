@@ -1,12 +1,11 @@
 -- Documents are of the types of external variables.
-use Rattle.std.proofs.Common.{◌≡◌, ◌≢◌, ℕ, suc, ◌+◌, List, [], ◌∷◌, ◌++◌, length, Option, None, Some, ◌⊎◌, inl, inr, refl, sym, ◌∙◌, ap, subst, arith, append_assoc, option_map}
+use Rattle.std.proofs.Common.{◌≡◌, ◌≢◌, ℕ, suc, ◌+◌, List, [], ◌∷◌, ◌++◌, length, Option, None, Some, inl, inr, refl, sym, ap, subst, arith, append_assoc, option_map}
 use Rattle.std.specs.List.{slice_get}
 use Rattle.gx_base.specs.declared.type_name.Builtin.TheVariants.{Untyped}
 use Rattle.gx_base.specs.declared.type_name.TypeName.TheVariants.{Builtin}
 use Rattle.gx_types.specs.declared.item_type.ItemType.{ItemType}
 use Rattle.gx_types.specs.declared.item_type.ItemType.TheVariants.{Document}
-use Rattle.gx_types.specs.declared.shape.Shape.{Shape}
-use Rattle.gx_types.specs.SchemaSet.{SchemaSet, no_declarations}
+use Rattle.gx_types.specs.SchemaSet.{SchemaSet}
 use Rattle.gx_types.specs.ItemTakes.{ItemTakes}
 use Rattle.gx_types.specs.SequenceType.{SequenceType, item}
 use Rattle.gx_types.proofs.PublicLaws.{derivation_is_a_preorder}
@@ -24,7 +23,7 @@ use Rattle.gx_xml.specs.SourceTree.{SourceTree, source}
 use Rattle.gx_xml.specs.Untyped.{untyped_document as tree_of_document}
 use Rattle.gx_documents.specs.Documents.{IsDocumentTree, AreDocumentTrees, document_node, document_nodes_from, document_nodes}
 use Rattle.gx_documents.specs.Laws.{DocumentsAreHonest}
-use Rattle.gx_normal.specs.Externals.{any_document_type, untyped_document_type, IsUntypedDocument, ExternalsAreUntyped}
+use Rattle.gx_processor.specs.UntypedDocuments.{IsUntypedDocument, ExternalsAreUntyped}
 use Rattle.gx_processor.specs.Externals.{external_words}
 
 -- both types take the document node of a tree
@@ -83,8 +82,8 @@ kept_is_not_wrong setting before t (gives items forest) k = λ e. cc
 kept_is_not_wrong setting before t (raises code) k = λ e. cc
 kept_is_not_wrong setting before t wrong k = absurd k
 
-pub sound_is_not_wrong : SoundQueriesKeepTheirTypes → DocumentsAreHonest → (core : TypedCore) (forest : Forest) → IsSoundQuery no_declarations core → ExternalsAreUntyped (plain_query core).declarations → AreDocumentTrees forest
-    → length forest ≡ length (external_words (plain_query core).declarations) → query_outcome no_declarations (plain_query core) (document_nodes forest) forest ≢ wrong
-sound_is_not_wrong keep honest core forest sound untyped trees each =
-    kept_is_not_wrong (typed_setting no_declarations) forest (query_type core) (query_outcome no_declarations (plain_query core) (document_nodes forest) forest)
-    (keep no_declarations core (document_nodes forest) forest (honest no_declarations forest trees) (documents_fit no_declarations (plain_query core).declarations forest untyped trees each) sound)
+pub sound_is_not_wrong : SoundQueriesKeepTheirTypes → DocumentsAreHonest → (schemas : SchemaSet) (core : TypedCore) (forest : Forest) → IsSoundQuery schemas core → ExternalsAreUntyped (plain_query core).declarations → AreDocumentTrees forest
+    → length forest ≡ length (external_words (plain_query core).declarations) → query_outcome schemas (plain_query core) (document_nodes forest) forest ≢ wrong
+sound_is_not_wrong keep honest schemas core forest sound untyped trees each =
+    kept_is_not_wrong (typed_setting schemas) forest (query_type core) (query_outcome schemas (plain_query core) (document_nodes forest) forest)
+    (keep schemas core (document_nodes forest) forest (honest schemas forest trees) (documents_fit schemas (plain_query core).declarations forest untyped trees each) sound)

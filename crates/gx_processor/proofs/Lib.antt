@@ -1,12 +1,14 @@
 pub mod Told
+pub mod LoadLemmas
 pub mod QueryLemmas
 pub mod AnswerLemmas
-pub mod LoadLemmas
 pub mod DocumentFit
 pub mod Course
 pub mod PromiseLemmas
 pub mod RunLemmas
+pub mod ImportLemmas
 pub mod CommandLoads
+pub mod QuerySteps
 pub mod TypedOutput
 pub mod StepLoads
 pub mod LoadLaws
@@ -14,3 +16,4 @@ pub mod HeadlineLemmas
 pub mod Promised
 pub mod AnswerExists
 pub mod Replying
+pub mod WholeQueries

@@ -1,12 +1,12 @@
 -- An answer looks at no other files than those that its steps load.
-use Rattle.std.proofs.Common.{◌≡◌, ℕ, ◌≤◌, Bool, true, false, List, [], ◌∷◌, ◌++◌, length, Option, Some, None, ◌⊎◌, inl, inr, refl, sym, ap, subst, nat_le}
+use Rattle.std.proofs.Common.{◌≡◌, ℕ, ◌≤◌, Bool, true, false, List, [], ◌∷◌, ◌++◌, length, Option, Some, None, inl, inr, refl, sym, subst, nat_le, append_assoc}
 use Rattle.std.specs.Bool.{MatchBool}
 use Rattle.std.proofs.lemmas.Bool.{leb-true}
+use Rattle.std.proofs.lemmas.List.{append-nil}
 use Rattle.gx_base.specs.declared.code.Code.TheVariants.{GLXS0001, SENR0001}
 use Rattle.gx_base.specs.declared.place.Place.{Place}
-use Rattle.gx_types.specs.SchemaSet.{no_declarations}
-use Rattle.gx_tree.specs.PlainTree.{PlainTree}
-use Rattle.gx_model.specs.Forest.{Forest}
+use Rattle.gx_types.specs.SchemaSet.{SchemaSet}
+use Rattle.gx_schema.specs.Import.{Imported, declares, breaks, imported}
 use Rattle.gx_core.specs.declared.expression.Core.{Core}
 use Rattle.gx_core.specs.declared.typed.TypedCore.{TypedCore}
 use Rattle.gx_core.specs.Expression.{outer_of}
@@ -15,127 +15,175 @@ use Rattle.gx_io.specs.Load.{file_of}
 use Rattle.gx_ast.specs.declared.query.Query.{Query as SyntaxQuery}
 use Rattle.gx_syntax.specs.Query.{Parsing, parsed, refused, Parses}
 use Rattle.gx_normal.specs.Unbuilt.{unbuilt_query}
-use Rattle.gx_normal.specs.Normalisation.{NamedQuery, named_query, unknown_name, query_named}
+use Rattle.gx_processor.specs.NamedQuery.{NamedQuery, named_query, unknown_name, query_named}
 use Rattle.gx_xml.specs.Reading.{IsDocumentOf}
 use Rattle.gx_xml.specs.SourceTree.{SourceTree}
-use Rattle.gx_xml.specs.Untyped.{untyped_document}
 use Rattle.gx_documents.specs.Bindings.{Misbound, misbound, files_bound}
-use Rattle.gx_documents.specs.Documents.{Files, IsHeld, DocumentsLoaded}
+use Rattle.gx_documents.specs.Documents.{Files, HoldKept, DocumentsLoaded}
+use Rattle.gx_processor.specs.declared.status.Status.{Status}
 use Rattle.gx_processor.specs.declared.status.Status.TheVariants as status
-use Rattle.gx_processor.specs.Answer.{Answer, refuses, can_be_written, AnswersRead, AnswersLoaded, AnswersDocuments, AnswersBound, AnswersRun, AnswersTyped, AnswersJudged, AnswersNamed, AnswersBuilt, AnswersParsed, AnswersBytes, AnswersFile, AnswersCommand, AnswersWords}
+use Rattle.gx_processor.specs.Answer.{Answer, refuses, can_be_written, AnswersRead, AnswersLoaded, AnswersFiles, AnswersOver, AnswersBound, AnswersRun, AnswersTyped, AnswersJudged, AnswersNamed, AnswersImported, AnswersSchemas, AnswersBuilt, AnswersParsed, AnswersBytes, AnswersFile, AnswersCommand, AnswersWords}
 use Rattle.gx_processor.specs.Command.{Command, run_file, check_file, query_file, command_of, texts_to_compare}
 use Rattle.gx_processor.specs.Externals.{external_words}
 use Rattle.gx_processor.specs.FaultLines.{code_line, placed_line, long_document_line}
-use Rattle.gx_processor.specs.Loading.{BoundLoads, RunLoads, HoldsTypedQuery, CommandLoads, LoadsAsked, AgreeOn, AnswersLookAtTheirLoads}
-use Rattle.gx_processor.specs.Query.{IsQueryOf, HoldsQuery}
-use Rattle.gx_processor.proofs.CommandLoads.{one_core, one_typing}
+use Rattle.gx_processor.specs.Loading.{BoundLoads, RunLoads, QueryLoads, BehindQuery, CommandLoads, LoadsAsked, AgreeOn, AnswersLookAtTheirLoads}
+use Rattle.gx_processor.specs.Query.{HoldsSyntax, HoldsQuery}
+use Rattle.gx_processor.specs.SchemaFiles.{schema_files, sources_of, KeepsRoot}
+use Rattle.gx_processor.proofs.CommandLoads.{one_tree, one_query, one_typing}
 
 module _ (files others : Files) where
   -- ---- documents
 
-  abbrev Moves : (file : List ℕ) → Option (List ℕ) → (Next Other : PlainTree → Answer → Type 0) → Answer → Type 0
-  Moves file held Next Other a = (bytes : List ℕ) (root : SourceTree) → held ≡ Some bytes → length bytes ≤ 16777216 → IsDocumentOf bytes root → Next (untyped_document root) a → Other (untyped_document root) a
+  abbrev Moves : Option (List ℕ) → (Next Other : SourceTree → Answer → Type 0) → Answer → Type 0
+  Moves held Next Other a = (bytes : List ℕ) (root : SourceTree) → held ≡ Some bytes → length bytes ≤ 16777216 → IsDocumentOf bytes root → Next root a → Other root a
 
-  read_moves : (file bytes : List ℕ) (Next Other : PlainTree → Answer → Type 0) (a : Answer) → length bytes ≤ 16777216 → Moves file (Some bytes) Next Other a → AnswersRead file bytes Next a → AnswersRead file bytes Other a
-  read_moves file bytes Next Other a within f (inl h) = inl (h.0, h.1, f bytes h.0 refl within h.1 h.2)
-  read_moves file bytes Next Other a within f (inr h) = inr h
+  read_moves : (told : Status) (file bytes : List ℕ) (Next Other : SourceTree → Answer → Type 0) (a : Answer) → length bytes ≤ 16777216 → Moves (Some bytes) Next Other a → AnswersRead told file bytes Next a → AnswersRead told file bytes Other a
+  read_moves told file bytes Next Other a within f (inl h) = inl (h.0, h.1, f bytes h.0 refl within h.1 h.2)
+  read_moves told file bytes Next Other a within f (inr h) = inr h
 
-  short_moves : (file bytes : List ℕ) (short : Bool) (Next Other : PlainTree → Answer → Type 0) (a c : Answer) → nat_le (length bytes) 16777216 ≡ short → Moves file (Some bytes) Next Other a
-      → MatchBool short (AnswersRead file bytes Next a) (a ≡ c) → MatchBool short (AnswersRead file bytes Other a) (a ≡ c)
-  short_moves file bytes true Next Other a c e f h = read_moves file bytes Next Other a (leb-true (length bytes) 16777216 e) f h
-  short_moves file bytes false Next Other a c e f h = h
+  short_moves : (told : Status) (file bytes : List ℕ) (short : Bool) (Next Other : SourceTree → Answer → Type 0) (a c : Answer) → nat_le (length bytes) 16777216 ≡ short → Moves (Some bytes) Next Other a
+      → MatchBool short (AnswersRead told file bytes Next a) (a ≡ c) → MatchBool short (AnswersRead told file bytes Other a) (a ≡ c)
+  short_moves told file bytes true Next Other a c e f h = read_moves told file bytes Next Other a (leb-true (length bytes) 16777216 e) f h
+  short_moves told file bytes false Next Other a c e f h = h
 
-  loaded_moves : (file : List ℕ) (held : Option (List ℕ)) (Next Other : PlainTree → Answer → Type 0) (a : Answer) → Moves file held Next Other a → AnswersLoaded file held Next a → AnswersLoaded file held Other a
-  loaded_moves file None Next Other a f h = h
-  loaded_moves file (Some bytes) Next Other a f h = short_moves file bytes (nat_le (length bytes) 16777216) Next Other a (refuses status.Document (long_document_line file)) refl f h
+  loaded_moves : (told : Status) (file : List ℕ) (held : Option (List ℕ)) (Next Other : SourceTree → Answer → Type 0) (a : Answer) → Moves held Next Other a → AnswersLoaded told file held Next a → AnswersLoaded told file held Other a
+  loaded_moves told file None Next Other a f h = h
+  loaded_moves told file (Some bytes) Next Other a f h = short_moves told file bytes (nat_le (length bytes) 16777216) Next Other a (refuses told (long_document_line file)) refl f h
 
   -- a file with the same bytes elsewhere
-  file_moves : (file : List ℕ) (Next Other : PlainTree → Answer → Type 0) (a : Answer) → file_of files file ≡ file_of others file → Moves file (file_of files file) Next Other a → AnswersLoaded file (file_of files file) Next a
-      → AnswersLoaded file (file_of others file) Other a
-  file_moves file Next Other a same f h = subst (λ (o : Option (List ℕ)). AnswersLoaded file o Other a) same (loaded_moves file (file_of files file) Next Other a f h)
+  file_moves : (told : Status) (file : List ℕ) (Next Other : SourceTree → Answer → Type 0) (a : Answer) → file_of files file ≡ file_of others file → Moves (file_of files file) Next Other a → AnswersLoaded told file (file_of files file) Next a
+      → AnswersLoaded told file (file_of others file) Other a
+  file_moves told file Next Other a same f h = subst (λ (o : Option (List ℕ)). AnswersLoaded told file o Other a) same (loaded_moves told file (file_of files file) Next Other a f h)
 
-  documents_move : (core : Core) (names loads : List (List ℕ)) (before : Forest) (a : Answer) → DocumentsLoaded files names loads → AgreeOn loads files others → AnswersDocuments files core names before a → AnswersDocuments others core names before a
-  documents_move core [] loads before a l agree h = h
-  documents_move core (name ∷ names) loads before a (inl l) agree h =
+  -- files, up to the first that holds no document; behind them all, what follows from their roots
+  files_move : (told : Status) (names loads : List (List ℕ)) (before : List SourceTree) (Next Other : List SourceTree → Answer → Type 0) (a : Answer) → DocumentsLoaded files names loads → AgreeOn loads files others
+      → ((roots : List SourceTree) → HoldKept KeepsRoot files names roots → Next (before ++ roots) a → Other (before ++ roots) a) → AnswersFiles told files names before Next a → AnswersFiles told others names before Other a
+  files_move told [] loads before Next Other a l agree f h =
+      subst (λ (rs : List SourceTree). Other rs a) (append-nil before) (f [] tt (subst (λ (rs : List SourceTree). Next rs a) (sym (append-nil before)) h))
+  files_move told (name ∷ names) loads before Next Other a (inl l) agree f h =
       let same = subst (λ (ns : List (List ℕ)). AgreeOn ns files others) l.1.2 agree in
-      file_moves name (λ t next. AnswersDocuments files core names (before ++ t ∷ []) next) (λ t next. AnswersDocuments others core names (before ++ t ∷ []) next) a same.0
-      (λ bytes root held within reads k. documents_move core names l.1.0 (before ++ untyped_document root ∷ []) a l.1.1 same.1 k) h
-  documents_move core (name ∷ names) loads before a (inr l) agree h =
+      file_moves told name (λ t next. AnswersFiles told files names (before ++ t ∷ []) Next next) (λ t next. AnswersFiles told others names (before ++ t ∷ []) Other next) a same.0
+      (λ bytes root held within reads k. files_move told names l.1.0 (before ++ root ∷ []) Next Other a l.1.1 same.1
+      (λ roots all n. subst (λ (rs : List SourceTree). Other rs a) (sym (append_assoc before (root ∷ []) roots))
+      (f (root ∷ roots) ((root, record { bytes = bytes; held = held; within = within; reads = reads }, refl), all) (subst (λ (rs : List SourceTree). Next rs a) (append_assoc before (root ∷ []) roots) n))) k) h
+  files_move told (name ∷ names) loads before Next Other a (inr l) agree f h =
       let same = subst (λ (ns : List (List ℕ)). AgreeOn ns files others) l.1 agree in
-      file_moves name (λ t next. AnswersDocuments files core names (before ++ t ∷ []) next) (λ t next. AnswersDocuments others core names (before ++ t ∷ []) next) a same.0
+      file_moves told name (λ t next. AnswersFiles told files names (before ++ t ∷ []) Next next) (λ t next. AnswersFiles told others names (before ++ t ∷ []) Other next) a same.0
       (λ bytes root held within reads k. absurd (l.0 (root, record { bytes = bytes; held = held; within = within; reads = reads }))) h
 
   -- ---- a run
 
-  bound_moves : (core : Core) (bindings : List (List ℕ)) (fault : Option Misbound) (loads : List (List ℕ)) (a : Answer) → BoundLoads files fault (files_bound (external_words core.declarations) bindings) loads → AgreeOn loads files others
-      → AnswersBound files core bindings fault a → AnswersBound others core bindings fault a
-  bound_moves core bindings (Some fault) loads a l agree h = h
-  bound_moves core bindings None loads a l agree h = documents_move core (files_bound (external_words core.declarations) bindings) loads [] a l agree h
+  bound_moves : (schemas : SchemaSet) (core : Core) (bindings : List (List ℕ)) (fault : Option Misbound) (loads : List (List ℕ)) (a : Answer) → BoundLoads files fault (files_bound (external_words core.declarations) bindings) loads → AgreeOn loads files others
+      → AnswersBound files schemas core bindings fault a → AnswersBound others schemas core bindings fault a
+  bound_moves schemas core bindings (Some fault) loads a l agree h = h
+  bound_moves schemas core bindings None loads a l agree h =
+      files_move status.Document (files_bound (external_words core.declarations) bindings) loads [] (AnswersOver schemas core) (AnswersOver schemas core) a l agree (λ roots held k. k) h
 
-  match_moves : (core : Core) (bindings : List (List ℕ)) (writable : Bool) (loads : List (List ℕ)) (a c : Answer)
+  match_moves : (schemas : SchemaSet) (core : Core) (bindings : List (List ℕ)) (writable : Bool) (loads : List (List ℕ)) (a c : Answer)
       → MatchBool writable (BoundLoads files (misbound (external_words core.declarations) bindings) (files_bound (external_words core.declarations) bindings) loads) (loads ≡ []) → AgreeOn loads files others
-      → MatchBool writable (AnswersBound files core bindings (misbound (external_words core.declarations) bindings) a) (a ≡ c) → MatchBool writable (AnswersBound others core bindings (misbound (external_words core.declarations) bindings) a) (a ≡ c)
-  match_moves core bindings true loads a c l agree h = bound_moves core bindings (misbound (external_words core.declarations) bindings) loads a l agree h
-  match_moves core bindings false loads a c l agree h = h
+      → MatchBool writable (AnswersBound files schemas core bindings (misbound (external_words core.declarations) bindings) a) (a ≡ c) → MatchBool writable (AnswersBound others schemas core bindings (misbound (external_words core.declarations) bindings) a) (a ≡ c)
+  match_moves schemas core bindings true loads a c l agree h = bound_moves schemas core bindings (misbound (external_words core.declarations) bindings) loads a l agree h
+  match_moves schemas core bindings false loads a c l agree h = h
 
-  run_moves : (core : Core) (t : TypedCore) (bindings loads : List (List ℕ)) (a : Answer) → RunLoads files bindings core t loads → AgreeOn loads files others → AnswersRun files bindings core t a → AnswersRun others bindings core t a
-  run_moves core t bindings loads a l agree h = match_moves core bindings (can_be_written t) loads a (refuses status.Query (placed_line SENR0001 (outer_of core.body))) l agree h
+  run_moves : (schemas : SchemaSet) (core : Core) (t : TypedCore) (bindings loads : List (List ℕ)) (a : Answer) → RunLoads files bindings schemas core t loads → AgreeOn loads files others → AnswersRun files bindings schemas core t a
+      → AnswersRun others bindings schemas core t a
+  run_moves schemas core t bindings loads a l agree h = match_moves schemas core bindings (can_be_written schemas t) loads a (refuses status.Query (placed_line SENR0001 (outer_of core.body))) l agree h
 
   -- ---- the query
 
-  abbrev Types' : Command → Core → QueryJudgement → Answer → Type 0
-  Types' command core j a = (t : TypedCore) → j ≡ query_typed t → AnswersTyped files command core t a → AnswersTyped others command core t a
+  abbrev Types' : Command → SchemaSet → Core → QueryJudgement → Answer → Type 0
+  Types' command schemas core j a = (t : TypedCore) → j ≡ query_typed t → AnswersTyped files command schemas core t a → AnswersTyped others command schemas core t a
 
-  judged_moves : (command : Command) (core : Core) (j : QueryJudgement) (a : Answer) → Types' command core j a → AnswersJudged files command core j a → AnswersJudged others command core j a
-  judged_moves command core (query_typed t) a f h = f t refl h
-  judged_moves command core (query_rejected place code) a f h = h
+  judged_moves : (command : Command) (schemas : SchemaSet) (core : Core) (j : QueryJudgement) (a : Answer) → Types' command schemas core j a → AnswersJudged files command schemas core j a → AnswersJudged others command schemas core j a
+  judged_moves command schemas core (query_typed t) a f h = f t refl h
+  judged_moves command schemas core (query_rejected place code) a f h = h
 
-  named_moves : (command : Command) (n : NamedQuery) (a : Answer) → ((core : Core) → n ≡ named_query core → Types' command core (query_judged no_declarations core) a) → AnswersNamed files command n a → AnswersNamed others command n a
-  named_moves command (named_query core) a f h = judged_moves command core (query_judged no_declarations core) a (f core refl) h
-  named_moves command (unknown_name place code) a f h = h
+  named_moves : (command : Command) (schemas : SchemaSet) (n : NamedQuery) (a : Answer) → ((core : Core) → n ≡ named_query core → Types' command schemas core (query_judged schemas core) a) → AnswersNamed files command schemas n a → AnswersNamed others command schemas n a
+  named_moves command schemas (named_query core) a f h = judged_moves command schemas core (query_judged schemas core) a (f core refl) h
+  named_moves command schemas (unknown_name place code) a f h = h
 
   abbrev Queries : Command → List ℕ → Answer → Type 0
-  Queries command bytes a = (core : Core) → IsQueryOf bytes core → Types' command core (query_judged no_declarations core) a
+  Queries command name a = (schemas : SchemaSet) (core : Core) → HoldsQuery files name schemas core → Types' command schemas core (query_judged schemas core) a
 
-  built_moves : (command : Command) (bytes : List ℕ) (tree : SyntaxQuery) (unbuilt : Option Place) (a : Answer) → Parses bytes (parsed tree) → unbuilt_query tree ≡ unbuilt → Queries command bytes a → AnswersBuilt files command tree unbuilt a → AnswersBuilt others command tree unbuilt a
-  built_moves command bytes tree None a p b f h = named_moves command (query_named no_declarations tree) a (λ core e. f core (record { tree = tree; parses = p; built = b; named = e })) h
-  built_moves command bytes tree (Some place) a p b f h = h
+  imported_moves : (command : Command) (name : List ℕ) (read : HoldsSyntax files name) (roots : List SourceTree) (told : Imported) (a : Answer) → HoldKept KeepsRoot files (schema_files read.tree) roots → imported (sources_of roots) ≡ told → Queries command name a
+      → AnswersImported files command read.tree (schema_files read.tree) told a → AnswersImported others command read.tree (schema_files read.tree) told a
+  imported_moves command name read roots (declares schemas) a held e f h =
+      named_moves command schemas (query_named schemas read.tree) a (λ core n. f schemas core (record { read = read; imports = record { roots = roots; held = held; imports = e }; named = n })) h
+  imported_moves command name read roots (breaks rule file construct) a held e f h = h
 
-  parsed_moves : (command : Command) (bytes : List ℕ) (p : Parsing) (a : Answer) → Parses bytes p → Queries command bytes a → AnswersParsed files command p a → AnswersParsed others command p a
-  parsed_moves command bytes (parsed tree) a p f h = built_moves command bytes tree (unbuilt_query tree) a p refl f h
-  parsed_moves command bytes (refused rule place) a p f h = h
+  -- what the schema files of a tree are loaded for
+  abbrev Trees : List ℕ → Type 0
+  Trees name = (read : HoldsSyntax files name) → (loads : List (List ℕ)) × DocumentsLoaded files (schema_files read.tree) loads × AgreeOn loads files others
 
-  query_moves : (command : Command) (bytes : List ℕ) (short : Bool) (a c : Answer) → nat_le (length bytes) 16777216 ≡ short → (length bytes ≤ 16777216 → Queries command bytes a) → MatchBool short (AnswersBytes files command bytes a) (a ≡ c)
+  schemas_move : (command : Command) (name : List ℕ) (read : HoldsSyntax files name) (a : Answer) → Trees name → Queries command name a → AnswersSchemas files command read.tree a → AnswersSchemas others command read.tree a
+  schemas_move command name read a trees f h =
+      let l = trees read in
+      files_move status.Schema (schema_files read.tree) l.0 [] (λ roots next. AnswersImported files command read.tree (schema_files read.tree) (imported (sources_of roots)) next)
+      (λ roots next. AnswersImported others command read.tree (schema_files read.tree) (imported (sources_of roots)) next) a l.1 l.2
+      (λ roots held k. imported_moves command name read roots (imported (sources_of roots)) a held refl f k) h
+
+  built_moves : (command : Command) (name bytes : List ℕ) (tree : SyntaxQuery) (unbuilt : Option Place) (a : Answer) → file_of files name ≡ Some bytes → length bytes ≤ 16777216 → Parses bytes (parsed tree) → unbuilt_query tree ≡ unbuilt → Trees name → Queries command name a
+      → AnswersBuilt files command tree unbuilt a → AnswersBuilt others command tree unbuilt a
+  built_moves command name bytes tree None a held within p b trees f h =
+      schemas_move command name (record { tree = tree; bytes = bytes; held = held; within = within; query = record { parses = p; built = b } }) a trees f h
+  built_moves command name bytes tree (Some place) a held within p b trees f h = h
+
+  parsed_moves : (command : Command) (name bytes : List ℕ) (p : Parsing) (a : Answer) → file_of files name ≡ Some bytes → length bytes ≤ 16777216 → Parses bytes p → Trees name → Queries command name a → AnswersParsed files command p a → AnswersParsed others command p a
+  parsed_moves command name bytes (parsed tree) a held within p trees f h = built_moves command name bytes tree (unbuilt_query tree) a held within p refl trees f h
+  parsed_moves command name bytes (refused rule place) a held within p trees f h = h
+
+  query_moves : (command : Command) (name bytes : List ℕ) (short : Bool) (a c : Answer) → file_of files name ≡ Some bytes → nat_le (length bytes) 16777216 ≡ short → Trees name → Queries command name a → MatchBool short (AnswersBytes files command bytes a) (a ≡ c)
       → MatchBool short (AnswersBytes others command bytes a) (a ≡ c)
-  query_moves command bytes true a c e f h = (h.0, h.1, parsed_moves command bytes h.0 a h.1 (f (leb-true (length bytes) 16777216 e)) h.2)
-  query_moves command bytes false a c e f h = h
+  query_moves command name bytes true a c held e trees f h = (h.0, h.1, parsed_moves command name bytes h.0 a held (leb-true (length bytes) 16777216 e) h.1 trees f h.2)
+  query_moves command name bytes false a c held e trees f h = h
 
-  held_moves : (command : Command) (held : Option (List ℕ)) (a : Answer) → ((bytes : List ℕ) → held ≡ Some bytes → length bytes ≤ 16777216 → Queries command bytes a) → AnswersFile files command held a → AnswersFile others command held a
-  held_moves command None a f h = h
-  held_moves command (Some bytes) a f h = query_moves command bytes (nat_le (length bytes) 16777216) a (refuses status.Query (code_line GLXS0001)) refl (f bytes refl) h
+  held_moves : (command : Command) (name : List ℕ) (held : Option (List ℕ)) (a : Answer) → file_of files name ≡ held → Trees name → Queries command name a → AnswersFile files command held a → AnswersFile others command held a
+  held_moves command name None a e trees f h = h
+  held_moves command name (Some bytes) a e trees f h = query_moves command name bytes (nat_le (length bytes) 16777216) a (refuses status.Query (code_line GLXS0001)) e refl trees f h
 
-  query_file_moves : (command : Command) (a : Answer) → file_of files (query_file command) ≡ file_of others (query_file command)
-      → ((core : Core) → HoldsQuery files (query_file command) core → Types' command core (query_judged no_declarations core) a) → AnswersCommand files (Some command) a → AnswersCommand others (Some command) a
-  query_file_moves command a same f h =
-      subst (λ (o : Option (List ℕ)). AnswersFile others command o a) same
-      (held_moves command (file_of files (query_file command)) a (λ bytes held within core q. f core (record { bytes = bytes; held = held; within = within; query = q })) h)
+  query_file_moves : (command : Command) (a : Answer) → file_of files (query_file command) ≡ file_of others (query_file command) → Trees (query_file command) → Queries command (query_file command) a → AnswersCommand files (Some command) a → AnswersCommand others (Some command) a
+  query_file_moves command a same trees f h =
+      subst (λ (o : Option (List ℕ)). AnswersFile others command o a) same (held_moves command (query_file command) (file_of files (query_file command)) a refl trees f h)
 
   -- ---- the commands
 
+  agree_on_front : (front rest : List (List ℕ)) → AgreeOn (front ++ rest) files others → AgreeOn front files others
+  agree_on_front [] rest h = tt
+  agree_on_front (name ∷ front) rest h = (h.0, agree_on_front front rest h.1)
+
+  agree_behind : (front rest : List (List ℕ)) → AgreeOn (front ++ rest) files others → AgreeOn rest files others
+  agree_behind [] rest h = h
+  agree_behind (name ∷ front) rest h = agree_behind front rest h.1
+
+  -- the loads of a query: its file, and the schema files of its tree
+  first_same : (name : List ℕ) (loads : List (List ℕ)) → QueryLoads files name loads → AgreeOn loads files others → file_of files name ≡ file_of others name
+  first_same name loads (inl l) agree = (subst (λ (ns : List (List ℕ)). AgreeOn ns files others) l.1.2 agree).0
+  first_same name loads (inr l) agree = (subst (λ (ns : List (List ℕ)). AgreeOn ns files others) l.1 agree).0
+
+  trees_loaded : (name : List ℕ) (loads : List (List ℕ)) → QueryLoads files name loads → AgreeOn loads files others → Trees name
+  trees_loaded name loads (inl l) agree read = (
+    l.1.0,
+    subst (λ (tree : SyntaxQuery). DocumentsLoaded files (schema_files tree) l.1.0) (one_tree files name l.0 read) l.1.1,
+    (subst (λ (ns : List (List ℕ)). AgreeOn ns files others) l.1.2 agree).1,
+  )
+  trees_loaded name loads (inr l) agree read = absurd (l.0 read)
+
+  behind_moves : (name : List ℕ) (bindings loads : List (List ℕ)) (a : Answer) → BehindQuery files name bindings loads → AgreeOn loads files others → Queries (run_file name bindings) name a
+  behind_moves name bindings loads a (inl l) agree schemas core q t j k =
+      let one = one_query files name l.0.schemas schemas l.0.core core l.0.query q in
+      let typing = one_typing l.0.schemas schemas l.0.core core l.0.typing t one.0 one.1 l.0.judgement j in
+      let same_schemas = subst (λ (s : SchemaSet). RunLoads files bindings s core t loads) one.0
+      (subst (λ (c : Core). RunLoads files bindings l.0.schemas c t loads) one.1 (subst (λ (u : TypedCore). RunLoads files bindings l.0.schemas l.0.core u loads) typing l.1)) in
+      run_moves schemas core t bindings loads a same_schemas agree k
+  behind_moves name bindings loads a (inr l) agree schemas core q t j k = absurd (l.0 (record { schemas = schemas; core = core; typing = t; query = q; judgement = j }))
+
   command_moves : (command : Command) (loads : List (List ℕ)) (a : Answer) → CommandLoads files command loads → AgreeOn loads files others → AnswersCommand files (Some command) a → AnswersCommand others (Some command) a
   command_moves (check_file name) loads a l agree h =
-      let same = subst (λ (ns : List (List ℕ)). AgreeOn ns files others) l agree in
-      query_file_moves (check_file name) a same.0 (λ core q t j k. k) h
-  command_moves (run_file name bindings) loads a (inl l) agree h =
-      let same = subst (λ (ns : List (List ℕ)). AgreeOn ns files others) l.1.2 agree in
-      query_file_moves (run_file name bindings) a same.0
-      (λ core q t j k.
-      let one = one_core files name l.0.core core l.0.query q in
-      let typing = one_typing l.0.core core l.0.typing t one l.0.judgement j in
-      run_moves core t bindings l.1.0 a (subst (λ (c : Core). RunLoads files bindings c t l.1.0) one (subst (λ (u : TypedCore). RunLoads files bindings l.0.core u l.1.0) typing l.1.1)) same.1 k) h
-  command_moves (run_file name bindings) loads a (inr l) agree h =
-      let same = subst (λ (ns : List (List ℕ)). AgreeOn ns files others) l.1 agree in
-      query_file_moves (run_file name bindings) a same.0 (λ core q t j k. absurd (l.0 (record { core = core; typing = t; query = q; judgement = j }))) h
+      query_file_moves (check_file name) a (first_same name loads l agree) (trees_loaded name loads l agree) (λ schemas core q t j k. k) h
+  command_moves (run_file name bindings) loads a l agree h =
+      let all = subst (λ (ns : List (List ℕ)). AgreeOn ns files others) l.4 agree in
+      let front = agree_on_front l.0 l.1 all in
+      query_file_moves (run_file name bindings) a (first_same name l.0 l.2 front) (trees_loaded name l.0 l.2 front) (behind_moves name bindings l.1 a l.3 (agree_behind l.0 l.1 all)) h
 
   asked_moves : (asked : Option Command) (loads : List (List ℕ)) (a : Answer) → LoadsAsked files asked loads → AgreeOn loads files others → AnswersCommand files asked a → AnswersCommand others asked a
   asked_moves None loads a l agree h = h

@@ -12,7 +12,7 @@ use Rattle.gx_processor.specs.declared.status.Status.{Status}
 use Rattle.gx_processor.specs.declared.status.Status.TheVariants.{Done, Usage, Query, Schema, Document, Dynamic, ReadFault, WriteFault, Memory}
 use Rattle.gx_processor.specs.declared.reply.Reply.{Reply}
 use Rattle.gx_processor.specs.declared.reply.Reply.TheVariants.{Output, Fault, Starved}
-use Rattle.gx_processor.specs.Command.{Command, command_of, texts_to_compare, AskToRun}
+use Rattle.gx_processor.specs.Command.{Command, texts_to_compare, AskToRun}
 use Rattle.gx_processor.specs.FaultLines.{line, read_fault_line, write_fault_line, code_line}
 use Rattle.gx_processor.specs.Answer.{Answer, writes, refuses, status_of, output_of, AnswersBytes, Answers}
 use Rattle.gx_processor.specs.Ending.{Put, PutOutput, Ends}
@@ -120,7 +120,7 @@ form_output run Usage line form u = u
 form_output run Query line form u = u
 form_output run Dynamic line form u = u
 form_output run Done line form u = absurd form
-form_output run Schema line form u = absurd form
+form_output run Schema line form u = u
 form_output run Document line form u = u
 form_output run ReadFault line form u = absurd form
 form_output run WriteFault line form u = absurd form
@@ -143,7 +143,7 @@ form_line run Usage line form t = (line, form, t)
 form_line run Query line form t = (line, form, t)
 form_line run Dynamic line form t = (form.1.0, subst (λ (xs : List ℕ). Took run.err xs) form.1.1 t)
 form_line run Done line form t = absurd form
-form_line run Schema line form t = absurd form
+form_line run Schema line form t = (line, form, t)
 form_line run Document line form t = (line, form.1, t)
 form_line run ReadFault line form t = absurd form
 form_line run WriteFault line form t = absurd form
@@ -189,7 +189,7 @@ form_cause run Usage line form = (line, form)
 form_cause run Query line form = tt
 form_cause run Dynamic line form = form.0
 form_cause run Done line form = absurd form
-form_cause run Schema line form = absurd form
+form_cause run Schema line form = tt
 form_cause run Document line form = form.0
 form_cause run ReadFault line form = absurd form
 form_cause run WriteFault line form = absurd form
@@ -241,7 +241,7 @@ form_certain words Usage line form = tt
 form_certain words Query line form = tt
 form_certain words Dynamic line form = tt
 form_certain words Done line form = absurd form
-form_certain words Schema line form = absurd form
+form_certain words Schema line form = tt
 form_certain words Document line form = tt
 form_certain words ReadFault line form = absurd form
 form_certain words WriteFault line form = absurd form

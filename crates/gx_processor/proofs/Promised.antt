@@ -1,7 +1,8 @@
 -- All promises of a run, from what the parts of the public call show of it.
 use Rattle.std.proofs.Common.{ℕ, List, subst}
 use Rattle.gx_documents.specs.Laws.{DocumentsAreHonest}
-use Rattle.gx_normal.specs.Externals.{NamedQueriesHaveUntypedDocuments}
+use Rattle.gx_schema.specs.Laws.{ImportsAreSchemaSets}
+use Rattle.gx_processor.specs.UntypedDocuments.{NamedQueriesHaveUntypedDocuments}
 use Rattle.gx_processor.specs.Command.{command_of}
 use Rattle.gx_processor.specs.Loading.{LoadsAsked, LoadsOf, AreFirstOf}
 use Rattle.gx_processor.specs.Replies.{ReplyLoads}
@@ -23,6 +24,7 @@ pub record Laws : Type 0 where
   pub names : QueryRejectionNamesFailure
   pub honest : DocumentsAreHonest
   pub untyped : NamedQueriesHaveUntypedDocuments
+  pub imports : ImportsAreSchemaSets
 
 -- the loads
 loads_promised : (run : Run) (reply : Reply) → Shows run reply → LoadsSteps run
@@ -63,8 +65,8 @@ promised run reply laws v =
       too_long = told_so told (λ files. IsCertain run.status → IsAnswered run files) _ (λ files a long certain. too_long_refused run files (a certain) long) answer;
       complete = told_so told (λ files. IsFaultless run → AnsweredOrStarved run files) _ (λ files a bytes h f. complete_at run files bytes h (a f)) faultless;
       compared = compared_promised run course;
-      headline = told_so told (λ files. IsFaultless run → AnsweredOrStarved run files) _ (λ files a f. typed_run run files kept laws.untyped (a f)) faultless;
+      headline = told_so told (λ files. IsFaultless run → AnsweredOrStarved run files) _ (λ files a f. typed_run run files kept laws.imports laws.untyped (a f)) faultless;
       checked = told_so told (λ files. IsFaultless run → AnsweredOrStarved run files) _ (λ files a f. typed_check run files (a f)) faultless;
-      as_checked = told_so told (λ files. IsFaultless run → AnsweredOrStarved run files) _ (λ files a f. run_as_checked run files (typed_run run files kept laws.untyped (a f))) faultless;
+      as_checked = told_so told (λ files. IsFaultless run → AnsweredOrStarved run files) _ (λ files a f. run_as_checked run files (typed_run run files kept laws.imports laws.untyped (a f))) faultless;
       rejected = told_so told (λ files. IsFaultless run → AnsweredOrStarved run files) _ (λ files a f. rejected_query run files laws.names (a f)) faultless;
     }

@@ -1,42 +1,51 @@
 -- The steps of an answer, one behind another.
-use Rattle.std.proofs.Common.{◌≡◌, ℕ, ◌≤◌, Bool, true, List, [], ◌∷◌, length, Option, Some, None, IfSome, Result, Ok, Err, IfOk, IfErr, String, string_bytes, refl, sym, ap, ◌∙◌, subst, nat_le}
+use Rattle.std.proofs.Common.{◌≡◌, ℕ, ◌≤◌, Bool, true, false, List, [], ◌∷◌, length, Option, Some, None, IfSome, Result, Ok, Err, IfOk, IfErr, String, string_bytes, refl, sym, ap, ◌∙◌, subst, nat_le, arith}
 use Rattle.std.specs.Bool.{MatchBool}
 use Rattle.std.proofs.lemmas.Bool.{le-leb}
 use Rattle.gx_base.specs.declared.code.Code.{Code}
 use Rattle.gx_base.specs.declared.code.Code.TheVariants.{GLXS0001}
-use Rattle.gx_types.specs.SchemaSet.{no_declarations}
+use Rattle.gx_types.specs.SchemaSet.{SchemaSet}
+use Rattle.gx_schema.specs.Import.{Imported, imported}
 use Rattle.gx_core.specs.declared.expression.Core.{Core}
 use Rattle.gx_core.specs.declared.typed.TypedCore.{TypedCore}
-use Rattle.gx_core.specs.QueryMeaning.{plain_query}
 use Rattle.gx_static.specs.QueryJudgement.{QueryJudgement, query_typed, query_judged}
 use Rattle.gx_io.specs.Load.{file_of}
 use Rattle.gx_ast.specs.declared.query.Query.{Query as SyntaxQuery}
 use Rattle.gx_base.specs.declared.place.Place.{Place}
-use Rattle.gx_syntax.specs.Query.{Parses, parsed}
+use Rattle.gx_syntax.specs.Query.{Parsing, Parses, parsed, refused}
+use Rattle.gx_syntax.specs.declared.refusal.SyntaxRule.{SyntaxRule}
+use Rattle.gx_syntax.proofs.OneParsing.{one_parsing}
 use Rattle.gx_normal.specs.Unbuilt.{unbuilt_query}
 use Rattle.gx_processor.specs.declared.refusal.Refusal.{Refusal}
-use Rattle.gx_processor.specs.declared.refusal.Refusal.TheVariants.{ReadFault, TooLong, Query, Binding, Document, Dynamic, Memory}
+use Rattle.gx_processor.specs.declared.refusal.Refusal.TheVariants.{ReadFault, TooLong, Query, SchemaFile, Schema, Binding, Document, Dynamic, Memory}
 use Rattle.gx_documents.specs.declared.documents.DocumentFault.TheVariants as faults
 use Rattle.gx_documents.specs.Documents.{Files}
 use Rattle.gx_processor.specs.declared.status.Status.TheVariants as status
 use Rattle.gx_processor.specs.Command.{Command, query_file}
 use Rattle.gx_processor.specs.FaultLines.{code_line, placed_line}
 use Rattle.gx_names.specs.declared.refusal.Refusal.{Refusal as NamedRefusal}
-use Rattle.gx_names.specs.Stacked.{first}
+use Rattle.gx_resolved.specs.Stacked.{first}
 use Rattle.gx_names.specs.Refusals.{query_refusals}
 use Rattle.gx_names.specs.Resolution.{query_resolved}
-use Rattle.gx_normal.specs.Normalisation.{NamedQuery, named_query, unknown_name, unless_refused, query_core, query_named}
-use Rattle.gx_processor.specs.Query.{HoldsQuery}
-use Rattle.gx_processor.specs.Answer.{Answer, writes, refuses, AnswersTyped, AnswersJudged, AnswersNamed, AnswersBuilt, AnswersBytes, AnswersFile, AnswersCommand}
-use Rattle.gx_normal.specs.Externals.{ExternalsAreUntyped}
+use Rattle.gx_normal.specs.Normalisation.{query_core}
+use Rattle.gx_processor.specs.NamedQuery.{NamedQuery, named_query, unknown_name, unless_refused, query_named}
+use Rattle.gx_processor.specs.Query.{IsTreeOf, HoldsSyntax, ImportsSchemas, HoldsQuery}
+use Rattle.gx_processor.specs.QueryReplies.{AreOfNone, IsNotBuilt, HoldsThisTree}
+use Rattle.gx_processor.specs.SchemaFiles.{schema_files, sources_of}
+use Rattle.gx_processor.specs.Answer.{Answer, writes, refuses, AnswersTyped, AnswersJudged, AnswersNamed, AnswersImported, AnswersSchemas, AnswersBuilt, AnswersBytes, AnswersFile, AnswersCommand}
 use Rattle.gx_processor.specs.Replies.{RefusesSo}
 use Rattle.gx_processor.specs.RunReplies.{AnswersSo}
+use Rattle.gx_processor.proofs.LoadLemmas.{roots_answer}
 
 -- what follows from an answer follows from a refusal that says it
 pub refuses_through : (r : Refusal) (P Q : Answer → Type 0) → ((a : Answer) → P a → Q a) → RefusesSo r P → RefusesSo r Q
 refuses_through ReadFault P Q f h = tt
 refuses_through TooLong P Q f h = f _ h
 refuses_through (Query code place) P Q f h = f _ h
+refuses_through (SchemaFile file faults.Unread) P Q f h = tt
+refuses_through (SchemaFile file faults.TooLong) P Q f h = f _ h
+refuses_through (SchemaFile file (faults.Refused rule place)) P Q f h = f _ h
+refuses_through (Schema rule file name) P Q f h = f _ h
 refuses_through (Binding fault) P Q f h = f _ h
 refuses_through (Document file faults.Unread) P Q f h = tt
 refuses_through (Document file faults.TooLong) P Q f h = f _ h
@@ -45,17 +54,21 @@ refuses_through (Dynamic code) P Q f h = f _ h
 refuses_through Memory P Q f h = tt
 
 -- each step is that of the whole where the steps before it pass
-judged_answers : (files : Files) (command : Command) (core : Core) (t : TypedCore) (a : Answer) → query_judged no_declarations core ≡ query_typed t → AnswersTyped files command core t a → AnswersJudged files command core (query_judged no_declarations core) a
-judged_answers files command core t a j h = subst (λ (k : QueryJudgement). AnswersJudged files command core k a) (sym j) h
+judged_answers : (files : Files) (command : Command) (schemas : SchemaSet) (core : Core) (t : TypedCore) (a : Answer) → query_judged schemas core ≡ query_typed t → AnswersTyped files command schemas core t a
+    → AnswersJudged files command schemas core (query_judged schemas core) a
+judged_answers files command schemas core t a j h = subst (λ (k : QueryJudgement). AnswersJudged files command schemas core k a) (sym j) h
 
-named_answers : (files : Files) (command : Command) (n : NamedQuery) (core : Core) (a : Answer) → n ≡ named_query core → AnswersJudged files command core (query_judged no_declarations core) a → AnswersNamed files command n a
-named_answers files command n core a e h = subst (λ (m : NamedQuery). AnswersNamed files command m a) (sym e) h
+named_answers : (files : Files) (command : Command) (schemas : SchemaSet) (n : NamedQuery) (core : Core) (a : Answer) → n ≡ named_query core → AnswersJudged files command schemas core (query_judged schemas core) a → AnswersNamed files command schemas n a
+named_answers files command schemas n core a e h = subst (λ (m : NamedQuery). AnswersNamed files command schemas m a) (sym e) h
 
-built_answers : (files : Files) (command : Command) (tree : SyntaxQuery) (unbuilt : Option Place) (a : Answer) → unbuilt ≡ None → AnswersNamed files command (query_named no_declarations tree) a → AnswersBuilt files command tree unbuilt a
+-- the schema files of a tree hold documents, which declare these schemas
+pub schemas_answer : (files : Files) (command : Command) (tree : SyntaxQuery) (schemas : SchemaSet) (a : Answer) → ImportsSchemas files tree schemas → AnswersNamed files command schemas (query_named schemas tree) a → AnswersSchemas files command tree a
+schemas_answer files command tree schemas a i h =
+    roots_answer status.Schema files (schema_files tree) i.roots [] (λ roots next. AnswersImported files command tree (schema_files tree) (imported (sources_of roots)) next) a i.held
+    (subst (λ (told : Imported). AnswersImported files command tree (schema_files tree) told a) (sym i.imports) h)
+
+built_answers : (files : Files) (command : Command) (tree : SyntaxQuery) (unbuilt : Option Place) (a : Answer) → unbuilt ≡ None → AnswersSchemas files command tree a → AnswersBuilt files command tree unbuilt a
 built_answers files command tree unbuilt a e h = subst (λ (o : Option Place). AnswersBuilt files command tree o a) (sym e) h
-
-tree_answers : (files : Files) (command : Command) (bytes : List ℕ) (tree : SyntaxQuery) (a : Answer) → Parses bytes (parsed tree) → unbuilt_query tree ≡ None → AnswersNamed files command (query_named no_declarations tree) a → AnswersBytes files command bytes a
-tree_answers files command bytes tree a p b h = (parsed tree, p, built_answers files command tree (unbuilt_query tree) a b h)
 
 short_answers : (files : Files) (command : Command) (short : Bool) (bytes : List ℕ) (a b : Answer) → short ≡ true → AnswersBytes files command bytes a → MatchBool short (AnswersBytes files command bytes a) (a ≡ b)
 short_answers files command short bytes a b e h = subst (λ (s : Bool). MatchBool s (AnswersBytes files command bytes a) (a ≡ b)) (sym e) h
@@ -65,12 +78,18 @@ file_answers files command file bytes a held within h =
     subst (λ (o : Option (List ℕ)). AnswersFile files command o a) (sym held)
     (short_answers files command (nat_le (length bytes) 16777216) bytes a (refuses status.Query (code_line GLXS0001)) (le-leb (length bytes) 16777216 within) h)
 
+-- a file that holds a query, all of whose productions are built
+pub tree_in_file : (files : Files) (name : List ℕ) (command : Command) (read : HoldsSyntax files name) (a : Answer) → AnswersSchemas files command read.tree a → AnswersFile files command (file_of files name) a
+tree_in_file files name command read a h =
+    file_answers files command (file_of files name) read.bytes a read.held read.within
+    (parsed read.tree, read.query.parses, built_answers files command read.tree (unbuilt_query read.tree) a read.query.built h)
+
 -- a file that holds a query that has a type
-pub query_answers : (files : Files) (command : Command) (core : Core) (t : TypedCore) (a : Answer) → HoldsQuery files (query_file command) core → query_judged no_declarations core ≡ query_typed t → AnswersTyped files command core t a → AnswersCommand files (Some command) a
-query_answers files command core t a q j h =
-    file_answers files command (file_of files (query_file command)) q.bytes a q.held q.within
-    (tree_answers files command q.bytes q.query.tree a q.query.parses q.query.built
-    (named_answers files command (query_named no_declarations q.query.tree) core a q.query.named (judged_answers files command core t a j h)))
+pub query_answers : (files : Files) (command : Command) (schemas : SchemaSet) (core : Core) (t : TypedCore) (a : Answer) → HoldsQuery files (query_file command) schemas core → query_judged schemas core ≡ query_typed t → AnswersTyped files command schemas core t a
+    → AnswersCommand files (Some command) a
+query_answers files command schemas core t a q j h =
+    tree_in_file files (query_file command) command q.read a (schemas_answer files command q.read.tree schemas a q.imports
+    (named_answers files command schemas (query_named schemas q.read.tree) core a q.named (judged_answers files command schemas core t a j h)))
 
 -- the refusals of the steps
 pub file_refused : (told : Option Files) (name bytes : List ℕ) (r : Refusal) → IfSome told (λ files. file_of files name ≡ Some bytes) → length bytes ≤ 16777216 → ((files : Files) (command : Command) → RefusesSo r (AnswersBytes files command bytes)) → IfSome told (λ files. (command : Command) → RefusesSo r (AnswersFile files command (file_of files name)))
@@ -78,8 +97,11 @@ file_refused None name bytes r held within h = tt
 file_refused (Some files) name bytes r held within h = λ command.
     refuses_through r (AnswersBytes files command bytes) (AnswersFile files command (file_of files name)) (λ a k. file_answers files command (file_of files name) bytes a held within k) (h files command)
 
-pub tree_refused : (bytes : List ℕ) (tree : SyntaxQuery) (r : Refusal) → Parses bytes (parsed tree) → unbuilt_query tree ≡ None → ((files : Files) (command : Command) → RefusesSo r (AnswersNamed files command (query_named no_declarations tree))) → (files : Files) (command : Command) → RefusesSo r (AnswersBytes files command bytes)
-tree_refused bytes tree r p b h files command = refuses_through r (AnswersNamed files command (query_named no_declarations tree)) (AnswersBytes files command bytes) (λ a k. tree_answers files command bytes tree a p b k) (h files command)
+pub bytes_refused : {V : Type 0} (told : Option Files) (name bytes : List ℕ) (r : Result V Refusal) → IfSome told (λ files. file_of files name ≡ Some bytes) → length bytes ≤ 16777216
+    → IfErr r (λ e. (files : Files) (command : Command) → RefusesSo e (AnswersBytes files command bytes)) → IfSome told (λ files. IfErr r (λ e. (command : Command) → RefusesSo e (AnswersFile files command (file_of files name))))
+bytes_refused None name bytes r held within h = tt
+bytes_refused (Some files) name bytes (Ok v) held within h = tt
+bytes_refused (Some files) name bytes (Err e) held within h = file_refused (Some files) name bytes e held within h
 
 -- a production that is not built is refused where it stands
 pub unbuilt_refused : (bytes : List ℕ) (tree : SyntaxQuery) (r : Refusal) → Parses bytes (parsed tree) → ((files : Files) (command : Command) → RefusesSo r (AnswersBuilt files command tree (unbuilt_query tree))) → (files : Files) (command : Command) → RefusesSo r (AnswersBytes files command bytes)
@@ -94,68 +116,64 @@ pub kept_parses : {E : Type 0} (bytes : List ℕ) (tree : SyntaxQuery) (r : Resu
 kept_parses bytes tree (Ok kept) p e = subst (λ t. Parses bytes (parsed t)) (sym e) p
 kept_parses bytes tree (Err e) p h = tt
 
-pub core_refused : (tree : SyntaxQuery) (core : Core) (r : Refusal) → query_named no_declarations tree ≡ named_query core → ((files : Files) (command : Command) → RefusesSo r (AnswersJudged files command core (query_judged no_declarations core))) → (files : Files) (command : Command) → RefusesSo r (AnswersNamed files command (query_named no_declarations tree))
-core_refused tree core r e h files command =
-    refuses_through r (AnswersJudged files command core (query_judged no_declarations core)) (AnswersNamed files command (query_named no_declarations tree)) (λ a k. named_answers files command (query_named no_declarations tree) core a e k) (h files command)
+-- what is refused has no tree that is built
+abbrev is_parsed : Parsing → Bool
+is_parsed (parsed tree) = true
+is_parsed (refused rule place) = false
 
--- the query that the steps come to
-pub held_query : (told : Option Files) (name bytes : List ℕ) (tree : SyntaxQuery) (core : Core) → IfSome told (λ files. file_of files name ≡ Some bytes) → length bytes ≤ 16777216 → Parses bytes (parsed tree) → unbuilt_query tree ≡ None → query_named no_declarations tree ≡ named_query core → IfSome told (λ files. HoldsQuery files name core)
-held_query None name bytes tree core held within p b e = tt
-held_query (Some files) name bytes tree core held within p b e = record {
-  bytes = bytes;
-  held = held;
-  within = within;
-  query = record { tree = tree; parses = p; built = b; named = e };
-}
+pub not_parsed : (bytes : List ℕ) (rule : SyntaxRule) (place : Place) → Parses bytes (refused rule place) → (tree : SyntaxQuery) → IsTreeOf bytes tree → ⊥
+not_parsed bytes rule place p tree t =
+    let same = ap is_parsed (one_parsing bytes (parsed tree) (refused rule place) t.parses p) in cc
+
+abbrev tree_of_parsing : Parsing → SyntaxQuery → SyntaxQuery
+tree_of_parsing (parsed tree) other = tree
+tree_of_parsing (refused rule place) other = other
+
+pub same_tree : (bytes : List ℕ) (a b : SyntaxQuery) → Parses bytes (parsed a) → Parses bytes (parsed b) → a ≡ b
+same_tree bytes a b p q = ap (λ (x : Parsing). tree_of_parsing x a) (one_parsing bytes (parsed a) (parsed b) p q)
+
+unbuilt_is_none : (bytes : List ℕ) (tree : SyntaxQuery) (e : Refusal) → Parses bytes (parsed tree) → IsNotBuilt tree e → AreOfNone bytes e
+unbuilt_is_none bytes tree (Query code place) p h = λ other t. h (subst (λ (q : SyntaxQuery). unbuilt_query q ≡ None) (same_tree bytes other tree t.parses p) t.built)
+unbuilt_is_none bytes tree ReadFault p h = tt
+unbuilt_is_none bytes tree TooLong p h = absurd h
+unbuilt_is_none bytes tree (SchemaFile file fault) p h = tt
+unbuilt_is_none bytes tree (Schema rule file name) p h = tt
+unbuilt_is_none bytes tree (Binding fault) p h = tt
+unbuilt_is_none bytes tree (Document file fault) p h = tt
+unbuilt_is_none bytes tree (Dynamic code) p h = tt
+unbuilt_is_none bytes tree Memory p h = tt
+
+pub not_built : {V : Type 0} (bytes : List ℕ) (tree : SyntaxQuery) (r : Result V Refusal) → Parses bytes (parsed tree) → IfErr r (IsNotBuilt tree) → IfErr r (AreOfNone bytes)
+not_built bytes tree (Ok v) p h = tt
+not_built bytes tree (Err e) p h = unbuilt_is_none bytes tree e p h
+
+pub held_tree : {E : Type 0} (told : Option Files) (name bytes : List ℕ) (r : Result SyntaxQuery E) → IfSome told (λ files. file_of files name ≡ Some bytes) → length bytes ≤ 16777216 → IfOk r (λ tree. Parses bytes (parsed tree)) → IfOk r (λ tree. unbuilt_query tree ≡ None)
+    → IfSome told (λ files. IfOk r (HoldsThisTree files name))
+held_tree None name bytes r held within p b = tt
+held_tree (Some files) name bytes (Ok tree) held within p b = (record { tree = tree; bytes = bytes; held = held; within = within; query = record { parses = p; built = b } }, refl)
+held_tree (Some files) name bytes (Err e) held within p b = tt
 
 -- what a command writes of a query that has a type, and how it refuses
-pub typed_writes : (told : Option Files) (command : Command) (core : Core) (t : TypedCore) (bytes : List ℕ) → IfSome told (λ files. HoldsQuery files (query_file command) core) → query_judged no_declarations core ≡ query_typed t
-    → ((files : Files) → AnswersTyped files command core t (writes bytes)) → IfSome told (λ files. AnswersCommand files (Some command) (writes bytes))
-typed_writes None command core t bytes q j h = tt
-typed_writes (Some files) command core t bytes q j h = query_answers files command core t (writes bytes) q j (h files)
+pub typed_output : {Z : Type 0} (told : Option Files) (command : Command) (schemas : SchemaSet) (core : Core) (t : TypedCore) (r : Result (String Z) Refusal) → IfSome told (λ files. HoldsQuery files (query_file command) schemas core) → query_judged schemas core ≡ query_typed t
+    → IfSome told (λ files. AnswersSo (AnswersTyped files command schemas core t) r) → IfSome told (λ files. IfOk r (λ text. AnswersCommand files (Some command) (writes (string_bytes text))))
+typed_output None command schemas core t r q j h = tt
+typed_output (Some files) command schemas core t (Ok text) q j h = query_answers files command schemas core t (writes (string_bytes text)) q j h
+typed_output (Some files) command schemas core t (Err e) q j h = tt
 
-pub typed_output : {Z : Type 0} (told : Option Files) (command : Command) (core : Core) (t : TypedCore) (r : Result (String Z) Refusal) → IfSome told (λ files. HoldsQuery files (query_file command) core) → query_judged no_declarations core ≡ query_typed t
-    → IfSome told (λ files. AnswersSo (AnswersTyped files command core t) r) → IfSome told (λ files. IfOk r (λ text. AnswersCommand files (Some command) (writes (string_bytes text))))
-typed_output None command core t r q j h = tt
-typed_output (Some files) command core t (Ok text) q j h = query_answers files command core t (writes (string_bytes text)) q j h
-typed_output (Some files) command core t (Err e) q j h = tt
-
-pub typed_refused : {Z : Type 0} (told : Option Files) (command : Command) (core : Core) (t : TypedCore) (r : Result (String Z) Refusal) → IfSome told (λ files. HoldsQuery files (query_file command) core) → query_judged no_declarations core ≡ query_typed t
-    → IfSome told (λ files. AnswersSo (AnswersTyped files command core t) r) → IfSome told (λ files. IfErr r (λ e. RefusesSo e (AnswersCommand files (Some command))))
-typed_refused None command core t r q j h = tt
-typed_refused (Some files) command core t (Ok v) q j h = tt
-typed_refused (Some files) command core t (Err e) q j h = refuses_through e (AnswersTyped files command core t) (AnswersCommand files (Some command)) (λ a k. query_answers files command core t a q j k) h
+pub typed_refused : {Z : Type 0} (told : Option Files) (command : Command) (schemas : SchemaSet) (core : Core) (t : TypedCore) (r : Result (String Z) Refusal) → IfSome told (λ files. HoldsQuery files (query_file command) schemas core) → query_judged schemas core ≡ query_typed t
+    → IfSome told (λ files. AnswersSo (AnswersTyped files command schemas core t) r) → IfSome told (λ files. IfErr r (λ e. RefusesSo e (AnswersCommand files (Some command))))
+typed_refused None command schemas core t r q j h = tt
+typed_refused (Some files) command schemas core t (Ok v) q j h = tt
+typed_refused (Some files) command schemas core t (Err e) q j h = refuses_through e (AnswersTyped files command schemas core t) (AnswersCommand files (Some command)) (λ a k. query_answers files command schemas core t a q j k) h
 
 -- the refusal of the query alone
 pub query_refused : (told : Option Files) (command : Command) (e : Refusal) → IfSome told (λ files. (asked : Command) → RefusesSo e (AnswersFile files asked (file_of files (query_file command)))) → IfSome told (λ files. RefusesSo e (AnswersCommand files (Some command)))
 query_refused None command e h = tt
 query_refused (Some files) command e h = h command
 
--- the query that typing comes to
-pub held_typed : {E : Type 0} (told : Option Files) (name : List ℕ) (core : Core) (r : Result TypedCore E) → IfSome told (λ files. HoldsQuery files name core) → IfOk r (λ t. plain_query t ≡ core) → IfSome told (λ files. IfOk r (λ t. HoldsQuery files name (plain_query t)))
-held_typed None name core r q h = tt
-held_typed (Some files) name core (Ok t) q h = subst (λ (e : Core). HoldsQuery files name e) (sym h) q
-held_typed (Some files) name core (Err e) q h = tt
-
-pub typed_again : {E : Type 0} (core : Core) (r : Result TypedCore E) → IfOk r (λ t. query_judged no_declarations core ≡ query_typed t) → IfOk r (λ t. plain_query t ≡ core) → IfOk r (λ t. query_judged no_declarations (plain_query t) ≡ query_typed t)
-typed_again core (Ok t) j h = subst (λ (e : Core). query_judged no_declarations e ≡ query_typed t) (sym h) j
-typed_again core (Err e) j h = tt
-
-pub refused_typed : {V : Type 0} (told : Option Files) (name : List ℕ) (core : Core) (r : Result V Refusal) → IfErr r (λ e. (files : Files) (command : Command) → RefusesSo e (AnswersJudged files command core (query_judged no_declarations core)))
-    → ((e : Refusal) → ((files : Files) (command : Command) → RefusesSo e (AnswersJudged files command core (query_judged no_declarations core))) → IfSome told (λ files. (command : Command) → RefusesSo e (AnswersFile files command (file_of files name))))
-    → IfSome told (λ files. IfErr r (λ e. (command : Command) → RefusesSo e (AnswersFile files command (file_of files name))))
-refused_typed None name core r h f = tt
-refused_typed (Some files) name core (Ok v) h f = tt
-refused_typed (Some files) name core (Err e) h f = f e h
-
--- the query with its types has the same external variables
-pub untyped_again : (core : Core) (r : Result TypedCore Refusal) → ExternalsAreUntyped core.declarations → IfOk r (λ t. plain_query t ≡ core) → IfOk r (λ t. ExternalsAreUntyped (plain_query t).declarations)
-untyped_again core (Ok t) h same = subst (λ (c : Core). ExternalsAreUntyped c.declarations) (sym same) h
-untyped_again core (Err e) h same = tt
-
 -- the Core of the resolved query, where nothing is refused
-pub named_so : (tree : SyntaxQuery) (core : Core) → query_refusals no_declarations tree ≡ [] → core ≡ query_core (query_resolved no_declarations tree) → query_named no_declarations tree ≡ named_query core
-named_so tree core h e = ap (λ (refusals : List NamedRefusal). unless_refused refusals (query_core (query_resolved no_declarations tree))) h ∙ ap named_query (sym e)
+pub named_so : (schemas : SchemaSet) (tree : SyntaxQuery) (core : Core) → query_refusals schemas tree ≡ [] → core ≡ query_core (query_resolved schemas tree) → query_named schemas tree ≡ named_query core
+named_so schemas tree core h e = ap (λ (refusals : List NamedRefusal). unless_refused refusals (query_core (query_resolved schemas tree))) h ∙ ap named_query (sym e)
 
 refused_among : (refusals : List NamedRefusal) (core : Core) (code : Code) (place : Place) → first refusals ≡ Some (record { code = code; place = place })
     → unless_refused refusals core ≡ unknown_name place code
@@ -164,8 +182,8 @@ refused_among (r ∷ rs) core code place h =
     let same : r ≡ record { code = code; place = place } = cc in ap (λ (x : NamedRefusal). unknown_name x.place x.code) same
 
 -- the first refusal of the names
-pub refused_so : (tree : SyntaxQuery) (code : Code) (place : Place) (files : Files) (command : Command) → first (query_refusals no_declarations tree) ≡ Some (record { code = code; place = place })
-    → AnswersNamed files command (query_named no_declarations tree) (refuses status.Query (placed_line code place))
-refused_so tree code place files command h =
-    subst (λ (n : NamedQuery). AnswersNamed files command n (refuses status.Query (placed_line code place)))
-    (sym (refused_among (query_refusals no_declarations tree) (query_core (query_resolved no_declarations tree)) code place h)) refl
+pub refused_so : (schemas : SchemaSet) (tree : SyntaxQuery) (code : Code) (place : Place) (files : Files) (command : Command) → first (query_refusals schemas tree) ≡ Some (record { code = code; place = place })
+    → AnswersNamed files command schemas (query_named schemas tree) (refuses status.Query (placed_line code place))
+refused_so schemas tree code place files command h =
+    subst (λ (n : NamedQuery). AnswersNamed files command schemas n (refuses status.Query (placed_line code place)))
+    (sym (refused_among (query_refusals schemas tree) (query_core (query_resolved schemas tree)) code place h)) refl

@@ -1,7 +1,6 @@
 -- What a reply says of the words.
-use Rattle.std.proofs.Common.{◌≡◌, ◌≢◌, ℕ, List, [], ◌∷◌, ◌⊎◌, inl, inr, Option, None, Some, IfSome, refl, sym, ap, subst, ◌∙◌, string_bytes}
+use Rattle.std.proofs.Common.{◌≡◌, ℕ, List, inl, inr, Option, None, Some, IfSome, refl, sym, ap, subst, ◌∙◌, string_bytes}
 use Rattle.std.specs.Str.{chars}
-use Rattle.gx_subtype.specs.Comparison.{IsNoType, IsAnswerText}
 use Rattle.gx_processor.specs.declared.status.Status.TheVariants as status
 use Rattle.gx_processor.specs.declared.reply.Reply.{Reply}
 use Rattle.gx_processor.specs.declared.reply.Reply.TheVariants.{Output, Fault, Starved}
@@ -14,8 +13,8 @@ use Rattle.gx_processor.specs.declared.status.Status.{Status}
 use Rattle.gx_processor.specs.declared.refusal.Refusal.{Refusal}
 use Rattle.gx_processor.specs.declared.refusal.Refusal.TheVariants as refusal
 use Rattle.gx_processor.specs.Command.{Command, query_file, command_of, texts_to_compare, IsRun}
-use Rattle.gx_processor.specs.Replies.{RefusesSo, HasCause, RepliesSo, IsMisuse, IsAsked, IsWellFormed, IsUsageOrStarved, IsFaultOrStarved, IsReplyOf, IsQueryForm, IsQueryReply, IsComparison}
-use Rattle.gx_processor.specs.FaultLines.{usage_line, read_fault_line, code_line, placed_line, binding_line, long_document_line, document_line}
+use Rattle.gx_processor.specs.Replies.{RefusesSo, HasCause, RepliesSo, IsMisuse, IsWellFormed, IsUsageOrStarved, IsFaultOrStarved, IsReplyOf, IsQueryForm, IsQueryReply, IsComparison}
+use Rattle.gx_processor.specs.FaultLines.{read_fault_line, code_line, placed_line, binding_line, long_document_line, document_line, import_line}
 use Rattle.gx_processor.proofs.AnswerLemmas.{no_texts, asked_answer, same_parts}
 
 -- what follows from an answer follows from a reply that says it
@@ -43,7 +42,7 @@ query_formed words command (Output text) e h = inl (command, e)
 query_formed words command (Fault status.Done line) e h = absurd h
 query_formed words command (Fault status.Usage line) e h = inr ((h.0.0, h.0.1, e ∙ ap Some h.0.2), h.1)
 query_formed words command (Fault status.Query line) e h = h
-query_formed words command (Fault status.Schema line) e h = absurd h
+query_formed words command (Fault status.Schema line) e h = h
 query_formed words command (Fault status.Document line) e h = ((h.0.0, h.0.1, e ∙ ap Some h.0.2), h.1)
 query_formed words command (Fault status.Dynamic line) e h = ((h.0.0, h.0.1, e ∙ ap Some h.0.2), h.1)
 query_formed words command (Fault status.ReadFault line) e h = tt
@@ -152,6 +151,10 @@ refusal_replies : (file : List ℕ) (e : Refusal) (r : Reply) (P : Answer → Ty
 refusal_replies file refusal.ReadFault r P h k = unread_replies (read_fault_line file) r P h
 refusal_replies file refusal.TooLong r P h k = fault_replies status.Query (code_line GLXS0001) r P h k
 refusal_replies file (refusal.Query code place) r P h k = fault_replies status.Query (placed_line code place) r P h k
+refusal_replies file (refusal.SchemaFile name faults.Unread) r P h k = unread_replies (read_fault_line (string_bytes name)) r P h
+refusal_replies file (refusal.SchemaFile name faults.TooLong) r P h k = fault_replies status.Schema (long_document_line (string_bytes name)) r P h k
+refusal_replies file (refusal.SchemaFile name (faults.Refused rule place)) r P h k = fault_replies status.Schema (document_line rule (string_bytes name) place) r P h k
+refusal_replies file (refusal.Schema rule name construct) r P h k = fault_replies status.Schema (import_line rule (string_bytes name) construct) r P h k
 refusal_replies file (refusal.Binding fault) r P h k = fault_replies status.Usage (binding_line (plain_fault fault)) r P h k
 refusal_replies file (refusal.Document name faults.Unread) r P h k = unread_replies (read_fault_line (string_bytes name)) r P h
 refusal_replies file (refusal.Document name faults.TooLong) r P h k = fault_replies status.Document (long_document_line (string_bytes name)) r P h k
@@ -174,6 +177,12 @@ pub refusal_formed : (command : Command) (e : Refusal) (r : Reply) → IsReplyOf
 refusal_formed command refusal.ReadFault r h k = fault_formed command status.ReadFault (read_fault_line (query_file command)) r h tt
 refusal_formed command refusal.TooLong r h k = fault_formed command status.Query (code_line GLXS0001) r h (inl refl)
 refusal_formed command (refusal.Query code place) r h k = fault_formed command status.Query (placed_line code place) r h (inr (code, place, refl))
+refusal_formed command (refusal.SchemaFile name faults.Unread) r h k = fault_formed command status.ReadFault (read_fault_line (string_bytes name)) r h tt
+refusal_formed command (refusal.SchemaFile name faults.TooLong) r h k = fault_formed command status.Schema (long_document_line (string_bytes name)) r h (inl (inl (string_bytes name, refl)))
+refusal_formed command (refusal.SchemaFile name (faults.Refused rule place)) r h k =
+    fault_formed command status.Schema (document_line rule (string_bytes name) place) r h (inl (inr (rule, string_bytes name, place, refl)))
+refusal_formed command (refusal.Schema rule name construct) r h k =
+    fault_formed command status.Schema (import_line rule (string_bytes name) construct) r h (inr (rule, string_bytes name, construct, refl))
 refusal_formed command (refusal.Binding fault) r h k = fault_formed command status.Usage (binding_line (plain_fault fault)) r h (k, (plain_fault fault, refl))
 refusal_formed command (refusal.Document name faults.Unread) r h k = fault_formed command status.ReadFault (read_fault_line (string_bytes name)) r h tt
 refusal_formed command (refusal.Document name faults.TooLong) r h k = fault_formed command status.Document (long_document_line (string_bytes name)) r h (k, inl (string_bytes name, refl))

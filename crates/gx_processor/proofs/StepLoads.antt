@@ -1,6 +1,7 @@
 -- The loads of the steps are one list, and what a reply says of those that were made.
-use Rattle.std.proofs.Common.{◌≡◌, ℕ, Bool, true, false, List, [], ◌∷◌, Option, Some, None, ◌⊎◌, inl, inr, refl, sym, ◌∙◌, ap, subst, Err, string_bytes}
+use Rattle.std.proofs.Common.{◌≡◌, ℕ, Bool, true, false, List, [], ◌++◌, Option, Some, None, inl, inr, refl, sym, ◌∙◌, ap₂, subst, Err, string_bytes}
 use Rattle.std.specs.Bool.{MatchBool}
+use Rattle.gx_types.specs.SchemaSet.{SchemaSet}
 use Rattle.gx_core.specs.declared.expression.Core.{Core}
 use Rattle.gx_core.specs.declared.typed.TypedCore.{TypedCore}
 use Rattle.gx_io.specs.LibraryUse.{LibraryUse}
@@ -17,14 +18,14 @@ use Rattle.gx_processor.specs.declared.reply.Reply.TheVariants.{Output, Fault, S
 use Rattle.gx_processor.specs.declared.refusal.Refusal.{Refusal}
 use Rattle.gx_processor.specs.declared.refusal.Refusal.TheVariants as refusal
 use Rattle.gx_processor.specs.Answer.{can_be_written}
-use Rattle.gx_processor.specs.Command.{Command, run_file, check_file, query_file, command_of}
+use Rattle.gx_processor.specs.Command.{Command, run_file, check_file, query_file}
 use Rattle.gx_processor.specs.Ending.{Ends}
 use Rattle.gx_processor.specs.Externals.{external_words}
-use Rattle.gx_processor.specs.FaultLines.{read_fault_line, code_line, placed_line, binding_line, long_document_line, document_line}
-use Rattle.gx_processor.specs.Loading.{BoundLoads, RunLoads, HoldsTypedQuery, CommandLoads, LoadsAsked, AreFirstOf}
+use Rattle.gx_processor.specs.FaultLines.{read_fault_line, code_line, placed_line, binding_line, long_document_line, document_line, import_line}
+use Rattle.gx_processor.specs.Loading.{BoundLoads, RunLoads, BehindQuery, CommandLoads, LoadsAsked}
 use Rattle.gx_processor.specs.Promises.{IsCertain}
 use Rattle.gx_processor.specs.Replies.{IsFaultOrStarved, IsComparison, IsReplyOf, AreFirst, ReplyLoads, ReplyFailed, LoadFailed, LoadsSo, RefusalLoads, RefusalFailed, OutputLoads}
-use Rattle.gx_processor.proofs.CommandLoads.{one_core, one_typing}
+use Rattle.gx_processor.proofs.CommandLoads.{one_query, one_typing, one_query_load}
 use Rattle.gx_processor.proofs.LoadLemmas.{one_load, whole_is_front}
 use Rattle.gx_processor.proofs.PromiseLemmas.{put_is_of_it}
 use Rattle.gx_processor.proofs.Told.{told_so, told_always}
@@ -39,20 +40,25 @@ match_once : (files : Files) (writable : Bool) (fault : Option Misbound) (docume
 match_once files true fault documents a b h k = bound_once files fault documents a b h k
 match_once files false fault documents a b h k = h ∙ sym k
 
-run_once : (files : Files) (bindings : List (List ℕ)) (core : Core) (t : TypedCore) (a b : List (List ℕ)) → RunLoads files bindings core t a → RunLoads files bindings core t b → a ≡ b
-run_once files bindings core t a b h k =
-    match_once files (can_be_written t) (misbound (external_words core.declarations) bindings) (files_bound (external_words core.declarations) bindings) a b h k
+run_once : (files : Files) (bindings : List (List ℕ)) (schemas : SchemaSet) (core : Core) (t : TypedCore) (a b : List (List ℕ)) → RunLoads files bindings schemas core t a → RunLoads files bindings schemas core t b → a ≡ b
+run_once files bindings schemas core t a b h k =
+    match_once files (can_be_written schemas t) (misbound (external_words core.declarations) bindings) (files_bound (external_words core.declarations) bindings) a b h k
+
+behind_once : (files : Files) (name : List ℕ) (bindings a b : List (List ℕ)) → BehindQuery files name bindings a → BehindQuery files name bindings b → a ≡ b
+behind_once files name bindings a b (inl h) (inl k) =
+    let same = one_query files name k.0.schemas h.0.schemas k.0.core h.0.core k.0.query h.0.query in
+    let same_typing = one_typing k.0.schemas h.0.schemas k.0.core h.0.core k.0.typing h.0.typing same.0 same.1 k.0.judgement h.0.judgement in
+    let other = subst (λ (s : SchemaSet). RunLoads files bindings s h.0.core h.0.typing b) same.0
+    (subst (λ (c : Core). RunLoads files bindings k.0.schemas c h.0.typing b) same.1 (subst (λ (u : TypedCore). RunLoads files bindings k.0.schemas k.0.core u b) same_typing k.1)) in
+    run_once files bindings h.0.schemas h.0.core h.0.typing a b h.1 other
+behind_once files name bindings a b (inl h) (inr k) = absurd (k.0 h.0)
+behind_once files name bindings a b (inr h) (inl k) = absurd (h.0 k.0)
+behind_once files name bindings a b (inr h) (inr k) = h.1 ∙ sym k.1
 
 command_once : (files : Files) (command : Command) (a b : List (List ℕ)) → CommandLoads files command a → CommandLoads files command b → a ≡ b
-command_once files (check_file name) a b h k = h ∙ sym k
-command_once files (run_file name bindings) a b (inl h) (inl k) =
-    let same = one_core files name k.0.core h.0.core k.0.query h.0.query in
-    let same_typing = one_typing k.0.core h.0.core k.0.typing h.0.typing same k.0.judgement h.0.judgement in
-    let other = subst (λ (c : Core). RunLoads files bindings c h.0.typing k.1.0) same (subst (λ (u : TypedCore). RunLoads files bindings k.0.core u k.1.0) same_typing k.1.1) in
-    h.1.2 ∙ ap (λ (ns : List (List ℕ)). name ∷ ns) (run_once files bindings h.0.core h.0.typing h.1.0 k.1.0 h.1.1 other) ∙ sym k.1.2
-command_once files (run_file name bindings) a b (inl h) (inr k) = absurd (k.0 h.0)
-command_once files (run_file name bindings) a b (inr h) (inl k) = absurd (h.0 k.0)
-command_once files (run_file name bindings) a b (inr h) (inr k) = h.1 ∙ sym k.1
+command_once files (check_file name) a b h k = one_query_load files name a b h k
+command_once files (run_file name bindings) a b h k =
+    h.4 ∙ ap₂ (λ (front : List (List ℕ)) rest. front ++ rest) (one_query_load files name h.0 k.0 h.2 k.2) (behind_once files name bindings h.1 k.1 h.3 k.3) ∙ sym k.4
 
 asked_once : (files : Files) (asked : Option Command) (a b : List (List ℕ)) → LoadsAsked files asked a → LoadsAsked files asked b → a ≡ b
 asked_once files None a b h k = h ∙ sym k
@@ -181,6 +187,10 @@ refusal_told : (files : Files) (command : Command) (names : List (List ℕ)) (e 
 refusal_told files command names refusal.ReadFault r h k = unread_told (CommandLoads files command) names (read_fault_line (query_file command)) r h k
 refusal_told files command names refusal.TooLong r h k = fault_told files command names status.Query (code_line GLXS0001) r (λ e. cc) h k
 refusal_told files command names (refusal.Query code place) r h k = fault_told files command names status.Query (placed_line code place) r (λ e. cc) h k
+refusal_told files command names (refusal.SchemaFile file faults.Unread) r h k = unread_told (CommandLoads files command) names (read_fault_line (string_bytes file)) r h k
+refusal_told files command names (refusal.SchemaFile file faults.TooLong) r h k = fault_told files command names status.Schema (long_document_line (string_bytes file)) r (λ e. cc) h k
+refusal_told files command names (refusal.SchemaFile file (faults.Refused rule place)) r h k = fault_told files command names status.Schema (document_line rule (string_bytes file) place) r (λ e. cc) h k
+refusal_told files command names (refusal.Schema rule file construct) r h k = fault_told files command names status.Schema (import_line rule (string_bytes file) construct) r (λ e. cc) h k
 refusal_told files command names (refusal.Binding fault) r h k = fault_told files command names status.Usage (binding_line (plain_fault fault)) r (λ e. cc) h k
 refusal_told files command names (refusal.Document file faults.Unread) r h k = unread_told (CommandLoads files command) names (read_fault_line (string_bytes file)) r h k
 refusal_told files command names (refusal.Document file faults.TooLong) r h k = fault_told files command names status.Document (long_document_line (string_bytes file)) r (λ e. cc) h k
@@ -188,10 +198,14 @@ refusal_told files command names (refusal.Document file (faults.Refused rule pla
 refusal_told files command names (refusal.Dynamic code) r h k = fault_told files command names status.Dynamic (code_line code) r (λ e. cc) h k
 refusal_told files command names refusal.Memory r h k = subst (λ (z : Reply). ReplyLoads (LoadsAsked files (Some command)) names z) (sym h) k
 
-refusal_failed : (library : LibraryUse) (command : Command) (names : List (List ℕ)) (e : Refusal) (r : Reply) → IsReplyOf (query_file command) e r → RefusalFailed library command names e → ReplyFailed library names r
+refusal_failed : (library : LibraryUse) (command : Command) (names : List (List ℕ)) (e : Refusal) (r : Reply) → IsReplyOf (query_file command) e r → RefusalFailed library (query_file command) names e → ReplyFailed library names r
 refusal_failed library command names refusal.ReadFault r h k = unread_failed library names (read_fault_line (query_file command)) r h k
 refusal_failed library command names refusal.TooLong r h k = fault_unfailed library names status.Query (code_line GLXS0001) r (λ e. cc) h
 refusal_failed library command names (refusal.Query code place) r h k = fault_unfailed library names status.Query (placed_line code place) r (λ e. cc) h
+refusal_failed library command names (refusal.SchemaFile file faults.Unread) r h k = unread_failed library names (read_fault_line (string_bytes file)) r h k
+refusal_failed library command names (refusal.SchemaFile file faults.TooLong) r h k = fault_unfailed library names status.Schema (long_document_line (string_bytes file)) r (λ e. cc) h
+refusal_failed library command names (refusal.SchemaFile file (faults.Refused rule place)) r h k = fault_unfailed library names status.Schema (document_line rule (string_bytes file) place) r (λ e. cc) h
+refusal_failed library command names (refusal.Schema rule file construct) r h k = fault_unfailed library names status.Schema (import_line rule (string_bytes file) construct) r (λ e. cc) h
 refusal_failed library command names (refusal.Binding fault) r h k = fault_unfailed library names status.Usage (binding_line (plain_fault fault)) r (λ e. cc) h
 refusal_failed library command names (refusal.Document file faults.Unread) r h k = unread_failed library names (read_fault_line (string_bytes file)) r h k
 refusal_failed library command names (refusal.Document file faults.TooLong) r h k = fault_unfailed library names status.Document (long_document_line (string_bytes file)) r (λ e. cc) h

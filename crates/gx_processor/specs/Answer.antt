@@ -1,16 +1,15 @@
 -- What the program answers to its words, over the files that its library holds.
-use Rattle.std.specs.Prelude.{◌≡◌, ℕ, nat_le, Bool, List, [], ◌∷◌, ◌++◌, length, Option, None, Some, MatchBool, ◌⊎◌}
+use Rattle.std.specs.Prelude.{◌≡◌, ℕ, nat_le, Bool, List, [], ◌∷◌, ◌++◌, length, map, Option, None, Some, MatchBool, ◌⊎◌}
 use Rattle.std.specs.Str.{chars}
 use Rattle.gx_base.specs.declared.place.Place.{Place}
 use Rattle.gx_base.specs.declared.code.Code.TheVariants.{GLXS0001, XPST0003, SENR0001}
 use Rattle.gx_base.specs.declared.type_name.Builtin.TheVariants as builtins
 use Rattle.gx_base.specs.declared.type_name.TypeName.TheVariants as names
 use Rattle.gx_types.specs.declared.item_type.ItemType.TheVariants as items
-use Rattle.gx_types.specs.SchemaSet.{no_declarations}
+use Rattle.gx_types.specs.SchemaSet.{SchemaSet, no_declarations}
 use Rattle.gx_types.specs.SequenceType.{SequenceType, item, either, star}
 use Rattle.gx_include.specs.Decision.{is_included}
 use Rattle.gx_steptype.specs.StepType.{any_document, any_element, text_item}
-use Rattle.gx_tree.specs.PlainTree.{PlainTree}
 use Rattle.gx_xml.specs.declared.refusal.XmlRule.{XmlRule}
 use Rattle.gx_xml.specs.declared.refusal.XmlRefusal.TheVariants.{Refused}
 use Rattle.gx_xml.specs.Reading.{IsDocumentOf, IsDocumentRefusal}
@@ -33,14 +32,16 @@ use Rattle.gx_ast.specs.declared.query.Query.{Query}
 use Rattle.gx_syntax.specs.Query.{Parsing, parsed, refused, Parses}
 use Rattle.gx_processor.specs.RuleCode.{rule_code}
 use Rattle.gx_normal.specs.Unbuilt.{unbuilt_query}
-use Rattle.gx_normal.specs.Normalisation.{NamedQuery, named_query, unknown_name, query_named}
+use Rattle.gx_processor.specs.NamedQuery.{NamedQuery, named_query, unknown_name, query_named}
 use Rattle.gx_processor.specs.Serialisation.{serialised}
 use Rattle.gx_processor.specs.TypeBytes.{type_bytes}
 use Rattle.gx_documents.specs.Bindings.{Misbound, misbound, files_bound}
 use Rattle.gx_documents.specs.Documents.{Files, document_nodes}
 use Rattle.gx_processor.specs.Externals.{external_words}
+use Rattle.gx_processor.specs.SchemaFiles.{schema_files, sources_of, file_name_at}
+use Rattle.gx_schema.specs.Import.{Imported, declares, breaks, imported}
 use Rattle.gx_processor.specs.Command.{Command, run_file, check_file, query_file, command_of, texts_to_compare}
-use Rattle.gx_processor.specs.FaultLines.{line, usage_line, left_type_line, right_type_line, read_fault_line, code_line, placed_line, binding_line, long_document_line, document_line}
+use Rattle.gx_processor.specs.FaultLines.{line, usage_line, left_type_line, right_type_line, read_fault_line, code_line, placed_line, binding_line, long_document_line, document_line, import_line}
 use Rattle.gx_base.specs.declared.limits.TheConstants.{FILE_BYTES}
 
 -- bytes for standard output, or a refusal with its fault line
@@ -67,63 +68,78 @@ AnswersOutcome (raises code) answer = answer ≡ refuses status.Dynamic (code_li
 AnswersOutcome wrong answer = ⊥
 
 -- evaluation over the trees of the documents
-abbrev pub AnswersEvaluated : Core → Forest → Answer → Type 0
-AnswersEvaluated core forest answer = AnswersOutcome (query_outcome no_declarations core (document_nodes forest) forest) answer
+abbrev pub AnswersEvaluated : SchemaSet → Core → Forest → Answer → Type 0
+AnswersEvaluated schemas core forest answer = AnswersOutcome (query_outcome schemas core (document_nodes forest) forest) answer
 
--- the bytes of a document: its tree goes on, or a rule refuses it
-abbrev pub AnswersRead : (file bytes : List ℕ) → (PlainTree → Answer → Type 0) → Answer → Type 0
-AnswersRead file bytes Next answer =
-    ((root : SourceTree) × IsDocumentOf bytes root × Next (untyped_document root) answer)
-    ⊎ ((rule : XmlRule) × (place : Place) × IsDocumentRefusal bytes (Refused place rule) × (answer ≡ refuses status.Document (document_line rule file place)))
+-- the bytes of a document: what follows has its root, or a rule refuses it
+abbrev pub AnswersRead : (told : Status) (file bytes : List ℕ) → (SourceTree → Answer → Type 0) → Answer → Type 0
+AnswersRead told file bytes Next answer =
+    ((root : SourceTree) × IsDocumentOf bytes root × Next root answer)
+    ⊎ ((rule : XmlRule) × (place : Place) × IsDocumentRefusal bytes (Refused place rule) × (answer ≡ refuses told (document_line rule file place)))
 
 -- its loading, within the limit on the bytes of a file
-abbrev pub AnswersLoaded : (file : List ℕ) → Option (List ℕ) → (PlainTree → Answer → Type 0) → Answer → Type 0
-AnswersLoaded file None Next answer = answer ≡ refuses status.ReadFault (read_fault_line file)
-AnswersLoaded file (Some bytes) Next answer =
-    MatchBool (nat_le (length bytes) FILE_BYTES) (AnswersRead file bytes Next answer) (answer ≡ refuses status.Document (long_document_line file))
+abbrev pub AnswersLoaded : (told : Status) (file : List ℕ) → Option (List ℕ) → (SourceTree → Answer → Type 0) → Answer → Type 0
+AnswersLoaded told file None Next answer = answer ≡ refuses status.ReadFault (read_fault_line file)
+AnswersLoaded told file (Some bytes) Next answer =
+    MatchBool (nat_le (length bytes) FILE_BYTES) (AnswersRead told file bytes Next answer) (answer ≡ refuses told (long_document_line file))
 
--- the documents, behind the trees that are there
-abbrev pub AnswersDocuments : Files → Core → (names : List (List ℕ)) → Forest → Answer → Type 0
-AnswersDocuments files core [] forest answer = AnswersEvaluated core forest answer
-AnswersDocuments files core (name ∷ names) forest answer =
-    AnswersLoaded name (file_of files name) (λ t next. AnswersDocuments files core names (forest ++ t ∷ []) next) answer
+-- documents in files, one behind another: what follows has the roots of all
+abbrev pub AnswersFiles : (told : Status) → Files → (names : List (List ℕ)) (roots : List SourceTree) → (List SourceTree → Answer → Type 0) → Answer → Type 0
+AnswersFiles told files [] roots Next answer = Next roots answer
+AnswersFiles told files (name ∷ names) roots Next answer =
+    AnswersLoaded told name (file_of files name) (λ root next. AnswersFiles told files names (roots ++ root ∷ []) Next next) answer
+
+-- evaluation over the trees of documents with these roots
+abbrev pub AnswersOver : SchemaSet → Core → List SourceTree → Answer → Type 0
+AnswersOver schemas core roots answer = AnswersEvaluated schemas core (map untyped_document roots) answer
 
 -- the words that bind the external variables
-abbrev pub AnswersBound : Files → Core → (bindings : List (List ℕ)) → Option Misbound → Answer → Type 0
-AnswersBound files core bindings (Some fault) answer = answer ≡ refuses status.Usage (binding_line fault)
-AnswersBound files core bindings None answer = AnswersDocuments files core (files_bound (external_words core.declarations) bindings) [] answer
+abbrev pub AnswersBound : Files → SchemaSet → Core → (bindings : List (List ℕ)) → Option Misbound → Answer → Type 0
+AnswersBound files schemas core bindings (Some fault) answer = answer ≡ refuses status.Usage (binding_line fault)
+AnswersBound files schemas core bindings None answer =
+    AnswersFiles status.Document files (files_bound (external_words core.declarations) bindings) [] (AnswersOver schemas core) answer
 
 -- `(document-node() | element() | text() | xs:anyAtomicType)*`, the type of what can be written
 abbrev pub writable_type : SequenceType
 writable_type = star (either (either (either any_document any_element) text_item) (item (items.Atom (names.Builtin builtins.AnyAtomic))))
 
-abbrev pub can_be_written : TypedCore → Bool
-can_be_written typing = is_included no_declarations (query_type typing) writable_type
+abbrev pub can_be_written : SchemaSet → TypedCore → Bool
+can_be_written schemas typing = is_included schemas (query_type typing) writable_type
 
-abbrev pub AnswersRun : Files → (bindings : List (List ℕ)) → Core → TypedCore → Answer → Type 0
-AnswersRun files bindings core typing answer =
-    MatchBool (can_be_written typing) (AnswersBound files core bindings (misbound (external_words core.declarations) bindings) answer)
+abbrev pub AnswersRun : Files → (bindings : List (List ℕ)) → SchemaSet → Core → TypedCore → Answer → Type 0
+AnswersRun files bindings schemas core typing answer =
+    MatchBool (can_be_written schemas typing) (AnswersBound files schemas core bindings (misbound (external_words core.declarations) bindings) answer)
     (answer ≡ refuses status.Query (placed_line SENR0001 (outer_of core.body)))
 
 -- what a command does with a query that has a type: a run evaluates it, and a check writes its type
-abbrev pub AnswersTyped : Files → Command → Core → TypedCore → Answer → Type 0
-AnswersTyped files (run_file name bindings) core typing answer = AnswersRun files bindings core typing answer
-AnswersTyped files (check_file name) core typing answer = answer ≡ writes (type_bytes (query_type typing))
+abbrev pub AnswersTyped : Files → Command → SchemaSet → Core → TypedCore → Answer → Type 0
+AnswersTyped files (run_file name bindings) schemas core typing answer = AnswersRun files bindings schemas core typing answer
+AnswersTyped files (check_file name) schemas core typing answer = answer ≡ writes (type_bytes (query_type typing))
 
 -- typing
-abbrev pub AnswersJudged : Files → Command → Core → QueryJudgement → Answer → Type 0
-AnswersJudged files command core (query_rejected place code) answer = answer ≡ refuses status.Query (placed_line code place)
-AnswersJudged files command core (query_typed typing) answer = AnswersTyped files command core typing answer
+abbrev pub AnswersJudged : Files → Command → SchemaSet → Core → QueryJudgement → Answer → Type 0
+AnswersJudged files command schemas core (query_rejected place code) answer = answer ≡ refuses status.Query (placed_line code place)
+AnswersJudged files command schemas core (query_typed typing) answer = AnswersTyped files command schemas core typing answer
 
 -- names
-abbrev pub AnswersNamed : Files → Command → NamedQuery → Answer → Type 0
-AnswersNamed files command (unknown_name place code) answer = answer ≡ refuses status.Query (placed_line code place)
-AnswersNamed files command (named_query core) answer = AnswersJudged files command core (query_judged no_declarations core) answer
+abbrev pub AnswersNamed : Files → Command → SchemaSet → NamedQuery → Answer → Type 0
+AnswersNamed files command schemas (unknown_name place code) answer = answer ≡ refuses status.Query (placed_line code place)
+AnswersNamed files command schemas (named_query core) answer = AnswersJudged files command schemas core (query_judged schemas core) answer
+
+-- what the schema files of these names declare
+abbrev pub AnswersImported : Files → Command → Query → (names : List (List ℕ)) → Imported → Answer → Type 0
+AnswersImported files command tree names (declares schemas) answer = AnswersNamed files command schemas (query_named schemas tree) answer
+AnswersImported files command tree names (breaks rule file name) answer = answer ≡ refuses status.Schema (import_line rule (file_name_at names file) name)
+
+-- the documents in its schema files
+abbrev pub AnswersSchemas : Files → Command → Query → Answer → Type 0
+AnswersSchemas files command tree answer =
+    AnswersFiles status.Schema files (schema_files tree) [] (λ roots next. AnswersImported files command tree (schema_files tree) (imported (sources_of roots)) next) answer
 
 -- a production that is not built yet
 abbrev pub AnswersBuilt : Files → Command → Query → (unbuilt : Option Place) → Answer → Type 0
 AnswersBuilt files command tree (Some place) answer = answer ≡ refuses status.Query (placed_line XPST0003 place)
-AnswersBuilt files command tree None answer = AnswersNamed files command (query_named no_declarations tree) answer
+AnswersBuilt files command tree None answer = AnswersSchemas files command tree answer
 
 -- parsing
 abbrev pub AnswersParsed : Files → Command → Parsing → Answer → Type 0

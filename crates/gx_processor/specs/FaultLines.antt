@@ -7,6 +7,9 @@ use Rattle.gx_base.specs.Code.{spelling}
 use Rattle.gx_xml.specs.declared.refusal.XmlRule.{XmlRule}
 use Rattle.gx_xml.specs.declared.refusal.XmlRule.TheVariants as rules
 use Rattle.gx_documents.specs.Bindings.{Misbound, unknown, doubled, missing}
+use Rattle.std.specs.Str.{encode_utf8_all}
+use Rattle.gx_schema.specs.declared.refusal.SchemaRule.{SchemaRule}
+use Rattle.gx_schema.specs.declared.refusal.SchemaRule.TheVariants as schema_rules
 
 -- ended by a line feed
 abbrev pub line : List ℕ → List ℕ
@@ -67,6 +70,24 @@ document_line rule file place = line (xml_rule_name rule ++ codes " in " ++ file
 abbrev pub IsDocumentLine : List ℕ → Type 0
 IsDocumentLine told =
     ((file : List ℕ) × (told ≡ long_document_line file)) ⊎ ((rule : XmlRule) × (file : List ℕ) × (place : Place) × (told ≡ document_line rule file place))
+
+-- the rules that refuse schema files
+abbrev pub schema_rule_name : SchemaRule → List ℕ
+schema_rule_name schema_rules.NotInProfile = codes "NotInProfile"
+schema_rule_name schema_rules.UnknownName = codes "UnknownName"
+schema_rule_name schema_rules.Inconsistent = codes "Inconsistent"
+schema_rule_name schema_rules.Circular = codes "Circular"
+schema_rule_name schema_rules.TooLarge = codes "TooLarge"
+schema_rule_name schema_rules.NotARestriction = codes "NotARestriction"
+schema_rule_name schema_rules.TooManyPairs = codes "TooManyPairs"
+
+-- a rule, and the file and the name of what breaks it there
+abbrev pub import_line : SchemaRule → (file name : List ℕ) → List ℕ
+import_line rule file name = line (schema_rule_name rule ++ codes " in " ++ file ++ codes ": " ++ encode_utf8_all name)
+
+-- the line of refused schema files
+abbrev pub IsSchemaLine : List ℕ → Type 0
+IsSchemaLine told = IsDocumentLine told ⊎ ((rule : SchemaRule) × (file : List ℕ) × (name : List ℕ) × (told ≡ import_line rule file name))
 
 abbrev pub write_fault_line : List ℕ
 write_fault_line = line (codes "WriteFault")

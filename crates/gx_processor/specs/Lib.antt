@@ -7,11 +7,16 @@ pub mod FaultLines
 pub mod RuleCode
 pub mod Status
 pub mod Externals
+pub mod SchemaFiles
 pub mod Answer
 pub mod Loading
 pub mod Run
 pub mod Ending
 pub mod Replies
+pub mod ImportReplies
+pub mod QueryReplies
 pub mod RunReplies
 pub mod Headline
 pub mod Promises
+pub mod NamedQuery
+pub mod UntypedDocuments

@@ -1,6 +1,6 @@
 -- The files that the steps of an answer load.
 use Rattle.std.specs.Prelude.{◌≡◌, ℕ, true, MatchBool, List, [], ◌∷◌, ◌++◌, map, Option, None, Some, ◌⊎◌}
-use Rattle.gx_types.specs.SchemaSet.{no_declarations}
+use Rattle.gx_types.specs.SchemaSet.{SchemaSet}
 use Rattle.gx_core.specs.declared.expression.Core.{Core}
 use Rattle.gx_core.specs.declared.typed.TypedCore.{TypedCore}
 use Rattle.gx_static.specs.QueryJudgement.{query_typed, query_judged}
@@ -10,7 +10,8 @@ use Rattle.gx_documents.specs.Bindings.{Misbound, misbound, files_bound, bound_f
 use Rattle.gx_documents.specs.Documents.{Files, DocumentsLoaded}
 use Rattle.gx_processor.specs.Externals.{external_words}
 use Rattle.gx_processor.specs.Command.{Command, run_file, check_file, command_of}
-use Rattle.gx_processor.specs.Query.{HoldsQuery}
+use Rattle.gx_processor.specs.Query.{HoldsSyntax, HoldsQuery}
+use Rattle.gx_processor.specs.SchemaFiles.{schema_files}
 
 -- the documents that a run of a query that has a type loads: where its value can be written, and the words bind each of its external
 -- variables once, those of the variables in order, up to the first that is refused
@@ -18,24 +19,35 @@ abbrev pub BoundLoads : Files → Option Misbound → (documents loads : List (L
 BoundLoads files (Some fault) documents loads = loads ≡ []
 BoundLoads files None documents loads = DocumentsLoaded files documents loads
 
-abbrev pub RunLoads : Files → (bindings : List (List ℕ)) → Core → TypedCore → (loads : List (List ℕ)) → Type 0
-RunLoads files bindings core typing loads =
-    MatchBool (can_be_written typing)
+abbrev pub RunLoads : Files → (bindings : List (List ℕ)) → SchemaSet → Core → TypedCore → (loads : List (List ℕ)) → Type 0
+RunLoads files bindings schemas core typing loads =
+    MatchBool (can_be_written schemas typing)
     (BoundLoads files (misbound (external_words core.declarations) bindings) (files_bound (external_words core.declarations) bindings) loads) (loads ≡ [])
+
+-- the schema files that a query names, behind its file, in order, up to the first that is refused
+abbrev pub QueryLoads : Files → (name : List ℕ) → (loads : List (List ℕ)) → Type 0
+QueryLoads files name loads =
+    ((read : HoldsSyntax files name) × ((rest : List (List ℕ)) × DocumentsLoaded files (schema_files read.tree) rest × (loads ≡ name ∷ rest)))
+    ⊎ ((HoldsSyntax files name → ⊥) × (loads ≡ name ∷ []))
 
 -- a file that holds a query that has a type
 pub record HoldsTypedQuery (files : Files) (name : List ℕ) : Type 0 where
+  pub schemas : SchemaSet
   pub core : Core
   pub typing : TypedCore
-  pub query : HoldsQuery files name core
-  pub judgement : query_judged no_declarations core ≡ query_typed typing
+  pub query : HoldsQuery files name schemas core
+  pub judgement : query_judged schemas core ≡ query_typed typing
 
--- a check loads the file of the query alone; so does a run, and where the query has a type its documents
+-- a run of a query that has a type loads its documents too
+abbrev pub BehindQuery : Files → (name : List ℕ) (bindings : List (List ℕ)) → (loads : List (List ℕ)) → Type 0
+BehindQuery files name bindings loads =
+    ((typed : HoldsTypedQuery files name) × RunLoads files bindings typed.schemas typed.core typed.typing loads) ⊎ ((HoldsTypedQuery files name → ⊥) × (loads ≡ []))
+
+-- a command loads the file of the query and its schema files, and a run its documents
 abbrev pub CommandLoads : Files → Command → (loads : List (List ℕ)) → Type 0
-CommandLoads files (check_file name) loads = loads ≡ name ∷ []
+CommandLoads files (check_file name) loads = QueryLoads files name loads
 CommandLoads files (run_file name bindings) loads =
-    ((typed : HoldsTypedQuery files name) × ((rest : List (List ℕ)) × RunLoads files bindings typed.core typed.typing rest × (loads ≡ name ∷ rest)))
-    ⊎ ((HoldsTypedQuery files name → ⊥) × (loads ≡ name ∷ []))
+    (front : List (List ℕ)) × (rest : List (List ℕ)) × QueryLoads files name front × BehindQuery files name bindings rest × (loads ≡ front ++ rest)
 
 abbrev pub LoadsAsked : Files → Option Command → (loads : List (List ℕ)) → Type 0
 LoadsAsked files None loads = loads ≡ []
@@ -52,11 +64,12 @@ abbrev pub AreBoundFiles : (bindings documents : List (List ℕ)) → Type 0
 AreBoundFiles bindings [] = Unit {0}
 AreBoundFiles bindings (file ∷ files) = (is_one_of (map bound_file bindings) file ≡ true) × AreBoundFiles bindings files
 
--- whatever the files are: the file of the query comes first, and then files that words bind
+-- whatever the files are: the file of the query comes first, and then the files that it imports, and those that words bind
 abbrev pub MayLoad : Option Command → (loads : List (List ℕ)) → Type 0
 MayLoad None loads = loads ≡ []
-MayLoad (Some (check_file name)) loads = loads ≡ name ∷ []
-MayLoad (Some (run_file name bindings)) loads = (documents : List (List ℕ)) × (loads ≡ name ∷ documents) × AreBoundFiles bindings documents
+MayLoad (Some (check_file name)) loads = (schemas : List (List ℕ)) × (loads ≡ name ∷ schemas)
+MayLoad (Some (run_file name bindings)) loads =
+    (schemas : List (List ℕ)) × (documents : List (List ℕ)) × (loads ≡ name ∷ schemas ++ documents) × AreBoundFiles bindings documents
 
 -- two libraries have the same bytes, or none, under each of these names
 abbrev pub AgreeOn : (names : List (List ℕ)) → (files others : Files) → Type 0

@@ -1,5 +1,5 @@
 -- What the public call promises of each run.
-use Rattle.std.specs.Prelude.{◌≡◌, ℕ, ◌<◌, List, length, None, Some, ◌⊎◌}
+use Rattle.std.specs.Prelude.{◌≡◌, ℕ, ◌<◌, List, length, Some, ◌⊎◌}
 use Rattle.gx_base.specs.declared.code.Code.{Code}
 use Rattle.gx_base.specs.declared.code.Code.TheVariants.{GLXS0001}
 use Rattle.gx_io.specs.Load.{file_of}
@@ -9,7 +9,7 @@ use Rattle.gx_processor.specs.declared.status.Status.{Status}
 use Rattle.gx_processor.specs.declared.status.Status.TheVariants.{Done, Usage, Query, Schema, Document, Dynamic, ReadFault, WriteFault, Memory}
 use Rattle.gx_processor.specs.Answer.{Answer, writes, refuses, Answers, status_of, output_of}
 use Rattle.gx_processor.specs.Command.{Command, query_file, command_of, texts_to_compare, AskToRun}
-use Rattle.gx_processor.specs.FaultLines.{line, read_fault_line, code_line, IsQueryLine, IsDocumentLine, write_fault_line}
+use Rattle.gx_processor.specs.FaultLines.{line, read_fault_line, code_line, IsQueryLine, IsSchemaLine, IsDocumentLine, write_fault_line}
 use Rattle.gx_processor.specs.Headline.{RunsTyped, ChecksTyped, RunsAsChecked, RejectsUntyped}
 use Rattle.std.specs.Str.{chars}
 use Rattle.gx_subtype.specs.Comparison.{IsAnswerText}
@@ -91,7 +91,7 @@ LineAfter Dynamic run = (code : Code) × Took run.err (code_line code)
 LineAfter ReadFault run = (file : List ℕ) × Took run.err (read_fault_line file)
 LineAfter WriteFault run = Took run.err write_fault_line ⊎ SinkFailed run.err
 LineAfter Memory run = Unit {0}
-LineAfter Schema run = ⊥
+LineAfter Schema run = (line : List ℕ) × IsSchemaLine line × Took run.err line
 LineAfter Document run = (line : List ℕ) × IsDocumentLine line × Took run.err line
 
 -- a put failed: that of the output, or that of a line

@@ -1,25 +1,39 @@
--- Which bytes are those of a query of this language.
+-- Which files hold queries of this language.
 use Rattle.std.specs.Prelude.{◌≡◌, ℕ, ◌≤◌, List, length, None, Some}
 use Rattle.gx_base.specs.declared.limits.TheConstants.{FILE_BYTES}
-use Rattle.gx_types.specs.SchemaSet.{no_declarations}
+use Rattle.gx_types.specs.SchemaSet.{SchemaSet}
 use Rattle.gx_core.specs.declared.expression.Core.{Core}
-use Rattle.gx_documents.specs.Documents.{Files}
+use Rattle.gx_documents.specs.Documents.{Files, HoldKept}
 use Rattle.gx_io.specs.Load.{file_of}
 use Rattle.gx_ast.specs.declared.query.Query.{Query}
 use Rattle.gx_syntax.specs.Query.{Parses, parsed}
+use Rattle.gx_xml.specs.SourceTree.{SourceTree}
+use Rattle.gx_schema.specs.Import.{imported, declares}
 use Rattle.gx_normal.specs.Unbuilt.{unbuilt_query}
-use Rattle.gx_normal.specs.Normalisation.{named_query, query_named}
+use Rattle.gx_processor.specs.SchemaFiles.{schema_files, sources_of, KeepsRoot}
+use Rattle.gx_processor.specs.NamedQuery.{named_query, query_named}
 
--- the bytes are those of a query with this Core, all of whose productions are built
-pub record IsQueryOf (bytes : List ℕ) (core : Core) : Type 0 where
-  pub tree : Query
+-- the bytes are those of a query, all of whose productions are built
+pub record IsTreeOf (bytes : List ℕ) (tree : Query) : Type 0 where
   pub parses : Parses bytes (parsed tree)
   pub built : unbuilt_query tree ≡ None
-  pub named : query_named no_declarations tree ≡ named_query core
 
--- the file of that name holds a query with this Core
-pub record HoldsQuery (files : Files) (name : List ℕ) (core : Core) : Type 0 where
+-- the file of that name holds such a query
+pub record HoldsSyntax (files : Files) (name : List ℕ) : Type 0 where
+  pub tree : Query
   pub bytes : List ℕ
   pub held : file_of files name ≡ Some bytes
   pub within : length bytes ≤ FILE_BYTES
-  pub query : IsQueryOf bytes core
+  pub query : IsTreeOf bytes tree
+
+-- the schema files that a query names hold documents, which declare these schemas
+pub record ImportsSchemas (files : Files) (tree : Query) (schemas : SchemaSet) : Type 0 where
+  pub roots : List SourceTree
+  pub held : HoldKept KeepsRoot files (schema_files tree) roots
+  pub imports : imported (sources_of roots) ≡ declares schemas
+
+-- the query in a file has this Core under the schemas that it imports
+pub record HoldsQuery (files : Files) (name : List ℕ) (schemas : SchemaSet) (core : Core) : Type 0 where
+  pub read : HoldsSyntax files name
+  pub imports : ImportsSchemas files read.tree schemas
+  pub named : query_named schemas read.tree ≡ named_query core

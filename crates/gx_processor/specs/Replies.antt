@@ -1,5 +1,5 @@
 -- What a reply says of the answer.
-use Rattle.std.specs.Prelude.{◌≡◌, ℕ, List, [], ◌∷◌, ◌++◌, Option, None, Some, IfSome, Result, Ok, Err, ◌⊎◌}
+use Rattle.std.specs.Prelude.{◌≡◌, ℕ, List, [], ◌∷◌, ◌++◌, Option, Some, IfSome, Result, Ok, Err, ◌⊎◌}
 use Rattle.std.specs.String.{string_bytes}
 use Rattle.gx_base.specs.declared.code.Code.{Code}
 use Rattle.gx_base.specs.declared.code.Code.TheVariants.{GLXS0001}
@@ -18,7 +18,7 @@ use Rattle.gx_documents.specs.BindingView.{plain_fault}
 use Rattle.gx_io.specs.LibraryUse.{LibraryUse, LoadsOnly, LibraryFailed, LastLoadFailed}
 use Rattle.gx_processor.specs.Command.{Command, query_file, command_of, texts_to_compare, NameNoCommand, AskToRun, IsRun}
 use Rattle.gx_processor.specs.Loading.{CommandLoads, LoadsAsked, AreFirstOf, MayLoad}
-use Rattle.gx_processor.specs.FaultLines.{usage_line, read_fault_line, code_line, placed_line, binding_line, long_document_line, document_line, IsQueryLine, IsDocumentLine}
+use Rattle.gx_processor.specs.FaultLines.{usage_line, read_fault_line, code_line, placed_line, binding_line, long_document_line, document_line, import_line, IsQueryLine, IsSchemaLine, IsDocumentLine}
 
 -- a refusal of the query, of the words that bind or of a document, or a dynamic error is the answer; a read fault and want of memory say nothing of it
 abbrev pub RefusesSo : Refusal → (Answer → Type 0) → Type 0
@@ -26,25 +26,47 @@ RefusesSo refusal.TooLong Answered = Answered (refuses status.Query (code_line G
 RefusesSo (refusal.Query code place) Answered = Answered (refuses status.Query (placed_line code place))
 RefusesSo (refusal.Dynamic code) Answered = Answered (refuses status.Dynamic (code_line code))
 RefusesSo (refusal.Binding fault) Answered = Answered (refuses status.Usage (binding_line (plain_fault fault)))
+RefusesSo (refusal.SchemaFile file faults.Unread) Answered = Unit {0}
+RefusesSo (refusal.SchemaFile file faults.TooLong) Answered = Answered (refuses status.Schema (long_document_line (string_bytes file)))
+RefusesSo (refusal.SchemaFile file (faults.Refused rule place)) Answered = Answered (refuses status.Schema (document_line rule (string_bytes file) place))
+RefusesSo (refusal.Schema rule file name) Answered = Answered (refuses status.Schema (import_line rule (string_bytes file) name))
 RefusesSo (refusal.Document file faults.Unread) Answered = Unit {0}
 RefusesSo (refusal.Document file faults.TooLong) Answered = Answered (refuses status.Document (long_document_line (string_bytes file)))
 RefusesSo (refusal.Document file (faults.Refused rule place)) Answered = Answered (refuses status.Document (document_line rule (string_bytes file) place))
 RefusesSo refusal.ReadFault Answered = Unit {0}
 RefusesSo refusal.Memory Answered = Unit {0}
 
--- a refusal of the query alone; a read fault only where a count of faults rose
-abbrev pub IsOfQuery : (Rose : Type 0) → Refusal → Type 0
-IsOfQuery Rose refusal.ReadFault = Rose
-IsOfQuery Rose refusal.TooLong = Unit {0}
-IsOfQuery Rose (refusal.Query code place) = Unit {0}
-IsOfQuery Rose refusal.Memory = Unit {0}
-IsOfQuery Rose _ = ⊥
+-- a refusal of the query or of its schema files
+abbrev pub IsOfQuery : Refusal → Type 0
+IsOfQuery refusal.ReadFault = Unit {0}
+IsOfQuery refusal.TooLong = Unit {0}
+IsOfQuery (refusal.Query code place) = Unit {0}
+IsOfQuery (refusal.SchemaFile file fault) = Unit {0}
+IsOfQuery (refusal.Schema rule file name) = Unit {0}
+IsOfQuery refusal.Memory = Unit {0}
+IsOfQuery _ = ⊥
+
+-- of the query alone; a read fault only where a count of faults rose
+abbrev pub IsOfText : (Rose : Type 0) → Refusal → Type 0
+IsOfText Rose refusal.ReadFault = Rose
+IsOfText Rose refusal.TooLong = Unit {0}
+IsOfText Rose (refusal.Query code place) = Unit {0}
+IsOfText Rose refusal.Memory = Unit {0}
+IsOfText Rose _ = ⊥
+
+-- of the query by its names or types
+abbrev pub IsOfRules : Refusal → Type 0
+IsOfRules (refusal.Query code place) = Unit {0}
+IsOfRules refusal.Memory = Unit {0}
+IsOfRules _ = ⊥
 
 -- why a refusal comes: all but those of the query come where it is run
 abbrev pub HasCause : (Runs : Type 0) → Refusal → Type 0
 HasCause Runs (refusal.Dynamic code) = Runs
 HasCause Runs (refusal.Binding fault) = Runs
 HasCause Runs (refusal.Document file fault) = Runs
+HasCause Runs (refusal.SchemaFile file fault) = Unit {0}
+HasCause Runs (refusal.Schema rule file name) = Unit {0}
 HasCause Runs refusal.ReadFault = Unit {0}
 HasCause Runs refusal.TooLong = Unit {0}
 HasCause Runs (refusal.Query code place) = Unit {0}
@@ -74,7 +96,7 @@ HasForm words status.Usage line = IsMisuse words line ⊎ IsMisbinding words lin
 HasForm words status.Query line = IsQueryLine line
 HasForm words status.Dynamic line = AskToRun words × ((code : Code) × (line ≡ code_line code))
 HasForm words status.Done line = ⊥
-HasForm words status.Schema line = ⊥
+HasForm words status.Schema line = IsSchemaLine line
 HasForm words status.Document line = AskToRun words × IsDocumentLine line
 HasForm words status.ReadFault line = ⊥
 HasForm words status.WriteFault line = ⊥
@@ -121,10 +143,10 @@ IsComparison left right (Fault told line) = (told ≡ status.Usage) × AnswersTe
 IsComparison left right Starved = Unit {0}
 
 -- what is replied where a file holds no document
-abbrev pub IsDocumentFault : (file : List ℕ) → DocumentFault → Reply → Type 0
-IsDocumentFault file faults.Unread reply = IsFaultOrStarved status.ReadFault (read_fault_line file) reply
-IsDocumentFault file faults.TooLong reply = IsFaultOrStarved status.Document (long_document_line file) reply
-IsDocumentFault file (faults.Refused rule place) reply = IsFaultOrStarved status.Document (document_line rule file place) reply
+abbrev pub IsDocumentFault : (told : Status) (file : List ℕ) → DocumentFault → Reply → Type 0
+IsDocumentFault told file faults.Unread reply = IsFaultOrStarved status.ReadFault (read_fault_line file) reply
+IsDocumentFault told file faults.TooLong reply = IsFaultOrStarved told (long_document_line file) reply
+IsDocumentFault told file (faults.Refused rule place) reply = IsFaultOrStarved told (document_line rule file place) reply
 
 -- what is replied to a refusal of a command over a file: its line, or no memory was found
 abbrev pub IsReplyOf : (file : List ℕ) → Refusal → Reply → Type 0
@@ -132,7 +154,9 @@ IsReplyOf file refusal.ReadFault reply = IsFaultOrStarved status.ReadFault (read
 IsReplyOf file refusal.TooLong reply = IsFaultOrStarved status.Query (code_line GLXS0001) reply
 IsReplyOf file (refusal.Query code place) reply = IsFaultOrStarved status.Query (placed_line code place) reply
 IsReplyOf file (refusal.Binding fault) reply = IsFaultOrStarved status.Usage (binding_line (plain_fault fault)) reply
-IsReplyOf file (refusal.Document name fault) reply = IsDocumentFault (string_bytes name) fault reply
+IsReplyOf file (refusal.SchemaFile name fault) reply = IsDocumentFault status.Schema (string_bytes name) fault reply
+IsReplyOf file (refusal.Schema rule name construct) reply = IsFaultOrStarved status.Schema (import_line rule (string_bytes name) construct) reply
+IsReplyOf file (refusal.Document name fault) reply = IsDocumentFault status.Document (string_bytes name) fault reply
 IsReplyOf file (refusal.Dynamic code) reply = IsFaultOrStarved status.Dynamic (code_line code) reply
 IsReplyOf file refusal.Memory reply = reply ≡ Starved
 
@@ -144,7 +168,7 @@ IsQueryForm command status.Usage line = IsRun command × ((fault : Misbound) × 
 IsQueryForm command status.Document line = IsRun command × IsDocumentLine line
 IsQueryForm command status.Dynamic line = IsRun command × ((code : Code) × (line ≡ code_line code))
 IsQueryForm command status.Done line = ⊥
-IsQueryForm command status.Schema line = ⊥
+IsQueryForm command status.Schema line = IsSchemaLine line
 IsQueryForm command status.WriteFault line = ⊥
 IsQueryForm command status.Memory line = ⊥
 
@@ -190,26 +214,28 @@ pub record LoadsSo (library : LibraryUse) (asked : Option Command) (reply : Repl
 
 abbrev pub RefusalLoads : (Steps : List (List ℕ) → Type 0) → List (List ℕ) → Refusal → Type 0
 RefusalLoads Steps names refusal.ReadFault = AreFirst Steps names
+RefusalLoads Steps names (refusal.SchemaFile file faults.Unread) = AreFirst Steps names
 RefusalLoads Steps names (refusal.Document file faults.Unread) = AreFirst Steps names
 RefusalLoads Steps names refusal.Memory = AreFirst Steps names
 RefusalLoads Steps names _ = Steps names
 
-abbrev pub RefusalFailed : LibraryUse → Command → List (List ℕ) → Refusal → Type 0
-RefusalFailed library command names refusal.ReadFault = LoadFailed library names (read_fault_line (query_file command))
-RefusalFailed library command names (refusal.Document file faults.Unread) = LoadFailed library names (read_fault_line (string_bytes file))
-RefusalFailed library command names _ = Unit {0}
+abbrev pub RefusalFailed : LibraryUse → (file : List ℕ) → List (List ℕ) → Refusal → Type 0
+RefusalFailed library file names refusal.ReadFault = LoadFailed library names (read_fault_line file)
+RefusalFailed library file names (refusal.SchemaFile name faults.Unread) = LoadFailed library names (read_fault_line (string_bytes name))
+RefusalFailed library file names (refusal.Document name faults.Unread) = LoadFailed library names (read_fault_line (string_bytes name))
+RefusalFailed library file names _ = Unit {0}
 
 abbrev pub OutcomeLoads : {V : Type 0} → (Steps : List (List ℕ) → Type 0) → List (List ℕ) → Result V Refusal → Type 0
 OutcomeLoads Steps names (Ok text) = Steps names
 OutcomeLoads Steps names (Err e) = RefusalLoads Steps names e
 
-abbrev pub OutcomeFailed : {V : Type 0} → LibraryUse → Command → List (List ℕ) → Result V Refusal → Type 0
-OutcomeFailed library command names (Ok text) = Unit {0}
-OutcomeFailed library command names (Err e) = RefusalFailed library command names e
+abbrev pub OutcomeFailed : {V : Type 0} → LibraryUse → (file : List ℕ) → List (List ℕ) → Result V Refusal → Type 0
+OutcomeFailed library file names (Ok text) = Unit {0}
+OutcomeFailed library file names (Err e) = RefusalFailed library file names e
 
 pub record OutputLoads {V : Type 0} (library : LibraryUse) (command : Command) (result : Result V Refusal) : Type 0 where
   pub names : List (List ℕ)
   pub loaded : LoadsOnly library names
   pub may : MayLoad (Some command) names
   pub told : IfSome (library.files library.before) (λ files. OutcomeLoads (CommandLoads files command) names result)
-  pub failed : OutcomeFailed library command names result
+  pub failed : OutcomeFailed library (query_file command) names result

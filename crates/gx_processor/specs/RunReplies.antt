@@ -1,9 +1,10 @@
 -- What the run of a query that has a type says.
-use Rattle.std.specs.Prelude.{◌≡◌, ℕ, List, [], ◌∷◌, ◌++◌, Option, Some, IfSome, Result, Ok, Err, String}
+use Rattle.std.specs.Prelude.{◌≡◌, ℕ, List, Option, Some, IfSome, Result, Ok, Err, String}
 use Rattle.std.specs.String.{string_bytes}
 use Rattle.gx_core.specs.declared.typed.TypedCore.{TypedCore}
 use Rattle.gx_core.specs.QueryMeaning.{plain_query, query_type}
 use Rattle.gx_processor.specs.Command.{Command, run_file, check_file}
+use Rattle.gx_types.specs.SchemaSet.{SchemaSet}
 use Rattle.gx_processor.specs.TypeBytes.{type_bytes}
 use Rattle.gx_io.specs.LibraryUse.{LibraryUse, LoadsOnly}
 use Rattle.gx_documents.specs.Bindings.{Misbound}
@@ -29,18 +30,20 @@ AnswersSo Answered (Err e) = RefusesSo e Answered
 abbrev pub IsOfRun : {V : Type 0} → Result V Refusal → Type 0
 IsOfRun (Err refusal.ReadFault) = ⊥
 IsOfRun (Err refusal.TooLong) = ⊥
+IsOfRun (Err (refusal.SchemaFile file fault)) = ⊥
+IsOfRun (Err (refusal.Schema rule file name)) = ⊥
 IsOfRun _ = Unit {0}
 
 abbrev pub FailsAtDocument : {V : Type 0} → LibraryUse → List (List ℕ) → Result V Refusal → Type 0
 FailsAtDocument library names (Err (refusal.Document file faults.Unread)) = LoadFailed library names (read_fault_line (string_bytes file))
 FailsAtDocument library names _ = Unit {0}
 
-pub record RunsSo {Z : Type 0} (library : LibraryUse) (bindings : List (List ℕ)) (core : TypedCore) (result : Result (String Z) Refusal) : Type 0 where
+pub record RunsSo {Z : Type 0} (library : LibraryUse) (bindings : List (List ℕ)) (schemas : SchemaSet) (core : TypedCore) (result : Result (String Z) Refusal) : Type 0 where
   pub names : List (List ℕ)
   pub loaded : LoadsOnly library names
   pub bound : AreBoundFiles bindings names
-  pub answers : IfSome (library.files library.before) (λ files. AnswersSo (AnswersRun files bindings (plain_query core) core) result)
-  pub told : IfSome (library.files library.before) (λ files. OutcomeLoads (RunLoads files bindings (plain_query core) core) names result)
+  pub answers : IfSome (library.files library.before) (λ files. AnswersSo (AnswersRun files bindings schemas (plain_query core) core) result)
+  pub told : IfSome (library.files library.before) (λ files. OutcomeLoads (RunLoads files bindings schemas (plain_query core) core) names result)
   pub failed : FailsAtDocument library names result
   pub own : IsOfRun result
 
@@ -65,14 +68,14 @@ unread (Failed file fault) = refusal.Document file fault
 unread NoMemory = refusal.Memory
 
 -- how a run goes on behind the reading of its documents
-abbrev pub Follows : {Z : Type 0} → Core → Result Forest DocumentsError → Result (String Z) Refusal → Type 0
-Follows core (Ok forest) result = AnswersSo (AnswersEvaluated core forest) result × IsEvaluated result
-Follows core (Err error) result = result ≡ Err (unread error)
+abbrev pub Follows : {Z : Type 0} → SchemaSet → Core → Result Forest DocumentsError → Result (String Z) Refusal → Type 0
+Follows schemas core (Ok forest) result = AnswersSo (AnswersEvaluated schemas core forest) result × IsEvaluated result
+Follows schemas core (Err error) result = result ≡ Err (unread error)
 
-pub record ReadSo {Z : Type 0} (library : LibraryUse) (names : List (List ℕ)) (core : Core) (result : Result (String Z) Refusal) : Type 0 where
+pub record ReadSo {Z : Type 0} (library : LibraryUse) (names : List (List ℕ)) (schemas : SchemaSet) (core : Core) (result : Result (String Z) Refusal) : Type 0 where
   pub read : Result Forest DocumentsError
   pub reads : ReadDocuments library names read
-  pub follows : Follows core read result
+  pub follows : Follows schemas core read result
 
 -- a check writes, or memory is wanting
 abbrev pub IsWrittenOrStarved : {V : Type 0} → Result V Refusal → Type 0
@@ -87,6 +90,6 @@ WritesType core (Err refusal.Memory) = Unit {0}
 WritesType core (Err _) = ⊥
 
 -- what a command over a query that has a type says
-abbrev pub TypedSo : {Z : Type 0} → LibraryUse → Command → TypedCore → Result (String Z) Refusal → Type 0
-TypedSo library (run_file name bindings) core result = RunsSo library bindings core result
-TypedSo library (check_file name) core result = WritesType core result × (library.after ≡ library.before)
+abbrev pub TypedSo : {Z : Type 0} → LibraryUse → Command → SchemaSet → TypedCore → Result (String Z) Refusal → Type 0
+TypedSo library (run_file name bindings) schemas core result = RunsSo library bindings schemas core result
+TypedSo library (check_file name) schemas core result = WritesType core result × (library.after ≡ library.before)

@@ -4,6 +4,7 @@ ghost use Rattle.std.specs.Prelude.{◌≡◌, ℕ, List};
 ghost use Rattle.gx_processor.specs.Answer.{Answer, Answers, AnAnswerExists, ChecksRefuseForRuns};
 ghost use Rattle.gx_processor.specs.Loading.{AnswersLookAtTheirLoads};
 ghost use Rattle.gx_documents.specs.Documents.{Files};
+ghost use Rattle.gx_processor.specs.UntypedDocuments.{NamedQueriesHaveUntypedDocuments};
 
 /// The words and the files have an answer.
 pub fn an_answer_exists()
@@ -23,4 +24,9 @@ pub fn checks_refuse_for_runs()
 /// An answer looks at no other files than those that its steps load.
 pub fn answers_look_at_their_loads()
     ensures { AnswersLookAtTheirLoads }
+{}
+
+/// Each external variable of a query, all of whose productions are built, is a document without types.
+pub fn named_queries_have_untyped_documents()
+    ensures { NamedQueriesHaveUntypedDocuments }
 {}

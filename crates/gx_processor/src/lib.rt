@@ -2,6 +2,7 @@
 #![tactic(auto)]
 
 mod command;
+mod imports;
 pub mod laws;
 mod output;
 pub mod processor;

@@ -2,8 +2,7 @@
 
 ghost use Rattle.std.specs.Prelude.{◌≡◌, ◌≤◌, IfOk, IfErr, IfSome, Some, string_bytes};
 ghost use Rattle.gx_core.specs.QueryMeaning.{plain_query, query_type, IsSoundQuery};
-ghost use Rattle.gx_types.specs.SchemaSet.{no_declarations};
-ghost use Rattle.gx_normal.specs.Externals.{ExternalsAreUntyped};
+ghost use Rattle.gx_processor.specs.UntypedDocuments.{ExternalsAreUntyped};
 ghost use Rattle.gx_processor.specs.RunReplies.{TypedSo};
 ghost use Rattle.gx_io.specs.LibraryUse.{library_use};
 ghost use Rattle.gx_processor.specs.Answer.{writes, AnswersCommand};
@@ -13,7 +12,7 @@ ghost use Rattle.gx_processor.specs.Replies.{RefusesSo, HasCause, OutputLoads};
 ghost use Rattle.gx_processor.specs.TypeBytes.{type_bytes};
 
 use crate::command::Command;
-use crate::query::typed_query;
+use crate::query::{TypedQuery, typed_query};
 use crate::refusal::Refusal;
 use crate::run::run;
 use gx_core::dismantle::dismantle_query;
@@ -47,17 +46,17 @@ pub fn output<L: Library>(
 fn typed_output<L: Library>(
     alloc: Global,
     command: Command<'_>,
-    query: TypedCore,
+    query: TypedQuery,
     library: &mut L,
 ) -> Result<String, Refusal>
-    requires sound { IsSoundQuery no_declarations query }
-    requires untyped { ExternalsAreUntyped (plain_query query).declarations }
+    requires sound { IsSoundQuery query.schemas query.core }
+    requires untyped { ExternalsAreUntyped (plain_query query.core).declarations }
     ensures counted { L.faults library.old ≤ L.faults library.new }
-    ensures typed { TypedSo (library_use L.files L.faults L.was_loaded library.old library.new) (plain_command command.entry) query result }
+    ensures typed { TypedSo (library_use L.files L.faults L.was_loaded library.old library.new) (plain_command command.entry) query.schemas query.core result }
 {
     match command {
         Command::Run(_, words) => run(alloc, query, words, library),
-        Command::Check(_) => Ok(type_text(alloc, query)?),
+        Command::Check(_) => Ok(type_text(alloc, query.core)?),
     }
 }
 

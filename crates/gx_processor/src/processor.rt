@@ -9,11 +9,12 @@ ghost use Rattle.gx_processor.specs.Command.{bytes_of, command_of};
 ghost use Rattle.gx_processor.specs.CommandView.{plain_command};
 ghost use Rattle.gx_processor.specs.Ending.{Ends, Put, PutOutput};
 ghost use Rattle.gx_documents.specs.BindingView.{plain_fault};
-ghost use Rattle.gx_processor.specs.FaultLines.{binding_line, document_line, line, placed_line, xml_rule_name};
+ghost use Rattle.gx_processor.specs.FaultLines.{binding_line, document_line, import_line, line, placed_line, schema_rule_name, xml_rule_name};
 ghost use Rattle.gx_processor.specs.Promises.{Promises};
 ghost use Rattle.gx_processor.specs.Replies.{IsQueryReply, RepliesSo, LoadsSo, IsWellFormed, IsMisuse, IsUsageOrStarved, IsReplyOf, IsDocumentFault, IsFaultOrStarved, IsOutputOrStarved, IsComparison};
 
 use crate::command::{Command, command_of_words, texts_to_compare};
+use crate::laws::named_queries_have_untyped_documents;
 use crate::output::output;
 use crate::refusal::Refusal;
 use crate::reply::Reply;
@@ -21,12 +22,14 @@ use crate::status::Status;
 use gx_base::code::Code;
 use gx_base::limits::FILE_BYTES;
 use gx_base::place::Place;
+use gx_base::text::Text;
 use gx_core::laws::sound_queries_keep_their_types;
 use gx_documents::bindings::BindingFault;
 use gx_documents::documents::DocumentFault;
 use gx_documents::laws::documents_are_honest;
 use gx_io::{Library, PutError, Sink};
-use gx_normal::laws::named_queries_have_untyped_documents;
+use gx_schema::laws::imports_are_schema_sets;
+use gx_schema::refusal::SchemaRule;
 use gx_static::laws::{query_rejection_names_a_failure, query_typing_is_sound};
 use gx_subtype::subtype::{Side, SubtypeError, subtype};
 use gx_xml::refusal::XmlRule;
@@ -59,6 +62,7 @@ pub fn galax<L: Library, O: Sink, E: Sink>(
     query_rejection_names_a_failure();
     documents_are_honest();
     named_queries_have_untyped_documents();
+    imports_are_schema_sets();
     let reply = reply_to(alloc, words, library);
     finish(reply, out, err)
 }
@@ -101,8 +105,14 @@ fn refused(alloc: Global, file: &str, refusal: Refusal) -> Reply
         Refusal::ReadFault => fault(alloc, Status::ReadFault, "ReadFault ", file),
         Refusal::TooLong => fault(alloc, Status::Query, Code::GLXS0001.text(), ""),
         Refusal::Query { code, place } => placed_fault(alloc, code, place),
+        Refusal::SchemaFile(name, found) => {
+            document_fault(alloc, Status::Schema, name.as_str(), found)
+        }
+        Refusal::Schema { rule, file, name } => import_fault(alloc, rule, file.as_str(), &name),
         Refusal::Binding(found) => misbound(alloc, found),
-        Refusal::Document(name, found) => document_fault(alloc, name.as_str(), found),
+        Refusal::Document(name, found) => {
+            document_fault(alloc, Status::Document, name.as_str(), found)
+        }
         Refusal::Dynamic(code) => fault(alloc, Status::Dynamic, code.text(), ""),
         Refusal::Memory => Reply::Starved,
     }
@@ -135,24 +145,50 @@ fn misbound(alloc: Global, found: BindingFault) -> Reply
 }
 
 // A refusal of the document in a file.
-fn document_fault(alloc: Global, file: &str, found: DocumentFault) -> Reply
-    ensures { IsDocumentFault file.now found result }
+fn document_fault(alloc: Global, status: Status, file: &str, found: DocumentFault) -> Reply
+    ensures { IsDocumentFault status file.now found result }
 {
     match found {
         DocumentFault::Unread => fault(alloc, Status::ReadFault, "ReadFault ", file),
-        DocumentFault::TooLong => fault(alloc, Status::Document, "TooLong in ", file),
-        DocumentFault::Refused(rule, place) => broken_rule(alloc, rule, file, place),
+        DocumentFault::TooLong => fault(alloc, status, "TooLong in ", file),
+        DocumentFault::Refused(rule, place) => broken_rule(alloc, status, rule, file, place),
     }
 }
 
 // A refusal of a document with the rule that it breaks and the place.
-fn broken_rule(alloc: Global, rule: XmlRule, file: &str, place: Place) -> Reply
-    ensures { IsFaultOrStarved Status.Document (document_line rule file.now place) result }
+fn broken_rule(alloc: Global, status: Status, rule: XmlRule, file: &str, place: Place) -> Reply
+    ensures { IsFaultOrStarved status (document_line rule file.now place) result }
 {
     let Place { line, column } = place;
     match format!(in alloc; "{} in {file} at {line}:{column}\n", rule_name(rule)) {
-        Ok(text) => Reply::Fault(Status::Document, text),
+        Ok(text) => Reply::Fault(status, text),
         Err(AllocError) => Reply::Starved,
+    }
+}
+
+// A refusal of schema files with the rule that they break, the file and what breaks it.
+fn import_fault(alloc: Global, rule: SchemaRule, file: &str, name: &Text) -> Reply
+    ensures { IsFaultOrStarved Status.Schema (import_line rule file.now name.now) result }
+{
+    let name = name.as_str();
+    match format!(in alloc; "{} in {file}: {name}\n", schema_rule_name(rule)) {
+        Ok(text) => Reply::Fault(Status::Schema, text),
+        Err(AllocError) => Reply::Starved,
+    }
+}
+
+// The name of a rule for schema files in a fault line.
+fn schema_rule_name(rule: SchemaRule) -> &'static str
+    ensures { result.now ≡ schema_rule_name rule }
+{
+    match rule {
+        SchemaRule::NotInProfile => "NotInProfile",
+        SchemaRule::UnknownName => "UnknownName",
+        SchemaRule::Inconsistent => "Inconsistent",
+        SchemaRule::Circular => "Circular",
+        SchemaRule::TooLarge => "TooLarge",
+        SchemaRule::NotARestriction => "NotARestriction",
+        SchemaRule::TooManyPairs => "TooManyPairs",
     }
 }
 

@@ -1,26 +1,25 @@
 // Queries with their types.
 
 ghost use Rattle.std.specs.Prelude.{◌≡◌, ◌≤◌, [], ◌∷◌, length, IfOk, IfErr, IfSome, Some, None};
-ghost use Rattle.gx_types.specs.SchemaSet.{no_declarations};
 ghost use Rattle.gx_core.specs.QueryMeaning.{plain_query, IsSoundQuery};
 ghost use Rattle.gx_static.specs.QueryJudgement.{query_judged, query_typed};
 ghost use Rattle.gx_io.specs.Calls.{Loads};
 ghost use Rattle.gx_io.specs.Faults.{Rose};
+ghost use Rattle.gx_io.specs.LibraryUse.{library_use};
 ghost use Rattle.gx_io.specs.Load.{file_of};
 ghost use Rattle.gx_syntax.specs.Query.{Parses, parsed};
 ghost use Rattle.gx_processor.specs.Answer.{AnswersFile, AnswersBytes, AnswersBuilt, AnswersNamed, AnswersJudged};
 ghost use Rattle.gx_documents.specs.Documents.{Files};
-ghost use Rattle.gx_normal.specs.Externals.{ExternalsAreUntyped};
+ghost use Rattle.gx_processor.specs.UntypedDocuments.{ExternalsAreUntyped};
 ghost use Rattle.gx_processor.specs.Command.{Command};
-ghost use Rattle.gx_processor.specs.Query.{HoldsQuery};
-ghost use Rattle.gx_normal.specs.Normalisation.{query_named, named_query};
-ghost use Rattle.gx_processor.specs.Replies.{RefusesSo, IsOfQuery};
+ghost use Rattle.gx_processor.specs.QueryReplies.{AreOfNone, HoldsNone, HoldsThisTree, IsNotBuilt, QuerySo, TreeSo};
+ghost use Rattle.gx_processor.specs.NamedQuery.{query_named, named_query};
+ghost use Rattle.gx_processor.specs.Replies.{RefusesSo, IsOfRules, IsOfText};
 ghost use Rattle.gx_processor.specs.RuleCode.{rule_code};
-ghost use Rattle.gx_names.specs.Refused.{Judges};
-ghost use Rattle.gx_names.specs.Refusals.{query_refusals};
-ghost use Rattle.gx_names.specs.Resolution.{query_resolved};
 ghost use Rattle.gx_normal.specs.Unbuilt.{unbuilt_query};
 
+use crate::imports::imported_schemas;
+use crate::laws::named_queries_have_untyped_documents;
 use crate::refusal::Refusal;
 use gx_ast::dismantle::dismantle;
 use gx_ast::query::{Definition, DefinitionNode, Initialiser, Query};
@@ -31,8 +30,6 @@ use gx_core::typed::TypedCore;
 use gx_io::{Library, LoadError};
 use gx_names::refusal::NameRefusal;
 use gx_names::resolve::resolve;
-use gx_names::tree::Resolved;
-use gx_normal::laws::named_queries_have_untyped_documents;
 use gx_normal::normalise::normalise;
 use gx_normal::unbuilt::unbuilt_query;
 use gx_parse::parser::parse;
@@ -42,28 +39,83 @@ use gx_syntax::refusal::{SyntaxRefusal, SyntaxRule};
 use gx_types::schemas::Schemas;
 use std::alloc::{AllocError, Global};
 
-/// The query in a file of the library, with the types that the static rules give it (XQuery 1.0, section 2.2.3.1).
+/// A query with the types that the static rules give it under the schemas that it imports.
+#[derive(Drop)]
+pub struct TypedQuery {
+    pub schemas: Schemas,
+    pub core: TypedCore,
+}
+
+/// The query in a file of the library, with the types that the static rules give it under the schemas that it imports from other
+/// files (XQuery 1.0, sections 2.2.3.1 and 4.11).
 pub fn typed_query<L: Library>(
     alloc: Global,
     file: &str,
     library: &mut L,
-) -> Result<TypedCore, Refusal>
+) -> Result<TypedQuery, Refusal>
+    ensures query { QuerySo (library_use L.files L.faults L.was_loaded library.old library.new) file.now result }
+    ensures told { L.files library.new ≡ L.files library.old }
+    ensures counted { L.faults library.old ≤ L.faults library.new }
+    ensures typed { IfOk result (λ query. query_judged query.schemas (plain_query query.core) ≡ query_typed query.core) }
+    ensures sound { IfOk result (λ query. IsSoundQuery query.schemas query.core) }
+    ensures untyped { IfOk result (λ query. ExternalsAreUntyped (plain_query query.core).declarations) }
+{
+    match tree_in(alloc, file, library) {
+        Ok(tree) => query_of(alloc, tree, library),
+        Err(refusal) => Err(refusal),
+    }
+}
+
+// The query of a tree, all of whose productions are built. The tree ends here.
+fn query_of<L: Library>(alloc: Global, tree: Query, library: &mut L) -> Result<TypedQuery, Refusal>
+    requires built { unbuilt_query tree ≡ None }
+    ensures query { TreeSo (library_use L.files L.faults L.was_loaded library.old library.new) tree result }
+    ensures told { L.files library.new ≡ L.files library.old }
+    ensures counted { L.faults library.old ≤ L.faults library.new }
+    ensures typed { IfOk result (λ query. query_judged query.schemas (plain_query query.core) ≡ query_typed query.core) }
+    ensures sound { IfOk result (λ query. IsSoundQuery query.schemas query.core) }
+    ensures untyped { IfOk result (λ query. ExternalsAreUntyped (plain_query query.core).declarations) }
+{
+    match imported_schemas(alloc, &tree, library) {
+        Ok(schemas) => query_under(alloc, tree, schemas),
+        Err(refusal) => {
+            drop_query(alloc, tree);
+            Err(refusal)
+        }
+    }
+}
+
+// The query of a tree under schemas. The tree ends here.
+fn query_under(alloc: Global, tree: Query, schemas: Schemas) -> Result<TypedQuery, Refusal>
+    requires built { unbuilt_query tree ≡ None }
+    ensures schemas { IfOk result (λ query. query.schemas ≡ schemas) }
+    ensures named { IfOk result (λ query. query_named schemas tree ≡ named_query (plain_query query.core)) }
+    ensures typed { IfOk result (λ query. query_judged query.schemas (plain_query query.core) ≡ query_typed query.core) }
+    ensures sound { IfOk result (λ query. IsSoundQuery query.schemas query.core) }
+    ensures untyped { IfOk result (λ query. ExternalsAreUntyped (plain_query query.core).declarations) }
+    ensures refused { IfErr result (λ refusal. (files : Files) (command : Command) → RefusesSo refusal (AnswersNamed files command schemas (query_named schemas tree))) }
+    ensures cause { IfErr result IsOfRules }
+{
+    named_queries_have_untyped_documents();
+    let named = core_of(alloc, &schemas, tree)?;
+    let core = typed_core(alloc, &schemas, named)?;
+    Ok(TypedQuery { schemas, core })
+}
+
+// The tree of the query in a file, all of whose productions are built.
+fn tree_in<L: Library>(alloc: Global, file: &str, library: &mut L) -> Result<Query, Refusal>
     ensures loads { Loads L.was_loaded (file.now ∷ []) library.old library.new }
     ensures told { L.files library.new ≡ L.files library.old }
     ensures counted { L.faults library.old ≤ L.faults library.new }
-    ensures query { IfSome (L.files library.old) (λ files. IfOk result (λ query. HoldsQuery files file.now (plain_query query))) }
-    ensures typed { IfOk result (λ query. query_judged no_declarations (plain_query query) ≡ query_typed query) }
-    ensures sound { IfOk result (λ query. IsSoundQuery no_declarations query) }
-    ensures untyped { IfOk result (λ query. ExternalsAreUntyped (plain_query query).declarations) }
+    ensures tree { IfSome (L.files library.old) (λ files. IfOk result (HoldsThisTree files file.now)) }
+    ensures built { IfOk result (λ tree. unbuilt_query tree ≡ None) }
     ensures refused { IfSome (L.files library.old) (λ files. IfErr result (λ refusal.
         (command : Command) → RefusesSo refusal (AnswersFile files command (file_of files file.now)))) }
-    ensures cause { IfErr result (IsOfQuery (Rose (L.faults library.old) (L.faults library.new))) }
+    ensures none { IfSome (L.files library.old) (λ files. IfErr result (HoldsNone files file.now)) }
+    ensures cause { IfErr result (IsOfText (Rose (L.faults library.old) (L.faults library.new))) }
 {
-    named_queries_have_untyped_documents();
     let bytes = bytes_of(alloc, file, library)?;
-    let tree = tree_of(alloc, bytes.as_slice())?;
-    let core = core_of(alloc, tree)?;
-    typed_core(alloc, core)
+    tree_of(alloc, bytes.as_slice())
 }
 
 // The bytes of a file that is not too long.
@@ -75,7 +127,8 @@ fn bytes_of<L: Library>(alloc: Global, file: &str, library: &mut L) -> Result<Ve
     ensures within { IfOk result (λ bytes. length bytes.items ≤ FILE_BYTES) }
     ensures refused { IfSome (L.files library.old) (λ files. IfErr result (λ refusal.
         (command : Command) → RefusesSo refusal (AnswersFile files command (file_of files file.now)))) }
-    ensures cause { IfErr result (IsOfQuery (Rose (L.faults library.old) (L.faults library.new))) }
+    ensures none { IfSome (L.files library.old) (λ files. IfErr result (HoldsNone files file.now)) }
+    ensures cause { IfErr result (IsOfText (Rose (L.faults library.old) (L.faults library.new))) }
 {
     match library.load(alloc, file, FILE_BYTES) {
         Ok(bytes) => Ok(bytes),
@@ -91,7 +144,8 @@ fn tree_of(alloc: Global, bytes: &[u8]) -> Result<Query, Refusal>
     ensures tree { IfOk result (λ tree. Parses bytes.now (parsed tree)) }
     ensures built { IfOk result (λ tree. unbuilt_query tree ≡ None) }
     ensures refused { IfErr result (λ refusal. (files : Files) (command : Command) → RefusesSo refusal (AnswersBytes files command bytes.now)) }
-    ensures cause { IfErr result (IsOfQuery ⊥) }
+    ensures none { IfErr result (AreOfNone bytes.now) }
+    ensures cause { IfErr result (IsOfText ⊥) }
 {
     match parse(alloc, bytes) {
         Ok(tree) => built(alloc, tree),
@@ -120,7 +174,8 @@ fn built(alloc: Global, tree: Query) -> Result<Query, Refusal>
     ensures same { IfOk result (λ kept. kept ≡ tree) }
     ensures built { IfOk result (λ kept. unbuilt_query kept ≡ None) }
     ensures refused { IfErr result (λ refusal. (files : Files) (command : Command) → RefusesSo refusal (AnswersBuilt files command tree (unbuilt_query tree))) }
-    ensures cause { IfErr result (IsOfQuery ⊥) }
+    ensures none { IfErr result (IsNotBuilt tree) }
+    ensures cause { IfErr result (IsOfText ⊥) }
 {
     let refusal = match unbuilt_query(alloc, &tree) {
         Ok(None) => return Ok(tree),
@@ -161,14 +216,14 @@ fn drop_initialiser(alloc: Global, initialiser: Initialiser) {
     }
 }
 
-// The Core of a tree, which ends here.
+// The Core of a tree under schemas. The tree ends here.
 #[tactic(auto, using(crate::proofs::QueryLemmas::named_so, crate::proofs::QueryLemmas::refused_so))]
-fn core_of(alloc: Global, tree: Query) -> Result<Core, Refusal>
-    ensures core { IfOk result (λ core. query_named no_declarations tree ≡ named_query core) }
-    ensures refused { IfErr result (λ refusal. (files : Files) (command : Command) → RefusesSo refusal (AnswersNamed files command (query_named no_declarations tree))) }
-    ensures cause { IfErr result (IsOfQuery ⊥) }
+fn core_of(alloc: Global, schemas: &Schemas, tree: Query) -> Result<Core, Refusal>
+    ensures core { IfOk result (λ core. query_named schemas.now tree ≡ named_query core) }
+    ensures refused { IfErr result (λ refusal. (files : Files) (command : Command) → RefusesSo refusal (AnswersNamed files command schemas.now (query_named schemas.now tree))) }
+    ensures cause { IfErr result IsOfRules }
 {
-    let resolved = resolved(alloc, &tree);
+    let resolved = resolve(alloc, &tree, schemas);
     drop_query(alloc, tree);
     match resolved {
         Ok(resolved) => Ok(normalise(alloc, resolved)?),
@@ -177,26 +232,16 @@ fn core_of(alloc: Global, tree: Query) -> Result<Core, Refusal>
     }
 }
 
-// A tree with its names resolved, where no schema is imported.
-fn resolved(alloc: Global, tree: &Query) -> Result<Resolved, NameRefusal>
-    ensures refusals { Judges result (query_refusals no_declarations tree.now) }
-    ensures resolved { IfOk result (λ r. r ≡ query_resolved no_declarations tree.now) }
-{
-    let schemas = Schemas::empty(alloc)?;
-    resolve(alloc, tree, &schemas)
-}
-
-// A Core with its types.
-fn typed_core(alloc: Global, core: Core) -> Result<TypedCore, Refusal>
-    ensures typed { IfOk result (λ t. query_judged no_declarations core ≡ query_typed t) }
+// A Core with its types under schemas.
+fn typed_core(alloc: Global, schemas: &Schemas, core: Core) -> Result<TypedCore, Refusal>
+    ensures typed { IfOk result (λ t. query_judged schemas.now core ≡ query_typed t) }
     ensures same { IfOk result (λ t. plain_query t ≡ core) }
-    ensures sound { IfOk result (λ t. IsSoundQuery no_declarations t) }
+    ensures sound { IfOk result (λ t. IsSoundQuery schemas.now t) }
     ensures refused { IfErr result (λ refusal.
-        (files : Files) (command : Command) → RefusesSo refusal (AnswersJudged files command core (query_judged no_declarations core))) }
-    ensures cause { IfErr result (IsOfQuery ⊥) }
+        (files : Files) (command : Command) → RefusesSo refusal (AnswersJudged files command schemas.now core (query_judged schemas.now core))) }
+    ensures cause { IfErr result IsOfRules }
 {
-    let schemas = Schemas::empty(alloc)?;
-    match infer(alloc, &schemas, core) {
+    match infer(alloc, schemas, core) {
         Ok(typed) => Ok(typed),
         Err(InferError::NoType { place, code }) => Err(Refusal::Query { code, place }),
         Err(InferError::Memory) => Err(Refusal::Memory),

@@ -2,17 +2,29 @@
 
 use gx_base::code::Code;
 use gx_base::place::Place;
+use gx_base::text::Text;
 use gx_documents::bindings::BindingFault;
 use gx_documents::documents::DocumentFault;
+use gx_schema::refusal::SchemaRule;
 use std::alloc::AllocError;
 
-/// Why a command has no output: the query's file could not be read or is too long, the query is refused at a place, the words bind
-/// its external variables wrongly, the file of this name holds no document, its evaluation raises an error, or memory is wanting.
+/// Why a command has no output: the query's file could not be read or is too long, the query is refused at a place, the schema file
+/// of this name holds no document, or breaks a rule with what this name shows, the words bind the query's external variables wrongly,
+/// the file of this name holds no document, its evaluation raises an error, or memory is wanting.
 #[derive(Debug, Drop)]
 pub enum Refusal {
     ReadFault,
     TooLong,
-    Query { code: Code, place: Place },
+    Query {
+        code: Code,
+        place: Place,
+    },
+    SchemaFile(String, DocumentFault),
+    Schema {
+        rule: SchemaRule,
+        file: String,
+        name: Text,
+    },
     Binding(BindingFault),
     Document(String, DocumentFault),
     Dynamic(Code),

@@ -1,22 +1,21 @@
 // Runs of queries that have a type.
 
-ghost use Rattle.std.specs.Prelude.{◌≡◌, ◌++◌, ◌∷◌, [], IfOk, IfErr, length, map, MatchResult, None, true, string_bytes, ◌≤◌};
-ghost use Rattle.gx_types.specs.SchemaSet.{no_declarations};
+ghost use Rattle.std.specs.Prelude.{◌≡◌, IfOk, IfErr, length, map, MatchResult, None, true, string_bytes, ◌≤◌};
 ghost use Rattle.gx_core.specs.Outcome.{gives};
-ghost use Rattle.gx_core.specs.QueryMeaning.{plain_declaration, plain_query, query_outcome, query_type, IsSoundQuery};
+ghost use Rattle.gx_core.specs.QueryMeaning.{plain_declaration, plain_query, query_outcome, IsSoundQuery};
 ghost use Rattle.gx_core.specs.Refusal.{Fails};
 ghost use Rattle.gx_documents.specs.BindingView.{word_bytes};
 ghost use Rattle.gx_documents.specs.Bindings.{files_bound, misbound, word_of_name};
 ghost use Rattle.gx_documents.specs.Documents.{AreDocumentTrees, document_nodes};
 ghost use Rattle.gx_include.specs.Decision.{is_included};
 ghost use Rattle.gx_io.specs.LibraryUse.{library_use};
-ghost use Rattle.gx_normal.specs.Externals.{ExternalsAreUntyped};
-ghost use Rattle.gx_processor.specs.Answer.{writes, writable_type, can_be_written, AnswersEvaluated};
+ghost use Rattle.gx_processor.specs.UntypedDocuments.{ExternalsAreUntyped};
+ghost use Rattle.gx_processor.specs.Answer.{writable_type, can_be_written, AnswersEvaluated};
 ghost use Rattle.gx_processor.specs.Command.{bytes_of};
 ghost use Rattle.gx_processor.specs.Externals.{external_words};
-ghost use Rattle.gx_processor.specs.Replies.{RefusesSo};
 ghost use Rattle.gx_processor.specs.RunReplies.{AnswersSo, IsEvaluated, IsMisboundSo, ReadSo, RunsSo, unread};
 
+use crate::query::TypedQuery;
 use crate::refusal::Refusal;
 use crate::serialise::serialise;
 use gx_base::code::Code;
@@ -46,33 +45,35 @@ use std::alloc::{AllocError, Global};
 /// The query ends here.
 pub fn run<L: Library>(
     alloc: Global,
-    core: TypedCore,
+    query: TypedQuery,
     words: &[String],
     library: &mut L,
 ) -> Result<String, Refusal>
-    requires sound { IsSoundQuery no_declarations core }
-    requires untyped { ExternalsAreUntyped (plain_query core).declarations }
+    requires sound { IsSoundQuery query.schemas query.core }
+    requires untyped { ExternalsAreUntyped (plain_query query.core).declarations }
     ensures counted { L.faults library.old ≤ L.faults library.new }
-    ensures runs { RunsSo (library_use L.files L.faults L.was_loaded library.old library.new) (bytes_of words.now) core result }
+    ensures runs { RunsSo (library_use L.files L.faults L.was_loaded library.old library.new) (bytes_of words.now) query.schemas query.core result }
 {
-    let answer = value_text(alloc, &core, words, library);
+    let TypedQuery { schemas, core } = query;
+    let answer = value_text(alloc, &schemas, &core, words, library);
     dismantle_query(alloc, core);
     answer
 }
 
 fn value_text<L: Library>(
     alloc: Global,
+    schemas: &Schemas,
     core: &TypedCore,
     words: &[String],
     library: &mut L,
 ) -> Result<String, Refusal>
-    requires sound { IsSoundQuery no_declarations core.now }
+    requires sound { IsSoundQuery schemas.now core.now }
     requires untyped { ExternalsAreUntyped (plain_query core.now).declarations }
     ensures counted { L.faults library.old ≤ L.faults library.new }
-    ensures runs { RunsSo (library_use L.files L.faults L.was_loaded library.old library.new) (bytes_of words.now) core.now result }
+    ensures runs { RunsSo (library_use L.files L.faults L.was_loaded library.old library.new) (bytes_of words.now) schemas.now core.now result }
 {
-    match is_writable(alloc, &core.body.kind) {
-        Ok(true) => on_documents(alloc, core, words, library),
+    match is_writable(alloc, schemas, &core.body.kind) {
+        Ok(true) => on_documents(alloc, schemas, core, words, library),
         Ok(false) => Err(Refusal::Query {
             code: Code::SENR0001,
             place: core.body.outer,
@@ -84,18 +85,19 @@ fn value_text<L: Library>(
 // The value of a query whose value can be written.
 fn on_documents<L: Library>(
     alloc: Global,
+    schemas: &Schemas,
     core: &TypedCore,
     words: &[String],
     library: &mut L,
 ) -> Result<String, Refusal>
-    requires sound { IsSoundQuery no_declarations core.now }
+    requires sound { IsSoundQuery schemas.now core.now }
     requires untyped { ExternalsAreUntyped (plain_query core.now).declarations }
-    requires writable { can_be_written core.now ≡ true }
+    requires writable { can_be_written schemas.now core.now ≡ true }
     ensures counted { L.faults library.old ≤ L.faults library.new }
-    ensures runs { RunsSo (library_use L.files L.faults L.was_loaded library.old library.new) (bytes_of words.now) core.now result }
+    ensures runs { RunsSo (library_use L.files L.faults L.was_loaded library.old library.new) (bytes_of words.now) schemas.now core.now result }
 {
     match files_of(alloc, core, words) {
-        Ok(files) => over_files(alloc, core, files.as_slice(), library),
+        Ok(files) => over_files(alloc, schemas, core, files.as_slice(), library),
         Err(refusal) => Err(refusal),
     }
 }
@@ -103,18 +105,19 @@ fn on_documents<L: Library>(
 // The value over the documents in files, one for each external variable.
 fn over_files<L: Library>(
     alloc: Global,
+    schemas: &Schemas,
     core: &TypedCore,
     files: &[String],
     library: &mut L,
 ) -> Result<String, Refusal>
-    requires sound { IsSoundQuery no_declarations core.now }
+    requires sound { IsSoundQuery schemas.now core.now }
     requires untyped { ExternalsAreUntyped (plain_query core.now).declarations }
     requires each { length (word_bytes files.now) ≡ length (external_words (plain_query core.now).declarations) }
     ensures counted { L.faults library.old ≤ L.faults library.new }
-    ensures read { ReadSo (library_use L.files L.faults L.was_loaded library.old library.new) (word_bytes files.now) (plain_query core.now) result }
+    ensures read { ReadSo (library_use L.files L.faults L.was_loaded library.old library.new) (word_bytes files.now) schemas.now (plain_query core.now) result }
 {
     match read_documents(alloc, files, library) {
-        Ok(forest) => written(alloc, core, forest),
+        Ok(forest) => written(alloc, schemas, core, forest),
         Err(error) => Err(unread(error)),
     }
 }
@@ -178,12 +181,11 @@ fn word_of_name(alloc: Global, name: &Name) -> Result<String, AllocError>
 }
 
 // Whether the values of a type can be written: none has an attribute.
-fn is_writable(alloc: Global, kind: &Ty) -> Result<bool, AllocError>
-    ensures { IfOk result (λ answer. answer ≡ is_included no_declarations kind.now writable_type) }
+fn is_writable(alloc: Global, schemas: &Schemas, kind: &Ty) -> Result<bool, AllocError>
+    ensures { IfOk result (λ answer. answer ≡ is_included schemas.now kind.now writable_type) }
 {
-    let schemas = Schemas::empty(alloc)?;
     let writable = writable_type(alloc)?;
-    is_included(alloc, &schemas, kind, &writable)
+    is_included(alloc, schemas, kind, &writable)
 }
 
 fn writable_type(alloc: Global) -> Result<Ty, AllocError>
@@ -208,16 +210,21 @@ fn writable_type(alloc: Global) -> Result<Ty, AllocError>
 }
 
 // The serialisation of the value over the trees of documents.
-fn written(alloc: Global, core: &TypedCore, forest: Forest) -> Result<String, Refusal>
-    requires sound { IsSoundQuery no_declarations core.now }
+fn written(
+    alloc: Global,
+    schemas: &Schemas,
+    core: &TypedCore,
+    forest: Forest,
+) -> Result<String, Refusal>
+    requires sound { IsSoundQuery schemas.now core.now }
     requires untyped { ExternalsAreUntyped (plain_query core.now).declarations }
     requires documents { AreDocumentTrees forest }
     requires each { length forest ≡ length (external_words (plain_query core.now).declarations) }
-    ensures answers { AnswersSo (AnswersEvaluated (plain_query core.now) forest) result }
+    ensures answers { AnswersSo (AnswersEvaluated schemas.now (plain_query core.now) forest) result }
     ensures own { IsEvaluated result }
 {
     let mut forest = forest;
-    match value_of(alloc, core, &mut forest) {
+    match value_of(alloc, schemas, core, &mut forest) {
         Ok(items) => Ok(serialise(alloc, &forest, items.as_slice())?),
         Err(DynError::Raised(code)) => Err(Refusal::Dynamic(code)),
         Err(DynError::Memory) => Err(Refusal::Memory),
@@ -227,40 +234,39 @@ fn written(alloc: Global, core: &TypedCore, forest: Forest) -> Result<String, Re
 // The value of a query that is typed soundly, over the trees of documents.
 fn value_of(
     alloc: Global,
+    schemas: &Schemas,
     core: &TypedCore,
     forest: &mut Forest,
 ) -> Result<Vec<ModelItem>, DynError>
-    requires sound { IsSoundQuery no_declarations core.now }
+    requires sound { IsSoundQuery schemas.now core.now }
     requires untyped { ExternalsAreUntyped (plain_query core.now).declarations }
     requires documents { AreDocumentTrees forest.now }
     requires each { length forest.now ≡ length (external_words (plain_query core.now).declarations) }
-    ensures value { IfOk result (λ v. query_outcome no_declarations (plain_query core.now) (document_nodes forest.old) forest.old ≡ gives v.items forest.new) }
-    ensures raised { IfErr result (λ e. Fails e (query_outcome no_declarations (plain_query core.now) (document_nodes forest.old) forest.old)) }
+    ensures value { IfOk result (λ v. query_outcome schemas.now (plain_query core.now) (document_nodes forest.old) forest.old ≡ gives v.items forest.new) }
+    ensures raised { IfErr result (λ e. Fails e (query_outcome schemas.now (plain_query core.now) (document_nodes forest.old) forest.old)) }
 {
     match document_nodes(alloc, forest) {
-        Ok(documents) => evaluated(alloc, core, forest, documents.as_slice()),
+        Ok(documents) => evaluated(alloc, schemas, core, forest, documents.as_slice()),
         Err(AllocError) => Err(DynError::Memory),
     }
 }
 
 fn evaluated(
     alloc: Global,
+    schemas: &Schemas,
     core: &TypedCore,
     forest: &mut Forest,
     documents: &[Node],
 ) -> Result<Vec<ModelItem>, DynError>
-    requires sound { IsSoundQuery no_declarations core.now }
+    requires sound { IsSoundQuery schemas.now core.now }
     requires untyped { ExternalsAreUntyped (plain_query core.now).declarations }
     requires documents { AreDocumentTrees forest.now }
     requires each { length forest.now ≡ length (external_words (plain_query core.now).declarations) }
     requires nodes { documents.now ≡ document_nodes forest.now }
-    ensures value { IfOk result (λ v. query_outcome no_declarations (plain_query core.now) (document_nodes forest.old) forest.old ≡ gives v.items forest.new) }
-    ensures raised { IfErr result (λ e. Fails e (query_outcome no_declarations (plain_query core.now) (document_nodes forest.old) forest.old)) }
+    ensures value { IfOk result (λ v. query_outcome schemas.now (plain_query core.now) (document_nodes forest.old) forest.old ≡ gives v.items forest.new) }
+    ensures raised { IfErr result (λ e. Fails e (query_outcome schemas.now (plain_query core.now) (document_nodes forest.old) forest.old)) }
 {
     sound_queries_keep_their_types();
     documents_are_honest();
-    match Schemas::empty(alloc) {
-        Ok(schemas) => evaluate(alloc, &schemas, core, forest, documents),
-        Err(AllocError) => Err(DynError::Memory),
-    }
+    evaluate(alloc, schemas, core, forest, documents)
 }

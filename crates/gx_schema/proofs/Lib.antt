@@ -1,2 +1,2 @@
-mod Copies
-mod Examples
+pub mod NoTypes
+pub mod SchemaSets

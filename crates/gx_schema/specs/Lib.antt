@@ -1,7 +1,4 @@
-pub mod Occurrences
-pub mod GroupContents
-pub mod GroupPositions
-pub mod MixedContents
-pub mod TypeContents
-pub mod GroupLaws
-pub mod TypeLaws
+pub mod Unread
+pub mod RefusalView
+pub mod Import
+pub mod Laws

@@ -1,5 +1,4 @@
-use Rattle.std.proofs.Common.{◌≡◌, ◌≤◌, [], length, Result}
-use Rattle.gx_model.specs.Forest.{Forest}
+use Rattle.std.proofs.Common.{◌≡◌, ◌≤◌, List, [], length, Result}
 use Rattle.gx_documents.specs.declared.documents.DocumentsError.{DocumentsError}
 use Rattle.gx_documents.specs.BindingView.{word_bytes}
 use Rattle.gx_documents.specs.Reading.{ReadsFrom}
@@ -10,9 +9,9 @@ abbrev pub invariant-loop-file : goal.invariant-loop-file
 invariant-loop-file g l = record {
   told : g.L.Library.files l.library ≡ g.L.Library.files l.fn.library;
   counted : g.L.Library.faults l.fn.library ≤ g.L.Library.faults l.library;
-  reads : (result : Result Forest DocumentsError) (after : g.row.L.Denot)
-      → ReadsFrom (g.L.Library.files l.fn.library) g.L.Library.was_loaded g.L.Library.faults (word_bytes l.left) l.trees.items result l.library after
-      → ReadsFrom (g.L.Library.files l.fn.library) g.L.Library.was_loaded g.L.Library.faults (word_bytes l.fn.files) [] result l.fn.library after;
+  reads : (result : Result (List _) DocumentsError) (after : g.row.L.Denot)
+      → ReadsFrom g.K.Kept.keeps (g.L.Library.files l.fn.library) g.L.Library.was_loaded g.L.Library.faults (word_bytes l.left) l.all.items result l.library after
+      → ReadsFrom g.K.Kept.keeps (g.L.Library.files l.fn.library) g.L.Library.was_loaded g.L.Library.faults (word_bytes l.fn.files) [] result l.fn.library after;
 }
 
 abbrev pub decreases-loop-file : goal.decreases-loop-file

@@ -1,7 +1,7 @@
 use Rattle.std.proofs.Common.{refl, subst}
 use Rattle.gx_syntax.specs.Query.{refused, RefusesBytes}
 use Rattle.gx_syntax.specs.declared.refusal.SyntaxRefusal.{SyntaxRefusal}
-use Rattle.gx_processor.proofs.QueryLemmas.{built_refused, kept_parses}
+use Rattle.gx_processor.proofs.QueryLemmas.{built_refused, kept_parses, not_built, not_parsed}
 use Rattle.gx_processor.proofs.query.tree_of.Goals as goal
 
 pub returns-in-Ok-clause-tree : goal.returns-in-Ok-clause-tree
@@ -10,7 +10,14 @@ returns-in-Ok-clause-tree c = kept_parses c.args.bytes.now c.in-Ok.tree c.built.
 pub returns-in-Ok-clause-refused : goal.returns-in-Ok-clause-refused
 returns-in-Ok-clause-refused c = built_refused c.args.bytes.now c.in-Ok.tree c.built.result c.in-Ok.ensures.tree c.built.ensures.refused
 
+pub returns-in-Ok-clause-none : goal.returns-in-Ok-clause-none
+returns-in-Ok-clause-none c = not_built c.args.bytes.now c.in-Ok.tree c.built.result c.in-Ok.ensures.tree c.built.ensures.none
+
 pub returns-in-Err-Refused-clause-refused : goal.returns-in-Err-Refused-clause-refused
 returns-in-Err-Refused-clause-refused c = λ files command.
     rw (c.in-Err-Refused.place-is, c.rule_code-code.ensures, c.in-Err-Refused.rule-is)
     (refused c.in-Err-Refused.rule c.in-Err-Refused.place, subst (λ (e : SyntaxRefusal). RefusesBytes e c.args.bytes.now) c.in-Err-Refused.field-0-is c.in-Err-Refused.ensures.refused, refl)
+
+pub returns-in-Err-Refused-clause-none : goal.returns-in-Err-Refused-clause-none
+returns-in-Err-Refused-clause-none c =
+    not_parsed c.args.bytes.now c.in-Err-Refused.rule c.in-Err-Refused.place (subst (λ (e : SyntaxRefusal). RefusesBytes e c.args.bytes.now) c.in-Err-Refused.field-0-is c.in-Err-Refused.ensures.refused)

@@ -13,9 +13,9 @@ over_files-requires-clause-each g c = ap length (ap word_bytes c.as_slice.ensure
 
 pub returns-in-Ok-clause-runs : goal.returns-in-Ok-clause-runs
 returns-in-Ok-clause-runs g c =
-    run_over_files (library_use g.L.Library.files g.L.Library.faults g.L.Library.was_loaded c.args.library.now c.over_files.new.library) (bytes_of c.args.words.now) c.args.core.now
+    run_over_files (library_use g.L.Library.files g.L.Library.faults g.L.Library.was_loaded c.args.library.now c.over_files.new.library) (bytes_of c.args.words.now) c.args.schemas.now c.args.core.now
     (word_bytes c.as_slice.result.now) c.over_files.result c.requires.writable c.in-Ok.ensures.0 (ap word_bytes c.as_slice.ensures.value ∙ c.in-Ok.ensures.1) c.over_files.ensures.read
 
 pub returns-in-Err-clause-runs : goal.returns-in-Err-clause-runs
 returns-in-Err-clause-runs g c =
-    misbound_so (library_use g.L.Library.files g.L.Library.faults g.L.Library.was_loaded c.args.library.now c.args.library.now) (bytes_of c.args.words.now) c.args.core.now c.in-Err.refusal refl c.requires.writable c.in-Err.ensures
+    misbound_so (library_use g.L.Library.files g.L.Library.faults g.L.Library.was_loaded c.args.library.now c.args.library.now) (bytes_of c.args.words.now) c.args.schemas.now c.args.core.now c.in-Err.refusal refl c.requires.writable c.in-Err.ensures

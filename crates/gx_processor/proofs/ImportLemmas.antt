@@ -1,0 +1,162 @@
+-- What the schemas that a query imports say, from the reading of their files.
+use Rattle.std.proofs.Common.{◌≡◌, ℕ, List, [], Result, Ok, Err, string_bytes, IfErr, MatchResult, inl, inr, refl, sym, ap, subst}
+use Rattle.gx_types.specs.SchemaSet.{SchemaSet}
+use Rattle.gx_io.specs.LibraryUse.{LibraryUse}
+use Rattle.gx_ast.specs.declared.query.Query.{Query as SyntaxQuery}
+use Rattle.gx_xml.specs.declared.source.Source.{Source}
+use Rattle.gx_xml.specs.SourceTree.{SourceTree}
+use Rattle.gx_schema.specs.Import.{Imported, declares, imported}
+use Rattle.gx_documents.specs.declared.documents.DocumentFault.TheVariants as faults
+use Rattle.gx_documents.specs.declared.documents.DocumentsError.{DocumentsError}
+use Rattle.gx_documents.specs.declared.documents.DocumentsError.TheVariants.{Failed, Memory as NoMemory}
+use Rattle.gx_documents.specs.Documents.{Files, KeepsSource, DocumentsLoaded}
+use Rattle.gx_documents.specs.Reading.{EndsWith, HasReadFault, ReadSources}
+use Rattle.gx_processor.specs.declared.refusal.Refusal.{Refusal}
+use Rattle.gx_processor.specs.declared.refusal.Refusal.TheVariants as refusal
+use Rattle.gx_processor.specs.declared.status.Status.TheVariants as status
+use Rattle.gx_processor.specs.Answer.{Answer, refuses, AnswersImported, AnswersSchemas}
+use Rattle.gx_processor.specs.Command.{Command}
+use Rattle.gx_processor.specs.FaultLines.{import_line}
+use Rattle.gx_processor.specs.ImportReplies.{unread_schema, BreaksRule, DeclaresSo, DeclaredSo, IsOfImport, FailsAtSchema, ImportsSo}
+use Rattle.gx_processor.specs.Query.{ImportsSchemas}
+use Rattle.gx_processor.specs.SchemaFiles.{schema_files, sources_of}
+use Rattle.gx_processor.specs.Loading.{AreFirstOf}
+use Rattle.gx_processor.specs.Replies.{RefusesSo, OutcomeLoads}
+use Rattle.gx_processor.proofs.LoadLemmas.{hold_sources, roots_answer, stopped_answers, all_loaded, stopped_loaded, stopped_first, one_load, whole_is_front}
+use Rattle.gx_processor.proofs.Told.{told_so, told_always}
+
+module _ (tree : SyntaxQuery) where
+  abbrev names : List (List ℕ)
+  names = schema_files tree
+
+  abbrev Followed : Files → Command → List SourceTree → Answer → Type 0
+  Followed files command roots next = AnswersImported files command tree (schema_files tree) (imported (sources_of roots)) next
+
+  abbrev Refused : Files → Refusal → Type 0
+  Refused files e = (command : Command) → RefusesSo e (AnswersSchemas files command tree)
+
+  abbrev Answered : Files → Result SchemaSet Refusal → Type 0
+  Answered files result = MatchResult result (ImportsSchemas files tree) (Refused files)
+
+  -- files that cannot be read
+  unread_answers : (files : Files) (loads : List (List ℕ)) (error : DocumentsError) → EndsWith KeepsSource files names loads (Err error) → Refused files (unread_schema error)
+  unread_answers files loads (Failed file faults.Unread) ends command = tt
+  unread_answers files loads (Failed file faults.TooLong) ends command =
+      stopped_answers status.Schema KeepsSource files names loads (string_bytes file) faults.TooLong (Followed files command) _ ends.0 ends.1 refl
+  unread_answers files loads (Failed file (faults.Refused rule place)) ends command =
+      stopped_answers status.Schema KeepsSource files names loads (string_bytes file) (faults.Refused rule place) (Followed files command) _ ends.0 ends.1 refl
+  unread_answers files loads NoMemory ends command = tt
+
+  memory_first : (files : Files) (loads whole : List (List ℕ)) → EndsWith KeepsSource files names loads (Err NoMemory) → DocumentsLoaded files names whole → AreFirstOf loads whole
+  memory_first files loads whole (inl e) h = stopped_first KeepsSource files names loads whole e.0 e.1 h
+  memory_first files loads whole (inr e) h =
+      whole_is_front loads whole (one_load files names loads whole (subst (λ (ns : List (List ℕ)). DocumentsLoaded files names ns) (sym e.2) (all_loaded KeepsSource files names e.0 e.1)) h)
+
+  unread_loads : (files : Files) (loads : List (List ℕ)) (error : DocumentsError) → EndsWith KeepsSource files names loads (Err error) → OutcomeLoads {V = SchemaSet} (DocumentsLoaded files names) loads (Err (unread_schema error))
+  unread_loads files loads (Failed file faults.Unread) ends = λ whole h. stopped_first KeepsSource files names loads whole (string_bytes file) ends.0 h
+  unread_loads files loads (Failed file faults.TooLong) ends = stopped_loaded KeepsSource files names loads (string_bytes file) faults.TooLong ends.0 ends.1 (λ e. cc)
+  unread_loads files loads (Failed file (faults.Refused rule place)) ends = stopped_loaded KeepsSource files names loads (string_bytes file) (faults.Refused rule place) ends.0 ends.1 (λ e. cc)
+  unread_loads files loads NoMemory ends = λ whole h. memory_first files loads whole ends h
+
+  unread_fails : (library : LibraryUse) (loads : List (List ℕ)) (error : DocumentsError) → HasReadFault {T = Source} library loads (Err error) → FailsAtSchema {V = SchemaSet} library loads (Err (unread_schema error))
+  unread_fails library loads (Failed file faults.Unread) f = record { earlier = f.earlier; file = string_bytes file; in_order = f.in_order; failed = f.failed; rose = f.rose; line_is = refl }
+  unread_fails library loads (Failed file faults.TooLong) f = tt
+  unread_fails library loads (Failed file (faults.Refused rule place)) f = tt
+  unread_fails library loads NoMemory f = tt
+
+  unread_own : (error : DocumentsError) → IsOfImport (unread_schema error)
+  unread_own (Failed file fault) = tt
+  unread_own NoMemory = tt
+
+  unread_imports : (library : LibraryUse) (error : DocumentsError) → ReadSources library names (Err error) → ImportsSo library tree (Err (unread_schema error))
+  unread_imports library error read = record {
+    loads = read.loads;
+    loaded = read.loaded;
+    answers = told_so (library.files library.before) (λ files. EndsWith KeepsSource files names read.loads (Err error)) (λ files. Answered files (Err (unread_schema error))) (λ files ends. unread_answers files read.loads error ends) read.told;
+    told = told_so (library.files library.before) (λ files. EndsWith KeepsSource files names read.loads (Err error)) (λ files. OutcomeLoads {V = SchemaSet} (DocumentsLoaded files names) read.loads (Err (unread_schema error)))
+        (λ files ends. unread_loads files read.loads error ends) read.told;
+    failed = unread_fails library read.loads error read.failed;
+    own = unread_own error;
+  }
+
+  -- files that are read
+  broken_answers : (files : Files) (sources : List Source) (loads : List (List ℕ)) (e : Refusal) → EndsWith KeepsSource files names loads (Ok sources) → BreaksRule names (imported sources) e → Refused files e
+  broken_answers files sources loads (refusal.Schema rule file construct) ends b command =
+      let held = hold_sources files names sources ends.0 in
+      roots_answer status.Schema files names held.0 [] (Followed files command) _ held.1
+      (subst (λ (ss : List Source). AnswersImported files command tree names (imported ss) (refuses status.Schema (import_line rule (string_bytes file) construct))) held.2
+      (subst (λ (told : Imported). AnswersImported files command tree names told (refuses status.Schema (import_line rule (string_bytes file) construct))) (sym b.1)
+      (ap (λ (name : List ℕ). refuses status.Schema (import_line rule name construct)) b.2)))
+  broken_answers files sources loads refusal.Memory ends b command = tt
+  broken_answers files sources loads refusal.ReadFault ends b command = absurd b
+  broken_answers files sources loads refusal.TooLong ends b command = absurd b
+  broken_answers files sources loads (refusal.Query code place) ends b command = absurd b
+  broken_answers files sources loads (refusal.SchemaFile file fault) ends b command = absurd b
+  broken_answers files sources loads (refusal.Binding fault) ends b command = absurd b
+  broken_answers files sources loads (refusal.Document file fault) ends b command = absurd b
+  broken_answers files sources loads (refusal.Dynamic code) ends b command = absurd b
+
+  declared_answers : (files : Files) (sources : List Source) (loads : List (List ℕ)) (result : Result SchemaSet Refusal) → EndsWith KeepsSource files names loads (Ok sources)
+      → MatchResult result (λ schemas. imported sources ≡ declares schemas) (BreaksRule names (imported sources)) → Answered files result
+  declared_answers files sources loads (Ok schemas) ends h =
+      let held = hold_sources files names sources ends.0 in
+      record { roots = held.0; held = held.1; imports = subst (λ (ss : List Source). imported ss ≡ declares schemas) held.2 h }
+  declared_answers files sources loads (Err e) ends h = broken_answers files sources loads e ends h
+
+  sources_loaded : (files : Files) (sources : List Source) (loads : List (List ℕ)) → EndsWith KeepsSource files names loads (Ok sources) → DocumentsLoaded files names loads
+  sources_loaded files sources loads ends = subst (λ (ns : List (List ℕ)). DocumentsLoaded files names ns) (sym ends.1) (all_loaded KeepsSource files names sources ends.0)
+
+  declared_loads : (files : Files) (sources : List Source) (loads : List (List ℕ)) (result : Result SchemaSet Refusal) → EndsWith KeepsSource files names loads (Ok sources)
+      → MatchResult result (λ schemas. imported sources ≡ declares schemas) (BreaksRule names (imported sources)) → OutcomeLoads (DocumentsLoaded files names) loads result
+  declared_loads files sources loads (Ok schemas) ends h = sources_loaded files sources loads ends
+  declared_loads files sources loads (Err (refusal.Schema rule file construct)) ends h = sources_loaded files sources loads ends
+  declared_loads files sources loads (Err refusal.Memory) ends h = λ whole k. whole_is_front loads whole (one_load files names loads whole (sources_loaded files sources loads ends) k)
+  declared_loads files sources loads (Err refusal.ReadFault) ends h = absurd h
+  declared_loads files sources loads (Err refusal.TooLong) ends h = absurd h
+  declared_loads files sources loads (Err (refusal.Query code place)) ends h = absurd h
+  declared_loads files sources loads (Err (refusal.SchemaFile file fault)) ends h = absurd h
+  declared_loads files sources loads (Err (refusal.Binding fault)) ends h = absurd h
+  declared_loads files sources loads (Err (refusal.Document file fault)) ends h = absurd h
+  declared_loads files sources loads (Err (refusal.Dynamic code)) ends h = absurd h
+
+  declared_fails : (library : LibraryUse) (sources : List Source) (loads : List (List ℕ)) (result : Result SchemaSet Refusal) → MatchResult result (λ schemas. imported sources ≡ declares schemas) (BreaksRule names (imported sources))
+      → FailsAtSchema library loads result × IfErr result IsOfImport
+  declared_fails library sources loads (Ok schemas) h = (tt, tt)
+  declared_fails library sources loads (Err (refusal.Schema rule file construct)) h = (tt, tt)
+  declared_fails library sources loads (Err refusal.Memory) h = (tt, tt)
+  declared_fails library sources loads (Err refusal.ReadFault) h = absurd h
+  declared_fails library sources loads (Err refusal.TooLong) h = absurd h
+  declared_fails library sources loads (Err (refusal.Query code place)) h = absurd h
+  declared_fails library sources loads (Err (refusal.SchemaFile file fault)) h = absurd h
+  declared_fails library sources loads (Err (refusal.Binding fault)) h = absurd h
+  declared_fails library sources loads (Err (refusal.Document file fault)) h = absurd h
+  declared_fails library sources loads (Err (refusal.Dynamic code)) h = absurd h
+
+  declared_imports : (library : LibraryUse) (read : Result (List Source) DocumentsError) (result : Result SchemaSet Refusal) → ReadSources library names read → DeclaresSo names read result → ImportsSo library tree result
+  declared_imports library (Ok sources) result read h =
+      let rest = declared_fails library sources read.loads result h in
+      record {
+        loads = read.loads;
+        loaded = read.loaded;
+        answers = told_so (library.files library.before) (λ files. EndsWith KeepsSource files names read.loads (Ok sources)) (λ files. Answered files result) (λ files ends. declared_answers files sources read.loads result ends h) read.told;
+        told = told_so (library.files library.before) (λ files. EndsWith KeepsSource files names read.loads (Ok sources)) (λ files. OutcomeLoads (DocumentsLoaded files names) read.loads result)
+            (λ files ends. declared_loads files sources read.loads result ends h) read.told;
+        failed = rest.0;
+        own = rest.1;
+      }
+  declared_imports library (Err error) result read h = subst (λ (r : Result SchemaSet Refusal). ImportsSo library tree r) (sym h) (unread_imports library error read)
+
+  pub imports_so : (library : LibraryUse) (files : List (List ℕ)) (result : Result SchemaSet Refusal) → files ≡ names → DeclaredSo library files result → ImportsSo library tree result
+  imports_so library files result same h =
+      declared_imports library h.read result (subst (λ (ns : List (List ℕ)). ReadSources library ns h.read) same h.reads) (subst (λ (ns : List (List ℕ)). DeclaresSo ns h.read result) same h.follows)
+
+  -- where the names find no memory nothing is loaded
+  pub starved_imports : (library : LibraryUse) → library.after ≡ library.before → ImportsSo library tree (Err refusal.Memory)
+  starved_imports library untouched = record {
+    loads = [];
+    loaded = untouched;
+    answers = told_always (library.files library.before) (λ files. Answered files (Err refusal.Memory)) (λ files command. tt);
+    told = told_always (library.files library.before) (λ files. OutcomeLoads {V = SchemaSet} (DocumentsLoaded files names) [] (Err refusal.Memory)) (λ files whole k. (whole, refl));
+    failed = tt;
+    own = tt;
+  }

@@ -1,0 +1,5 @@
+use Rattle.gx_schema.proofs.SchemaSets.{imports_are_schema_sets}
+use Rattle.gx_schema.proofs.laws.imports_are_schema_sets.Goals as goal
+
+pub returns : goal.returns
+returns c = imports_are_schema_sets
