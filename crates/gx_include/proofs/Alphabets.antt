@@ -1,8 +1,6 @@
 -- The alphabet of two types has exact letters, and enough of them.
-use Rattle.std.proofs.Common.{◌≡◌, ℕ, zero, suc, ◌+◌, ◌<◌, Bool, true, false, List, [], ◌∷◌, ◌++◌, map, inl, inr, refl, sym, ◌∙◌, ap, subst, get_or, arith, if◌then◌else◌}
-use Rattle.std.specs.List.{All}
+use Rattle.std.proofs.Common.{◌≡◌, ℕ, zero, suc, ◌+◌, ◌<◌, Bool, true, false, List, [], ◌∷◌, ◌++◌, inl, inr, refl, sym, ◌∙◌, ap, subst, get_or, arith, if◌then◌else◌}
 use Rattle.std.proofs.lemmas.Bool.{cases_lt}
-use Rattle.std.proofs.lemmas.List.Elements.{All-tail}
 use Rattle.gx_base.specs.declared.name.Name.{Name}
 use Rattle.gx_types.specs.declared.shape.Shape.{Shape}
 use Rattle.gx_types.specs.SchemaSet.{SchemaSet}
@@ -11,35 +9,18 @@ use Rattle.gx_types.specs.SequenceType.{SequenceType}
 use Rattle.gx_types.specs.TypeRules.{positions_of}
 use Rattle.gx_types.specs.Derivation.{bases_of}
 use Rattle.gx_include.specs.declared.letter.Letter.{Letter}
-use Rattle.gx_include.specs.declared.alphabet.Row.{Row}
 use Rattle.gx_include.specs.Step.{all_tests}
 use Rattle.gx_include.specs.Test.{is_taken}
 use Rattle.gx_include.specs.Inclusion.{plain_types, IsWellFormedShape}
 use Rattle.gx_include.specs.Letters.{IsLetter, AreLetters, StandsFor, ServeAll}
-use Rattle.gx_include.specs.Trials.{with_names, IsOther, trial_shapes}
-use Rattle.gx_include.specs.Alphabet.{LetterEntry, entry_of_letter, entry_if, row_entries, rows_below, entries_at, entries_below, IsAlphabet, IsRow}
+use Rattle.gx_include.specs.Trials.{with_names, trial_shapes}
+use Rattle.gx_include.specs.Alphabet.{LetterEntry, entry_of_letter, entry_if, entries_at, entries_below, IsAlphabet}
 use Rattle.gx_include.proofs.SetReads.{length_tests}
 use Rattle.gx_include.proofs.Lists.{In, in_left, in_right, in_either, in_map, of_map, in_flat, of_flat, got_in, in_got, set_within}
 use Rattle.gx_include.proofs.Decided.{decided}
 use Rattle.gx_include.proofs.Stand.{shape_stands, tests_alike, both_known}
 
 module _ (s : SchemaSet) (a b : SequenceType) where
-  -- rows and tried shapes have the same letters
-
-  one_row : (row : Row) (place : ℕ) → IsRow s a b row → entry_if place row.shape row.left.items row.right.items ≡ entry_if place row.shape (all_tests a (is_taken s row.shape)) (all_tests b (is_taken s row.shape))
-  one_row row place is = ap (λ xs. entry_if place row.shape xs row.right.items) is.left ∙ ap (λ xs. entry_if place row.shape (all_tests a (is_taken s row.shape)) xs) is.right
-
-  rows_at : (rows : List Row) (place : ℕ) → All (IsRow s a b) rows → row_entries rows place ≡ entries_at s a b (map (λ (row : Row). row.shape) rows) place
-  rows_at [] place all = refl
-  rows_at (row ∷ rows) place all =
-      ap (λ es. es ++ row_entries rows place) (one_row row place (all 0 row (omega arith)))
-      ∙ ap (λ es. entry_if place row.shape (all_tests a (is_taken s row.shape)) (all_tests b (is_taken s row.shape)) ++ es) (rows_at rows place (All-tail (IsRow s a b) row rows all))
-
-  pub rows_are : (rows : List Row) (bound : ℕ) → All (IsRow s a b) rows → rows_below rows bound ≡ entries_below s a b (map (λ (row : Row). row.shape) rows) bound
-  rows_are rows zero all = refl
-  rows_are rows (suc place) all =
-      ap (λ es. es ++ row_entries rows place) (rows_are rows place all) ∙ ap (λ es. entries_below s a b (map (λ (row : Row). row.shape) rows) place ++ es) (rows_at rows place all)
-
   -- what a letter is
 
   pub of_if : {X : Type 0} (g : Bool) (y e : X) → In e (if g then y ∷ [] else []) → (g ≡ true) × (y ≡ e)
@@ -119,13 +100,3 @@ module _ (s : SchemaSet) (a b : SequenceType) where
 
     pub serve_all : ServeAll s a b letters
     serve_all = record { left = λ x w. decided s g x a; right = λ x w. decided s g x b; stands = stands }
-
--- the answer of the program
-pub alphabet_is : (s : SchemaSet) (a b : SequenceType) (letters : List Letter) (rows : List Row) (shapes : List Shape) (width : ℕ) (other : Name)
-    → IsOther (with_names (with_names [] a) b) other → map entry_of_letter letters ≡ rows_below rows width → All (IsRow s a b) rows → map (λ (row : Row). row.shape) rows ≡ shapes
-    → shapes ≡ trial_shapes (plain_types s) (with_names (with_names [] a) b ++ other ∷ []) → width ≡ positions_of a + 1 → IsAlphabet s a b letters
-alphabet_is s a b letters rows shapes width other fresh e all f g w = record {
-  other = other;
-  fresh = fresh;
-  are = e ∙ rows_are s a b rows width all ∙ ap (λ xs. entries_below s a b xs width) (f ∙ g) ∙ ap (λ n. entries_below s a b (trial_shapes (plain_types s) (with_names (with_names [] a) b ++ other ∷ [])) n) w;
-}

@@ -1,7 +1,7 @@
 -- The test of inclusion is exact.
-use Rattle.std.proofs.Common.{◌≡◌, ℕ, zero, suc, ◌+◌, ◌≤◌, Bool, true, false, ◌&&◌, ◌||◌, not, List, [], ◌∷◌, ◌++◌, map, ◌⊎◌, inl, inr, refl, sym, ◌∙◌, ap, subst, length, arith}
+use Rattle.std.proofs.Common.{◌≡◌, ℕ, zero, suc, ◌+◌, ◌≤◌, Bool, true, false, ◌&&◌, not, List, [], ◌∷◌, ◌++◌, map, inl, inr, refl, sym, ◌∙◌, ap, subst, length, arith}
 use Rattle.std.specs.List.{list_any, flat_map}
-use Rattle.std.proofs.lemmas.Bool.{or_cases, and_from, and_parts}
+use Rattle.std.proofs.lemmas.Bool.{or_cases, and_parts}
 use Rattle.std.proofs.lemmas.List.{length-append}
 use Rattle.std.specs.Cmp.Lexicographic.{same_text as same_letters}
 use Rattle.gx_base.specs.declared.name.Name.{Name}
@@ -12,18 +12,18 @@ use Rattle.gx_types.specs.declared.shape.Shape.{Shape}
 use Rattle.gx_types.specs.SchemaSet.{SchemaSet}
 use Rattle.gx_types.specs.Grounded.{Grounded}
 use Rattle.gx_types.specs.SequenceType.{SequenceType}
-use Rattle.gx_types.specs.Takes.{Takes, EachShape}
+use Rattle.gx_types.specs.Takes.{EachShape}
 use Rattle.gx_types.specs.TypeRules.{positions_of}
 use Rattle.gx_types.specs.Derivation.{bases_of}
 use Rattle.gx_include.specs.Decision.{leads_to_bad, BothSets, sets_behind, refutes, longer_name, shapes_tried, flag_lists, start_sets, all_sets, is_included, InclusionIsDecided}
-use Rattle.gx_include.specs.Inclusion.{plain_types, IsWellFormedShape, IsIncluded}
-use Rattle.gx_include.specs.Positions.{next_of, tests_of, both_set}
-use Rattle.gx_include.specs.Step.{single, has_start, all_next, all_tests, step_over, is_end}
-use Rattle.gx_include.specs.Test.{is_taken, IsDecided}
-use Rattle.gx_include.specs.Trials.{is_named, with_names, trial_shapes}
+use Rattle.gx_include.specs.Inclusion.{IsWellFormedShape, IsIncluded}
+use Rattle.gx_include.specs.Positions.{both_set}
+use Rattle.gx_include.specs.Step.{has_start, all_next, all_tests, step_over, is_end}
+use Rattle.gx_include.specs.Test.{is_taken}
+use Rattle.gx_include.specs.Trials.{is_named, with_names}
 use Rattle.gx_include.proofs.Bound.{both_set_length, next_length}
 use Rattle.gx_include.proofs.Decided.{decided}
-use Rattle.gx_include.proofs.Lists.{In, in_map, of_map, in_flat, of_flat}
+use Rattle.gx_include.proofs.Lists.{In, in_map, of_map, in_flat}
 use Rattle.gx_include.proofs.Searching.{any_has, any_of, found_in_time}
 use Rattle.gx_include.proofs.SetReads.{Reads, reads_forward, reads_back, end_reads, reads_end, start_reads, reads_start, length_tests}
 use Rattle.gx_include.proofs.MarksTake.{or_right}

@@ -8,9 +8,12 @@ pub mod Outcomes
 pub mod PairRuns
 pub mod Verdicts
 pub mod Lists
+pub mod Listed
 pub mod Decided
 pub mod Stand
 pub mod Alphabets
+pub mod Columns
+pub mod PlaceLists
 pub mod Counts
 pub mod Bound
 pub mod WellFormed

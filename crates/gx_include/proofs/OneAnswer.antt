@@ -18,11 +18,11 @@ use Rattle.gx_include.specs.Inclusion.{plain_types}
 use Rattle.gx_include.specs.Laws.{IsSameVerdict, AnswersAreOne}
 use Rattle.gx_include.specs.Pairs.{start_pair, moved_by, pair_step}
 use Rattle.gx_include.specs.Positions.{both_set}
-use Rattle.gx_include.specs.Runs.{placed, place_step, shapes_of_letter, shapes_of, IsComplete, IsRefusedRun}
-use Rattle.gx_include.specs.Step.{single, all_next, is_end}
+use Rattle.gx_include.specs.Runs.{placed, place_step, shapes_of_letter, shapes_of, IsRefusedRun}
+use Rattle.gx_include.specs.Step.{single, all_next}
 use Rattle.gx_include.specs.Trials.{with_names, is_named, other_name, IsOther, trial_shapes}
-use Rattle.gx_include.specs.Verdict.{IsReached, IsWithin, IsPast, IsRefutedBy, IsVerdictOver}
-use Rattle.gx_include.specs.Walk.{leads_to, ComesBefore, NotAfter}
+use Rattle.gx_include.specs.Verdict.{IsWithin, IsPast}
+use Rattle.gx_include.specs.Walk.{leads_to, NotAfter}
 use Rattle.gx_include.proofs.Counts.{past_is_not_within}
 use Rattle.gx_include.proofs.Walks.{before_trans, before_itself}
 use Rattle.gx_include.proofs.WellFormed.{no_excludes_inclusion}

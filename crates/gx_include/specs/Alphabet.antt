@@ -1,13 +1,14 @@
 -- The letters of two types, in the order in which runs are compared: by position of the left type, and then by shape.
-use Rattle.std.specs.Prelude.{◌≡◌, ℕ, zero, suc, ◌+◌, Bool, false, List, [], ◌∷◌, ◌++◌, map, slice_index_or, if◌then◌else◌}
+use Rattle.std.specs.Prelude.{◌≡◌, ℕ, zero, suc, ◌+◌, Bool, false, List, [], ◌∷◌, ◌++◌, map, length, Some, Vec, slice_get, slice_index_or, if◌then◌else◌}
 use Rattle.std.specs.List.{flat_map}
 use Rattle.gx_base.specs.declared.name.Name.{Name}
+use Rattle.gx_types.specs.declared.item_type.ItemType.{ItemType}
 use Rattle.gx_types.specs.declared.shape.Shape.{Shape}
 use Rattle.gx_types.specs.SchemaSet.{SchemaSet}
 use Rattle.gx_types.specs.SequenceType.{SequenceType}
 use Rattle.gx_types.specs.TypeRules.{positions_of}
 use Rattle.gx_include.specs.declared.letter.Letter.{Letter}
-use Rattle.gx_include.specs.declared.alphabet.Row.{Row}
+use Rattle.gx_include.specs.ItemIndex.{tests_at}
 use Rattle.gx_include.specs.Step.{all_tests}
 use Rattle.gx_include.specs.Test.{is_taken}
 use Rattle.gx_include.specs.Inclusion.{plain_types}
@@ -23,15 +24,6 @@ entry_of_letter letter = (letter.place, letter.shape, letter.takers.items)
 -- the letter of a shape at a place, if the place is among those that take it
 abbrev pub entry_if : ℕ → Shape → (left right : List Bool) → List LetterEntry
 entry_if place shape left right = if slice_index_or left place false then (place, shape, right) ∷ [] else []
-
--- of tried shapes with their positions on either side
-abbrev pub row_entries : List Row → ℕ → List LetterEntry
-row_entries rows place = flat_map (λ (row : Row). entry_if place row.shape row.left.items row.right.items) rows
-
--- the letters below a place
-abbrev pub rows_below : List Row → ℕ → List LetterEntry
-rows_below rows zero = []
-rows_below rows (suc place) = rows_below rows place ++ row_entries rows place
 
 -- the shapes that are tried, at a place
 abbrev pub entries_at : SchemaSet → (a b : SequenceType) → List Shape → ℕ → List LetterEntry
@@ -49,7 +41,21 @@ pub record IsAlphabet (schemas : SchemaSet) (a b : SequenceType) (letters : List
   pub are :
       map entry_of_letter letters ≡ entries_below schemas a b (trial_shapes (plain_types schemas) (with_names (with_names [] a) b ++ other ∷ [])) (positions_of a + 1)
 
--- a tried shape with the positions of both types that take it
-pub record IsRow (schemas : SchemaSet) (a b : SequenceType) (row : Row) : Type 0 where
-  pub left : row.left.items ≡ all_tests a (is_taken schemas row.shape)
-  pub right : row.right.items ≡ all_tests b (is_taken schemas row.shape)
+-- the same over the item types of both types
+abbrev pub entries_over : SchemaSet → (left right : List ItemType) → List Shape → ℕ → List LetterEntry
+entries_over schemas left right shapes place =
+    flat_map (λ shape. entry_if place shape (tests_at left (is_taken schemas shape)) (tests_at right (is_taken schemas shape))) shapes
+
+abbrev pub entries_of_column : {A : Type 0} → Vec Letter A → List LetterEntry
+entries_of_column column = map entry_of_letter column.items
+
+-- so many columns of letters, by place
+pub record AreColumns {A : Type 0} (count : ℕ) (entries : ℕ → List LetterEntry) (columns : List (Vec Letter A)) : Type 0 where
+  pub count_is : length columns ≡ count
+  pub are : (place : ℕ) (column : Vec Letter A) → slice_get columns place ≡ Some column → entries_of_column column ≡ entries place
+
+-- columns with more letters behind
+pub record AreColumnsMore {A : Type 0} (old new : List (Vec Letter A)) (more : ℕ → List LetterEntry) : Type 0 where
+  pub count_is : length new ≡ length old
+  pub are : (place : ℕ) (before after : Vec Letter A) → slice_get old place ≡ Some before → slice_get new place ≡ Some after
+      → entries_of_column after ≡ entries_of_column before ++ more place

@@ -9,6 +9,8 @@ pub mod Traced
 pub mod Outcome
 pub mod Runs
 pub mod Inclusion
+pub mod ItemIndex
+pub mod Following
 pub mod Letters
 pub mod Verdict
 pub mod Trials

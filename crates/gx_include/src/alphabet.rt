@@ -1,16 +1,18 @@
 // The letters of two types.
 
-ghost use Rattle.std.specs.Prelude.{◌≡◌, ◌+◌, ◌++◌, [], ◌∷◌, map, IfOk, OnOk};
-ghost use Rattle.std.specs.List.{All};
+ghost use Rattle.std.specs.Prelude.{◌≡◌, ◌+◌, ◌++◌, [], ◌∷◌, map, length, IfOk, OnOk};
+ghost use Rattle.std.specs.List.{flat_map, list_any};
 ghost use Rattle.gx_types.specs.SchemaSet.{names_declared};
 ghost use Rattle.gx_types.specs.Grounded.{Grounded};
 ghost use Rattle.gx_types.specs.Derivation.{bases_of};
-ghost use Rattle.gx_include.specs.Alphabet.{entry_of_letter, entry_if, row_entries, rows_below, IsRow, IsAlphabet};
+ghost use Rattle.gx_include.specs.Alphabet.{entry_of_letter, entry_if, entries_over, entries_of_column, AreColumns, AreColumnsMore, IsAlphabet};
 ghost use Rattle.gx_include.specs.Inclusion.{built_in_types};
+ghost use Rattle.gx_include.specs.ItemIndex.{tests_at};
+ghost use Rattle.gx_include.specs.Test.{is_taken};
 ghost use Rattle.gx_include.specs.Trials.{with_names, IsOther, trial_shapes, untyped};
 
+use crate::item_index::ItemIndex;
 use crate::letter::Letter;
-use crate::step::taking_positions;
 use crate::trial::{add_names, other_than, trials};
 use crate::walk::is_set;
 use gx_base::name::Name;
@@ -20,14 +22,6 @@ use gx_types::schemas::Schemas;
 use gx_types::sequence_type::Ty;
 use gx_types::shape::Shape;
 use std::alloc::{AllocError, Global};
-
-// A shape that is tried, with the positions of the left and of the right type that take it.
-#[derive(Drop)]
-pub struct Row {
-    pub shape: Shape,
-    pub left: Vec<bool>,
-    pub right: Vec<bool>,
-}
 
 // The letters of two types.
 pub(crate) fn alphabet(
@@ -40,9 +34,10 @@ pub(crate) fn alphabet(
     ensures grounded { OnOk result (Grounded (bases_of schemas.now)) }
 {
     let shapes = shapes_of_types(alloc, schemas.types(), left, right)?;
-    let rows = rows_of(alloc, schemas, left, right, shapes.as_slice())?;
-    let width = taking_positions(alloc, schemas, left, &Shape::Text)?.len();
-    let letters = letters_of(alloc, rows.as_slice(), width)?;
+    let left_items = ItemIndex::new(alloc, left)?;
+    let right_items = ItemIndex::new(alloc, right)?;
+    let columns = columns_of(alloc, schemas, &left_items, &right_items, shapes.as_slice())?;
+    let letters = letters_of(alloc, columns)?;
     Ok(letters)
 }
 
@@ -137,80 +132,140 @@ fn add_types(types: &mut Vec<TypeName>, more: &[TypeName]) -> Result<(), AllocEr
     Ok(())
 }
 
-// Each shape with the positions of both types that take it.
-fn rows_of(
+// The letters of each place, the start first, by shape.
+fn columns_of(
     alloc: Global,
     schemas: &Schemas,
-    left: &Ty,
-    right: &Ty,
+    left: &ItemIndex,
+    right: &ItemIndex,
     shapes: &[Shape],
-) -> Result<Vec<Row>, AllocError>
-    ensures each { IfOk result (λ rows. All (IsRow schemas.now left.now right.now) rows.items) }
-    ensures shapes { IfOk result (λ rows. map (λ (row : Row). row.shape) rows.items ≡ shapes.now) }
+) -> Result<Vec<Vec<Letter>>, AllocError>
+    ensures { IfOk result (λ columns. AreColumns (length left.now + 1) (entries_over schemas.now left.now right.now shapes.now) columns.items) }
 {
-    let mut rows = Vec::new(alloc);
+    let mut columns = empty_columns(alloc, left.count())?;
     for shape in shapes {
-        rows.push(row_of(alloc, schemas, left, right, shape)?)?;
+        add_shape(alloc, schemas, left, right, shape, &mut columns)?;
     }
-    Ok(rows)
+    Ok(columns)
 }
 
-fn row_of(
+// No letter for the start and for so many places.
+fn empty_columns(alloc: Global, count: usize) -> Result<Vec<Vec<Letter>>, AllocError>
+    ensures { IfOk result (λ columns. AreColumns (count + 1) (λ place. []) columns.items) }
+{
+    let mut columns = Vec::new(alloc);
+    columns.push(Vec::new(alloc))?;
+    for _place in 0..count {
+        columns.push(Vec::new(alloc))?;
+    }
+    Ok(columns)
+}
+
+// Puts the letters of a shape behind those of the places that take it.
+fn add_shape(
     alloc: Global,
     schemas: &Schemas,
-    left: &Ty,
-    right: &Ty,
+    left: &ItemIndex,
+    right: &ItemIndex,
     shape: &Shape,
-) -> Result<Row, AllocError>
-    ensures row { IfOk result (IsRow schemas.now left.now right.now) }
-    ensures shape { IfOk result (λ row. row.shape ≡ shape.now) }
+    columns: &mut Vec<Vec<Letter>>,
+) -> Result<(), AllocError>
+    ensures { OnOk result (AreColumnsMore columns.old.items columns.new.items (λ place. entry_if place shape.now (tests_at left.now (is_taken schemas.now shape.now)) (tests_at right.now (is_taken schemas.now shape.now)))) }
 {
-    let left = taking_positions(alloc, schemas, left, shape)?;
-    let right = taking_positions(alloc, schemas, right, shape)?;
-    Ok(Row {
+    let taking = left.taking(alloc, schemas, shape)?;
+    if !has_member(taking.as_slice()) {
+        return Ok(());
+    }
+    add_taken(alloc, schemas, right, shape, taking.as_slice(), columns)?;
+    Ok(())
+}
+
+// Puts the letters of a shape behind those of the places of a set.
+fn add_taken(
+    alloc: Global,
+    schemas: &Schemas,
+    right: &ItemIndex,
+    shape: &Shape,
+    taking: &[bool],
+    columns: &mut Vec<Vec<Letter>>,
+) -> Result<(), AllocError>
+    ensures { OnOk result (AreColumnsMore columns.old.items columns.new.items (λ place. entry_if place shape.now taking.now (tests_at right.now (is_taken schemas.now shape.now)))) }
+{
+    let takers = right.taking(alloc, schemas, shape)?;
+    add_letters(alloc, shape, taking, takers.as_slice(), columns)?;
+    Ok(())
+}
+
+// Whether a set has a member.
+fn has_member(set: &[bool]) -> bool
+    ensures { result ≡ list_any (λ marked. marked) set.now }
+{
+    set.iter().any(|marked| *marked)
+}
+
+// Puts a letter of a shape behind those of each place of a set.
+fn add_letters(
+    alloc: Global,
+    shape: &Shape,
+    taking: &[bool],
+    takers: &[bool],
+    columns: &mut Vec<Vec<Letter>>,
+) -> Result<(), AllocError>
+    ensures { OnOk result (AreColumnsMore columns.old.items columns.new.items (λ place. entry_if place shape.now taking.now takers.now)) }
+{
+    for place in 0..columns.len() {
+        add_letter(alloc, shape, place, taking, takers, &mut columns[place])?;
+    }
+    Ok(())
+}
+
+// Puts a letter behind those of a place, if the place is among those that take the shape.
+fn add_letter(
+    alloc: Global,
+    shape: &Shape,
+    place: usize,
+    taking: &[bool],
+    takers: &[bool],
+    letters: &mut Vec<Letter>,
+) -> Result<(), AllocError>
+    ensures { OnOk result (map entry_of_letter letters.new.items ≡ map entry_of_letter letters.old.items ++ entry_if place shape.now taking.now takers.now) }
+{
+    if is_set(taking, place) {
+        letters.push(letter_of(alloc, shape, place, takers)?)?;
+    }
+    Ok(())
+}
+
+fn letter_of(
+    alloc: Global,
+    shape: &Shape,
+    place: usize,
+    takers: &[bool],
+) -> Result<Letter, AllocError>
+    ensures { IfOk result (λ letter. entry_of_letter letter ≡ (place, shape.now, takers.now)) }
+{
+    let takers = takers.to_vec(alloc)?;
+    Ok(Letter {
+        place,
         shape: shape.clone()?,
-        left,
-        right,
+        takers,
     })
 }
 
-// The letters of all places below a bound, by place and then by row.
-fn letters_of(alloc: Global, rows: &[Row], bound: usize) -> Result<Vec<Letter>, AllocError>
-    ensures { IfOk result (λ letters. map entry_of_letter letters.items ≡ rows_below rows.now bound) }
+// The letters of all places, by place and then by shape.
+fn letters_of(alloc: Global, columns: Vec<Vec<Letter>>) -> Result<Vec<Letter>, AllocError>
+    ensures { IfOk result (λ letters. map entry_of_letter letters.items ≡ flat_map entries_of_column columns.items) }
 {
     let mut letters = Vec::new(alloc);
-    for place in 0..bound {
-        add_letters(&mut letters, rows, place)?;
+    for column in columns {
+        append_column(&mut letters, column)?;
     }
     Ok(letters)
 }
 
-fn add_letters(letters: &mut Vec<Letter>, rows: &[Row], place: usize) -> Result<(), AllocError>
-    ensures { OnOk result (map entry_of_letter letters.new.items ≡ map entry_of_letter letters.old.items ++ row_entries rows.now place) }
+fn append_column(letters: &mut Vec<Letter>, column: Vec<Letter>) -> Result<(), AllocError>
+    ensures { OnOk result (map entry_of_letter letters.new.items ≡ map entry_of_letter letters.old.items ++ entries_of_column column) }
 {
-    for row in rows {
-        add_letter(letters, row, place)?;
-    }
-    Ok(())
-}
-
-// Puts a letter behind those of a list, where the place is among those that take the shape.
-fn add_letter(letters: &mut Vec<Letter>, row: &Row, place: usize) -> Result<(), AllocError>
-    ensures { OnOk result (map entry_of_letter letters.new.items ≡ map entry_of_letter letters.old.items ++ entry_if place row.now.shape row.now.left.items row.now.right.items) }
-{
-    if is_set(row.left.as_slice(), place) {
-        letters.push(letter_of(row, place)?)?;
-    }
-    Ok(())
-}
-
-fn letter_of(row: &Row, place: usize) -> Result<Letter, AllocError>
-    ensures { IfOk result (λ letter. entry_of_letter letter ≡ (place, row.now.shape, row.now.right.items)) }
-{
-    let takers = row.right.clone()?;
-    Ok(Letter {
-        place,
-        shape: row.shape.clone()?,
-        takers,
-    })
+    let mut column = column;
+    letters.append(&mut column)
 }

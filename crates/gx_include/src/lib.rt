@@ -4,7 +4,9 @@
 mod alphabet;
 mod decide;
 pub mod decision;
+mod following;
 pub mod include;
+mod item_index;
 pub mod laws;
 mod letter;
 mod pair;

@@ -117,7 +117,7 @@ fn end_of_item(marks: &[bool]) -> Ending<'_>
 }
 
 // Whether a shape is one that an item type takes.
-fn takes_shape(schemas: &Schemas, shape: &Shape, item: &ItemType) -> bool
+pub(crate) fn takes_shape(schemas: &Schemas, shape: &Shape, item: &ItemType) -> bool
     ensures test { result ≡ is_taken schemas.now shape.now item.now }
     ensures exact { IsTrue result ↔ ItemTakes schemas.now item.now shape.now }
 {

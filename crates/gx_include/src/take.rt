@@ -1,10 +1,12 @@
 // What a type takes.
 
-ghost use Rattle.std.specs.Prelude.{◌≡◌, IfOk, OnOk, IsTrue, ◌↔◌};
+ghost use Rattle.std.specs.Prelude.{◌≡◌, [], ◌∷◌, IfOk, OnOk, IsTrue, ◌↔◌};
 ghost use Rattle.gx_types.specs.Takes.{Takes};
 ghost use Rattle.gx_include.specs.Step.{step_over};
 ghost use Rattle.gx_include.specs.Test.{is_taken, IsDecided};
 
+use crate::following::{ends_at_one, following, places_behind};
+use crate::item_index::ItemIndex;
 use crate::places::meet;
 use crate::step::{ends_at, next_positions, only, taking_positions};
 use gx_types::schemas::Schemas;
@@ -17,11 +19,64 @@ use std::alloc::{AllocError, Global};
 pub fn takes(alloc: Global, schemas: &Schemas, t: &Ty, list: &[Shape]) -> Result<bool, AllocError>
     ensures { IfOk result (λ answer. IsTrue answer ↔ Takes schemas.now t.now list.now) }
 {
+    let start = only(alloc, 0)?;
+    let positions = next_positions(alloc, t, start.as_slice())?.len();
+    if list.len() < positions {
+        takes_by_sets(alloc, schemas, t, list)
+    } else {
+        takes_by_places(alloc, schemas, t, list)
+    }
+}
+
+// The same for a short list, where a table of the type is not worth its time.
+fn takes_by_sets(
+    alloc: Global,
+    schemas: &Schemas,
+    t: &Ty,
+    list: &[Shape],
+) -> Result<bool, AllocError>
+    ensures { IfOk result (λ answer. IsTrue answer ↔ Takes schemas.now t.now list.now) }
+{
     let mut set = only(alloc, 0)?;
     for shape in list {
         set = behind(alloc, schemas, t, shape, set.as_slice())?;
     }
     Ok(ends_at(t, set.as_slice()))
+}
+
+// The same for a long list.
+fn takes_by_places(
+    alloc: Global,
+    schemas: &Schemas,
+    t: &Ty,
+    list: &[Shape],
+) -> Result<bool, AllocError>
+    ensures { IfOk result (λ answer. IsTrue answer ↔ Takes schemas.now t.now list.now) }
+{
+    let _declarations = schemas.types();
+    let items = ItemIndex::new(alloc, t)?;
+    let rows = following(alloc, t, items.count())?;
+    let mut places = start_alone(alloc)?;
+    for shape in list {
+        places = places_behind(
+            alloc,
+            schemas,
+            &items,
+            rows.as_slice(),
+            places.as_slice(),
+            shape,
+        )?;
+    }
+    let end = ends_at_one(alloc, t, places.as_slice())?;
+    Ok(end)
+}
+
+fn start_alone(alloc: Global) -> Result<Vec<usize>, AllocError>
+    ensures { IfOk result (λ places. places.items ≡ 0 ∷ []) }
+{
+    let mut places = Vec::new(alloc);
+    places.push(0)?;
+    Ok(places)
 }
 
 // The positions that a set comes to behind a shape.

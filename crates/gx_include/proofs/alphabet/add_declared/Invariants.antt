@@ -1,6 +1,5 @@
-use Rattle.std.proofs.Common.{◌≡◌, ◌++◌, map, take}
+use Rattle.std.proofs.Common.{◌≡◌, ◌++◌, take}
 use Rattle.gx_types.specs.SchemaSet.{names_declared}
-use Rattle.gx_base.specs.declared.type_name.TypeName.{TypeName}
 use Rattle.gx_include.proofs.alphabet.add_declared.Given as goal
 
 abbrev pub invariant-loop-declaration : goal.invariant-loop-declaration
