@@ -121,8 +121,13 @@ fn write_test(
     }
 }
 
+// Adds the name of a type at the end.
 #[tactic(auto, using(std::proofs::Common::append_assoc))]
-fn write_type_name(alloc: Global, text: &mut TextBuilder, kind: &TypeName) -> Result<(), AllocError>
+pub(crate) fn write_type_name(
+    alloc: Global,
+    text: &mut TextBuilder,
+    kind: &TypeName,
+) -> Result<(), AllocError>
     ensures { OnOk result (text.new ≡ text.old ++ type_name_text kind.now) }
 {
     match kind {

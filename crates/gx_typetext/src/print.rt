@@ -1,12 +1,15 @@
 // The text of a type.
 
 ghost use Rattle.std.specs.Prelude.{◌≡◌, ◌++◌, OnOk, IfOk};
+ghost use Rattle.gx_typetext.specs.NameText.{name_text, type_name_text};
 ghost use Rattle.gx_typetext.specs.TypeText.{opening_parenthesis, closing_parenthesis, text_in, type_text};
 
 use crate::context::Context;
-use crate::item_text::{write_item, write_word};
+use crate::item_text::{write_item, write_name, write_type_name, write_word};
+use gx_base::name::Name;
 use gx_base::text::Text;
 use gx_base::text_builder::TextBuilder;
+use gx_base::type_name::TypeName;
 use gx_types::sequence_type::{Ty, TyNode};
 use std::alloc::{AllocError, Global};
 
@@ -19,6 +22,24 @@ pub fn print_type(alloc: Global, t: &Ty) -> Result<Text, AllocError>
 {
     let mut text = TextBuilder::new(alloc);
     write_type(alloc, &mut text, Context::Whole, t)?;
+    text.finish()
+}
+
+/// The text of a name: its local part, behind its URI in braces, or behind `xs:` in the schema namespace.
+pub fn print_name(alloc: Global, name: &Name) -> Result<Text, AllocError>
+    ensures { IfOk result (λ text. text ≡ name_text name.now) }
+{
+    let mut text = TextBuilder::new(alloc);
+    write_name(alloc, &mut text, name)?;
+    text.finish()
+}
+
+/// The text of the name of a type; that of an anonymous one is `#n`.
+pub fn print_type_name(alloc: Global, name: &TypeName) -> Result<Text, AllocError>
+    ensures { IfOk result (λ text. text ≡ type_name_text name.now) }
+{
+    let mut text = TextBuilder::new(alloc);
+    write_type_name(alloc, &mut text, name)?;
     text.finish()
 }
 
