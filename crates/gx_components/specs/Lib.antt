@@ -1,0 +1,12 @@
+pub mod Mentions
+pub mod DeclaredNames
+pub mod NamesView
+pub mod Unknown
+pub mod Shown
+pub mod Bounds
+pub mod Referred
+pub mod ReferredView
+pub mod GroupNumbers
+pub mod AttributeLists
+pub mod TypeComponents
+pub mod Components
