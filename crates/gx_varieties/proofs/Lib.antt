@@ -1,0 +1,11 @@
+pub mod CircleLemmas
+pub mod Marks
+pub mod ShortCircles
+pub mod EndLemmas
+pub mod WalkLemmas
+pub mod VarietyLemmas
+pub mod SolvedVarieties
+pub mod FaultLemmas
+pub mod NoFaults
+pub mod MeaningLemmas
+pub mod Examples

@@ -1,0 +1,12 @@
+pub mod Circles
+pub mod Walk
+pub mod Forms
+pub mod Varieties
+pub mod VarietyLaws
+pub mod OwnFacets
+pub mod Meanings
+pub mod Faults
+pub mod Looks
+pub mod CircularTypes
+pub mod Ends
+pub mod Laws
