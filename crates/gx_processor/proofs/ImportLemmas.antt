@@ -160,3 +160,12 @@ module _ (tree : SyntaxQuery) where
     failed = tt;
     own = tt;
   }
+
+-- what the documents that were read declare
+pub declared_so : (library : LibraryUse) (names : List (List ℕ)) (read sources : List Source) (result : Result SchemaSet Refusal) → sources ≡ read → ReadSources library names (Ok read) →
+    MatchResult result (λ schemas. imported sources ≡ declares schemas) (BreaksRule names (imported sources)) → DeclaredSo library names result
+declared_so library names read sources result e reads told = record {
+  read = Ok read;
+  reads = reads;
+  follows = subst (λ (all : List Source). MatchResult result (λ schemas. imported all ≡ declares schemas) (BreaksRule names (imported all))) e told;
+}

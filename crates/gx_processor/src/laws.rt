@@ -6,10 +6,14 @@ ghost use Rattle.gx_processor.specs.Loading.{AnswersLookAtTheirLoads};
 ghost use Rattle.gx_documents.specs.Documents.{Files};
 ghost use Rattle.gx_processor.specs.UntypedDocuments.{NamedQueriesHaveUntypedDocuments};
 
+use gx_schema::laws::imports_are_schema_sets;
+
 /// The words and the files have an answer.
 pub fn an_answer_exists()
     ensures { AnAnswerExists }
-{}
+{
+    imports_are_schema_sets();
+}
 
 /// The words and the files have at most one answer.
 pub fn one_answer()

@@ -1,2 +1,15 @@
-pub mod NoTypes
+pub mod Lists
+pub mod DistinctNames
+pub mod NothingFound
+pub mod ShortEnds
+pub mod Declarations
+pub mod TypesByNumber
+pub mod SimpleForms
+pub mod NumberedDeclarations
+pub mod SimpleVarieties
+pub mod SimpleDeclarations
+pub mod SimpleBases
+pub mod SimpleTypes
+pub mod NumberedTypes
 pub mod SchemaSets
+pub mod Made

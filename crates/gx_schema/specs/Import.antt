@@ -1,5 +1,5 @@
 -- What schema files declare, or the first rule that they break.
-use Rattle.std.specs.Prelude.{◌≡◌, ℕ, List, [], map, Option, None, Some}
+use Rattle.std.specs.Prelude.{◌≡◌, ℕ, List, Option, None, Some, option_map}
 use Rattle.gx_types.specs.SchemaSet.{SchemaSet}
 use Rattle.gx_xml.specs.declared.source.Source.{Source}
 use Rattle.gx_profile.specs.DocumentTree.{DocumentTree}
@@ -7,9 +7,16 @@ use Rattle.gx_profile.specs.Documents.{documents_written}
 use Rattle.gx_profile.specs.Numbers.{first_numbers}
 use Rattle.gx_profile.specs.Profile.{outside_files}
 use Rattle.gx_schema.specs.declared.refusal.SchemaRule.{SchemaRule}
-use Rattle.gx_schema.specs.declared.refusal.SchemaRule.TheVariants.{NotInProfile}
+use Rattle.gx_schema.specs.declared.refusal.SchemaRule.TheVariants.{NotInProfile, UnknownName, Inconsistent, Circular, TooLarge}
 use Rattle.gx_schema.specs.declared.refusal.SchemaRefusal.{SchemaRefusal}
 use Rattle.gx_schema.specs.declared.refusal.SchemaRefusal.TheVariants.{Refused, Memory}
+use Rattle.gx_components.specs.declared.unknown.UnknownName.{UnknownName as Unknown}
+use Rattle.gx_components.specs.Unknown.{unknown_name}
+use Rattle.gx_varieties.specs.declared.type_form.TypeForm.{TypeForm}
+use Rattle.gx_schema.specs.declared.found.Found.{Found}
+use Rattle.gx_schema.specs.DeclarationLimit.{past_limit}
+use Rattle.gx_schema.specs.Inconsistent.{circular_type, inconsistent}
+use Rattle.gx_schema.specs.SchemaTypes.{schemas_written, type_forms}
 use Rattle.gx_schema.specs.Unread.{unread_declaration}
 
 -- the schemas that files declare; or the rule that is broken first, the number of the file, counted from 0, and the name
@@ -22,17 +29,32 @@ abbrev pub unless_broken : SchemaRule → Option (ℕ × List ℕ) → Imported 
 unless_broken rule None otherwise = otherwise
 unless_broken rule (Some found) otherwise = breaks rule found.0 found.1
 
-abbrev pub schemas_written : List DocumentTree → SchemaSet
-schemas_written documents = record { types = []; elements = []; targets = map (λ (document : DocumentTree). document.target) documents }
-
 -- the documents that are written in files
 abbrev pub documents_of : List Source → List DocumentTree
 documents_of files = documents_written first_numbers files
 
--- the rules in their order
+abbrev pub unknown_found : Unknown → ℕ × List ℕ
+unknown_found unknown = (unknown.file, unknown.name)
+
+abbrev pub found_in_file : Found → ℕ × List ℕ
+found_in_file found = (found.file, found.name)
+
+-- what is not read yet, and names
+abbrev pub names_judged : List DocumentTree → Imported → Imported
+names_judged documents otherwise = unless_broken NotInProfile (unread_declaration documents) (unless_broken UnknownName (option_map unknown_found (unknown_name documents)) otherwise)
+
+-- types and the other declarations
+abbrev pub types_judged : List DocumentTree → List TypeForm → Imported → Imported
+types_judged documents forms otherwise =
+    unless_broken Inconsistent (option_map found_in_file (inconsistent documents forms)) (unless_broken Circular (option_map found_in_file (circular_type documents forms))
+    (unless_broken TooLarge (option_map found_in_file (past_limit documents)) otherwise))
+
+abbrev pub documents_judged : List DocumentTree → Imported
+documents_judged documents = names_judged documents (types_judged documents (type_forms documents) (declares (schemas_written documents)))
+
+-- all rules in their order
 abbrev pub imported : List Source → Imported
-imported files =
-    unless_broken NotInProfile (outside_files 0 files) (unless_broken NotInProfile (unread_declaration 0 (documents_of files)) (declares (schemas_written (documents_of files))))
+imported files = unless_broken NotInProfile (outside_files 0 files) (documents_judged (documents_of files))
 
 -- a refusal is that of the import; want of memory says nothing
 abbrev pub IsSchemaRefusal : Imported → SchemaRefusal → Type 0

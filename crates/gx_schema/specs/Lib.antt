@@ -1,4 +1,11 @@
+pub mod TypeNumbers
 pub mod Unread
 pub mod RefusalView
+pub mod Found
+pub mod Doubled
+pub mod TypeForms
+pub mod SchemaTypes
+pub mod Inconsistent
+pub mod DeclarationLimit
 pub mod Import
 pub mod Laws

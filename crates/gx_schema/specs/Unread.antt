@@ -1,33 +1,78 @@
--- The declarations of schema documents that are not read yet: all of them. The first in the text is where files are refused.
-use Rattle.std.specs.Prelude.{ℕ, ◌+◌, nat_le, List, [], ◌∷◌, codes, Option, None, Some, if◌then◌else◌}
+-- The declarations of schema documents that are not read yet: complex types, groups and attribute groups, and what names a type that no declaration
+-- within the profile names. The first in the text is where files are refused.
+use Rattle.std.specs.Prelude.{ℕ, ◌+◌, nat_le, Bool, true, false, List, [], ◌∷◌, codes, is_some, Option, None, Some, if◌then◌else◌}
 use Rattle.std.specs.Option.{option_or, option_map}
-use Rattle.gx_profile.specs.declared.written.TypeDefinition.{TypeDefinition}
-use Rattle.gx_profile.specs.declared.written.TypeDefinition.TheVariants.{Simple, Complex}
-use Rattle.gx_profile.specs.declared.written.TypeDeclaration.{TypeDeclaration}
+use Rattle.gx_base.specs.declared.type_name.TypeName.{TypeName}
+use Rattle.gx_base.specs.declared.type_name.TypeName.TheVariants as names
+use Rattle.gx_types.specs.SchemaInvariant.{is_nameable}
 use Rattle.gx_profile.specs.declared.written.GlobalDeclaration.{GlobalDeclaration}
 use Rattle.gx_profile.specs.declared.written.GlobalDeclaration.TheVariants.{Element, Attribute, Group, AttributeGroup}
+use Rattle.gx_profile.specs.declared.written.SimpleTypeDefinition.{SimpleTypeDefinition}
+use Rattle.gx_profile.specs.declared.written.SimpleTypeDefinition.TheVariants as simple
+use Rattle.gx_profile.specs.declared.written.TypeDeclaration.{TypeDeclaration}
+use Rattle.gx_profile.specs.declared.written.TypeDefinition.{TypeDefinition}
+use Rattle.gx_profile.specs.declared.written.TypeDefinition.TheVariants.{Simple, Complex}
+use Rattle.gx_profile.specs.declared.written.TypeReference.{TypeReference}
+use Rattle.gx_profile.specs.declared.written.TypeReference.TheVariants as types
 use Rattle.gx_profile.specs.DocumentTree.{DocumentTree}
+use Rattle.gx_components.specs.DeclaredNames.{type_names_in}
 use Rattle.gx_schema.specs.declared.unread.DeclarationKind.{DeclarationKind}
 use Rattle.gx_schema.specs.declared.unread.DeclarationKind.TheVariants as kinds
 use Rattle.gx_schema.specs.declared.unread.Unread.{Unread}
+use Rattle.gx_schema.specs.TypeNumbers.{own_type_number}
 
-abbrev pub kind_of_type : TypeDefinition → DeclarationKind
-kind_of_type (Simple definition) = kinds.SimpleType
-kind_of_type (Complex definition) = kinds.ComplexType
+-- ---- what may be named
 
-abbrev pub first_type : List TypeDeclaration → Option Unread
-first_type [] = None
-first_type (t ∷ others) = Some (record { place = t.place; kind = kind_of_type t.definition })
+-- an element or an attribute may have a built-in type from xs:string on, a type of a name, and one without a name that is there
+abbrev pub is_read_type : List TypeName → TypeReference → Bool
+is_read_type declared (types.Builtin builtin) = is_nameable builtin
+is_read_type declared (types.Declared reference) = true
+is_read_type declared (types.Anonymous number) = is_some (own_type_number declared (names.Anonymous number))
 
-abbrev pub unread_global : GlobalDeclaration → Unread
-unread_global (Element place name kind) = record { place = place; kind = kinds.Element }
-unread_global (Attribute place name kind) = record { place = place; kind = kinds.Attribute }
-unread_global (Group place name particle) = record { place = place; kind = kinds.Group }
-unread_global (AttributeGroup place name attributes) = record { place = place; kind = kinds.AttributeGroup }
+-- a base or an item type has a name
+abbrev pub is_read_base : TypeReference → Bool
+is_read_base (types.Builtin builtin) = is_nameable builtin
+is_read_base (types.Declared reference) = true
+is_read_base (types.Anonymous number) = false
 
-abbrev pub first_global : List GlobalDeclaration → Option Unread
-first_global [] = None
-first_global (declaration ∷ others) = Some (unread_global declaration)
+-- ---- one declaration
+
+abbrev pub unread_where : (is_read : Bool) → (place : ℕ) → DeclarationKind → Option Unread
+unread_where true place kind = None
+unread_where false place kind = Some (record { place = place; kind = kind })
+
+abbrev pub base_written : SimpleTypeDefinition → TypeReference
+base_written (simple.Restriction place base facets) = base
+base_written (simple.List place item) = item
+
+abbrev pub unread_definition : (place : ℕ) → TypeDefinition → Option Unread
+unread_definition place (Simple definition) = unread_where (is_read_base (base_written definition)) place kinds.SimpleType
+unread_definition place (Complex definition) = Some (record { place = place; kind = kinds.ComplexType })
+
+-- a type is not built in
+abbrev pub unread_named : TypeName → (place : ℕ) → TypeDefinition → Option Unread
+unread_named (names.Builtin builtin) place definition = Some (record { place = place; kind = kinds.SimpleType })
+unread_named (names.Named name) place definition = unread_definition place definition
+unread_named (names.Anonymous number) place definition = unread_definition place definition
+
+abbrev pub unread_type : TypeDeclaration → Option Unread
+unread_type declaration = unread_named declaration.name declaration.place declaration.definition
+
+abbrev pub unread_global : List TypeName → GlobalDeclaration → Option Unread
+unread_global declared (Element place name kind) = unread_where (is_read_type declared kind) place kinds.Element
+unread_global declared (Attribute place name kind) = unread_where (is_read_type declared kind) place kinds.Attribute
+unread_global declared (Group place name particle) = Some (record { place = place; kind = kinds.Group })
+unread_global declared (AttributeGroup place name attributes) = Some (record { place = place; kind = kinds.AttributeGroup })
+
+-- ---- the first
+
+abbrev pub first_unread_type : List TypeDeclaration → Option Unread
+first_unread_type [] = None
+first_unread_type (declaration ∷ others) = option_or (unread_type declaration) (first_unread_type others)
+
+abbrev pub first_unread_global : List TypeName → List GlobalDeclaration → Option Unread
+first_unread_global declared [] = None
+first_unread_global declared (declaration ∷ others) = option_or (unread_global declared declaration) (first_unread_global declared others)
 
 -- the first of two by their places
 abbrev pub first_by_place : Option Unread → Option Unread → Option Unread
@@ -36,20 +81,23 @@ first_by_place (Some one) None = Some one
 first_by_place (Some one) (Some other) = if nat_le one.place other.place then Some one else Some other
 
 -- the element that a declaration is
-abbrev pub name_of_kind : DeclarationKind → List ℕ
-name_of_kind kinds.SimpleType = codes "xs:simpleType"
-name_of_kind kinds.ComplexType = codes "xs:complexType"
-name_of_kind kinds.Element = codes "xs:element"
-name_of_kind kinds.Attribute = codes "xs:attribute"
-name_of_kind kinds.Group = codes "xs:group"
-name_of_kind kinds.AttributeGroup = codes "xs:attributeGroup"
+abbrev pub element_of_kind : DeclarationKind → List ℕ
+element_of_kind kinds.SimpleType = codes "xs:simpleType"
+element_of_kind kinds.ComplexType = codes "xs:complexType"
+element_of_kind kinds.Element = codes "xs:element"
+element_of_kind kinds.Attribute = codes "xs:attribute"
+element_of_kind kinds.Group = codes "xs:group"
+element_of_kind kinds.AttributeGroup = codes "xs:attributeGroup"
 
--- the first declaration of a schema document
-abbrev pub first_declaration : DocumentTree → Option Unread
-first_declaration document = first_by_place (first_type document.types) (first_global document.declarations)
+-- the first declaration of a schema document that is not read
+abbrev pub first_unread : List TypeName → DocumentTree → Option Unread
+first_unread declared document = first_by_place (first_unread_type document.types) (first_unread_global declared document.declarations)
 
--- the number of its file, and its name, where the first of the documents has this number
-abbrev pub unread_declaration : (number : ℕ) → List DocumentTree → Option (ℕ × List ℕ)
-unread_declaration number [] = None
-unread_declaration number (document ∷ others) =
-    option_or (option_map (λ (found : Unread). (number, name_of_kind found.kind)) (first_declaration document)) (unread_declaration (number + 1) others)
+abbrev pub unread_from : List TypeName → (file : ℕ) → List DocumentTree → Option (ℕ × List ℕ)
+unread_from declared file [] = None
+unread_from declared file (document ∷ others) =
+    option_or (option_map (λ (found : Unread). (file, element_of_kind found.kind)) (first_unread declared document)) (unread_from declared (file + 1) others)
+
+-- the number of its file, counted from 0, and its name
+abbrev pub unread_declaration : List DocumentTree → Option (ℕ × List ℕ)
+unread_declaration documents = unread_from (type_names_in documents) 0 documents

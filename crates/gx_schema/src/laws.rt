@@ -2,8 +2,14 @@
 
 ghost use Rattle.gx_schema.specs.Laws.{ImportsAreSchemaSets};
 
+use gx_varieties::laws::{no_first_fault, none_is_circular, varieties_solve};
+
 /// What schema files declare keeps to what declarations keep to: names are known and distinct, bases end at built-in types, and
 /// elements of one name in a content have one type (XML Schema 1.0 part 1, sections 3.3.6, 3.4.6, 3.8.6 and 3.14.6).
 pub fn imports_are_schema_sets()
     ensures { ImportsAreSchemaSets }
-{}
+{
+    varieties_solve();
+    none_is_circular();
+    no_first_fault();
+}

@@ -1,10 +1,18 @@
 // Declarations that are not read yet.
 
 ghost use Rattle.std.specs.Prelude.{◌≡◌, IfOk};
-ghost use Rattle.gx_schema.specs.Unread.{first_declaration, first_global, first_by_place, first_type, kind_of_type, name_of_kind, unread_declaration, unread_global};
+ghost use Rattle.gx_types.specs.SchemaInvariant.{is_nameable};
+ghost use Rattle.gx_schema.specs.TypeNumbers.{AreTypeNumbers};
+ghost use Rattle.gx_schema.specs.Unread.{base_written, first_by_place, first_unread, first_unread_global, first_unread_type, is_read_base, is_read_type, element_of_kind, unread_declaration, unread_definition, unread_from, unread_global, unread_type, unread_where};
 
+use crate::type_numbers::{TypeNumbers, number_of, type_numbers};
 use gx_base::text::Text;
-use gx_profile::written::{GlobalDeclaration, SchemaDocument, TypeDeclaration, TypeDefinition};
+use gx_base::type_name::{Builtin, TypeName};
+use gx_components::names::type_names_in;
+use gx_profile::written::{
+    GlobalDeclaration, SchemaDocument, SimpleTypeDefinition, TypeDeclaration, TypeDefinition,
+    TypeReference,
+};
 use std::alloc::{AllocError, Global};
 
 // What is declared.
@@ -25,31 +33,50 @@ struct Unread {
     kind: DeclarationKind,
 }
 
-/// The first declaration of schema documents, with the number of its document, counted from 0.
+/// The first declaration of schema documents that is not read, with the number of its document, counted from 0.
 pub fn unread_declaration(
     alloc: Global,
     documents: &[SchemaDocument],
 ) -> Result<Option<(u32, Text)>, AllocError>
-    ensures { IfOk result (λ found. found ≡ unread_declaration 0 documents.now) }
+    ensures { IfOk result (λ found. found ≡ unread_declaration documents.now) }
 {
-    let mut number = 0u32;
+    let names = type_names_in(alloc, documents)?;
+    let numbers = type_numbers(alloc, names.as_slice())?;
+    unread_among(alloc, names.as_slice(), &numbers, documents)
+}
+
+fn unread_among(
+    alloc: Global,
+    declared: &[TypeName],
+    numbers: &TypeNumbers,
+    documents: &[SchemaDocument],
+) -> Result<Option<(u32, Text)>, AllocError>
+    requires { AreTypeNumbers declared.now numbers.now }
+    ensures { IfOk result (λ found. found ≡ unread_from declared.now 0 documents.now) }
+{
+    let mut file = 0u32;
     let mut left = documents;
     while let Some((document, others)) = left.split_first() {
-        if let Some(found) = first_declaration(document) {
-            return Ok(Some((number, name_of_kind(alloc, found.kind)?)));
+        if let Some(found) = first_unread(declared, numbers, document) {
+            return Ok(Some((file, element_of_kind(alloc, found.kind)?)));
         }
-        number = number.checked_add(1).ok_or(AllocError)?;
+        file = file.checked_add(1).ok_or(AllocError)?;
         left = others;
     }
     Ok(None)
 }
 
-fn first_declaration(document: &SchemaDocument) -> Option<Unread>
-    ensures { result ≡ first_declaration document.now }
+fn first_unread(
+    declared: &[TypeName],
+    numbers: &TypeNumbers,
+    document: &SchemaDocument,
+) -> Option<Unread>
+    requires { AreTypeNumbers declared.now numbers.now }
+    ensures { result ≡ first_unread declared.now document.now }
 {
     first_by_place(
-        first_type(&document.types),
-        first_global(&document.declarations),
+        first_unread_type(&document.types),
+        first_unread_global(declared, numbers, &document.declarations),
     )
 }
 
@@ -64,53 +91,147 @@ fn first_by_place(one: Option<Unread>, other: Option<Unread>) -> Option<Unread>
     }
 }
 
-fn first_type(types: &[TypeDeclaration]) -> Option<Unread>
-    ensures { result ≡ first_type types.now }
+fn first_unread_type(types: &[TypeDeclaration]) -> Option<Unread>
+    ensures { result ≡ first_unread_type types.now }
 {
-    match types.first() {
-        Some(first) => Some(Unread {
-            place: first.place,
-            kind: kind_of_type(&first.definition),
+    let mut left = types;
+    while let Some((declaration, others)) = left.split_first() {
+        if let Some(unread) = unread_type(declaration) {
+            return Some(unread);
+        }
+        left = others;
+    }
+    None
+}
+
+fn unread_type(declaration: &TypeDeclaration) -> Option<Unread>
+    ensures { result ≡ unread_type declaration.now }
+{
+    let place = declaration.place;
+    match &declaration.name {
+        TypeName::Builtin(_) => Some(Unread {
+            place,
+            kind: DeclarationKind::SimpleType,
         }),
-        None => None,
+        TypeName::Named(_) | TypeName::Anonymous(_) => {
+            unread_definition(place, &declaration.definition)
+        }
     }
 }
 
-fn kind_of_type(definition: &TypeDefinition) -> DeclarationKind
-    ensures { result ≡ kind_of_type definition.now }
+fn unread_definition(place: u64, definition: &TypeDefinition) -> Option<Unread>
+    ensures { result ≡ unread_definition place definition.now }
 {
     match definition {
-        TypeDefinition::Simple(_) => DeclarationKind::SimpleType,
-        TypeDefinition::Complex(_) => DeclarationKind::ComplexType,
+        TypeDefinition::Simple(definition) => unread_where(
+            is_read_base(base_written(definition)),
+            place,
+            DeclarationKind::SimpleType,
+        ),
+        TypeDefinition::Complex(_) => Some(Unread {
+            place,
+            kind: DeclarationKind::ComplexType,
+        }),
     }
 }
 
-fn first_global(declarations: &[GlobalDeclaration]) -> Option<Unread>
-    ensures { result ≡ first_global declarations.now }
+fn base_written(definition: &SimpleTypeDefinition) -> &TypeReference
+    ensures { result.now ≡ base_written definition.now }
 {
-    match declarations.first() {
-        Some(first) => Some(unread_global(first)),
-        None => None,
+    match definition {
+        SimpleTypeDefinition::Restriction { base, .. } => base,
+        SimpleTypeDefinition::List { item, .. } => item,
     }
 }
 
-fn unread_global(declaration: &GlobalDeclaration) -> Unread
-    ensures { result ≡ unread_global declaration.now }
+fn first_unread_global(
+    declared: &[TypeName],
+    numbers: &TypeNumbers,
+    declarations: &[GlobalDeclaration],
+) -> Option<Unread>
+    requires { AreTypeNumbers declared.now numbers.now }
+    ensures { result ≡ first_unread_global declared.now declarations.now }
 {
-    let (place, kind) = match declaration {
-        GlobalDeclaration::Element { place, .. } => (*place, DeclarationKind::Element),
-        GlobalDeclaration::Attribute { place, .. } => (*place, DeclarationKind::Attribute),
-        GlobalDeclaration::Group { place, .. } => (*place, DeclarationKind::Group),
+    let mut left = declarations;
+    while let Some((declaration, others)) = left.split_first() {
+        if let Some(unread) = unread_global(declared, numbers, declaration) {
+            return Some(unread);
+        }
+        left = others;
+    }
+    None
+}
+
+fn unread_global(
+    declared: &[TypeName],
+    numbers: &TypeNumbers,
+    declaration: &GlobalDeclaration,
+) -> Option<Unread>
+    requires { AreTypeNumbers declared.now numbers.now }
+    ensures { result ≡ unread_global declared.now declaration.now }
+{
+    let (is_read, place, kind) = match declaration {
+        GlobalDeclaration::Element { place, kind, .. } => {
+            let is_read = is_read_type(declared, numbers, kind);
+            (is_read, *place, DeclarationKind::Element)
+        }
+        GlobalDeclaration::Attribute { place, kind, .. } => {
+            let is_read = is_read_type(declared, numbers, kind);
+            (is_read, *place, DeclarationKind::Attribute)
+        }
+        GlobalDeclaration::Group { place, .. } => (false, *place, DeclarationKind::Group),
         GlobalDeclaration::AttributeGroup { place, .. } => {
-            (*place, DeclarationKind::AttributeGroup)
+            (false, *place, DeclarationKind::AttributeGroup)
         }
     };
-    Unread { place, kind }
+    unread_where(is_read, place, kind)
+}
+
+fn unread_where(is_read: bool, place: u64, kind: DeclarationKind) -> Option<Unread>
+    ensures { result ≡ unread_where is_read place kind }
+{
+    if is_read {
+        None
+    } else {
+        Some(Unread { place, kind })
+    }
+}
+
+// Whether an element or an attribute may have a type.
+fn is_read_type(declared: &[TypeName], numbers: &TypeNumbers, kind: &TypeReference) -> bool
+    requires { AreTypeNumbers declared.now numbers.now }
+    ensures { result ≡ is_read_type declared.now kind.now }
+{
+    match kind {
+        TypeReference::Builtin(builtin) => is_nameable(*builtin),
+        TypeReference::Declared(_) => true,
+        TypeReference::Anonymous(number) => {
+            number_of(numbers, &TypeName::Anonymous(*number)).is_some()
+        }
+    }
+}
+
+// Whether a type may be a base or an item type.
+fn is_read_base(base: &TypeReference) -> bool
+    ensures { result ≡ is_read_base base.now }
+{
+    match base {
+        TypeReference::Builtin(builtin) => is_nameable(*builtin),
+        TypeReference::Declared(_) => true,
+        TypeReference::Anonymous(_) => false,
+    }
+}
+
+// Whether declarations may name a built-in type.
+fn is_nameable(builtin: Builtin) -> bool
+    ensures { result ≡ is_nameable builtin }
+{
+    Builtin::Str <= builtin
 }
 
 // The element that a declaration is.
-fn name_of_kind(alloc: Global, kind: DeclarationKind) -> Result<Text, AllocError>
-    ensures { IfOk result (λ name. name ≡ name_of_kind kind) }
+fn element_of_kind(alloc: Global, kind: DeclarationKind) -> Result<Text, AllocError>
+    ensures { IfOk result (λ name. name ≡ element_of_kind kind) }
 {
     match kind {
         DeclarationKind::SimpleType => Text::from_str(alloc, "xs:simpleType"),

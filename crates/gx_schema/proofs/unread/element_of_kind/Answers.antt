@@ -1,5 +1,5 @@
 use Rattle.std.specs.Str.{chars}
-use Rattle.gx_schema.proofs.unread.name_of_kind.Goals as goal
+use Rattle.gx_schema.proofs.unread.element_of_kind.Goals as goal
 
 pub returns-in-SimpleType : goal.returns-in-SimpleType
 unfolding chars

@@ -1,0 +1,158 @@
+-- The types of documents in which everything is read and refers to something are simple types over each other.
+use Rattle.std.proofs.Common.{◌≡◌, ◌∙◌, ℕ, zero, suc, ◌+◌, ◌<◌, Bool, true, false, not, ◌&&◌, List, [], ◌∷◌, length, map, slice_get, Option, None, Some, refl, sym, ap, subst, arith, if◌then◌else◌}
+use Rattle.std.specs.Prelude.{is_some}
+use Rattle.std.proofs.lemmas.List.{length-map}
+use Rattle.gx_base.specs.declared.name.Name.{Name}
+use Rattle.gx_base.specs.declared.type_name.TypeName.{TypeName}
+use Rattle.gx_base.specs.declared.type_name.TypeName.TheVariants as names
+use Rattle.gx_types.specs.SchemaInvariant.{HoldsOfEach, is_built_in}
+use Rattle.gx_profile.specs.declared.reference.Reference.{Reference}
+use Rattle.gx_profile.specs.declared.written.SimpleTypeDefinition.{SimpleTypeDefinition}
+use Rattle.gx_profile.specs.declared.written.SimpleTypeDefinition.TheVariants as simple
+use Rattle.gx_profile.specs.declared.written.TypeDeclaration.{TypeDeclaration}
+use Rattle.gx_profile.specs.declared.written.TypeDefinition.{TypeDefinition}
+use Rattle.gx_profile.specs.declared.written.TypeDefinition.TheVariants.{Simple, Complex}
+use Rattle.gx_profile.specs.declared.written.TypeReference.{TypeReference}
+use Rattle.gx_profile.specs.declared.written.TypeReference.TheVariants as types
+use Rattle.gx_profile.specs.DocumentTree.{DocumentTree}
+use Rattle.gx_profile.specs.Words.{is_schema_uri}
+use Rattle.gx_components.specs.declared.component.ModelGroup.{ModelGroup}
+use Rattle.gx_components.specs.declared.mention.ComponentKind.{ComponentKind}
+use Rattle.gx_components.specs.declared.mention.ComponentKind.TheVariants as kinds
+use Rattle.gx_components.specs.Components.{definitions_by, first_inner, globals_of}
+use Rattle.gx_components.specs.DeclaredNames.{declared_number, first_type_from, has_type_name, type_names_in, types_in}
+use Rattle.gx_components.specs.Mentions.{definition_mentions, simple_type_mentions, type_declaration_mentions, type_mentions}
+use Rattle.gx_components.specs.Referred.{Globals, base_of_number, base_referred}
+use Rattle.gx_components.specs.TypeComponents.{form_placed, simple_type_of, types_placed}
+use Rattle.gx_components.specs.Unknown.{Numbering, refers}
+use Rattle.gx_schema.specs.declared.unread.DeclarationKind.{DeclarationKind}
+use Rattle.gx_schema.specs.declared.unread.DeclarationKind.TheVariants as declared_kinds
+use Rattle.gx_schema.specs.SchemaTypes.{type_forms}
+use Rattle.gx_schema.specs.TypeForms.{form_of_simple_type, form_of_type, forms_of}
+use Rattle.gx_schema.specs.Unread.{is_read_base, unread_definition, unread_named, unread_type, unread_where}
+use Rattle.gx_schema.proofs.NothingFound.{Refers}
+use Rattle.gx_schema.proofs.SimpleTypes.{IsReadBase, IsSimpleForm}
+
+-- ---- what a name of a type refers to
+
+abbrev IsFoundName : (number : ℕ) (declared : List TypeName) (found : ℕ) → Type 0
+IsFoundName number declared found =
+    (behind : ℕ) × (other : Name) × (found ≡ behind + number) × (slice_get declared behind ≡ Some (names.Named other)) × (behind < length declared)
+
+found_behind : (number : ℕ) (kind : TypeName) (others : List TypeName) (found : ℕ) → IsFoundName (suc number) others found → IsFoundName number (kind ∷ others) found
+found_behind number kind others found told = (suc told.0, told.1, omega (arith, told.2), told.3, omega (arith, told.4))
+
+found_here : (number : ℕ) (kind : TypeName) (others : List TypeName) (name : Name) (found : ℕ) → has_type_name kind name ≡ true → number ≡ found → IsFoundName number (kind ∷ others) found
+found_here number (names.Builtin builtin) others name found e f = absurd (cc)
+found_here number (names.Named other) others name found e f = (zero, other, omega (arith, f), refl, omega arith)
+found_here number (names.Anonymous n) others name found e f = absurd (cc)
+
+some_number : (one other : ℕ) → ◌≡◌ {A = Option ℕ} (Some one) (Some other) → one ≡ other
+some_number one other e = cc
+
+found_type_by : (number : ℕ) (kind : TypeName) (others : List TypeName) (name : Name) (found : ℕ) (t : Bool) → has_type_name kind name ≡ t →
+    (if t then Some number else first_type_from (suc number) others name) ≡ Some found → (first_type_from (suc number) others name ≡ Some found → IsFoundName (suc number) others found) →
+    IsFoundName number (kind ∷ others) found
+found_type_by number kind others name found true f e rest = found_here number kind others name found f (some_number number found e)
+found_type_by number kind others name found false f e rest = found_behind number kind others found (rest e)
+
+pub found_type_name : (number : ℕ) (declared : List TypeName) (name : Name) (found : ℕ) → first_type_from number declared name ≡ Some found → IsFoundName number declared found
+found_type_name number [] name found e = absurd (cc)
+found_type_name number (kind ∷ others) name found e =
+    found_type_by number kind others name found (has_type_name kind name) refl e (found_type_name (suc number) others name found)
+
+-- a reference that refers to a type has the number of one
+refers_by : (bound uri known : Bool) → (bound && (not uri && known)) ≡ true → known ≡ true
+refers_by true false known e = e
+refers_by true true known e = absurd (cc)
+refers_by false uri known e = absurd (cc)
+
+pub number_of_reference : (numbers : Numbering) (kind : ComponentKind) (reference : Reference) → refers numbers kind reference ≡ true → is_some (numbers kind reference.name) ≡ true
+number_of_reference numbers kind reference e = refers_by reference.is_bound (is_schema_uri reference.name.uri) (is_some (numbers kind reference.name)) e
+
+one_reference : (one other : Reference) → types.Declared one ≡ types.Declared other → one ≡ other
+one_reference one other e = cc
+
+-- the reference that a type is written with refers to a type
+pub reference_refers : (numbers : Numbering) (place : ℕ) (base : TypeReference) (reference : Reference) → base ≡ types.Declared reference → HoldsOfEach (Refers numbers) (type_mentions place base) →
+    refers numbers kinds.TypeDefinition reference ≡ true
+reference_refers numbers place (types.Builtin builtin) reference e refer = absurd (cc)
+reference_refers numbers place (types.Declared other) reference e refer =
+    subst (λ (r : Reference). refers numbers kinds.TypeDefinition r ≡ true) (one_reference other reference e) refer.0
+reference_refers numbers place (types.Anonymous number) reference e refer = absurd (cc)
+
+base_in_range : (documents : List DocumentTree) (name : Name) (found : Option ℕ) → first_type_from 0 (type_names_in documents) name ≡ found → is_some found ≡ true →
+    IsReadBase (length (type_names_in documents)) (base_of_number found)
+base_in_range documents name None e known = absurd (cc)
+base_in_range documents name (Some number) e known =
+    let told = found_type_name 0 (type_names_in documents) name number e in
+    grind (arith, told.2, told.4)
+
+base_read : (documents : List DocumentTree) (base : TypeReference) → is_read_base base ≡ true →
+    ((reference : Reference) → base ≡ types.Declared reference → refers (declared_number documents) kinds.TypeDefinition reference ≡ true) →
+    IsReadBase (length (type_names_in documents)) (base_referred (declared_number documents) base)
+base_read documents (types.Builtin builtin) e refer = e
+base_read documents (types.Declared reference) e refer =
+    base_in_range documents reference.name (first_type_from 0 (type_names_in documents) reference.name) refl (number_of_reference (declared_number documents) kinds.TypeDefinition reference (refer reference refl))
+base_read documents (types.Anonymous number) e refer = absurd (cc)
+
+-- ---- the form of a type
+
+pub read_where : (t : Bool) (place : ℕ) (kind : DeclarationKind) → unread_where t place kind ≡ None → t ≡ true
+read_where true place kind e = refl
+read_where false place kind e = absurd (cc)
+
+simple_form : (documents : List DocumentTree) (place : ℕ) (definition : SimpleTypeDefinition) → unread_definition place (Simple definition) ≡ None →
+    HoldsOfEach (Refers (declared_number documents)) (simple_type_mentions definition) →
+    IsSimpleForm (length (type_names_in documents)) (form_of_simple_type (simple_type_of (globals_of documents) definition))
+simple_form documents place (simple.Restriction at base facets) e refer =
+    base_read documents base (read_where (is_read_base base) place declared_kinds.SimpleType e) (λ reference f. reference_refers (declared_number documents) at base reference f refer)
+simple_form documents place (simple.List at item) e refer =
+    base_read documents item (read_where (is_read_base item) place declared_kinds.SimpleType e) (λ reference f. reference_refers (declared_number documents) at item reference f refer)
+
+-- what is read and refers has a simple form
+definition_form : (documents : List DocumentTree) (groups : List ModelGroup) (place : ℕ) (definition : TypeDefinition) → unread_definition place definition ≡ None →
+    HoldsOfEach (Refers (declared_number documents)) (definition_mentions definition) →
+    IsSimpleForm (length (type_names_in documents)) (form_of_type (form_placed (globals_of documents) (first_inner documents) groups definition).placed)
+definition_form documents groups place (Simple definition) e refer = simple_form documents place definition e refer
+definition_form documents groups place (Complex definition) e refer = absurd (cc)
+
+abbrev pub IsReadType : List DocumentTree → TypeDeclaration → Type 0
+IsReadType documents t = (unread_type t ≡ None) × HoldsOfEach (Refers (declared_number documents)) (type_declaration_mentions t)
+
+definition_read : (name : TypeName) (place : ℕ) (definition : TypeDefinition) → unread_named name place definition ≡ None → (unread_definition place definition ≡ None) × (is_built_in name ≡ false)
+definition_read (names.Builtin builtin) place definition e = absurd (cc)
+definition_read (names.Named name) place definition e = (e, refl)
+definition_read (names.Anonymous number) place definition e = (e, refl)
+
+forms_placed : (documents : List DocumentTree) (groups : List ModelGroup) (declarations : List TypeDeclaration) → HoldsOfEach (IsReadType documents) declarations →
+    HoldsOfEach (IsSimpleForm (length (type_names_in documents))) (forms_of (types_placed (globals_of documents) (first_inner documents) groups declarations).placed)
+forms_placed documents groups [] read = tt
+forms_placed documents groups (t ∷ others) read = (
+  definition_form documents groups t.place t.definition (definition_read t.name t.place t.definition read.0.0).0 read.0.1,
+  forms_placed documents (form_placed (globals_of documents) (first_inner documents) groups t.definition).groups others read.1,
+)
+
+names_placed : (x : Globals) (first : ℕ) (groups : List ModelGroup) (declarations : List TypeDeclaration) → length (forms_of (types_placed x first groups declarations).placed) ≡ length declarations
+names_placed x first groups [] = refl
+names_placed x first groups (t ∷ others) = ap suc (names_placed x first (form_placed x first groups t.definition).groups others)
+
+own_names : (documents : List DocumentTree) (declarations : List TypeDeclaration) → HoldsOfEach (IsReadType documents) declarations →
+    HoldsOfEach (λ (name : TypeName). is_built_in name ≡ false) (map (λ (declaration : TypeDeclaration). declaration.name) declarations)
+own_names documents [] read = tt
+own_names documents (t ∷ others) read = ((definition_read t.name t.place t.definition read.0.0).1, own_names documents others read.1)
+
+-- ---- all types of documents
+
+pub forms_of_documents : (documents : List DocumentTree) → HoldsOfEach (IsReadType documents) (types_in documents) →
+    HoldsOfEach (IsSimpleForm (length (type_names_in documents))) (type_forms documents)
+forms_of_documents documents read = forms_placed documents (definitions_by (globals_of documents) (first_inner documents) documents).groups (types_in documents) read
+
+pub as_many_forms : (documents : List DocumentTree) → length (type_names_in documents) ≡ length (type_forms documents)
+as_many_forms documents =
+    length-map (types_in documents) (λ (declaration : TypeDeclaration). declaration.name)
+    ∙ sym (names_placed (globals_of documents) (first_inner documents) (definitions_by (globals_of documents) (first_inner documents) documents).groups (types_in documents))
+
+pub names_of_documents : (documents : List DocumentTree) → HoldsOfEach (IsReadType documents) (types_in documents) →
+    HoldsOfEach (λ (name : TypeName). is_built_in name ≡ false) (type_names_in documents)
+names_of_documents documents read = own_names documents (types_in documents) read

@@ -1,0 +1,10 @@
+use Rattle.std.proofs.Common.{◌≡◌, ◌++◌, length}
+use Rattle.gx_schema.specs.Found.{elements_and_attributes_found}
+use Rattle.gx_schema.proofs.found.elements_and_attributes_found.Given as goal
+
+-- those so far and those that are left
+abbrev pub invariant-loop-document : goal.invariant-loop-document
+invariant-loop-document l = l.found.items ++ elements_and_attributes_found l.file l.left ≡ elements_and_attributes_found 0 l.fn.documents
+
+abbrev pub decreases-loop-document : goal.decreases-loop-document
+decreases-loop-document l = length l.left

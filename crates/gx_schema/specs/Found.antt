@@ -1,0 +1,59 @@
+-- Declarations as refusals show them, in the order of the documents.
+use Rattle.std.specs.Prelude.{ℕ, suc, List, [], ◌∷◌, ◌++◌, map, slice_index_or}
+use Rattle.std.specs.List.{flat_map}
+use Rattle.gx_base.specs.declared.name.Name.{Name}
+use Rattle.gx_profile.specs.declared.written.GlobalDeclaration.{GlobalDeclaration}
+use Rattle.gx_profile.specs.declared.written.GlobalDeclaration.TheVariants.{Element, Attribute, Group, AttributeGroup}
+use Rattle.gx_profile.specs.declared.written.TypeDeclaration.{TypeDeclaration}
+use Rattle.gx_profile.specs.DocumentTree.{DocumentTree}
+use Rattle.gx_components.specs.declared.mention.ComponentKind.{ComponentKind}
+use Rattle.gx_components.specs.DeclaredNames.{name_of_kind}
+use Rattle.gx_typetext.specs.NameText.{name_text, type_name_text}
+use Rattle.gx_schema.specs.declared.found.Found.{Found}
+
+-- a number of nothing
+abbrev pub nothing_found : Found
+nothing_found = record { file = 0; place = 0; name = [] }
+
+abbrev pub found_by_number : List Found → (number : ℕ) → Found
+found_by_number found number = slice_index_or found number nothing_found
+
+-- ---- types
+
+abbrev pub found_type : (file : ℕ) → TypeDeclaration → Found
+found_type file declaration = record { file = file; place = declaration.place; name = type_name_text declaration.name }
+
+abbrev pub types_found : (file : ℕ) → List DocumentTree → List Found
+types_found file [] = []
+types_found file (document ∷ documents) = map (found_type file) document.types ++ types_found (suc file) documents
+
+-- ---- other declarations of a kind
+
+abbrev pub place_of_global : GlobalDeclaration → ℕ
+place_of_global (Element place name kind) = place
+place_of_global (Attribute place name kind) = place
+place_of_global (Group place name particle) = place
+place_of_global (AttributeGroup place name attributes) = place
+
+abbrev pub found_named : (file place : ℕ) → Name → Found
+found_named file place name = record { file = file; place = place; name = name_text name }
+
+abbrev pub found_global : ComponentKind → (file : ℕ) → GlobalDeclaration → List Found
+found_global kind file declaration = map (found_named file (place_of_global declaration)) (name_of_kind kind declaration)
+
+abbrev pub globals_found : ComponentKind → (file : ℕ) → List DocumentTree → List Found
+globals_found kind file [] = []
+globals_found kind file (document ∷ documents) = flat_map (found_global kind file) document.declarations ++ globals_found kind (suc file) documents
+
+-- ---- elements and attributes
+
+abbrev pub found_element_or_attribute : (file : ℕ) → GlobalDeclaration → List Found
+found_element_or_attribute file (Element place name kind) = found_named file place name ∷ []
+found_element_or_attribute file (Attribute place name kind) = found_named file place name ∷ []
+found_element_or_attribute file (Group place name particle) = []
+found_element_or_attribute file (AttributeGroup place name attributes) = []
+
+abbrev pub elements_and_attributes_found : (file : ℕ) → List DocumentTree → List Found
+elements_and_attributes_found file [] = []
+elements_and_attributes_found file (document ∷ documents) =
+    flat_map (found_element_or_attribute file) document.declarations ++ elements_and_attributes_found (suc file) documents
