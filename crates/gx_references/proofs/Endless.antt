@@ -12,7 +12,7 @@ use Rattle.gx_references.specs.Circles.{RefersTo, directly, through}
 use Rattle.gx_references.specs.Known.{table_entry, has_entry}
 use Rattle.gx_references.specs.Search.{count_known}
 use Rattle.gx_references.proofs.Passing.{first_member, member_of_rest}
-use Rattle.gx_references.proofs.Circles.{refers_on, outside_is_circular}
+use Rattle.gx_references.proofs.CircleLemmas.{refers_on, outside_is_circular}
 use Rattle.gx_references.proofs.Tables.{count_known-set, count_known-le-length, no_entry}
 
 -- where not all members pass, one fails

@@ -1,7 +1,10 @@
 mod Passing
 mod Steps
-mod Circles
+mod CircleLemmas
 mod Tables
 mod SearchSteps
 mod Endless
 mod PublicLaws
+mod Ways
+mod ReachSteps
+mod CircleExamples

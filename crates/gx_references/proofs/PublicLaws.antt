@@ -5,7 +5,7 @@ use Rattle.gx_references.specs.References.{named_by, ends, ends_within, meaning_
 use Rattle.gx_references.specs.Laws.{LooksAtReferences, Solves, MeaningsSolve, OneSolution, MoreStepsChangeNothing, EndsAreSoon, CircleIfEndless, EndlessIfCircle}
 use Rattle.gx_references.proofs.Passing.{member_passes}
 use Rattle.gx_references.proofs.Steps.{ends_by, meaning_agrees, means_the_same_one_later, means_the_same_by}
-use Rattle.gx_references.proofs.Circles.{circle_has_no_end}
+use Rattle.gx_references.proofs.CircleLemmas.{circle_has_no_end}
 use Rattle.gx_references.proofs.Endless.{circle_if_endless}
 
 pub meanings_solve : {B M : Type 0} (references : B → List ℕ) (meant : (ℕ → M) → B → M) (nothing : M) → LooksAtReferences references meant → MeaningsSolve references meant nothing

@@ -17,7 +17,7 @@ use Rattle.gx_references.specs.Laws.{LooksAtReferences}
 use Rattle.gx_references.specs.Search.{count_known, IsOpen, IsReferredTo, IsBuilt, IsSearch}
 use Rattle.gx_references.proofs.Passing.{member_passes, all_members_pass}
 use Rattle.gx_references.proofs.Steps.{ends_one_later, ends_by, means_the_same_one_later, means_the_same_by}
-use Rattle.gx_references.proofs.Circles.{circle_has_no_end, refers_on, outside_is_circular}
+use Rattle.gx_references.proofs.CircleLemmas.{circle_has_no_end, refers_on, outside_is_circular}
 use Rattle.gx_references.proofs.Tables.{count_known-set, count_known-le-length}
 
 -- ---- a list with one more behind it

@@ -1,8 +1,8 @@
 -- The laws of references.
-use Rattle.std.specs.Prelude.{◌≡◌, ℕ, ◌≤◌, true, false, List, length, ◌⊎◌}
+use Rattle.std.specs.Prelude.{◌≡◌, ℕ, ◌≤◌, ◌<◌, IsTrue, ◌↔◌, true, false, List, length, ◌⊎◌}
 use Rattle.gx_references.specs.References.{meaning_over, meaning_within, meaning_of, ends, ends_within}
 use Rattle.gx_references.specs.Known.{SameMeaningsOn}
-use Rattle.gx_references.specs.Circles.{RefersTo, IsPartOfItself}
+use Rattle.gx_references.specs.Circles.{RefersTo, IsPartOfItself, is_circular_among}
 
 -- what a declaration means is told by the meanings of those that it names
 abbrev pub LooksAtReferences : {B M : Type 0} → (B → List ℕ) → ((ℕ → M) → B → M) → Type 0
@@ -40,3 +40,7 @@ CircleIfEndless {B} references = (bodies : List B) (number : ℕ) → ends refer
 abbrev pub EndlessIfCircle : {B : Type 0} → (B → List ℕ) → Type 0
 EndlessIfCircle {B} references = (bodies : List B) (number other : ℕ) → RefersTo references bodies number other → IsPartOfItself references bodies other →
     ends references bodies number ≡ false
+
+-- a declaration is part of itself exactly where a way of no more steps than there are declarations leads back to it
+abbrev pub WaysBackAreShort : {B : Type 0} → (B → List ℕ) → Type 0
+WaysBackAreShort {B} references = (bodies : List B) (number : ℕ) → number < length bodies → IsTrue (is_circular_among references bodies number) ↔ IsPartOfItself references bodies number

@@ -1,6 +1,6 @@
 // Laws over the definitions.
 
-ghost use Rattle.gx_references.specs.Laws.{MeaningsSolve, OneSolution, MoreStepsChangeNothing, EndsAreSoon, CircleIfEndless, EndlessIfCircle};
+ghost use Rattle.gx_references.specs.Laws.{MeaningsSolve, OneSolution, MoreStepsChangeNothing, EndsAreSoon, CircleIfEndless, EndlessIfCircle, WaysBackAreShort};
 
 use crate::body::Body;
 
@@ -24,4 +24,9 @@ pub fn more_steps_change_nothing<B: Body>()
 pub fn circles_are_endless<B: Body>()
     ensures circle { CircleIfEndless B.named }
     ensures endless { EndlessIfCircle B.named }
+{}
+
+/// A declaration is part of itself exactly where a way of no more references than there are declarations leads back to it.
+pub fn ways_back_are_short<B: Body>()
+    ensures { WaysBackAreShort B.named }
 {}

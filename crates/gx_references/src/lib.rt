@@ -2,6 +2,7 @@
 #![tactic(auto)]
 
 pub mod body;
+pub mod circles;
 pub mod laws;
 pub mod meanings;
 pub mod names;
