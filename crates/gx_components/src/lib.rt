@@ -3,7 +3,7 @@
 #![tactic(auto)]
 
 mod attribute_lists;
-mod bounds;
+pub mod bounds;
 pub mod component;
 pub mod components;
 mod group_numbers;

@@ -6,18 +6,24 @@ use Rattle.gx_base.specs.declared.type_name.Builtin.TheVariants.{Str}
 use Rattle.gx_base.specs.declared.type_name.TypeName.TheVariants as names
 use Rattle.gx_types.specs.SequenceType.{SequenceType, never, nothing, item, both, either, optional, star}
 use Rattle.gx_types.specs.declared.item_type.ItemType.TheVariants as items
-use Rattle.gx_contents.specs.declared.component.Bounds.{Bounds}
-use Rattle.gx_contents.specs.declared.component.Term.TheVariants.{Element, Group}
-use Rattle.gx_contents.specs.declared.component.Particle.{Particle}
-use Rattle.gx_contents.specs.declared.component.Compositor.TheVariants.{Sequence, Choice}
-use Rattle.gx_contents.specs.declared.complex_type.Base.TheVariants.{Declared}
-use Rattle.gx_contents.specs.declared.complex_type.Derivation.TheVariants.{Extends, Restricts}
-use Rattle.gx_contents.specs.declared.complex_type.Effective.{Effective}
-use Rattle.gx_contents.specs.Occurrences.{bounded, times_counted}
+use Rattle.gx_profile.specs.declared.role.Compositor.TheVariants.{Sequence, Choice}
+use Rattle.gx_profile.specs.declared.written.ContentKind.{ContentKind}
+use Rattle.gx_profile.specs.declared.written.ContentKind.TheVariants as kinds
+use Rattle.gx_components.specs.declared.component.Base.TheVariants.{Declared}
+use Rattle.gx_components.specs.declared.component.Bounds.{Bounds}
+use Rattle.gx_components.specs.declared.component.ComplexType.{ComplexType}
+use Rattle.gx_components.specs.declared.component.Derivation.{Derivation}
+use Rattle.gx_components.specs.declared.component.Derivation.TheVariants.{Extends, Restricts}
+use Rattle.gx_components.specs.declared.component.DerivedFrom.{DerivedFrom}
+use Rattle.gx_components.specs.declared.component.Particle.{Particle}
+use Rattle.gx_components.specs.declared.component.Term.TheVariants.{Element, Group}
+use Rattle.gx_components.specs.declared.component.TypeForm.TheVariants as forms
+use Rattle.gx_contents.specs.declared.effective.Effective.{Effective}
+use Rattle.gx_contents.specs.Occurrences.{bounded}
 use Rattle.gx_contents.specs.GroupContents.{composed}
 use Rattle.gx_contents.specs.GroupPositions.{positions_together, positions_with_texts}
 use Rattle.gx_contents.specs.MixedContents.{maybe_text, model_of}
-use Rattle.gx_contents.specs.TypeContents.{derived_content}
+use Rattle.gx_contents.specs.TypeContents.{empty_content, form_content}
 
 abbrev named : List ℕ → Name
 named local = record { uri = []; prefix = []; local = local }
@@ -35,13 +41,13 @@ abbrev c : SequenceType
 c = element (codes "c")
 
 abbrev often : ℕ → Option ℕ → Bounds
-often least greatest = record { least = least; greatest = greatest }
+often least greatest = record { least = least; greatest = greatest; are_ordered = true }
 
 abbrev once : List ℕ → Particle
-once local = record { bounds = often 1 (Some 1); term = Element (named local) (names.Builtin Str) }
+once local = record { place = 0; bounds = often 1 (Some 1); term = Element (named local) (names.Builtin Str) }
 
 abbrev group : ℕ → Option ℕ → Particle
-group least greatest = record { bounds = often least greatest; term = Group 0 }
+group least greatest = record { place = 0; bounds = often least greatest; term = Group 0 }
 
 -- minOccurs 2 and maxOccurs 4: (c, c), (c, c?)?
 two_to_four : bounded (often 2 (Some 4)) c ≡ both (both c c) (optional (both c (optional c)))
@@ -59,6 +65,10 @@ any_number = refl
 
 never_at_all : bounded (often 0 (Some 0)) c ≡ nothing
 never_at_all = refl
+
+-- bounds out of order: no more than the greatest number
+out_of_order : bounded (often 3 (Some 1)) c ≡ c
+out_of_order = refl
 
 nothing_often : bounded (often 3 None) nothing ≡ nothing
 nothing_often = refl
@@ -104,12 +114,26 @@ mixed_nothing = refl
 abbrev mixed_base : ℕ → Effective
 mixed_base number = record { content = a; mixed = true }
 
+abbrev from_base : ContentKind → DerivedFrom
+from_base kind = record { place = 0; content = kind; base = Declared 0 }
+
+-- a complex type, without attributes
+abbrev complex : Bool → Derivation → Option Particle → ComplexType
+complex mixed derivation content = record { mixed = mixed; derivation = derivation; facets = []; content = content; attributes = [] }
+
+abbrev content_over_mixed : Bool → Derivation → Option Particle → Effective
+content_over_mixed mixed derivation content = form_content (λ _. nothing) mixed_base (forms.Complex (complex mixed derivation content))
+
 -- an extension that adds nothing is mixed as its base
-extension_by_nothing : derived_content mixed_base (Extends (Declared 0)) false nothing ≡ record { content = a; mixed = true }
+extension_by_nothing : content_over_mixed false (Extends (from_base kinds.Complex)) None ≡ record { content = a; mixed = true }
 extension_by_nothing = refl
 
-extension_by_b : derived_content mixed_base (Extends (Declared 0)) false b ≡ record { content = both a b; mixed = false }
+extension_by_b : content_over_mixed false (Extends (from_base kinds.Complex)) (Some (once (codes "b"))) ≡ record { content = both a b; mixed = false }
 extension_by_b = refl
 
-restriction_to_b : derived_content mixed_base (Restricts (Declared 0)) true b ≡ record { content = b; mixed = true }
+restriction_to_b : content_over_mixed true (Restricts (from_base kinds.Complex)) (Some (once (codes "b"))) ≡ record { content = b; mixed = true }
 restriction_to_b = refl
+
+-- simple content adds nothing to its base
+simple_extension : content_over_mixed true (Extends (from_base kinds.Simple)) None ≡ empty_content
+simple_extension = refl

@@ -1,2 +1,14 @@
 mod Copies
+mod Counted
 mod Examples
+mod KnotExamples
+mod KnotLemmas
+mod Bodies
+mod ViewLemmas
+mod ElementViewLemmas
+mod Earlier
+mod TypeItems
+mod ContentItems
+mod Agreement
+mod KeptKinds
+mod ExtensionLemmas

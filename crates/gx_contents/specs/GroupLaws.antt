@@ -1,19 +1,19 @@
 -- The content and the positions of a group look at nothing but those of the groups that it holds.
-use Rattle.std.specs.Prelude.{◌≡◌, ℕ, zero, suc, ◌+◌, ◌<◌, Bool, true, false, List, [], ◌∷◌, length, Option, None, Some, fold, map, sum_by, slice_index_or, refl}
+use Rattle.std.specs.Prelude.{◌≡◌, ℕ, zero, suc, ◌+◌, Bool, true, false, List, [], ◌∷◌, Option, None, Some, fold, map, refl}
 use Rattle.std.specs.List.{Contains, filter_map, cons_option}
-use Rattle.std.proofs.Common.{sym, ◌∙◌, ap, arith}
-use Rattle.gx_types.specs.SequenceType.{SequenceType, never, nothing}
+use Rattle.std.proofs.Common.{◌∙◌, ap, arith}
+use Rattle.gx_types.specs.SequenceType.{SequenceType, nothing}
 use Rattle.gx_types.specs.TypeRules.{joined_types}
 use Rattle.gx_types.specs.Choice.{choice_among}
 use Rattle.gx_references.specs.Known.{SameMeaningsOn}
-use Rattle.gx_contents.specs.declared.component.Term.{Term}
-use Rattle.gx_contents.specs.declared.component.Term.TheVariants.{Element, Group}
-use Rattle.gx_contents.specs.declared.component.Particle.{Particle}
-use Rattle.gx_contents.specs.declared.component.Compositor.{Compositor}
-use Rattle.gx_contents.specs.declared.component.Compositor.TheVariants.{Sequence, Choice}
-use Rattle.gx_contents.specs.declared.component.ModelGroup.{ModelGroup}
+use Rattle.gx_components.specs.declared.component.Term.{Term}
+use Rattle.gx_components.specs.declared.component.Term.TheVariants.{Element, Group}
+use Rattle.gx_components.specs.declared.component.Particle.{Particle}
+use Rattle.gx_profile.specs.declared.role.Compositor.{Compositor}
+use Rattle.gx_profile.specs.declared.role.Compositor.TheVariants.{Sequence, Choice}
+use Rattle.gx_components.specs.declared.component.ModelGroup.{ModelGroup}
 use Rattle.gx_contents.specs.Occurrences.{bounded, times_counted}
-use Rattle.gx_contents.specs.GroupContents.{group_of_term, group_of_particle, groups_in, term_content, particle_content, composed, group_content, content_that_fits}
+use Rattle.gx_contents.specs.GroupContents.{group_of_term, group_of_particle, groups_in, term_content, particle_content, composed, content_that_fits}
 use Rattle.gx_contents.specs.GroupPositions.{term_positions, particle_positions, group_positions, counted}
 
 -- ---- what a list of options holds
@@ -27,13 +27,13 @@ other_options_are_there None others x here = here
 other_options_are_there (Some y) others x (k, within, here) = (suc k, omega arith, here)
 
 -- two ways to give meanings agree on the group that a particle holds
-abbrev AgreeOnTerm : {M : Type 0} → (f g : ℕ → M) → Option ℕ → Type 0
+abbrev pub AgreeOnTerm : {M : Type 0} → (f g : ℕ → M) → Option ℕ → Type 0
 AgreeOnTerm f g found = (number : ℕ) → found ≡ Some number → f number ≡ g number
 
-agree_on_first : {M : Type 0} (f g : ℕ → M) (particle : Particle) (others : List Particle) → SameMeaningsOn f g (filter_map group_of_particle (particle ∷ others)) → AgreeOnTerm f g (group_of_particle particle)
+pub agree_on_first : {M : Type 0} (f g : ℕ → M) (particle : Particle) (others : List Particle) → SameMeaningsOn f g (filter_map group_of_particle (particle ∷ others)) → AgreeOnTerm f g (group_of_particle particle)
 agree_on_first f g particle others agree number e = agree number (first_option_is_there (group_of_particle particle) (filter_map group_of_particle others) number e)
 
-agree_on_others : {M : Type 0} (f g : ℕ → M) (particle : Particle) (others : List Particle) → SameMeaningsOn f g (filter_map group_of_particle (particle ∷ others)) → SameMeaningsOn f g (filter_map group_of_particle others)
+pub agree_on_others : {M : Type 0} (f g : ℕ → M) (particle : Particle) (others : List Particle) → SameMeaningsOn f g (filter_map group_of_particle (particle ∷ others)) → SameMeaningsOn f g (filter_map group_of_particle others)
 agree_on_others f g particle others agree number here = agree number (other_options_are_there (group_of_particle particle) (filter_map group_of_particle others) number here)
 
 -- ---- contents
@@ -65,7 +65,7 @@ composed_agrees f g Sequence particles agree = sequence_agrees f g particles not
 composed_agrees f g Choice particles agree = ap choice_among (members_agree f g particles agree)
 
 pub content_that_fits_agrees : (fits : Bool) (f g : ℕ → SequenceType) (group : ModelGroup) → SameMeaningsOn f g (groups_in group) → content_that_fits fits f group ≡ content_that_fits fits g group
-content_that_fits_agrees true f g group agree = composed_agrees f g group.compositor group.particles.items agree
+content_that_fits_agrees true f g group agree = composed_agrees f g group.compositor group.particles agree
 content_that_fits_agrees false f g group agree = refl
 
 -- ---- positions
@@ -86,4 +86,4 @@ sum_of_positions_agrees f g (particle ∷ others) total agree =
     ∙ sum_of_positions_agrees f g others (total + particle_positions g particle) (agree_on_others f g particle others agree)
 
 pub group_positions_agree : (f g : ℕ → ℕ) (group : ModelGroup) → SameMeaningsOn f g (groups_in group) → counted (group_positions f group) ≡ counted (group_positions g group)
-group_positions_agree f g group agree = ap counted (sum_of_positions_agrees f g group.particles.items 0 agree)
+group_positions_agree f g group agree = ap counted (sum_of_positions_agrees f g group.particles 0 agree)

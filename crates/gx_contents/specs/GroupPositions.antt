@@ -1,9 +1,9 @@
 -- How many elements stand in a content, each as often as it is written out.
-use Rattle.std.specs.Prelude.{ℕ, ◌+◌, ◌*◌, List, [], ◌∷◌, Option, None, Some, min, sum_by}
-use Rattle.gx_contents.specs.declared.component.Term.{Term}
-use Rattle.gx_contents.specs.declared.component.Term.TheVariants.{Element, Group}
-use Rattle.gx_contents.specs.declared.component.Particle.{Particle}
-use Rattle.gx_contents.specs.declared.component.ModelGroup.{ModelGroup}
+use Rattle.std.specs.Prelude.{ℕ, ◌+◌, ◌*◌, List, min, sum_by}
+use Rattle.gx_components.specs.declared.component.Term.{Term}
+use Rattle.gx_components.specs.declared.component.Term.TheVariants.{Element, Group}
+use Rattle.gx_components.specs.declared.component.Particle.{Particle}
+use Rattle.gx_components.specs.declared.component.ModelGroup.{ModelGroup}
 use Rattle.gx_contents.specs.Occurrences.{times_counted}
 use Rattle.gx_base.specs.declared.limits.TheConstants.{CONTENT_POSITIONS}
 
@@ -20,7 +20,7 @@ abbrev pub positions_together : (ℕ → ℕ) → List Particle → ℕ
 positions_together groups particles = sum_by (particle_positions groups) particles
 
 abbrev pub group_positions : (ℕ → ℕ) → ModelGroup → ℕ
-group_positions groups group = positions_together groups group.particles.items
+group_positions groups group = positions_together groups group.particles
 
 -- positions are counted to one more than the limit
 abbrev pub counted : ℕ → ℕ

@@ -1,5 +1,5 @@
 -- Contents with texts (XML Schema 1.0 part 1, section 3.4.1, mixed).
-use Rattle.std.specs.Prelude.{ℕ, Bool, if◌then◌else◌}
+use Rattle.std.specs.Prelude.{Bool, if◌then◌else◌}
 use Rattle.gx_types.specs.SequenceType.{SequenceType, never, nothing, item, both, either, optional, star, plus}
 use Rattle.gx_types.specs.TypeRules.{joined_types}
 use Rattle.gx_types.specs.declared.item_type.ItemType.TheVariants as items

@@ -1,9 +1,9 @@
 -- A content as often as a particle occurs (XML Schema 1.0 part 1, section 3.9).
-use Rattle.std.specs.Prelude.{ℕ, zero, suc, ◌+◌, ◌-◌, ◌*◌, Option, None, Some}
+use Rattle.std.specs.Prelude.{ℕ, zero, suc, ◌+◌, ◌-◌, ◌*◌, Option, None, Some, min}
 use Rattle.gx_types.specs.SequenceType.{SequenceType, nothing}
 use Rattle.gx_types.specs.TypeRules.{joined_types}
 use Rattle.gx_types.specs.Indicator.{optional_of, star_of}
-use Rattle.gx_contents.specs.declared.component.Bounds.{Bounds}
+use Rattle.gx_components.specs.declared.component.Bounds.{Bounds}
 
 -- so many copies of a content, one behind another
 abbrev pub copies : ℕ → SequenceType → SequenceType
@@ -20,9 +20,14 @@ abbrev pub further_copies : (least : ℕ) (greatest : Option ℕ) → SequenceTy
 further_copies least None t = star_of t
 further_copies least (Some greatest) t = optional_copies (greatest - least) t
 
+-- the least number of copies, where no more than the greatest number are allowed
+abbrev pub least_copies : (least : ℕ) (greatest : Option ℕ) → ℕ
+least_copies least None = least
+least_copies least (Some greatest) = min least greatest
+
 -- a content as often as bounds say
 abbrev pub bounded : Bounds → SequenceType → SequenceType
-bounded bounds t = joined_types (copies bounds.least t) (further_copies bounds.least bounds.greatest t)
+bounded bounds t = joined_types (copies (least_copies bounds.least bounds.greatest) t) (further_copies bounds.least bounds.greatest t)
 
 -- how many positions stand where so many stand in one copy
 abbrev pub times_counted : (least : ℕ) (greatest : Option ℕ) → ℕ → ℕ

@@ -1,28 +1,21 @@
 -- The contents of complex types (XML Schema 1.0 part 1, section 3.4.2).
-use Rattle.std.specs.Prelude.{ℕ, ◌+◌, Bool, true, false, ◌||◌, ◌&&◌, List, [], ◌∷◌, Option, None, Some, if◌then◌else◌}
+use Rattle.std.specs.Prelude.{ℕ, Bool, true, false, ◌||◌, ◌&&◌, Option, None, Some, if◌then◌else◌}
 use Rattle.gx_types.specs.SequenceType.{SequenceType, never, nothing, item, both, either, optional, star, plus}
 use Rattle.gx_types.specs.TypeRules.{joined_types}
-use Rattle.gx_contents.specs.declared.component.Particle.{Particle}
-use Rattle.gx_contents.specs.declared.complex_type.Base.{Base}
-use Rattle.gx_contents.specs.declared.complex_type.Base.TheVariants.{Builtin, Declared}
-use Rattle.gx_contents.specs.declared.complex_type.Derivation.{Derivation}
-use Rattle.gx_contents.specs.declared.complex_type.Derivation.TheVariants.{Own, Extends, Restricts}
-use Rattle.gx_contents.specs.declared.complex_type.ComplexType.{ComplexType}
-use Rattle.gx_contents.specs.declared.complex_type.Effective.{Effective}
+use Rattle.gx_components.specs.declared.component.Base.{Base}
+use Rattle.gx_components.specs.declared.component.Base.TheVariants.{Builtin, Declared}
+use Rattle.gx_components.specs.declared.component.ComplexType.{ComplexType}
+use Rattle.gx_components.specs.declared.component.Particle.{Particle}
+use Rattle.gx_components.specs.declared.component.TypeComponent.{TypeComponent}
+use Rattle.gx_components.specs.declared.component.TypeForm.{TypeForm}
+use Rattle.gx_components.specs.declared.component.TypeForm.TheVariants as forms
+use Rattle.gx_contents.specs.declared.effective.Effective.{Effective}
+use Rattle.gx_contents.specs.declared.source.ContentSource.{ContentSource}
+use Rattle.gx_contents.specs.declared.source.ContentSource.TheVariants as sources
 use Rattle.gx_contents.specs.GroupContents.{particle_content}
-use Rattle.gx_contents.specs.GroupPositions.{particle_positions}
+use Rattle.gx_contents.specs.Sources.{source_of}
 
--- the types that a derivation names
-abbrev pub declared_base : Base → List ℕ
-declared_base (Builtin builtin) = []
-declared_base (Declared number) = number ∷ []
-
-abbrev pub bases_in : Derivation → List ℕ
-bases_in Own = []
-bases_in (Extends base) = declared_base base
-bases_in (Restricts base) = declared_base base
-
--- the content of a type that is built in is empty, and without texts
+-- the content of a type that is built in or simple, or has simple content, is empty, and without texts
 abbrev pub empty_content : Effective
 empty_content = record { content = nothing; mixed = false }
 
@@ -45,39 +38,25 @@ is_nothing (optional part) = false
 is_nothing (star part) = false
 is_nothing (plus part) = false
 
--- what a type holds, over the contents of types: an extension adds to its base, and a restriction takes its place
-abbrev pub derived_content : (ℕ → Effective) → Derivation → (mixed : Bool) (written : SequenceType) → Effective
-derived_content types Own mixed written = record { content = written; mixed = mixed }
-derived_content types (Extends base) mixed written = record {
+-- what a type holds, over the contents of types
+abbrev pub sourced_content : (ℕ → Effective) → ContentSource → (mixed : Bool) (written : SequenceType) → Effective
+sourced_content types sources.Simple mixed written = empty_content
+sourced_content types sources.Written mixed written = record { content = written; mixed = mixed }
+sourced_content types (sources.Behind base) mixed written = record {
   content = joined_types (content_of_base types base).content written;
   mixed = mixed || (is_nothing written && (content_of_base types base).mixed);
 }
-derived_content types (Restricts base) mixed written = record { content = written; mixed = mixed }
 
-abbrev pub type_content : (ℕ → SequenceType) → (ℕ → Effective) → ComplexType → Effective
-type_content groups types definition = derived_content types definition.derivation definition.mixed (written_content groups definition.content)
+abbrev pub complex_content : (ℕ → SequenceType) → (ℕ → Effective) → ComplexType → Effective
+complex_content groups types definition = sourced_content types (source_of definition.derivation) definition.mixed (written_content groups definition.content)
+
+abbrev pub form_content : (ℕ → SequenceType) → (ℕ → Effective) → TypeForm → Effective
+form_content groups types (forms.Simple definition) = empty_content
+form_content groups types (forms.Complex definition) = complex_content groups types definition
 
 -- what is put for a type whose content is not known, or has too many positions
 abbrev pub unknown_content : Effective
 unknown_content = record { content = never; mixed = false }
 
-abbrev pub type_content_that_fits : Bool → (ℕ → SequenceType) → (ℕ → Effective) → ComplexType → Effective
-type_content_that_fits fits groups types definition = if fits then type_content groups types definition else unknown_content
-
--- the positions of a content, texts left out
-
-abbrev pub positions_of_base : (ℕ → ℕ) → Base → ℕ
-positions_of_base types (Builtin builtin) = 0
-positions_of_base types (Declared number) = types number
-
-abbrev pub written_positions : (ℕ → ℕ) → Option Particle → ℕ
-written_positions groups None = 0
-written_positions groups (Some particle) = particle_positions groups particle
-
-abbrev pub derived_positions : (ℕ → ℕ) → Derivation → ℕ → ℕ
-derived_positions types Own written = written
-derived_positions types (Extends base) written = positions_of_base types base + written
-derived_positions types (Restricts base) written = written
-
-abbrev pub type_positions : (ℕ → ℕ) → (ℕ → ℕ) → ComplexType → ℕ
-type_positions groups types definition = derived_positions types definition.derivation (written_positions groups definition.content)
+abbrev pub type_content_that_fits : Bool → (ℕ → SequenceType) → (ℕ → Effective) → TypeComponent → Effective
+type_content_that_fits fits groups types component = if fits then form_content groups types component.form else unknown_content

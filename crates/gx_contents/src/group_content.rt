@@ -6,8 +6,9 @@ ghost use Rattle.gx_types.specs.TypeRules.{joined_types};
 ghost use Rattle.gx_references.specs.Known.{known};
 ghost use Rattle.gx_contents.specs.GroupContents.{groups_in, group_of_particle, term_content, particle_content, group_content, content_that_fits};
 
-use crate::component::{Compositor, ModelGroup, Particle, Term};
 use crate::occurrences::bounded;
+use gx_components::component::{ModelGroup, Particle, Term};
+use gx_profile::role::Compositor;
 use gx_references::body::Body;
 use gx_types::item_type::ItemType;
 use gx_types::sequence_type::Ty;
@@ -15,6 +16,7 @@ use gx_types::type_rules::{choose, join};
 use std::alloc::{AllocError, Global};
 
 /// A model group among others, and whether its content has no more positions than a content may have.
+#[derive(Clone, Copy)]
 pub struct GroupContent<'a> {
     pub group: &'a ModelGroup,
     pub fits: bool,
@@ -52,7 +54,12 @@ impl<'a> Body for GroupContent<'a> {
 pub fn groups_in(alloc: Global, group: &ModelGroup) -> Result<Vec<usize>, AllocError>
     ensures { IfOk result (λ numbers. numbers.items ≡ groups_in group.now) }
 {
-    group.particles.iter().filter_map(group_of).collect(alloc)
+    group
+        .particles
+        .as_slice()
+        .iter()
+        .filter_map(group_of)
+        .collect(alloc)
 }
 
 fn group_of(particle: &Particle) -> Option<usize>

@@ -5,13 +5,14 @@ ghost use Rattle.gx_references.specs.Known.{known};
 ghost use Rattle.gx_contents.specs.Occurrences.{times_counted};
 ghost use Rattle.gx_contents.specs.GroupPositions.{counted, group_positions, particle_positions, positions_together, term_positions};
 
-use crate::component::{Bounds, ModelGroup, Particle, Term};
 use crate::group_content::groups_in;
 use gx_base::limits::CONTENT_POSITIONS;
+use gx_components::component::{Bounds, ModelGroup, Particle, Term};
 use gx_references::body::Body;
 use std::alloc::{AllocError, Global};
 
 /// A model group among others, whose positions are counted: all to one more than the limit.
+#[derive(Clone, Copy)]
 pub struct GroupPositions<'a> {
     pub group: &'a ModelGroup,
 }

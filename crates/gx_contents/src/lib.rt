@@ -1,11 +1,20 @@
-//! What schema components mean: model groups and complex types, each over the meanings of those that it names.
+//! What schema components mean: the positions, the contents and the element particles of model groups and complex types.
 #![tactic(auto)]
 
-pub mod complex_type;
-pub mod component;
+pub mod contents;
+pub mod disagreement;
+pub mod effective;
+mod element_lists;
+pub mod elements;
+pub mod extensions;
 pub mod group_content;
-pub mod group_positions;
+mod group_positions;
+pub mod kinds;
+mod knot;
+pub mod laws;
 pub mod mixed;
-pub mod occurrences;
-pub mod type_content;
-pub mod type_positions;
+mod occurrences;
+pub mod positions;
+mod source;
+mod type_content;
+mod type_positions;

@@ -3,9 +3,9 @@
 ghost use Rattle.std.specs.Prelude.{◌≡◌, IfOk};
 ghost use Rattle.gx_types.specs.TypeRules.{joined_types};
 ghost use Rattle.gx_types.specs.Indicator.{optional_of};
-ghost use Rattle.gx_contents.specs.Occurrences.{bounded, copies, further_copies, optional_copies};
+ghost use Rattle.gx_contents.specs.Occurrences.{bounded, copies, further_copies, least_copies, optional_copies};
 
-use crate::component::Bounds;
+use gx_components::component::Bounds;
 use gx_types::sequence_type::{Ty, TyNode};
 use gx_types::type_rules::{join, optional, star};
 use std::alloc::{AllocError, Global};
@@ -15,9 +15,19 @@ use std::alloc::{AllocError, Global};
 pub fn bounded(alloc: Global, bounds: Bounds, t: &Ty) -> Result<Ty, AllocError>
     ensures { IfOk result (λ u. u ≡ bounded bounds t.now) }
 {
-    let least = copies(alloc, bounds.least, t)?;
+    let least = copies(alloc, least_copies(bounds), t)?;
     let further = further_copies(alloc, bounds.least, bounds.greatest, t)?;
     join(alloc, &least, &further)
+}
+
+// The least number of copies, where no more than the greatest number are allowed.
+fn least_copies(bounds: Bounds) -> u32
+    ensures { result ≡ least_copies bounds.least bounds.greatest }
+{
+    match bounds.greatest {
+        None => bounds.least,
+        Some(greatest) => bounds.least.min(greatest),
+    }
 }
 
 // So many copies. Those of an empty content are not made one by one.

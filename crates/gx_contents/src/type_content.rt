@@ -4,20 +4,22 @@ ghost use Rattle.std.specs.Prelude.{◌≡◌, ℕ, IfOk};
 ghost use Rattle.gx_types.specs.SequenceType.{never};
 ghost use Rattle.gx_types.specs.TypeRules.{joined_types};
 ghost use Rattle.gx_references.specs.Known.{known};
-ghost use Rattle.gx_contents.specs.TypeContents.{bases_in, content_of_base, derived_content, is_nothing, unknown_content, type_content, written_content};
+ghost use Rattle.gx_contents.specs.TypeContents.{complex_content, content_of_base, empty_content, form_content, is_nothing, sourced_content, unknown_content, written_content};
 
-use crate::complex_type::{Base, ComplexType, Derivation, Effective};
-use crate::component::Particle;
+use crate::effective::Effective;
 use crate::group_content::particle_content;
+use crate::source::{ContentSource, extended_types, source};
+use gx_components::component::{Base, ComplexType, Particle, TypeComponent, TypeForm};
 use gx_references::body::Body;
 use gx_types::sequence_type::{Ty, TyNode};
 use gx_types::type_rules::join;
 use std::alloc::{AllocError, Global};
 
-/// A complex type among others, with the contents of all model groups, and whether its content has no more positions than a
-/// content may have.
+/// A type among others, with the contents of all model groups, and whether its content has no more positions than a content may
+/// have.
+#[derive(Clone, Copy)]
 pub struct TypeContent<'a> {
-    pub definition: &'a ComplexType,
+    pub component: &'a TypeComponent,
     pub groups: &'a [Option<Ty>],
     pub fits: bool,
 }
@@ -27,61 +29,66 @@ impl<'a> Body for TypeContent<'a> {
 
     ghost use Rattle.gx_types.specs.SequenceType.{never};
     ghost use Rattle.gx_references.specs.Known.{known};
-    ghost use Rattle.gx_contents.specs.TypeContents.{bases_in, unknown_content, type_content_that_fits};
+    ghost use Rattle.gx_contents.specs.Sources.{extended_types};
+    ghost use Rattle.gx_contents.specs.TypeContents.{unknown_content, type_content_that_fits};
     ghost use Rattle.gx_contents.specs.TypeLaws.{type_content_that_fits_agrees};
 
-    ghost named = { λ body. bases_in body.definition.now.derivation };
+    ghost named = { λ body. extended_types body.component.now };
 
-    ghost meant = { λ types body. type_content_that_fits body.fits (known never body.groups.now) types body.definition.now };
+    ghost meant = { λ types body. type_content_that_fits body.fits (known never body.groups.now) types body.component.now };
 
     ghost nothing = { unknown_content };
 
-    ghost same = { λ f g body agree. type_content_that_fits_agrees body.fits (known never body.groups.now) f g body.definition.now agree };
+    ghost same = { λ f g body agree. type_content_that_fits_agrees body.fits (known never body.groups.now) f g body.component.now agree };
 
     fn references(&self, alloc: Global) -> Result<Vec<usize>, AllocError> {
-        bases_in(alloc, self.definition.derivation)
+        extended_types(alloc, self.component)
     }
 
     fn meaning(&self, alloc: Global, table: &[Option<Effective>]) -> Result<Effective, AllocError> {
         if self.fits {
-            type_content(alloc, self.groups, table, self.definition)
+            form_content(alloc, self.groups, table, &self.component.form)
         } else {
             Ok(unknown_content())
         }
     }
 }
 
-/// The numbers of the types that a derivation names.
-pub fn bases_in(alloc: Global, derivation: Derivation) -> Result<Vec<usize>, AllocError>
-    ensures { IfOk result (λ numbers. numbers.items ≡ bases_in derivation) }
+// The content of a type, over tables of the contents of groups and of types (XML Schema 1.0 part 1, section 3.4.2).
+fn form_content(
+    alloc: Global,
+    groups: &[Option<Ty>],
+    types: &[Option<Effective>],
+    form: &TypeForm,
+) -> Result<Effective, AllocError>
+    ensures { IfOk result (λ effective. effective ≡ form_content (known never groups.now) (known unknown_content types.now) form.now) }
 {
-    match derivation {
-        Derivation::Extends(Base::Declared(number))
-        | Derivation::Restricts(Base::Declared(number)) => { Ok(vec![in alloc; number]?) }
-        _ => Ok(Vec::new(alloc)),
+    match form {
+        TypeForm::Simple(_) => Ok(empty_content()),
+        TypeForm::Complex(definition) => complex_content(alloc, groups, types, definition),
     }
 }
 
-/// The content of a complex type, over tables of the contents of groups and of types (XML Schema 1.0 part 1, section 3.4.2).
-pub fn type_content(
+fn complex_content(
     alloc: Global,
     groups: &[Option<Ty>],
     types: &[Option<Effective>],
     definition: &ComplexType,
 ) -> Result<Effective, AllocError>
-    ensures { IfOk result (λ effective. effective ≡ type_content (known never groups.now) (known unknown_content types.now) definition.now) }
+    ensures { IfOk result (λ effective. effective ≡ complex_content (known never groups.now) (known unknown_content types.now) definition.now) }
 {
     let written = written_content(alloc, groups, &definition.content)?;
-    derived_content(
+    sourced_content(
         alloc,
         types,
-        definition.derivation,
+        source(definition.derivation),
         definition.mixed,
         written,
     )
 }
 
-fn written_content(
+/// The content that is written at a type, over a table of the contents of groups.
+pub fn written_content(
     alloc: Global,
     groups: &[Option<Ty>],
     content: &Option<Particle>,
@@ -95,21 +102,22 @@ fn written_content(
 }
 
 // What a type holds that has this written content.
-fn derived_content(
+fn sourced_content(
     alloc: Global,
     types: &[Option<Effective>],
-    derivation: Derivation,
+    source: ContentSource,
     mixed: bool,
     written: Ty,
 ) -> Result<Effective, AllocError>
-    ensures { IfOk result (λ effective. effective ≡ derived_content (known unknown_content types.now) derivation mixed written) }
+    ensures { IfOk result (λ effective. effective ≡ sourced_content (known unknown_content types.now) source mixed written) }
 {
-    match derivation {
-        Derivation::Own | Derivation::Restricts(_) => Ok(Effective {
+    match source {
+        ContentSource::Simple => Ok(empty_content()),
+        ContentSource::Written => Ok(Effective {
             content: written,
             mixed,
         }),
-        Derivation::Extends(base) => {
+        ContentSource::Behind(base) => {
             let mixed = mixed || (is_empty(&written) && base_is_mixed(types, base));
             let content = behind_base(alloc, types, base, &written)?;
             Ok(Effective { content, mixed })
@@ -129,7 +137,8 @@ fn behind_base(
     join(alloc, &content, written)
 }
 
-fn base_content(types: &[Option<Effective>], base: Base) -> Result<Ty, AllocError>
+/// The content of a base, over a table of the contents of types.
+pub fn base_content(types: &[Option<Effective>], base: Base) -> Result<Ty, AllocError>
     ensures { IfOk result (λ t. t ≡ (content_of_base (known unknown_content types.now) base).content) }
 {
     match base {
@@ -141,7 +150,8 @@ fn base_content(types: &[Option<Effective>], base: Base) -> Result<Ty, AllocErro
     }
 }
 
-fn base_is_mixed(types: &[Option<Effective>], base: Base) -> bool
+/// Whether a base has texts, over a table of the contents of types.
+pub fn base_is_mixed(types: &[Option<Effective>], base: Base) -> bool
     ensures { result ≡ (content_of_base (known unknown_content types.now) base).mixed }
 {
     match base {
@@ -153,13 +163,24 @@ fn base_is_mixed(types: &[Option<Effective>], base: Base) -> bool
     }
 }
 
-fn is_empty(t: &Ty) -> bool
+/// Whether a content is empty.
+pub fn is_empty(t: &Ty) -> bool
     ensures { result ≡ is_nothing t.now }
 {
     matches!(&t.node, TyNode::Empty)
 }
 
-fn unknown_content() -> Effective
+fn empty_content() -> Effective
+    ensures { result ≡ empty_content }
+{
+    Effective {
+        content: Ty::empty(),
+        mixed: false,
+    }
+}
+
+/// What is put for a type whose content is not known, or has too many positions.
+pub fn unknown_content() -> Effective
     ensures { result ≡ unknown_content }
 {
     Effective {

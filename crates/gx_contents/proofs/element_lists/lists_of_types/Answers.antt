@@ -1,0 +1,12 @@
+use Rattle.std.proofs.Common.{[], map, ◌∙◌, ap}
+use Rattle.gx_references.specs.Known.{known}
+use Rattle.gx_contents.specs.ElementViews.{type_listed}
+use Rattle.gx_contents.proofs.ElementViewLemmas.{types_listed}
+use Rattle.gx_contents.proofs.KnotLemmas.{table_means}
+use Rattle.gx_contents.proofs.element_lists.lists_of_types.Goals as goal
+
+pub returns : goal.returns
+returns c =
+    table_means c.known_meanings.result (λ table. known [] table.items) _ _
+    (types_listed c.as_slice.result.now (known 0 c.args.tables.now.groups.items) (known 0 c.args.tables.now.types.items) (known [] c.args.groups.now) c.args.types.now
+    (ap (map type_listed) c.as_slice.ensures.value ∙ c.in_ok-bodies.ensures)) c.known_meanings.ensures

@@ -1,0 +1,30 @@
+-- The laws of contents.
+use Rattle.std.specs.Prelude.{◌≡◌, ℕ, Bool, true, List, None, Some}
+use Rattle.std.specs.Bool.{IsTrue}
+use Rattle.gx_base.specs.declared.type_name.TypeName.{TypeName}
+use Rattle.gx_types.specs.declared.item_type.ItemType.{ItemType}
+use Rattle.gx_types.specs.declared.item_type.ItemType.TheVariants as items
+use Rattle.gx_types.specs.Prime.{items_of}
+use Rattle.gx_types.specs.SchemaInvariant.{DeclaresOneTypeAName, HoldsOfEach}
+use Rattle.gx_components.specs.declared.component.ModelGroup.{ModelGroup}
+use Rattle.gx_components.specs.declared.component.TypeComponent.{TypeComponent}
+use Rattle.gx_contents.specs.ContentKnots.{content_of_type}
+use Rattle.gx_contents.specs.Disagreement.{first_disagreement}
+use Rattle.gx_contents.specs.ElementKinds.{element_kinds_pass}
+use Rattle.gx_contents.specs.MixedContents.{model_of}
+
+-- where no element particle disagrees, each content model has one type for a name
+abbrev pub OneTypeAName : Type 0
+OneTypeAName = (types : List TypeComponent) (groups : List ModelGroup) → first_disagreement types groups ≡ None → (mixed : Bool) (number : ℕ) →
+    DeclaresOneTypeAName (items_of (model_of mixed (content_of_type types groups number).content))
+
+-- an item is an element with a name whose type passes a test, or a text where texts are allowed
+abbrev pub IsPassingItem : (TypeName → Bool) → (mixed : Bool) → ItemType → Type 0
+IsPassingItem passes mixed (items.Element (Some name) kind) = IsTrue (passes kind)
+IsPassingItem passes mixed items.Text = IsTrue mixed
+IsPassingItem passes mixed _ = ⊥
+
+-- where the types of all elements that are written pass a test, so do those in each content model
+abbrev pub ElementsKeep : Type 0
+ElementsKeep = (passes : TypeName → Bool) (types : List TypeComponent) (groups : List ModelGroup) → element_kinds_pass passes types groups ≡ true → (mixed : Bool) (number : ℕ) →
+    HoldsOfEach (IsPassingItem passes mixed) (items_of (model_of mixed (content_of_type types groups number).content))

@@ -1,0 +1,15 @@
+// Laws over the definitions.
+
+ghost use Rattle.gx_contents.specs.Laws.{ElementsKeep, OneTypeAName};
+
+/// Where no element particle disagrees, elements of one name have one type in each content model (XML Schema 1.0 part 1, section
+/// 3.8.6, Element Declarations Consistent).
+pub fn one_type_a_name()
+    ensures { OneTypeAName }
+{}
+
+/// Where the types of all elements that are written pass a test, each item of a content model is an element with a name whose type
+/// passes it, or a text where texts are allowed.
+pub fn elements_keep()
+    ensures { ElementsKeep }
+{}
