@@ -1,0 +1,6 @@
+mod SeenMeanings
+mod Distinct
+mod KindLemmas
+mod NameSets
+mod FoundUses
+mod UsesExamples

@@ -1,0 +1,11 @@
+pub mod GivenUses
+pub mod GivingView
+pub mod AllEnd
+pub mod GroupUses
+pub mod GivenLaws
+pub mod OwnUses
+pub mod TypeUses
+pub mod TypeUseLaws
+pub mod AttributeKinds
+pub mod Doubled
+pub mod Laws
