@@ -1,6 +1,6 @@
 -- Facts of lists and options.
 use Rattle.std.proofs.Common.{◌≡◌, ◌∙◌, ℕ, zero, suc, ◌+◌, ◌<◌, ◌≤◌, Bool, true, false, List, [], ◌∷◌, ◌++◌, length, map, slice_get, Option, None, Some, refl, sym, ap, subst, arith, if◌then◌else◌, ◌||◌}
-use Rattle.std.specs.Prelude.{option_map}
+use Rattle.std.specs.Prelude.{option_map, IfOk, Result, Ok, Err}
 use Rattle.std.specs.Option.{option_or}
 use Rattle.std.specs.List.{flat_map, list_any}
 use Rattle.std.proofs.lemmas.Bool.Decides.{nat_tests}
@@ -21,6 +21,12 @@ first_none (Some x) other e = absurd (cc)
 pub second_none : {A : Type 0} (one other : Option A) → option_or one other ≡ None → other ≡ None
 second_none None other e = e
 second_none (Some x) other e = absurd (cc)
+
+-- ---- results
+
+pub if_ok_along : {T E : Type 0} (r : Result T E) {P Q : T → Type 0} → ((t : T) → P t → Q t) → IfOk r P → IfOk r Q
+if_ok_along (Ok t) along told = along t told
+if_ok_along (Err e) along told = tt
 
 -- ---- what holds of each
 

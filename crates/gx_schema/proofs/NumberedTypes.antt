@@ -1,5 +1,5 @@
--- The types of documents in which everything is read and refers to something are simple types over each other.
-use Rattle.std.proofs.Common.{◌≡◌, ◌∙◌, ℕ, zero, suc, ◌+◌, ◌<◌, Bool, true, false, not, ◌&&◌, List, [], ◌∷◌, length, map, slice_get, Option, None, Some, refl, sym, ap, subst, arith, if◌then◌else◌}
+-- The types of documents in which everything is read and refers to something name types that are there.
+use Rattle.std.proofs.Common.{◌≡◌, ◌∙◌, ℕ, zero, suc, ◌+◌, ◌<◌, Bool, true, false, not, ◌&&◌, List, [], ◌∷◌, ◌++◌, length, map, slice_get, Option, None, Some, refl, sym, ap, subst, arith, if◌then◌else◌}
 use Rattle.std.specs.Prelude.{is_some}
 use Rattle.std.proofs.lemmas.List.{length-map}
 use Rattle.gx_base.specs.declared.name.Name.{Name}
@@ -7,6 +7,12 @@ use Rattle.gx_base.specs.declared.type_name.TypeName.{TypeName}
 use Rattle.gx_base.specs.declared.type_name.TypeName.TheVariants as names
 use Rattle.gx_types.specs.SchemaInvariant.{HoldsOfEach, is_built_in}
 use Rattle.gx_profile.specs.declared.reference.Reference.{Reference}
+use Rattle.gx_profile.specs.declared.written.AttributeMember.{AttributeMember}
+use Rattle.gx_profile.specs.declared.written.ContentKind.{ContentKind}
+use Rattle.gx_profile.specs.declared.written.ContentKind.TheVariants as contents
+use Rattle.gx_profile.specs.declared.written.Derivation.{Derivation as WrittenDerivation}
+use Rattle.gx_profile.specs.declared.written.DerivationMethod.{DerivationMethod}
+use Rattle.gx_profile.specs.declared.written.DerivationMethod.TheVariants as methods
 use Rattle.gx_profile.specs.declared.written.SimpleTypeDefinition.{SimpleTypeDefinition}
 use Rattle.gx_profile.specs.declared.written.SimpleTypeDefinition.TheVariants as simple
 use Rattle.gx_profile.specs.declared.written.TypeDeclaration.{TypeDeclaration}
@@ -14,24 +20,28 @@ use Rattle.gx_profile.specs.declared.written.TypeDefinition.{TypeDefinition}
 use Rattle.gx_profile.specs.declared.written.TypeDefinition.TheVariants.{Simple, Complex}
 use Rattle.gx_profile.specs.declared.written.TypeReference.{TypeReference}
 use Rattle.gx_profile.specs.declared.written.TypeReference.TheVariants as types
+use Rattle.gx_profile.specs.declared.written.WrittenFacet.{WrittenFacet}
 use Rattle.gx_profile.specs.DocumentTree.{DocumentTree}
 use Rattle.gx_profile.specs.Words.{is_schema_uri}
+use Rattle.gx_components.specs.declared.component.Base.{Base}
+use Rattle.gx_components.specs.declared.component.DerivedFrom.{DerivedFrom}
 use Rattle.gx_components.specs.declared.component.ModelGroup.{ModelGroup}
 use Rattle.gx_components.specs.declared.mention.ComponentKind.{ComponentKind}
 use Rattle.gx_components.specs.declared.mention.ComponentKind.TheVariants as kinds
 use Rattle.gx_components.specs.Components.{definitions_by, first_inner, globals_of}
 use Rattle.gx_components.specs.DeclaredNames.{declared_number, first_type_from, has_type_name, type_names_in, types_in}
-use Rattle.gx_components.specs.Mentions.{definition_mentions, simple_type_mentions, type_declaration_mentions, type_mentions}
+use Rattle.gx_components.specs.Mentions.{base_mentions, content_mentions, definition_mentions, members_mentions, simple_type_mentions, type_declaration_mentions, type_mentions}
 use Rattle.gx_components.specs.Referred.{Globals, base_of_number, base_referred}
-use Rattle.gx_components.specs.TypeComponents.{form_placed, simple_type_of, types_placed}
+use Rattle.gx_components.specs.TypeComponents.{derivation_by, derivation_of, derived_from, form_placed, simple_type_of, types_placed}
 use Rattle.gx_components.specs.Unknown.{Numbering, refers}
 use Rattle.gx_schema.specs.declared.unread.DeclarationKind.{DeclarationKind}
 use Rattle.gx_schema.specs.declared.unread.DeclarationKind.TheVariants as declared_kinds
 use Rattle.gx_schema.specs.SchemaTypes.{type_forms}
-use Rattle.gx_schema.specs.TypeForms.{form_of_simple_type, form_of_type, forms_of}
-use Rattle.gx_schema.specs.Unread.{is_read_base, unread_definition, unread_named, unread_type, unread_where}
+use Rattle.gx_schema.specs.TypeForms.{form_of_content, form_of_derivation, form_of_simple_type, form_of_type, forms_of}
+use Rattle.gx_schema.specs.Unread.{is_read_base, is_read_derivation, is_read_method, unread_definition, unread_named, unread_type, unread_where}
+use Rattle.gx_schema.proofs.Lists.{holds_front}
 use Rattle.gx_schema.proofs.NothingFound.{Refers}
-use Rattle.gx_schema.proofs.SimpleTypes.{IsReadBase, IsSimpleForm}
+use Rattle.gx_schema.proofs.SimpleTypes.{IsReadBase, IsReadForm}
 
 -- ---- what a name of a type refers to
 
@@ -104,18 +114,41 @@ read_where false place kind e = absurd (cc)
 
 simple_form : (documents : List DocumentTree) (place : ℕ) (definition : SimpleTypeDefinition) → unread_definition place (Simple definition) ≡ None →
     HoldsOfEach (Refers (declared_number documents)) (simple_type_mentions definition) →
-    IsSimpleForm (length (type_names_in documents)) (form_of_simple_type (simple_type_of (globals_of documents) definition))
+    IsReadForm (length (type_names_in documents)) (form_of_simple_type (simple_type_of (globals_of documents) definition))
 simple_form documents place (simple.Restriction at base facets) e refer =
     base_read documents base (read_where (is_read_base base) place declared_kinds.SimpleType e) (λ reference f. reference_refers (declared_number documents) at base reference f refer)
 simple_form documents place (simple.List at item) e refer =
     base_read documents item (read_where (is_read_base item) place declared_kinds.SimpleType e) (λ reference f. reference_refers (declared_number documents) at item reference f refer)
 
--- what is read and refers has a simple form
+second_true : (a b : Bool) → (a && b) ≡ true → b ≡ true
+second_true true b e = e
+second_true false b e = absurd (cc)
+
+content_form : (count : ℕ) (content : ContentKind) (base : Base) (facets : List WrittenFacet) → IsReadBase count base → IsReadForm count (form_of_content content base facets)
+content_form count contents.Simple base facets read = read
+content_form count contents.Complex base facets read = read
+
+method_form : (count : ℕ) (method : DerivationMethod) (from : DerivedFrom) (facets : List WrittenFacet) → IsReadBase count from.base → IsReadForm count (form_of_derivation (derivation_by method from) facets)
+method_form count methods.Extension from facets read = content_form count from.content from.base facets read
+method_form count methods.Restriction from facets read = content_form count from.content from.base facets read
+
+derivation_form : (documents : List DocumentTree) (derivation : Option WrittenDerivation) (members : List AttributeMember) (facets : List WrittenFacet) → is_read_derivation derivation members ≡ true →
+    HoldsOfEach (Refers (declared_number documents)) (base_mentions derivation) →
+    IsReadForm (length (type_names_in documents)) (form_of_derivation (derivation_of (globals_of documents) derivation) facets)
+derivation_form documents None members facets e refer = tt
+derivation_form documents (Some derivation) members facets e refer =
+    method_form (length (type_names_in documents)) derivation.method (derived_from (globals_of documents) derivation) facets
+    (base_read documents derivation.base (second_true (is_read_method derivation.method derivation.content members) (is_read_base derivation.base) e)
+    (λ reference f. reference_refers (declared_number documents) derivation.place derivation.base reference f refer))
+
+-- what is read and refers has a form that is read
 definition_form : (documents : List DocumentTree) (groups : List ModelGroup) (place : ℕ) (definition : TypeDefinition) → unread_definition place definition ≡ None →
     HoldsOfEach (Refers (declared_number documents)) (definition_mentions definition) →
-    IsSimpleForm (length (type_names_in documents)) (form_of_type (form_placed (globals_of documents) (first_inner documents) groups definition).placed)
+    IsReadForm (length (type_names_in documents)) (form_of_type (form_placed (globals_of documents) (first_inner documents) groups definition).placed)
 definition_form documents groups place (Simple definition) e refer = simple_form documents place definition e refer
-definition_form documents groups place (Complex definition) e refer = absurd (cc)
+definition_form documents groups place (Complex definition) e refer =
+    derivation_form documents definition.derivation definition.attributes definition.facets (read_where (is_read_derivation definition.derivation definition.attributes) place declared_kinds.Restriction e)
+    (holds_front (Refers (declared_number documents)) (base_mentions definition.derivation) (content_mentions definition.particle ++ members_mentions definition.attributes) refer)
 
 abbrev pub IsReadType : List DocumentTree → TypeDeclaration → Type 0
 IsReadType documents t = (unread_type t ≡ None) × HoldsOfEach (Refers (declared_number documents)) (type_declaration_mentions t)
@@ -126,7 +159,7 @@ definition_read (names.Named name) place definition e = (e, refl)
 definition_read (names.Anonymous number) place definition e = (e, refl)
 
 forms_placed : (documents : List DocumentTree) (groups : List ModelGroup) (declarations : List TypeDeclaration) → HoldsOfEach (IsReadType documents) declarations →
-    HoldsOfEach (IsSimpleForm (length (type_names_in documents))) (forms_of (types_placed (globals_of documents) (first_inner documents) groups declarations).placed)
+    HoldsOfEach (IsReadForm (length (type_names_in documents))) (forms_of (types_placed (globals_of documents) (first_inner documents) groups declarations).placed)
 forms_placed documents groups [] read = tt
 forms_placed documents groups (t ∷ others) read = (
   definition_form documents groups t.place t.definition (definition_read t.name t.place t.definition read.0.0).0 read.0.1,
@@ -145,7 +178,7 @@ own_names documents (t ∷ others) read = ((definition_read t.name t.place t.def
 -- ---- all types of documents
 
 pub forms_of_documents : (documents : List DocumentTree) → HoldsOfEach (IsReadType documents) (types_in documents) →
-    HoldsOfEach (IsSimpleForm (length (type_names_in documents))) (type_forms documents)
+    HoldsOfEach (IsReadForm (length (type_names_in documents))) (type_forms documents)
 forms_of_documents documents read = forms_placed documents (definitions_by (globals_of documents) (first_inner documents) documents).groups (types_in documents) read
 
 pub as_many_forms : (documents : List DocumentTree) → length (type_names_in documents) ≡ length (type_forms documents)

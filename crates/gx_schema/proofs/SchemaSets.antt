@@ -11,7 +11,11 @@ use Rattle.std.proofs.lemmas.Option.{get_or_from_slice_get}
 use Rattle.gx_types.proofs.EqualNames.{type_name_itself}
 use Rattle.gx_types.specs.SameItemType.{same_type_name}
 use Rattle.gx_types.specs.SchemaSet.{SchemaSet, declaration_of}
-use Rattle.gx_types.specs.SchemaInvariant.{AreDistinctBy, HoldsOfEach, IsSchemaSet, is_built_in, is_named_type}
+use Rattle.gx_types.specs.Prime.{items_of}
+use Rattle.gx_types.specs.SchemaInvariant.{AreDistinctBy, HoldsOfEach, IsModelItem, IsSchemaSet, is_built_in, is_named_type, is_simple_type}
+use Rattle.gx_types.specs.declared.declaration.AttributeUse.{AttributeUse}
+use Rattle.gx_types.specs.declared.item_type.ItemType.{ItemType}
+use Rattle.gx_types.specs.declared.item_type.ItemType.TheVariants as items
 use Rattle.gx_types.specs.declared.declaration.GlobalElement.{GlobalElement}
 use Rattle.gx_profile.specs.declared.written.GlobalDeclaration.{GlobalDeclaration}
 use Rattle.gx_profile.specs.declared.written.GlobalDeclaration.TheVariants.{Element, Attribute, Group, AttributeGroup}
@@ -26,16 +30,32 @@ use Rattle.gx_components.specs.DeclaredNames.{declarations_in, declared_number, 
 use Rattle.gx_components.specs.Mentions.{global_mentions, type_declaration_mentions, type_mentions}
 use Rattle.gx_components.specs.Referred.{type_numbered, type_referred, unknown_type}
 use Rattle.gx_components.specs.Unknown.{unknown_name}
+use Rattle.gx_attributes.specs.AttributeKinds.{attribute_kinds}
+use Rattle.gx_attributes.specs.Doubled.{first_doubled}
+use Rattle.gx_attributes.specs.Laws.{KindsAreWritten, UsesAreDistinct}
+use Rattle.gx_attributes.specs.TypeUses.{uses_of_type}
+use Rattle.gx_contents.specs.ContentKnots.{content_of_type}
+use Rattle.gx_contents.specs.Disagreement.{first_disagreement}
+use Rattle.gx_contents.specs.ElementKinds.{element_kinds}
+use Rattle.gx_contents.specs.Laws.{ElementsKeep, IsPassingItem, OneTypeAName}
+use Rattle.gx_contents.specs.MixedContents.{model_of}
+use Rattle.gx_varieties.specs.Circles.{is_circular}
 use Rattle.gx_varieties.specs.CircularTypes.{first_circular}
+use Rattle.gx_varieties.specs.Forms.{references_of}
 use Rattle.gx_varieties.specs.Faults.{first_type_fault, simple_faults}
 use Rattle.gx_varieties.specs.Laws.{NoFirstFault, NoneIsCircular, VarietiesSolve}
 use Rattle.gx_schema.specs.declared.found.Found.{Found}
 use Rattle.gx_schema.specs.declared.unread.DeclarationKind.TheVariants as declared_kinds
-use Rattle.gx_schema.specs.DeclarationLimit.{past_limit}
 use Rattle.gx_schema.specs.Doubled.{doubled_declared_name, doubled_of_kind, doubled_type, doubled_type_name}
 use Rattle.gx_schema.specs.Found.{found_by_number, globals_found, types_found}
 use Rattle.gx_schema.specs.Import.{declares, unless_broken, documents_of, found_in_file, documents_judged, unknown_found}
-use Rattle.gx_schema.specs.Inconsistent.{circular_type, doubled_declaration, earlier_found, faulty_type, found_fault, inconsistent}
+use Rattle.gx_schema.specs.Circular.{circular, circular_attribute_group, circular_group, circular_type}
+use Rattle.gx_schema.specs.DerivationFaults.{first_derivation_fault}
+use Rattle.gx_schema.specs.FirstFound.{earlier_found}
+use Rattle.gx_schema.specs.Inconsistent.{differing_extension, disagreeing_element, doubled_attribute, doubled_declaration, faulty_complex_type, faulty_declaration, faulty_derivation, faulty_type, found_attribute, found_fault, found_particle, inconsistent}
+use Rattle.gx_schema.specs.NamedKinds.{first_failing, is_named_kind, is_simple_form, is_simple_kind, is_simple_number, kind_found, unnamed_kind, unsimple_kind}
+use Rattle.gx_schema.specs.SeenComponents.{seen_components, type_components}
+use Rattle.gx_schema.specs.TooLarge.{too_large}
 use Rattle.gx_schema.specs.Laws.{ImportsAreSchemaSets}
 use Rattle.gx_schema.specs.SchemaTypes.{schema_element, schemas_written, type_forms}
 use Rattle.gx_schema.specs.TypeNumbers.{first_type_number, type_number_from}
@@ -45,7 +65,11 @@ use Rattle.gx_schema.proofs.DistinctNames.{names_are_distinct, types_are_distinc
 use Rattle.gx_schema.proofs.Lists.{holds_at, holds_both, mapped_none}
 use Rattle.gx_schema.proofs.NothingFound.{Refers, everything_read, everything_refers, none_found, rest_told}
 use Rattle.gx_schema.proofs.NumberedTypes.{IsReadType, as_many_forms, forms_of_documents, found_type_name, names_of_documents, number_of_reference, read_where}
-use Rattle.gx_schema.proofs.SimpleTypes.{AreSimpleTypes, IsSimpleForm, declared_where_numbered, simple_types_fit}
+use Rattle.gx_schema.proofs.DerivationLemmas.{simple_bases_fit}
+use Rattle.gx_schema.proofs.HeldKinds.{all_pass, each_passes, number_is_of, simple_number}
+use Rattle.gx_schema.proofs.SimpleDeclarations.{simple_by_number}
+use Rattle.gx_schema.proofs.SimpleForms.{AreReadTypes, HeldByTypes, HoldWhatFits, IsReadForm}
+use Rattle.gx_schema.proofs.SimpleTypes.{declared_where_numbered, types_fit}
 
 -- ---- nothing is inconsistent
 
@@ -69,11 +93,15 @@ right_none None other e = e
 right_none (Some one) None e = refl
 right_none (Some one) (Some other) e = absurd (earlier_some (nat_le one.place other.place) one other e)
 
--- the laws of simple types
+-- the laws of types, of contents and of attributes
 pub record Laws : Type 0 where
   pub solve : VarietiesSolve
   pub circles : NoneIsCircular
   pub faults : NoFirstFault
+  pub one_type : OneTypeAName
+  pub kinds : ElementsKeep
+  pub distinct : UsesAreDistinct
+  pub uses : KindsAreWritten
 
 -- what documents without a broken rule keep to
 record IsJudged (documents : List DocumentTree) : Type 0 where
@@ -83,36 +111,63 @@ record IsJudged (documents : List DocumentTree) : Type 0 where
   doubled_elements : doubled_declared_name (names_of_kind kinds.ElementDeclaration (declarations_in documents)) ≡ None
   faults : first_type_fault (simple_faults (type_forms documents)) ≡ None
   circles : first_circular (type_forms documents) ≡ None
+  derivations : first_derivation_fault (type_forms documents) 0 (seen_components documents).types ≡ None
+  elements : first_disagreement (seen_components documents).types (seen_components documents).groups ≡ None
+  attributes : first_doubled (seen_components documents).types (seen_components documents).attribute_groups ≡ None
+  named : first_failing (is_named_kind (type_names_in documents)) (element_kinds (seen_components documents).types (seen_components documents).groups) ≡ None
+  simple : first_failing (is_simple_kind (type_names_in documents) (type_forms documents)) (attribute_kinds (seen_components documents).types (seen_components documents).attribute_groups) ≡ None
 
 is_judged : (documents : List DocumentTree) (schemas : SchemaSet) → documents_judged documents ≡ declares schemas → IsJudged documents × (schemas ≡ schemas_written documents)
 is_judged documents schemas e =
+    let declared = type_names_in documents in
     let forms = type_forms documents in
+    let seen = seen_components documents in
     let doubled = doubled_of_kind documents in
-    let last = unless_broken TooLarge (option_map found_in_file (past_limit documents)) (declares (schemas_written documents)) in
-    let fifth = unless_broken Circular (option_map found_in_file (circular_type documents forms)) last in
-    let fourth = unless_broken Inconsistent (option_map found_in_file (inconsistent documents forms)) fifth in
-    let third = unless_broken UnknownName (option_map unknown_found (unknown_name documents)) fourth in
-    let e2 = rest_told NotInProfile (unread_declaration documents) third schemas e in
-    let e3 = rest_told UnknownName (option_map unknown_found (unknown_name documents)) fourth schemas e2 in
-    let e4 = rest_told Inconsistent (option_map found_in_file (inconsistent documents forms)) fifth schemas e3 in
-    let e5 = rest_told Circular (option_map found_in_file (circular_type documents forms)) last schemas e4 in
-    let e6 = rest_told TooLarge (option_map found_in_file (past_limit documents)) (declares (schemas_written documents)) schemas e5 in
-    let agree = mapped_none found_in_file (inconsistent documents forms) (none_found Inconsistent (option_map found_in_file (inconsistent documents forms)) fifth schemas e3) in
-    let single = left_none (doubled_declaration documents) (faulty_type documents forms) agree in
-    let sound = right_none (doubled_declaration documents) (faulty_type documents forms) agree in
+    let written = declares (schemas_written documents) in
+    let seventh = unless_broken Inconsistent (unsimple_kind declared forms seen) written in
+    let sixth = unless_broken UnknownName (unnamed_kind declared seen) seventh in
+    let fifth = unless_broken TooLarge (option_map found_in_file (too_large documents seen)) sixth in
+    let fourth = unless_broken Circular (option_map found_in_file (circular documents forms)) fifth in
+    let third = unless_broken Inconsistent (option_map found_in_file (inconsistent documents forms seen)) fourth in
+    let second = unless_broken UnknownName (option_map unknown_found (unknown_name documents)) third in
+    let e2 = rest_told NotInProfile (unread_declaration documents) second schemas e in
+    let e3 = rest_told UnknownName (option_map unknown_found (unknown_name documents)) third schemas e2 in
+    let e4 = rest_told Inconsistent (option_map found_in_file (inconsistent documents forms seen)) fourth schemas e3 in
+    let e5 = rest_told Circular (option_map found_in_file (circular documents forms)) fifth schemas e4 in
+    let e6 = rest_told TooLarge (option_map found_in_file (too_large documents seen)) sixth schemas e5 in
+    let e7 = rest_told UnknownName (unnamed_kind declared seen) seventh schemas e6 in
+    let e8 = rest_told Inconsistent (unsimple_kind declared forms seen) written schemas e7 in
+    let agree = mapped_none found_in_file (inconsistent documents forms seen) (none_found Inconsistent (option_map found_in_file (inconsistent documents forms seen)) fourth schemas e3) in
+    let complex = faulty_complex_type documents forms seen in
+    let behind = earlier_found (faulty_declaration documents) complex in
+    let single = left_none (doubled_declaration documents) (earlier_found (faulty_type documents forms) behind) agree in
+    let no_fault = right_none (doubled_declaration documents) (earlier_found (faulty_type documents forms) behind) agree in
+    let sound = left_none (faulty_type documents forms) behind no_fault in
+    let no_complex = right_none (faulty_declaration documents) complex (right_none (faulty_type documents forms) behind no_fault) in
+    let at_attribute = doubled_attribute documents seen in
+    let at_element = disagreeing_element documents seen in
+    let no_derivation = left_none (faulty_derivation documents forms seen) (earlier_found (differing_extension documents seen) (earlier_found at_element at_attribute)) no_complex in
+    let no_member = right_none (differing_extension documents seen) (earlier_found at_element at_attribute)
+    (right_none (faulty_derivation documents forms seen) (earlier_found (differing_extension documents seen) (earlier_found at_element at_attribute)) no_complex) in
     let others = earlier_found (doubled kinds.AttributeDeclaration) (earlier_found (doubled kinds.GroupDefinition) (doubled kinds.AttributeGroupDefinition)) in
     let one_type = left_none (doubled_type documents) (earlier_found (doubled kinds.ElementDeclaration) others) single in
     let one_element = left_none (doubled kinds.ElementDeclaration) others (right_none (doubled_type documents) (earlier_found (doubled kinds.ElementDeclaration) others) single) in
-    let circle = mapped_none found_in_file (circular_type documents forms) (none_found Circular (option_map found_in_file (circular_type documents forms)) last schemas e4) in (
+    let circle = mapped_none found_in_file (circular documents forms) (none_found Circular (option_map found_in_file (circular documents forms)) fifth schemas e4) in
+    let no_type = left_none (circular_type documents forms) (earlier_found (circular_group documents) (circular_attribute_group documents)) circle in (
       record {
-        read = none_found NotInProfile (unread_declaration documents) third schemas e;
-        known = mapped_none unknown_found (unknown_name documents) (none_found UnknownName (option_map unknown_found (unknown_name documents)) fourth schemas e2);
+        read = none_found NotInProfile (unread_declaration documents) second schemas e;
+        known = mapped_none unknown_found (unknown_name documents) (none_found UnknownName (option_map unknown_found (unknown_name documents)) third schemas e2);
         doubled_types = mapped_none (found_by_number (types_found 0 documents)) (doubled_type_name (type_names_in documents)) one_type;
         doubled_elements = mapped_none (found_by_number (globals_found kinds.ElementDeclaration 0 documents)) (doubled_declared_name (names_of_kind kinds.ElementDeclaration (declarations_in documents))) one_element;
         faults = mapped_none (found_fault (types_found 0 documents)) (first_type_fault (simple_faults forms)) sound;
-        circles = mapped_none (found_by_number (types_found 0 documents)) (first_circular forms) circle;
+        circles = mapped_none (found_by_number (types_found 0 documents)) (first_circular forms) no_type;
+        derivations = mapped_none (found_fault (types_found 0 documents)) (first_derivation_fault forms 0 seen.types) no_derivation;
+        elements = mapped_none (found_particle documents) (first_disagreement seen.types seen.groups) (left_none at_element at_attribute no_member);
+        attributes = mapped_none (found_attribute (types_found 0 documents)) (first_doubled seen.types seen.attribute_groups) (right_none at_element at_attribute no_member);
+        named = mapped_none kind_found (first_failing (is_named_kind declared) (element_kinds seen.types seen.groups)) (none_found UnknownName (unnamed_kind declared seen) seventh schemas e6);
+        simple = mapped_none kind_found (first_failing (is_simple_kind declared forms) (attribute_kinds seen.types seen.attribute_groups)) (none_found Inconsistent (unsimple_kind declared forms seen) written schemas e7);
       },
-      one_set (schemas_written documents) schemas e6,
+      one_set (schemas_written documents) schemas e8,
     )
 
 types_of : (documents : List DocumentTree) → IsJudged documents → HoldsOfEach (IsReadType documents) (types_in documents)
@@ -120,14 +175,22 @@ types_of documents told =
     holds_both (λ (t : TypeDeclaration). unread_type t ≡ None) (λ (t : TypeDeclaration). HoldsOfEach (Refers (declared_number documents)) (type_declaration_mentions t)) (types_in documents)
     (everything_read documents told.read).0 (everything_refers documents told.known).0
 
-simple_types_of : Laws → (documents : List DocumentTree) → IsJudged documents → AreSimpleTypes (type_names_in documents) (type_forms documents)
-simple_types_of laws documents told = record {
+read_types_of : Laws → (documents : List DocumentTree) → IsJudged documents → AreReadTypes (type_names_in documents) (type_forms documents)
+read_types_of laws documents told = record {
   sized = as_many_forms documents;
   distinct = types_are_distinct (type_names_in documents) told.doubled_types;
   named = λ number name e. holds_at (λ (name : TypeName). is_built_in name ≡ false) (type_names_in documents) number name (names_of_documents documents (types_of documents told)) e;
-  simple = λ number form e. holds_at (IsSimpleForm (length (type_names_in documents))) (type_forms documents) number form (forms_of_documents documents (types_of documents told)) e;
+  read = λ number form e. holds_at (IsReadForm (length (type_names_in documents))) (type_forms documents) number form (forms_of_documents documents (types_of documents told)) e;
   circles = laws.circles (type_forms documents) told.circles;
   faults = laws.faults (type_forms documents) told.faults;
+  simple_bases = simple_bases_fit (type_components documents) (is_circular (references_of (type_forms documents))) (laws.circles (type_forms documents) told.circles) told.derivations;
+}
+
+-- the contents and the attributes of the types of documents
+abbrev held_in : List DocumentTree → HeldByTypes
+held_in documents = record {
+  content = content_of_type (seen_components documents).types (seen_components documents).groups;
+  uses = uses_of_type (seen_components documents).types (seen_components documents).attribute_groups;
 }
 
 -- ---- elements
@@ -161,7 +224,7 @@ numbered_where number (kind ∷ others) (suc behind) t e =
 fits : Laws → (documents : List DocumentTree) → IsJudged documents → (t : TypeName) → is_some (first_type_number (type_names_in documents) t) ≡ true →
     is_some (declaration_of (schemas_written documents) t) ≡ true
 fits laws documents told t e =
-    declared_where_numbered (type_names_in documents) (type_forms documents) (simple_types_of laws documents told)
+    declared_where_numbered (type_names_in documents) (type_forms documents) (held_in documents) (read_types_of laws documents told)
     (schemas_written documents).elements (schemas_written documents).targets t e
 
 reference_named : Laws → (documents : List DocumentTree) → IsJudged documents → (name : Name) (found : Option ℕ) → first_type_from 0 (type_names_in documents) name ≡ found →
@@ -202,11 +265,67 @@ globals_of_documents documents told =
     holds_both (λ (g : GlobalDeclaration). unread_global (type_names_in documents) g ≡ None) (λ (g : GlobalDeclaration). HoldsOfEach (Refers (declared_number documents)) (global_mentions g)) (declarations_in documents)
     (everything_read documents told.read).1 (everything_refers documents told.known).1
 
+-- ---- contents and attributes
+
+named_where_passed : Laws → (documents : List DocumentTree) → IsJudged documents → (kind : TypeName) → is_named_kind (type_names_in documents) kind ≡ true → IsTrue (is_named_type (schemas_written documents) kind)
+named_where_passed laws documents told (names.Builtin builtin) e = e
+named_where_passed laws documents told (names.Named name) e = fits laws documents told (names.Named name) e
+named_where_passed laws documents told (names.Anonymous number) e = fits laws documents told (names.Anonymous number) e
+
+simple_by_name : Laws → (documents : List DocumentTree) → IsJudged documents → (t : TypeName) → is_built_in t ≡ false → is_simple_number (type_forms documents) (first_type_number (type_names_in documents) t) ≡ true →
+    IsTrue (is_simple_type (schemas_written documents) t)
+simple_by_name laws documents told t own e =
+    let declared = type_names_in documents in
+    let (number, numbered, form) = simple_number (type_forms documents) (first_type_number declared t) e in
+    let (behind, name, place, named, same) = number_is_of 0 declared t number numbered in
+    let here : number ≡ behind = omega (arith, place) in
+    simple_by_number declared (type_forms documents) (held_in documents) (read_types_of laws documents told) (schemas_written documents).elements (schemas_written documents).targets behind name t named same own
+    (subst (λ (n : ℕ). is_simple_form (slice_get (type_forms documents) n) ≡ true) here form)
+
+simple_where_passed : Laws → (documents : List DocumentTree) → IsJudged documents → (kind : TypeName) → is_simple_kind (type_names_in documents) (type_forms documents) kind ≡ true → IsTrue (is_simple_type (schemas_written documents) kind)
+simple_where_passed laws documents told (names.Builtin builtin) e = e
+simple_where_passed laws documents told (names.Named name) e = simple_by_name laws documents told (names.Named name) refl e
+simple_where_passed laws documents told (names.Anonymous number) e = simple_by_name laws documents told (names.Anonymous number) refl e
+
+holds_mapped : {A : Type 0} (Fact Other : A → Type 0) → ((x : A) → Fact x → Other x) → (xs : List A) → HoldsOfEach Fact xs → HoldsOfEach Other xs
+holds_mapped Fact Other each [] h = tt
+holds_mapped Fact Other each (x ∷ xs) h = (each x h.0, holds_mapped Fact Other each xs h.1)
+
+item_fits : Laws → (documents : List DocumentTree) → IsJudged documents → (mixed : Bool) (kind : ItemType) → IsPassingItem (is_named_kind (type_names_in documents)) mixed kind → IsModelItem (schemas_written documents) mixed kind
+item_fits laws documents told mixed (items.Element (Some name) kind) passes = named_where_passed laws documents told kind passes
+item_fits laws documents told mixed (items.Element None kind) passes = absurd passes
+item_fits laws documents told mixed (items.Attribute name kind) passes = absurd passes
+item_fits laws documents told mixed items.Text passes = passes
+item_fits laws documents told mixed (items.Document test) passes = absurd passes
+item_fits laws documents told mixed (items.Atom kind) passes = absurd passes
+
+held_fits : Laws → (documents : List DocumentTree) → IsJudged documents → HoldWhatFits (schemas_written documents) (held_in documents)
+held_fits laws documents told =
+    let declared = type_names_in documents in
+    let seen = seen_components documents in
+    record {
+      content = λ number.
+          let effective = content_of_type seen.types seen.groups number in (
+            holds_mapped (IsPassingItem (is_named_kind declared) effective.mixed) (IsModelItem (schemas_written documents) effective.mixed) (item_fits laws documents told effective.mixed)
+                (items_of (model_of effective.mixed effective.content))
+                (laws.kinds (is_named_kind declared) seen.types seen.groups (all_pass (is_named_kind declared) (element_kinds seen.types seen.groups) told.named) effective.mixed number),
+            laws.one_type seen.types seen.groups told.elements effective.mixed number,
+          );
+      attributes = λ number.
+          holds_mapped (λ (attribute : AttributeUse). is_simple_kind declared (type_forms documents) attribute.kind ≡ true) (λ (attribute : AttributeUse). IsTrue (is_simple_type (schemas_written documents) attribute.kind))
+          (λ attribute passes. simple_where_passed laws documents told attribute.kind passes) (uses_of_type seen.types seen.attribute_groups number)
+          (each_passes (λ (attribute : AttributeUse). is_simple_kind declared (type_forms documents) attribute.kind) (uses_of_type seen.types seen.attribute_groups number)
+          (laws.uses seen.types seen.attribute_groups (is_simple_kind declared (type_forms documents)) number
+          (all_pass (is_simple_kind declared (type_forms documents)) (attribute_kinds seen.types seen.attribute_groups) told.simple)));
+      distinct = λ number. laws.distinct seen.types seen.attribute_groups number;
+    }
+
 -- ---- all
 
 set_where_judged : Laws → (documents : List DocumentTree) → IsJudged documents → IsSchemaSet (schemas_written documents)
 set_where_judged laws documents told =
-    let fit = simple_types_fit laws.solve (type_names_in documents) (type_forms documents) (simple_types_of laws documents told) (schemas_written documents).elements (schemas_written documents).targets in
+    let fit = types_fit laws.solve (type_names_in documents) (type_forms documents) (held_in documents) (read_types_of laws documents told) (schemas_written documents).elements (schemas_written documents).targets
+    (held_fits laws documents told) in
     record {
       grounded = fit.0;
       types = fit.1;
@@ -215,11 +334,11 @@ set_where_judged laws documents told =
       distinct_elements = subst (AreDistinctBy same_name) (sym (element_names documents (declarations_in documents))) (names_are_distinct (names_of_kind kinds.ElementDeclaration (declarations_in documents)) told.doubled_elements);
     }
 
-pub judged_are_schema_sets : VarietiesSolve → NoneIsCircular → NoFirstFault → (documents : List DocumentTree) (schemas : SchemaSet) → documents_judged documents ≡ declares schemas → IsSchemaSet schemas
-judged_are_schema_sets solve circles faults documents schemas e =
+pub judged_are_schema_sets : Laws → (documents : List DocumentTree) (schemas : SchemaSet) → documents_judged documents ≡ declares schemas → IsSchemaSet schemas
+judged_are_schema_sets laws documents schemas e =
     let told = is_judged documents schemas e in
-    subst IsSchemaSet (sym told.1) (set_where_judged (record { solve = solve; circles = circles; faults = faults }) documents told.0)
+    subst IsSchemaSet (sym told.1) (set_where_judged laws documents told.0)
 
-pub imports_are_schema_sets : VarietiesSolve → NoneIsCircular → NoFirstFault → ImportsAreSchemaSets
-imports_are_schema_sets solve circles faults files schemas e =
-    judged_are_schema_sets solve circles faults (documents_of files) schemas (rest_told NotInProfile (outside_files 0 files) (documents_judged (documents_of files)) schemas e)
+pub imports_are_schema_sets : Laws → ImportsAreSchemaSets
+imports_are_schema_sets laws files schemas e =
+    judged_are_schema_sets laws (documents_of files) schemas (rest_told NotInProfile (outside_files 0 files) (documents_judged (documents_of files)) schemas e)

@@ -1,6 +1,6 @@
 -- Declarations as refusals show them, in the order of the documents.
-use Rattle.std.specs.Prelude.{ℕ, suc, List, [], ◌∷◌, ◌++◌, map, slice_index_or}
-use Rattle.std.specs.List.{flat_map}
+use Rattle.std.specs.Prelude.{ℕ, suc, nat_le, Bool, ◌||◌, List, [], ◌∷◌, ◌++◌, map, slice_index_or, if◌then◌else◌}
+use Rattle.std.specs.List.{flat_map, list_any}
 use Rattle.gx_base.specs.declared.name.Name.{Name}
 use Rattle.gx_profile.specs.declared.written.GlobalDeclaration.{GlobalDeclaration}
 use Rattle.gx_profile.specs.declared.written.GlobalDeclaration.TheVariants.{Element, Attribute, Group, AttributeGroup}
@@ -17,6 +17,10 @@ nothing_found = record { file = 0; place = 0; name = [] }
 
 abbrev pub found_by_number : List Found → (number : ℕ) → Found
 found_by_number found number = slice_index_or found number nothing_found
+
+-- what stands in a declaration is shown with the name of that
+abbrev pub found_in_place : (place : ℕ) → Found → Found
+found_in_place place found = record { file = found.file; place = place; name = found.name }
 
 -- ---- types
 
@@ -45,15 +49,21 @@ abbrev pub globals_found : ComponentKind → (file : ℕ) → List DocumentTree 
 globals_found kind file [] = []
 globals_found kind file (document ∷ documents) = flat_map (found_global kind file) document.declarations ++ globals_found kind (suc file) documents
 
--- ---- elements and attributes
+-- ---- the file of a place
 
-abbrev pub found_element_or_attribute : (file : ℕ) → GlobalDeclaration → List Found
-found_element_or_attribute file (Element place name kind) = found_named file place name ∷ []
-found_element_or_attribute file (Attribute place name kind) = found_named file place name ∷ []
-found_element_or_attribute file (Group place name particle) = []
-found_element_or_attribute file (AttributeGroup place name attributes) = []
+abbrev pub some_type_begins : (place : ℕ) → List TypeDeclaration → Bool
+some_type_begins place types = list_any (λ (declaration : TypeDeclaration). nat_le declaration.place place) types
 
-abbrev pub elements_and_attributes_found : (file : ℕ) → List DocumentTree → List Found
-elements_and_attributes_found file [] = []
-elements_and_attributes_found file (document ∷ documents) =
-    flat_map (found_element_or_attribute file) document.declarations ++ elements_and_attributes_found (suc file) documents
+abbrev pub some_global_begins : (place : ℕ) → List GlobalDeclaration → Bool
+some_global_begins place declarations = list_any (λ (declaration : GlobalDeclaration). nat_le (place_of_global declaration) place) declarations
+
+abbrev pub begins_by : (place : ℕ) → DocumentTree → Bool
+begins_by place document = some_type_begins place document.types || some_global_begins place document.declarations
+
+-- the last file of which some declaration begins at a place or in front of it; the file so far where there is none
+abbrev pub file_behind : (so_far file place : ℕ) → List DocumentTree → ℕ
+file_behind so_far file place [] = so_far
+file_behind so_far file place (document ∷ documents) = file_behind (if begins_by place document then file else so_far) (suc file) place documents
+
+abbrev pub file_of_place : (place : ℕ) → List DocumentTree → ℕ
+file_of_place place documents = file_behind 0 0 place documents

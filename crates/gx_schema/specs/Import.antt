@@ -14,9 +14,14 @@ use Rattle.gx_components.specs.declared.unknown.UnknownName.{UnknownName as Unkn
 use Rattle.gx_components.specs.Unknown.{unknown_name}
 use Rattle.gx_varieties.specs.declared.type_form.TypeForm.{TypeForm}
 use Rattle.gx_schema.specs.declared.found.Found.{Found}
-use Rattle.gx_schema.specs.DeclarationLimit.{past_limit}
-use Rattle.gx_schema.specs.Inconsistent.{circular_type, inconsistent}
+use Rattle.gx_base.specs.declared.type_name.TypeName.{TypeName}
+use Rattle.gx_components.specs.DeclaredNames.{type_names_in}
+use Rattle.gx_schema.specs.Circular.{circular}
+use Rattle.gx_schema.specs.Inconsistent.{inconsistent}
+use Rattle.gx_schema.specs.NamedKinds.{unnamed_kind, unsimple_kind}
 use Rattle.gx_schema.specs.SchemaTypes.{schemas_written, type_forms}
+use Rattle.gx_schema.specs.SeenComponents.{SeenComponents, seen_components}
+use Rattle.gx_schema.specs.TooLarge.{too_large}
 use Rattle.gx_schema.specs.Unread.{unread_declaration}
 
 -- the schemas that files declare; or the rule that is broken first, the number of the file, counted from 0, and the name
@@ -43,14 +48,18 @@ found_in_file found = (found.file, found.name)
 abbrev pub names_judged : List DocumentTree → Imported → Imported
 names_judged documents otherwise = unless_broken NotInProfile (unread_declaration documents) (unless_broken UnknownName (option_map unknown_found (unknown_name documents)) otherwise)
 
--- types and the other declarations
-abbrev pub types_judged : List DocumentTree → List TypeForm → Imported → Imported
-types_judged documents forms otherwise =
-    unless_broken Inconsistent (option_map found_in_file (inconsistent documents forms)) (unless_broken Circular (option_map found_in_file (circular_type documents forms))
-    (unless_broken TooLarge (option_map found_in_file (past_limit documents)) otherwise))
+-- types and the other declarations; last, what elements and attributes are of is there, and simple for attributes
+abbrev pub kinds_judged : List TypeName → List TypeForm → SeenComponents → Imported → Imported
+kinds_judged declared forms seen otherwise =
+    unless_broken UnknownName (unnamed_kind declared seen) (unless_broken Inconsistent (unsimple_kind declared forms seen) otherwise)
+
+abbrev pub components_judged : List DocumentTree → List TypeForm → SeenComponents → Imported → Imported
+components_judged documents forms seen otherwise =
+    unless_broken Inconsistent (option_map found_in_file (inconsistent documents forms seen)) (unless_broken Circular (option_map found_in_file (circular documents forms))
+    (unless_broken TooLarge (option_map found_in_file (too_large documents seen)) (kinds_judged (type_names_in documents) forms seen otherwise)))
 
 abbrev pub documents_judged : List DocumentTree → Imported
-documents_judged documents = names_judged documents (types_judged documents (type_forms documents) (declares (schemas_written documents)))
+documents_judged documents = names_judged documents (components_judged documents (type_forms documents) (seen_components documents) (declares (schemas_written documents)))
 
 -- all rules in their order
 abbrev pub imported : List Source → Imported

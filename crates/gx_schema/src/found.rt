@@ -1,8 +1,8 @@
 // Declarations as refusals show them.
 
-ghost use Rattle.std.specs.Prelude.{◌≡◌, ◌++◌, IfOk, OnOk, map, option_copied, option_map};
+ghost use Rattle.std.specs.Prelude.{◌≡◌, ◌++◌, ◌||◌, IfOk, OnOk, map, nat_le, option_copied, option_map};
 ghost use Rattle.std.specs.List.{flat_map};
-ghost use Rattle.gx_schema.specs.Found.{elements_and_attributes_found, found_by_number, found_element_or_attribute, found_global, found_named, found_type, globals_found, place_of_global, types_found};
+ghost use Rattle.gx_schema.specs.Found.{begins_by, some_global_begins, some_type_begins, file_behind, file_of_place, found_by_number, found_global, found_named, found_type, globals_found, place_of_global, types_found};
 
 use gx_base::name::Name;
 use gx_base::text::Text;
@@ -34,6 +34,43 @@ pub fn found_by_number(alloc: Global, found: Vec<Found>, number: usize) -> Resul
         place: 0,
         name: Text::empty(alloc)?,
     })
+}
+
+/// The number of the file of a place: the last one of which some declaration begins there or in front of it.
+pub fn file_of_place(place: u64, documents: &[SchemaDocument]) -> Result<u32, AllocError>
+    ensures { IfOk result (λ file. file ≡ file_of_place place documents.now) }
+{
+    let mut so_far = 0u32;
+    let mut file = 0u32;
+    let mut left = documents;
+    while let Some((document, others)) = left.split_first() {
+        if begins_by(place, document) {
+            so_far = file;
+        }
+        file = file.checked_add(1).ok_or(AllocError)?;
+        left = others;
+    }
+    Ok(so_far)
+}
+
+fn begins_by(place: u64, document: &SchemaDocument) -> bool
+    ensures { result ≡ begins_by place document.now }
+{
+    some_type_begins(place, &document.types) || some_global_begins(place, &document.declarations)
+}
+
+fn some_type_begins(place: u64, types: &[TypeDeclaration]) -> bool
+    ensures { result ≡ some_type_begins place types.now }
+{
+    types.iter().any(|declaration| declaration.place <= place)
+}
+
+fn some_global_begins(place: u64, declarations: &[GlobalDeclaration]) -> bool
+    ensures { result ≡ some_global_begins place declarations.now }
+{
+    declarations
+        .iter()
+        .any(|declaration| place_of_global(declaration) <= place)
 }
 
 /// All types of documents.
@@ -131,44 +168,4 @@ fn place_of_global(declaration: &GlobalDeclaration) -> u64
         | GlobalDeclaration::Group { place, .. }
         | GlobalDeclaration::AttributeGroup { place, .. } => *place,
     }
-}
-
-/// All global elements and attributes of documents.
-pub fn elements_and_attributes_found(
-    alloc: Global,
-    documents: &[SchemaDocument],
-) -> Result<Vec<Found>, AllocError>
-    ensures { IfOk result (λ found. found.items ≡ elements_and_attributes_found 0 documents.now) }
-{
-    let mut found = Vec::new(alloc);
-    let mut file = 0u32;
-    let mut left = documents;
-    while let Some((document, others)) = left.split_first() {
-        add_elements_and_attributes(alloc, file, &document.declarations, &mut found)?;
-        file = file.checked_add(1).ok_or(AllocError)?;
-        left = others;
-    }
-    Ok(found)
-}
-
-fn add_elements_and_attributes(
-    alloc: Global,
-    file: u32,
-    declarations: &[GlobalDeclaration],
-    found: &mut Vec<Found>,
-) -> Result<(), AllocError>
-    ensures { OnOk result (found.new.items ≡ found.old.items ++ flat_map (found_element_or_attribute file) declarations.now) }
-{
-    let mut left = declarations;
-    while let Some((declaration, others)) = left.split_first() {
-        match declaration {
-            GlobalDeclaration::Element { place, name, .. }
-            | GlobalDeclaration::Attribute { place, name, .. } => {
-                found.push(found_named(alloc, file, *place, name)?)?;
-            }
-            GlobalDeclaration::Group { .. } | GlobalDeclaration::AttributeGroup { .. } => {}
-        }
-        left = others;
-    }
-    Ok(())
 }

@@ -2,33 +2,52 @@
 
 ghost use Rattle.std.specs.Prelude.{◌≡◌, map, IfOk, IfErr, OnOk, option_map, None};
 ghost use Rattle.gx_components.specs.Components.{AreComponents};
+ghost use Rattle.gx_components.specs.DeclaredNames.{type_names_in};
+ghost use Rattle.gx_schema.specs.Circular.{circular};
 ghost use Rattle.gx_profile.specs.DocumentTree.{DocumentTree};
-ghost use Rattle.gx_schema.specs.Import.{declares, found_in_file, imported, documents_judged, names_judged, types_judged, unknown_found, unless_broken, IsSchemaRefusal};
-ghost use Rattle.gx_schema.specs.SchemaTypes.{schemas_written, type_components, type_forms};
+ghost use Rattle.gx_schema.specs.Import.{components_judged, declares, found_in_file, imported, documents_judged, kinds_judged, names_judged, unknown_found, unless_broken, IsSchemaRefusal};
+ghost use Rattle.gx_schema.specs.SchemaTypes.{meanings_seen, schemas_written, type_forms};
+ghost use Rattle.gx_varieties.specs.Varieties.{IsMarked};
+ghost use Rattle.gx_schema.specs.MeaningsView.{SameMeanings, meanings_view};
+ghost use Rattle.gx_schema.specs.SeenComponents.{attribute_groups, model_groups, seen_among, seen_components, type_components};
+ghost use Rattle.gx_schema.specs.SeenView.{AreCircles, circles_view};
+ghost use Rattle.gx_schema.specs.ReadView.{IsRead};
 
+use crate::circular::{circular_attribute_group, circular_group, circular_type};
+use crate::first_found::earlier_found;
 use crate::found::Found;
-use crate::inconsistent::{circular_type, inconsistent};
-use crate::limit::past_limit;
+use crate::inconsistent::inconsistent;
+use crate::named_kinds::{unnamed_kind, unsimple_kind};
 use crate::refusal::{SchemaRefusal, SchemaRule};
-use crate::schema_types::{schema_elements, schema_types};
+use crate::schema_types::{TypeTables, schema_elements, schema_types};
+use crate::seen_components::{
+    CircleMarks, SeenComponents, circles, hide_attribute_groups, hide_bases, hide_groups,
+};
+use crate::seen_meanings::{seen_contents, seen_uses};
+use crate::too_large::too_large;
 use crate::type_forms::type_forms;
 use crate::unread::unread_declaration;
+use gx_attributes::laws::{kinds_are_written, uses_are_distinct};
 use gx_base::text::Text;
+use gx_base::type_name::TypeName;
 use gx_components::component::Components;
 use gx_components::components::components;
 use gx_components::names::type_names_in;
 use gx_components::unknown::unknown;
+use gx_contents::laws::{elements_keep, one_type_a_name};
 use gx_profile::profile::schema_documents;
 use gx_profile::written::SchemaDocument;
+use gx_types::declaration::{Declared, GlobalElement};
 use gx_types::schemas::Schemas;
 use gx_varieties::laws::{no_first_fault, none_is_circular, varieties_solve};
 use gx_varieties::type_form::TypeForm;
+use gx_varieties::variety::varieties;
 use gx_xml::source::Source;
 use std::alloc::{AllocError, Global};
 
 /// What schema files declare (XML Schema 1.0 part 1, section 3.15), exactly where they keep to all rules; else the first rule, in the
-/// order of `SchemaRule`, that one of them breaks, at its first place over the files. Complex types, groups and attribute groups are
-/// not read as yet, and the first of them counts as a construct outside the profile.
+/// order of `SchemaRule`, that one of them breaks, at its first place over the files. Restrictions of complex content are not read as
+/// yet, and the first of them counts as a construct outside the profile.
 pub fn import(alloc: Global, files: &[Source]) -> Result<Schemas, SchemaRefusal>
     ensures declared { IfOk result (λ schemas. imported files.now ≡ declares schemas) }
     ensures refused { IfErr result (IsSchemaRefusal (imported files.now)) }
@@ -42,15 +61,15 @@ fn judge(alloc: Global, documents: &[SchemaDocument]) -> Result<Schemas, SchemaR
     ensures refused { IfErr result (IsSchemaRefusal (documents_judged documents.now)) }
 {
     judge_names(alloc, documents)?;
-    let components = components(alloc, documents)?;
-    let forms = forms_of_documents(alloc, documents, &components)?;
-    judge_types(alloc, documents, forms.as_slice())?;
-    Ok(schemas_written(alloc, documents, &components, forms.as_slice())?)
+    let read = read(alloc, documents)?;
+    judge_components(alloc, documents, &read)?;
+    Ok(schemas_written(alloc, documents, read)?)
 }
 
 // Everything is read, and each name refers to something.
 fn judge_names(alloc: Global, documents: &[SchemaDocument]) -> Result<(), SchemaRefusal>
-    ensures passes { OnOk result (documents_judged documents.now ≡ types_judged documents.now (type_forms documents.now) (declares (schemas_written documents.now))) }
+    ensures passes { OnOk result (documents_judged documents.now
+        ≡ components_judged documents.now (type_forms documents.now) (seen_components documents.now) (declares (schemas_written documents.now))) }
     ensures refused { IfErr result (IsSchemaRefusal (documents_judged documents.now)) }
 {
     if let Some((file, name)) = unread_declaration(alloc, documents)? {
@@ -67,36 +86,146 @@ fn judge_names(alloc: Global, documents: &[SchemaDocument]) -> Result<(), Schema
     }
 }
 
-fn forms_of_documents(
+// What is read of documents: the names and the forms of types, the components and what stands on circles among them, the global
+// elements, and the numbers of group definitions and of attribute groups.
+#[derive(Debug, Drop)]
+struct ReadComponents {
+    names: Vec<TypeName>,
+    forms: Vec<TypeForm>,
+    circles: CircleMarks,
+    seen: SeenComponents,
+    elements: Vec<GlobalElement>,
+    groups: usize,
+    attribute_groups: usize,
+}
+
+fn read(alloc: Global, documents: &[SchemaDocument]) -> Result<ReadComponents, AllocError>
+    ensures { IfOk result (IsRead documents.now) }
+{
+    let names = type_names_in(alloc, documents)?;
+    let components = components(alloc, documents)?;
+    read_components(alloc, documents, names, components)
+}
+
+fn read_components(
+    alloc: Global,
+    documents: &[SchemaDocument],
+    names: Vec<TypeName>,
+    components: Components,
+) -> Result<ReadComponents, AllocError>
+    requires names { names.items ≡ type_names_in documents.now }
+    requires components { AreComponents documents.now components }
+    ensures { IfOk result (IsRead documents.now) }
+{
+    let elements = schema_elements(alloc, &components.elements)?;
+    let (forms, circles) = forms_and_circles(alloc, documents, &components)?;
+    let groups = components.groups.len();
+    let attribute_groups = components.attribute_groups.len();
+    let seen = seen(alloc, components, &circles);
+    Ok(ReadComponents {
+        names,
+        forms,
+        circles,
+        seen,
+        elements,
+        groups,
+        attribute_groups,
+    })
+}
+
+fn forms_and_circles(
     alloc: Global,
     documents: &[SchemaDocument],
     components: &Components,
-) -> Result<Vec<TypeForm>, AllocError>
+) -> Result<(Vec<TypeForm>, CircleMarks), AllocError>
     requires { AreComponents documents.now components.now }
-    ensures { IfOk result (λ forms. forms.items ≡ type_forms documents.now) }
+    ensures forms { IfOk result (λ both. both.0.items ≡ type_forms documents.now) }
+    ensures circles { IfOk result (λ both. AreCircles (type_components documents.now) (model_groups documents.now) (attribute_groups documents.now) both.1) }
 {
-    type_forms(alloc, components.types.as_slice())
+    let forms = type_forms(alloc, &components.types)?;
+    let circles = circles(
+        alloc,
+        &components.types,
+        &forms,
+        &components.model_groups,
+        &components.attribute_groups,
+    )?;
+    Ok((forms, circles))
 }
 
-// Declarations agree, none is part of itself, and there are not too many.
-fn judge_types(
+// The components, without what stands on circles.
+fn seen(alloc: Global, components: Components, circles: &CircleMarks) -> SeenComponents
+    ensures { result ≡ seen_among (circles_view circles.now) components.types.items components.model_groups.items components.attribute_groups.items }
+{
+    let mut types = components.types;
+    let mut groups = components.model_groups;
+    let mut attribute_groups = components.attribute_groups;
+    hide_bases(&circles.types, &mut types);
+    hide_groups(alloc, &circles.groups, &mut groups);
+    hide_attribute_groups(alloc, &circles.attribute_groups, &mut attribute_groups);
+    SeenComponents {
+        types,
+        groups,
+        attribute_groups,
+    }
+}
+
+// Declarations agree, none is part of itself, and none is too large.
+fn judge_components(
     alloc: Global,
     documents: &[SchemaDocument],
-    forms: &[TypeForm],
+    read: &ReadComponents,
 ) -> Result<(), SchemaRefusal>
-    ensures passes { OnOk result (types_judged documents.now forms.now (declares (schemas_written documents.now)) ≡ declares (schemas_written documents.now)) }
-    ensures refused { IfErr result (IsSchemaRefusal (types_judged documents.now forms.now (declares (schemas_written documents.now)))) }
+    requires { IsRead documents.now read.now }
+    ensures passes { OnOk result (components_judged documents.now (type_forms documents.now) (seen_components documents.now) (declares (schemas_written documents.now)) ≡ declares (schemas_written documents.now)) }
+    ensures refused { IfErr result (IsSchemaRefusal (components_judged documents.now (type_forms documents.now) (seen_components documents.now) (declares (schemas_written documents.now)))) }
 {
-    if let Some(found) = inconsistent(alloc, documents, forms)? {
+    if let Some(found) = inconsistent(alloc, documents, &read.forms, &read.seen)? {
         return Err(refused(SchemaRule::Inconsistent, found));
     }
-    if let Some(found) = circular_type(alloc, documents, forms)? {
+    if let Some(found) = circular(alloc, documents, read)? {
         return Err(refused(SchemaRule::Circular, found));
     }
-    match past_limit(alloc, documents)? {
-        Some(found) => Err(refused(SchemaRule::TooLarge, found)),
-        None => Ok(()),
+    if let Some(found) = too_large(alloc, documents, &read.seen)? {
+        return Err(refused(SchemaRule::TooLarge, found));
     }
+    judge_kinds(alloc, documents, read)
+}
+
+fn circular(
+    alloc: Global,
+    documents: &[SchemaDocument],
+    read: &ReadComponents,
+) -> Result<Option<Found>, AllocError>
+    requires { IsRead documents.now read.now }
+    ensures { IfOk result (λ found. found ≡ circular documents.now (type_forms documents.now)) }
+{
+    let marks = &read.circles.attribute_groups;
+    let attributes = circular_attribute_group(alloc, documents, marks, read.attribute_groups)?;
+    let group = circular_group(alloc, documents, &read.circles.groups, read.groups)?;
+    let behind = earlier_found(group, attributes);
+    Ok(earlier_found(circular_type(alloc, documents, &read.forms)?, behind))
+}
+
+// The types of elements are there, and those of attributes simple.
+fn judge_kinds(
+    alloc: Global,
+    documents: &[SchemaDocument],
+    read: &ReadComponents,
+) -> Result<(), SchemaRefusal>
+    requires { IsRead documents.now read.now }
+    ensures passes { OnOk result (kinds_judged (type_names_in documents.now) (type_forms documents.now) (seen_components documents.now) (declares (schemas_written documents.now)) ≡ declares (schemas_written documents.now)) }
+    ensures refused { IfErr result (IsSchemaRefusal (kinds_judged (type_names_in documents.now) (type_forms documents.now) (seen_components documents.now) (declares (schemas_written documents.now)))) }
+{
+    if let Some((file, name)) = unnamed_kind(alloc, &read.names, &read.seen)? {
+        let rule = SchemaRule::UnknownName;
+        return Err(SchemaRefusal::Refused { rule, file, name });
+    }
+    if let Some((file, name)) = unsimple_kind(alloc, &read.names, &read.forms, &read.seen)? {
+        let rule = SchemaRule::Inconsistent;
+        return Err(SchemaRefusal::Refused { rule, file, name });
+    }
+    Ok(())
 }
 
 fn refused(rule: SchemaRule, found: Found) -> SchemaRefusal
@@ -109,26 +238,67 @@ fn refused(rule: SchemaRule, found: Found) -> SchemaRefusal
     }
 }
 
-#[tactic(auto, using(crate::proofs::SchemaSets::judged_are_schema_sets))]
 fn schemas_written(
     alloc: Global,
     documents: &[SchemaDocument],
-    components: &Components,
-    forms: &[TypeForm],
+    read: ReadComponents,
 ) -> Result<Schemas, AllocError>
-    requires components { AreComponents documents.now components.now }
-    requires forms { forms.now ≡ type_forms documents.now }
+    requires read { IsRead documents.now read }
     requires judged { documents_judged documents.now ≡ declares (schemas_written documents.now) }
     ensures { IfOk result (λ schemas. schemas ≡ schemas_written documents.now) }
 {
-    let names = type_names_in(alloc, documents)?;
-    let types = schema_types(alloc, names.as_slice(), forms)?;
-    let elements = schema_elements(alloc, components.elements.as_slice())?;
+    let types = types_written(alloc, documents, &read)?;
     let targets = targets(alloc, documents)?;
     varieties_solve();
     none_is_circular();
     no_first_fault();
-    Ok(Schemas::new(types, elements, targets))
+    one_type_a_name();
+    elements_keep();
+    uses_are_distinct();
+    kinds_are_written();
+    Ok(Schemas::new(types, read.elements, targets))
+}
+
+fn types_written(
+    alloc: Global,
+    documents: &[SchemaDocument],
+    read: &ReadComponents,
+) -> Result<Vec<Declared>, AllocError>
+    requires { IsRead documents.now read.now }
+    ensures { IfOk result (λ types. types.items ≡ (schemas_written documents.now).types) }
+{
+    let tables = type_tables(alloc, documents, read)?;
+    schema_types(alloc, &read.names, &read.forms, &tables)
+}
+
+fn type_tables(
+    alloc: Global,
+    documents: &[SchemaDocument],
+    read: &ReadComponents,
+) -> Result<TypeTables, AllocError>
+    requires { IsRead documents.now read.now }
+    ensures { IfOk result (λ tables. SameMeanings (meanings_view tables) (meanings_seen (type_forms documents.now) (seen_components documents.now))) }
+{
+    tables_of(alloc, &read.forms, &read.circles.types, &read.seen)
+}
+
+fn tables_of(
+    alloc: Global,
+    forms: &[TypeForm],
+    marks: &[bool],
+    seen: &SeenComponents,
+) -> Result<TypeTables, AllocError>
+    requires { IsMarked forms.now marks.now }
+    ensures { IfOk result (λ tables. SameMeanings (meanings_view tables) (meanings_seen forms.now seen.now)) }
+{
+    let varieties = varieties(alloc, forms, marks)?;
+    let contents = seen_contents(alloc, seen)?;
+    let uses = seen_uses(alloc, seen)?;
+    Ok(TypeTables {
+        varieties,
+        contents,
+        uses,
+    })
 }
 
 fn targets(alloc: Global, documents: &[SchemaDocument]) -> Result<Vec<Text>, AllocError>

@@ -1,45 +1,55 @@
-// Declarations that disagree, and types on circles.
+// Declarations that disagree.
 
-ghost use Rattle.std.specs.Prelude.{◌≡◌, IfOk};
-ghost use Rattle.gx_schema.specs.Inconsistent.{circular_type, doubled_declaration, earlier_found, faulty_type, inconsistent};
+ghost use Rattle.std.specs.Prelude.{◌≡◌, IfOk, Some};
+ghost use Rattle.gx_schema.specs.Inconsistent.{differing_extension, disagreeing_element, doubled_attribute, doubled_declaration, faulty_complex_type, faulty_declaration, faulty_derivation, faulty_type, found_particle, inconsistent};
+ghost use Rattle.gx_schema.specs.FirstFound.{earlier_found};
+ghost use Rattle.gx_schema.specs.Found.{file_of_place, found_by_number, found_in_place, types_found};
 
+use crate::attribute_types::complex_attribute_type;
+use crate::derivation_faults::first_derivation_fault;
 use crate::doubled::{doubled_of_kind, doubled_type};
-use crate::found::{Found, found_by_number, types_found};
+use crate::first_found::earlier_found;
+use crate::found::{Found, file_of_place, found_by_number, types_found};
+use crate::occurrences::disordered_bounds;
+use crate::seen_components::SeenComponents;
+use gx_attributes::doubled::first_doubled;
 use gx_components::mention::ComponentKind;
+use gx_contents::disagreement::first_disagreement;
+use gx_contents::extensions::first_differing_extension;
 use gx_profile::written::SchemaDocument;
-use gx_varieties::circles::first_circular;
+use gx_typetext::print::print_name;
 use gx_varieties::faults::first_type_fault;
 use gx_varieties::type_form::TypeForm;
 use std::alloc::{AllocError, Global};
 
-/// The first declaration that disagrees with others, by place: the second global declaration of a name and kind, or a faulty simple
-/// type.
+/// The first declaration that disagrees with others, by place: the second global declaration of a name and kind; a faulty simple type;
+/// a particle whose bounds are out of order, or an attribute of a complex type; or a faulty complex type.
 pub fn inconsistent(
     alloc: Global,
     documents: &[SchemaDocument],
     forms: &[TypeForm],
+    seen: &SeenComponents,
 ) -> Result<Option<Found>, AllocError>
-    ensures { IfOk result (λ found. found ≡ inconsistent documents.now forms.now) }
+    ensures { IfOk result (λ found. found ≡ inconsistent documents.now forms.now seen.now) }
 {
-    let doubled = doubled_declaration(alloc, documents)?;
-    Ok(earlier_found(doubled, faulty_type(alloc, documents, forms)?))
+    let declaration = faulty_declaration(alloc, documents)?;
+    let complex_type = faulty_complex_type(alloc, documents, forms, seen)?;
+    let behind = earlier_found(declaration, complex_type);
+    inconsistent_before(alloc, documents, forms, behind)
 }
 
-/// The first type on a circle.
-pub fn circular_type(
+// The first of doubled declarations, faulty simple types, and what was found beside them.
+fn inconsistent_before(
     alloc: Global,
     documents: &[SchemaDocument],
     forms: &[TypeForm],
+    behind: Option<Found>,
 ) -> Result<Option<Found>, AllocError>
-    ensures { IfOk result (λ found. found ≡ circular_type documents.now forms.now) }
+    ensures { IfOk result (λ found. found ≡ earlier_found (doubled_declaration documents.now) (earlier_found (faulty_type documents.now forms.now) behind)) }
 {
-    match first_circular(alloc, forms)? {
-        Some(number) => {
-            let types = types_found(alloc, documents)?;
-            Ok(Some(found_by_number(alloc, types, number)?))
-        }
-        None => Ok(None),
-    }
+    let simple_type = faulty_type(alloc, documents, forms)?;
+    let doubled = doubled_declaration(alloc, documents)?;
+    Ok(earlier_found(doubled, earlier_found(simple_type, behind)))
 }
 
 fn doubled_declaration(
@@ -68,30 +78,133 @@ fn faulty_type(
 ) -> Result<Option<Found>, AllocError>
     ensures { IfOk result (λ found. found ≡ faulty_type documents.now forms.now) }
 {
-    let Some(fault) = first_type_fault(alloc, forms)? else {
-        return Ok(None);
-    };
-    let holder = found_by_number(alloc, types_found(alloc, documents)?, fault.number)?;
+    match first_type_fault(alloc, forms)? {
+        Some(fault) => found_in_type(alloc, documents, fault.place, fault.number),
+        None => Ok(None),
+    }
+}
+
+// What stands at a place in the type of a number.
+fn found_in_type(
+    alloc: Global,
+    documents: &[SchemaDocument],
+    place: u64,
+    number: usize,
+) -> Result<Option<Found>, AllocError>
+    ensures { IfOk result (λ found. found ≡ Some (found_in_place place (found_by_number (types_found 0 documents.now) number))) }
+{
+    let holder = found_by_number(alloc, types_found(alloc, documents)?, number)?;
     Ok(Some(Found {
         file: holder.file,
-        place: fault.place,
+        place,
         name: holder.name,
     }))
 }
 
-// The earlier of two by place, and the first at one place.
-fn earlier_found(one: Option<Found>, other: Option<Found>) -> Option<Found>
-    ensures { result ≡ earlier_found one other }
+fn faulty_declaration(
+    alloc: Global,
+    documents: &[SchemaDocument],
+) -> Result<Option<Found>, AllocError>
+    ensures { IfOk result (λ found. found ≡ faulty_declaration documents.now) }
 {
-    match (one, other) {
-        (None, other) => other,
-        (Some(one), None) => Some(one),
-        (Some(one), Some(other)) => {
-            if one.place <= other.place {
-                Some(one)
-            } else {
-                Some(other)
-            }
-        }
+    let bounds = disordered_bounds(alloc, documents)?;
+    let attribute = complex_attribute_type(alloc, documents)?;
+    Ok(earlier_found(bounds, attribute))
+}
+
+fn faulty_complex_type(
+    alloc: Global,
+    documents: &[SchemaDocument],
+    forms: &[TypeForm],
+    seen: &SeenComponents,
+) -> Result<Option<Found>, AllocError>
+    ensures { IfOk result (λ found. found ≡ faulty_complex_type documents.now forms.now seen.now) }
+{
+    let attribute = doubled_attribute(alloc, documents, seen)?;
+    let element = disagreeing_element(alloc, documents, seen)?;
+    faulty_derivation_before(
+        alloc,
+        documents,
+        forms,
+        seen,
+        earlier_found(element, attribute),
+    )
+}
+
+// The first of faulty derivations, and what was found beside them.
+fn faulty_derivation_before(
+    alloc: Global,
+    documents: &[SchemaDocument],
+    forms: &[TypeForm],
+    seen: &SeenComponents,
+    behind: Option<Found>,
+) -> Result<Option<Found>, AllocError>
+    ensures { IfOk result (λ found. found ≡ earlier_found (faulty_derivation documents.now forms.now seen.now) (earlier_found (differing_extension documents.now seen.now) behind)) }
+{
+    let extension = differing_extension(alloc, documents, seen)?;
+    let derivation = faulty_derivation(alloc, documents, forms, seen)?;
+    Ok(earlier_found(derivation, earlier_found(extension, behind)))
+}
+
+fn faulty_derivation(
+    alloc: Global,
+    documents: &[SchemaDocument],
+    forms: &[TypeForm],
+    seen: &SeenComponents,
+) -> Result<Option<Found>, AllocError>
+    ensures { IfOk result (λ found. found ≡ faulty_derivation documents.now forms.now seen.now) }
+{
+    match first_derivation_fault(forms, &seen.types) {
+        Some(fault) => found_in_type(alloc, documents, fault.place, fault.number),
+        None => Ok(None),
     }
+}
+
+fn differing_extension(
+    alloc: Global,
+    documents: &[SchemaDocument],
+    seen: &SeenComponents,
+) -> Result<Option<Found>, AllocError>
+    ensures { IfOk result (λ found. found ≡ differing_extension documents.now seen.now) }
+{
+    match first_differing_extension(alloc, &seen.types, &seen.groups)? {
+        Some(extension) => found_in_type(alloc, documents, extension.place, extension.number),
+        None => Ok(None),
+    }
+}
+
+fn disagreeing_element(
+    alloc: Global,
+    documents: &[SchemaDocument],
+    seen: &SeenComponents,
+) -> Result<Option<Found>, AllocError>
+    ensures { IfOk result (λ found. found ≡ disagreeing_element documents.now seen.now) }
+{
+    match first_disagreement(alloc, &seen.types, &seen.groups)? {
+        Some(particle) => Ok(Some(Found {
+            file: file_of_place(particle.place, documents)?,
+            place: particle.place,
+            name: print_name(alloc, &particle.name)?,
+        })),
+        None => Ok(None),
+    }
+}
+
+fn doubled_attribute(
+    alloc: Global,
+    documents: &[SchemaDocument],
+    seen: &SeenComponents,
+) -> Result<Option<Found>, AllocError>
+    ensures { IfOk result (λ found. found ≡ doubled_attribute documents.now seen.now) }
+{
+    let Some(doubled) = first_doubled(alloc, &seen.types, &seen.attribute_groups)? else {
+        return Ok(None);
+    };
+    let name = print_name(alloc, &doubled.name)?;
+    let holder = found_by_number(alloc, types_found(alloc, documents)?, doubled.number)?;
+    Ok(Some(Found {
+        file: holder.file,
+        place: doubled.place,
+        name,
+    }))
 }

@@ -2,6 +2,8 @@
 
 ghost use Rattle.gx_schema.specs.Laws.{ImportsAreSchemaSets};
 
+use gx_attributes::laws::{kinds_are_written, uses_are_distinct};
+use gx_contents::laws::{elements_keep, one_type_a_name};
 use gx_varieties::laws::{no_first_fault, none_is_circular, varieties_solve};
 
 /// What schema files declare keeps to what declarations keep to: names are known and distinct, bases end at built-in types, and
@@ -12,4 +14,8 @@ pub fn imports_are_schema_sets()
     varieties_solve();
     none_is_circular();
     no_first_fault();
+    one_type_a_name();
+    elements_keep();
+    uses_are_distinct();
+    kinds_are_written();
 }

@@ -1,47 +1,39 @@
 // The types and the global elements that schema documents declare.
 
-ghost use Rattle.std.specs.Prelude.{◌≡◌, ℕ, IfOk, map, []};
-ghost use Rattle.gx_references.specs.Known.{known};
-ghost use Rattle.gx_varieties.specs.Varieties.{variety_of};
-ghost use Rattle.gx_schema.specs.SchemaTypes.{base_name, derived_from_name, schema_element, schema_type, schema_types, schema_types_from, simple_content};
+ghost use Rattle.std.specs.Prelude.{◌≡◌, IfOk, map, None, Some, [], slice_index_or};
+ghost use Rattle.gx_varieties.specs.Meanings.{own_facets_over};
+ghost use Rattle.gx_schema.specs.SchemaTypes.{base_name, complex_content, content_declared, derived_from_name, schema_element, schema_type, schema_types, schema_types_from, simple_content};
+ghost use Rattle.gx_schema.specs.MeaningsView.{effective_at, meanings_view};
 
+use crate::simple_bases::simple_base;
 use gx_base::type_name::{Builtin, TypeName};
 use gx_components::component::{Base, Declaration};
+use gx_contents::effective::Effective;
+use gx_contents::mixed::model_of;
 use gx_facets::Facets;
-use gx_types::declaration::{AttributeUses, Content, Declared, GlobalElement};
-use gx_varieties::circles::circular_types;
+use gx_types::declaration::{AttributeUse, AttributeUses, Content, Declared, GlobalElement};
+use gx_types::sequence_type::Ty;
 use gx_varieties::meaning::own_facets_of;
 use gx_varieties::type_form::TypeForm;
-use gx_varieties::variety::{TypeVariety, known_variety, varieties};
+use gx_varieties::variety::{TypeVariety, known_variety};
 use std::alloc::{AllocError, Global};
 
-/// The declarations of simple types of these names.
+/// What types mean beside their forms, by number: the varieties of their values, their contents and their attributes.
+#[derive(Debug, Drop)]
+pub struct TypeTables {
+    pub varieties: Vec<Option<TypeVariety>>,
+    pub contents: Vec<Effective>,
+    pub uses: Vec<AttributeUses>,
+}
+
+/// The declarations of types of these names.
 pub fn schema_types(
     alloc: Global,
     names: &[TypeName],
     forms: &[TypeForm],
+    tables: &TypeTables,
 ) -> Result<Vec<Declared>, AllocError>
-    ensures { IfOk result (λ types. types.items ≡ schema_types names.now forms.now) }
-{
-    let varieties = varieties_of(alloc, forms)?;
-    declared_types(alloc, names, forms, varieties.as_slice())
-}
-
-fn varieties_of(alloc: Global, forms: &[TypeForm]) -> Result<Vec<Option<TypeVariety>>, AllocError>
-    ensures { IfOk result (λ table. (number : ℕ) → known TypeVariety.Hidden table.items number ≡ variety_of forms.now number) }
-{
-    let marks = circular_types(alloc, forms)?;
-    varieties(alloc, forms, marks.as_slice())
-}
-
-// Each type with its number.
-fn declared_types(
-    alloc: Global,
-    names: &[TypeName],
-    forms: &[TypeForm],
-    varieties: &[Option<TypeVariety>],
-) -> Result<Vec<Declared>, AllocError>
-    ensures { IfOk result (λ types. types.items ≡ schema_types_from names.now (known TypeVariety.Hidden varieties.now) 0 names.now forms.now) }
+    ensures { IfOk result (λ types. types.items ≡ schema_types names.now forms.now (meanings_view tables.now)) }
 {
     let mut types = Vec::new(alloc);
     let mut number = 0usize;
@@ -51,9 +43,13 @@ fn declared_types(
         let Some((form, forms_behind)) = forms_left.split_first() else {
             return Ok(types);
         };
-        let facets = own_facets_of(alloc, form, varieties)?;
-        let variety = known_variety(varieties, number);
-        types.push(schema_type(alloc, names, variety, name, form, facets)?)?;
+        let place = TypePlace {
+            names,
+            forms,
+            tables,
+            number,
+        };
+        types.push(schema_type(alloc, &place, name, form)?)?;
         number += 1;
         names_left = names_behind;
         forms_left = forms_behind;
@@ -61,23 +57,123 @@ fn declared_types(
     Ok(types)
 }
 
+// The number of a type among all types.
+#[derive(Clone, Copy, Debug)]
+struct TypePlace<'a> {
+    names: &'a [TypeName],
+    forms: &'a [TypeForm],
+    tables: &'a TypeTables,
+    number: usize,
+}
+
 fn schema_type(
     alloc: Global,
-    declared: &[TypeName],
-    variety: TypeVariety,
+    place: &TypePlace<'_>,
     name: &TypeName,
     form: &TypeForm,
-    facets: Facets,
 ) -> Result<Declared, AllocError>
-    ensures { IfOk result (λ t. t ≡ record { name = name.now; base = derived_from_name declared.now form.now; content = simple_content declared.now variety facets; attributes = [] }) }
+    ensures { IfOk result (λ t. t ≡ schema_type place.now.names.now place.now.forms.now (meanings_view place.now.tables.now) place.now.number name.now form.now) }
 {
-    let base = derived_from_name(declared, form)?;
-    let content = simple_content(declared, variety, facets)?;
+    let content = content_declared(alloc, place, form)?;
+    declared_with(alloc, place, name, form, content)
+}
+
+fn declared_with(
+    alloc: Global,
+    place: &TypePlace<'_>,
+    name: &TypeName,
+    form: &TypeForm,
+    content: Content,
+) -> Result<Declared, AllocError>
+    ensures { IfOk result (λ t. t ≡ record { name = name.now; base = derived_from_name place.now.names.now form.now; content = content; attributes = (meanings_view place.now.tables.now).uses place.now.number }) }
+{
+    let attributes = uses_at(alloc, &place.tables.uses, place.number)?;
+    let base = derived_from_name(place.names, form)?;
     Ok(Declared {
         name: name.clone()?,
         base,
         content,
-        attributes: AttributeUses::from_vec(Vec::new(alloc)),
+        attributes,
+    })
+}
+
+// What a type of a form holds.
+fn content_declared(
+    alloc: Global,
+    place: &TypePlace<'_>,
+    form: &TypeForm,
+) -> Result<Content, AllocError>
+    ensures { IfOk result (λ content. content ≡ content_declared place.now.names.now place.now.forms.now (meanings_view place.now.tables.now) place.now.number form.now) }
+{
+    let varieties = place.tables.varieties.as_slice();
+    let facets = own_facets_of(alloc, form, varieties)?;
+    match form {
+        TypeForm::Restriction { .. } | TypeForm::List { .. } => {
+            let variety = known_variety(varieties, place.number);
+            simple_content(place.names, variety, facets)
+        }
+        TypeForm::SimpleContent { base, .. } => {
+            let simple = simple_base(place.forms, *base);
+            Ok(Content::Simple(base_name(place.names, simple)?, facets))
+        }
+        TypeForm::ComplexContent { .. } => {
+            complex_content(alloc, &place.tables.contents, place.number)
+        }
+    }
+}
+
+fn complex_content(
+    alloc: Global,
+    contents: &[Effective],
+    number: usize,
+) -> Result<Content, AllocError>
+    ensures { IfOk result (λ content. content ≡ complex_content (effective_at contents.now number)) }
+{
+    match contents.get(number) {
+        Some(effective) => Ok(Content::Complex {
+            mixed: effective.mixed,
+            model: model_of(alloc, effective.mixed, &effective.content)?,
+        }),
+        None => Ok(Content::Complex {
+            mixed: false,
+            model: Ty::none(),
+        }),
+    }
+}
+
+fn uses_at(
+    alloc: Global,
+    uses: &[AttributeUses],
+    number: usize,
+) -> Result<AttributeUses, AllocError>
+    ensures { IfOk result (λ copy. copy ≡ slice_index_or uses.now number []) }
+{
+    match uses.get(number) {
+        Some(uses) => Ok(AttributeUses::from_vec(copies_of(alloc, uses.as_slice())?)),
+        None => Ok(AttributeUses::from_vec(Vec::new(alloc))),
+    }
+}
+
+fn copies_of(alloc: Global, uses: &[AttributeUse]) -> Result<Vec<AttributeUse>, AllocError>
+    ensures { IfOk result (λ copies. copies.items ≡ uses.now) }
+{
+    let mut copies = Vec::with_capacity(alloc, uses.len())?;
+    let mut left = uses;
+    while let Some((attribute, others)) = left.split_first() {
+        copies.push(copy_of(attribute)?)?;
+        left = others;
+    }
+    Ok(copies)
+}
+
+fn copy_of(attribute: &AttributeUse) -> Result<AttributeUse, AllocError>
+    ensures { IfOk result (λ copy. copy ≡ attribute.now) }
+{
+    let name = attribute.name.clone()?;
+    Ok(AttributeUse {
+        name,
+        kind: attribute.kind.clone()?,
+        required: attribute.required,
     })
 }
 
@@ -89,7 +185,10 @@ fn derived_from_name(declared: &[TypeName], form: &TypeForm) -> Result<TypeName,
             base_name(declared, *base)
         }
         TypeForm::List { .. } => Ok(TypeName::Builtin(Builtin::AnySimple)),
-        TypeForm::ComplexContent { .. } => Ok(TypeName::Builtin(Builtin::AnyType)),
+        TypeForm::ComplexContent { base } => match base {
+            Some(base) => base_name(declared, *base),
+            None => Ok(TypeName::Builtin(Builtin::AnyType)),
+        },
     }
 }
 

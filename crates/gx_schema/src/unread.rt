@@ -3,15 +3,15 @@
 ghost use Rattle.std.specs.Prelude.{◌≡◌, IfOk};
 ghost use Rattle.gx_types.specs.SchemaInvariant.{is_nameable};
 ghost use Rattle.gx_schema.specs.TypeNumbers.{AreTypeNumbers};
-ghost use Rattle.gx_schema.specs.Unread.{base_written, first_by_place, first_unread, first_unread_global, first_unread_type, is_read_base, is_read_type, element_of_kind, unread_declaration, unread_definition, unread_from, unread_global, unread_type, unread_where};
+ghost use Rattle.gx_schema.specs.Unread.{base_written, first_by_place, first_unread, first_unread_global, first_unread_type, is_read_base, is_read_derivation, is_read_method, is_read_restriction, is_read_type, element_of_kind, unread_declaration, unread_definition, unread_from, unread_global, unread_type, unread_where};
 
 use crate::type_numbers::{TypeNumbers, number_of, type_numbers};
 use gx_base::text::Text;
 use gx_base::type_name::{Builtin, TypeName};
 use gx_components::names::type_names_in;
 use gx_profile::written::{
-    GlobalDeclaration, SchemaDocument, SimpleTypeDefinition, TypeDeclaration, TypeDefinition,
-    TypeReference,
+    AttributeMember, ContentKind, Derivation, DerivationMethod, GlobalDeclaration, SchemaDocument,
+    SimpleTypeDefinition, TypeDeclaration, TypeDefinition, TypeReference,
 };
 use std::alloc::{AllocError, Global};
 
@@ -19,11 +19,9 @@ use std::alloc::{AllocError, Global};
 #[derive(Clone, Copy, Debug, PartialEq, Eq)]
 enum DeclarationKind {
     SimpleType,
-    ComplexType,
+    Restriction,
     Element,
     Attribute,
-    Group,
-    AttributeGroup,
 }
 
 // A declaration and its place.
@@ -128,10 +126,46 @@ fn unread_definition(place: u64, definition: &TypeDefinition) -> Option<Unread>
             place,
             DeclarationKind::SimpleType,
         ),
-        TypeDefinition::Complex(_) => Some(Unread {
+        TypeDefinition::Complex(definition) => unread_where(
+            is_read_derivation(&definition.derivation, definition.attributes.as_slice()),
             place,
-            kind: DeclarationKind::ComplexType,
-        }),
+            DeclarationKind::Restriction,
+        ),
+    }
+}
+
+// Whether a complex type with these attributes is derived so.
+fn is_read_derivation(derivation: &Option<Derivation>, attributes: &[AttributeMember]) -> bool
+    ensures { result ≡ is_read_derivation derivation.now attributes.now }
+{
+    match derivation {
+        None => true,
+        Some(derivation) => {
+            is_read_method(derivation.method, derivation.content, attributes)
+                && is_read_base(&derivation.base)
+        }
+    }
+}
+
+fn is_read_method(
+    method: DerivationMethod,
+    content: ContentKind,
+    attributes: &[AttributeMember],
+) -> bool
+    ensures { result ≡ is_read_method method content attributes.now }
+{
+    match method {
+        DerivationMethod::Extension => true,
+        DerivationMethod::Restriction => is_read_restriction(content, attributes),
+    }
+}
+
+fn is_read_restriction(content: ContentKind, attributes: &[AttributeMember]) -> bool
+    ensures { result ≡ is_read_restriction content attributes.now }
+{
+    match content {
+        ContentKind::Simple => attributes.is_empty(),
+        ContentKind::Complex => false,
     }
 }
 
@@ -170,21 +204,17 @@ fn unread_global(
     requires { AreTypeNumbers declared.now numbers.now }
     ensures { result ≡ unread_global declared.now declaration.now }
 {
-    let (is_read, place, kind) = match declaration {
+    match declaration {
         GlobalDeclaration::Element { place, kind, .. } => {
             let is_read = is_read_type(declared, numbers, kind);
-            (is_read, *place, DeclarationKind::Element)
+            unread_where(is_read, *place, DeclarationKind::Element)
         }
         GlobalDeclaration::Attribute { place, kind, .. } => {
             let is_read = is_read_type(declared, numbers, kind);
-            (is_read, *place, DeclarationKind::Attribute)
+            unread_where(is_read, *place, DeclarationKind::Attribute)
         }
-        GlobalDeclaration::Group { place, .. } => (false, *place, DeclarationKind::Group),
-        GlobalDeclaration::AttributeGroup { place, .. } => {
-            (false, *place, DeclarationKind::AttributeGroup)
-        }
-    };
-    unread_where(is_read, place, kind)
+        GlobalDeclaration::Group { .. } | GlobalDeclaration::AttributeGroup { .. } => None,
+    }
 }
 
 fn unread_where(is_read: bool, place: u64, kind: DeclarationKind) -> Option<Unread>
@@ -222,8 +252,8 @@ fn is_read_base(base: &TypeReference) -> bool
     }
 }
 
-// Whether declarations may name a built-in type.
-fn is_nameable(builtin: Builtin) -> bool
+/// Whether declarations may name a built-in type.
+pub fn is_nameable(builtin: Builtin) -> bool
     ensures { result ≡ is_nameable builtin }
 {
     Builtin::Str <= builtin
@@ -235,10 +265,8 @@ fn element_of_kind(alloc: Global, kind: DeclarationKind) -> Result<Text, AllocEr
 {
     match kind {
         DeclarationKind::SimpleType => Text::from_str(alloc, "xs:simpleType"),
-        DeclarationKind::ComplexType => Text::from_str(alloc, "xs:complexType"),
+        DeclarationKind::Restriction => Text::from_str(alloc, "xs:restriction"),
         DeclarationKind::Element => Text::from_str(alloc, "xs:element"),
         DeclarationKind::Attribute => Text::from_str(alloc, "xs:attribute"),
-        DeclarationKind::Group => Text::from_str(alloc, "xs:group"),
-        DeclarationKind::AttributeGroup => Text::from_str(alloc, "xs:attributeGroup"),
     }
 }

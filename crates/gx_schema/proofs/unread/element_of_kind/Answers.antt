@@ -5,9 +5,9 @@ pub returns-in-SimpleType : goal.returns-in-SimpleType
 unfolding chars
 returns-in-SimpleType c = rw c.in-SimpleType.is c.from_str.ensures
 
-pub returns-in-ComplexType : goal.returns-in-ComplexType
+pub returns-in-Restriction : goal.returns-in-Restriction
 unfolding chars
-returns-in-ComplexType c = rw c.in-ComplexType.is c.from_str-in-ComplexType.ensures
+returns-in-Restriction c = rw c.in-Restriction.is c.from_str-in-Restriction.ensures
 
 pub returns-in-Element : goal.returns-in-Element
 unfolding chars
@@ -16,11 +16,3 @@ returns-in-Element c = rw c.in-Element.is c.from_str-in-Element.ensures
 pub returns-in-Attribute : goal.returns-in-Attribute
 unfolding chars
 returns-in-Attribute c = rw c.in-Attribute.is c.from_str-in-Attribute.ensures
-
-pub returns-in-Group : goal.returns-in-Group
-unfolding chars
-returns-in-Group c = rw c.in-Group.is c.from_str-in-Group.ensures
-
-pub returns-in-AttributeGroup : goal.returns-in-AttributeGroup
-unfolding chars
-returns-in-AttributeGroup c = rw c.in-AttributeGroup.is c.from_str-in-AttributeGroup.ensures
