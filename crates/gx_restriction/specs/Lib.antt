@@ -1,0 +1,4 @@
+pub mod Attributes
+pub mod Restriction
+pub mod Restrictions
+pub mod Laws
