@@ -13,7 +13,7 @@ use Rattle.gx_include.specs.Laws.{AnswersAreOne, IsSameVerdict}
 use Rattle.gx_restriction.specs.declared.restrictions.Restrictions.{Restrictions}
 use Rattle.gx_restriction.specs.declared.restrictions.Restrictions.TheVariants.{Sound, Unsound, Undecided}
 use Rattle.gx_restriction.specs.Laws.{JudgementsAreOne, IsSameJudgement}
-use Rattle.gx_restriction.specs.Restriction.{AreUsesJudged, IsContentVerdict, IsRefused, IsRestriction, children_in, children_of_base}
+use Rattle.gx_restriction.specs.Restriction.{AreUsesJudged, IsContentVerdict, IsNotYes, IsRestriction, children_in, children_of_base}
 use Rattle.gx_restriction.specs.Restrictions.{AreJudged, AreSoundBelow, IsJudgedAt}
 
 abbrev shape_of : AttributeUse → List Shape
@@ -35,12 +35,12 @@ module _ (one_answer : AnswersAreOne) (schemas : SchemaSet) (pairs : ℕ) where
       one_answer schemas (children_in declared.content) (children_of_base (declaration_of schemas declared.base)) (Some pairs) one other h k
 
   -- a refused content is not included
-  not_included : (declared : Declared) (one other : Verdict) → IsRefused one → IsContentVerdict schemas pairs declared one → IsContentVerdict schemas pairs declared Yes → IsSameVerdict one other
+  not_included : (declared : Declared) (one other : Verdict) → IsNotYes one → IsContentVerdict schemas pairs declared one → IsContentVerdict schemas pairs declared Yes → IsSameVerdict one other
   not_included declared Yes other r h k = absurd r
   not_included declared (No list) other r h k = absurd (contents_are_one declared (No list) Yes h k)
   not_included declared TooManyPairs other r h k = absurd (contents_are_one declared TooManyPairs Yes h k)
 
-  included_not : (declared : Declared) (one other : Verdict) → IsRefused other → IsContentVerdict schemas pairs declared other → IsContentVerdict schemas pairs declared Yes → IsSameVerdict one other
+  included_not : (declared : Declared) (one other : Verdict) → IsNotYes other → IsContentVerdict schemas pairs declared other → IsContentVerdict schemas pairs declared Yes → IsSameVerdict one other
   included_not declared one Yes r h k = absurd r
   included_not declared one (No list) r h k = absurd (contents_are_one declared (No list) Yes h k)
   included_not declared one TooManyPairs r h k = absurd (contents_are_one declared TooManyPairs Yes h k)

@@ -40,9 +40,9 @@ IsContentVerdict schemas pairs declared verdict =
 abbrev pub use_fault : SchemaSet → Declared → Option AttributeUse
 use_fault schemas declared = attribute_fault schemas (uses_of_base (declaration_of schemas declared.base)) declared.attributes
 
-abbrev pub IsRefused : Verdict → Type 0
-IsRefused Yes = ⊥
-IsRefused _ = Unit {0}
+abbrev pub IsNotYes : Verdict → Type 0
+IsNotYes Yes = ⊥
+IsNotYes _ = Unit {0}
 
 -- a verdict on attributes: none is at fault, or this one is
 abbrev pub AreUsesJudged : Option AttributeUse → Verdict → Type 0
@@ -54,5 +54,5 @@ AreUsesJudged fault TooManyPairs = ⊥
 -- by that of its base, or is the one attribute that is not allowed; or more pairs than the limit are reached
 abbrev pub IsRestriction : SchemaSet → ℕ → Declared → Verdict → Type 0
 IsRestriction schemas pairs declared verdict =
-    (IsRefused verdict × IsContentVerdict schemas pairs declared verdict)
+    (IsNotYes verdict × IsContentVerdict schemas pairs declared verdict)
     ⊎ (IsContentVerdict schemas pairs declared Yes × AreUsesJudged (use_fault schemas declared) verdict)
