@@ -22,3 +22,6 @@ pub mod Searching
 pub mod Deciding
 pub mod SomeAlphabet
 pub mod SomeAnswer
+mod Symbols
+mod Targets
+mod Derived

@@ -142,7 +142,7 @@ name_stands names other f name =
 
 -- types
 
-derived_alike : (bases : Bases) (steps : ℕ) (t u kind : TypeName) → same_type_name t u ≡ true → leads_within bases steps u kind ≡ leads_within bases steps t kind
+pub derived_alike : (bases : Bases) (steps : ℕ) (t u kind : TypeName) → same_type_name t u ≡ true → leads_within bases steps u kind ≡ leads_within bases steps t kind
 derived_alike bases zero t u kind e = sym (type_names_are_equivalent.congr t u kind e)
 derived_alike bases (suc n) t u kind e =
     ap (λ b. b || of_base (base_of bases u) (λ base. leads_within bases n base kind)) (sym (type_names_are_equivalent.congr t u kind e))

@@ -11,6 +11,8 @@ pub mod Runs
 pub mod Inclusion
 pub mod ItemIndex
 pub mod Following
+pub mod Transitions
+pub mod Derivations
 pub mod Letters
 pub mod Verdict
 pub mod Trials

@@ -11,6 +11,7 @@ ghost use Rattle.gx_include.specs.ItemIndex.{tests_at};
 ghost use Rattle.gx_include.specs.Test.{is_taken};
 ghost use Rattle.gx_include.specs.Trials.{with_names, IsOther, trial_shapes, untyped};
 
+use crate::derivations::Derivations;
 use crate::item_index::ItemIndex;
 use crate::letter::Letter;
 use crate::trial::{add_names, other_than, trials};
@@ -142,6 +143,21 @@ fn columns_of(
 ) -> Result<Vec<Vec<Letter>>, AllocError>
     ensures { IfOk result (λ columns. AreColumns (length left.now + 1) (entries_over schemas.now left.now right.now shapes.now) columns.items) }
 {
+    let derivations = Derivations::new(alloc, schemas, left.items(), right.items())?;
+    let columns = columns_over(alloc, &derivations, left, right, shapes)?;
+    Ok(columns)
+}
+
+// The same with which types are derived from those that are asked for.
+fn columns_over(
+    alloc: Global,
+    schemas: &Derivations<'_>,
+    left: &ItemIndex,
+    right: &ItemIndex,
+    shapes: &[Shape],
+) -> Result<Vec<Vec<Letter>>, AllocError>
+    ensures { IfOk result (λ columns. AreColumns (length left.now + 1) (entries_over schemas.now left.now right.now shapes.now) columns.items) }
+{
     let mut columns = empty_columns(alloc, left.count())?;
     for shape in shapes {
         add_shape(alloc, schemas, left, right, shape, &mut columns)?;
@@ -164,7 +180,7 @@ fn empty_columns(alloc: Global, count: usize) -> Result<Vec<Vec<Letter>>, AllocE
 // Puts the letters of a shape behind those of the places that take it.
 fn add_shape(
     alloc: Global,
-    schemas: &Schemas,
+    schemas: &Derivations<'_>,
     left: &ItemIndex,
     right: &ItemIndex,
     shape: &Shape,
@@ -183,7 +199,7 @@ fn add_shape(
 // Puts the letters of a shape behind those of the places of a set.
 fn add_taken(
     alloc: Global,
-    schemas: &Schemas,
+    schemas: &Derivations<'_>,
     right: &ItemIndex,
     shape: &Shape,
     taking: &[bool],

@@ -8,10 +8,9 @@ ghost use Rattle.gx_include.specs.ItemIndex.{items_of, tests_at, name_given, may
 ghost use Rattle.gx_include.specs.Test.{is_taken};
 ghost use Rattle.gx_include.specs.Trials.{name_of};
 
-use crate::places::takes_shape;
+use crate::derivations::Derivations;
 use gx_base::name::Name;
 use gx_types::item_type::ItemType;
-use gx_types::schemas::Schemas;
 use gx_types::sequence_type::{Ty, TyNode};
 use gx_types::shape::Shape;
 use indexmap::IndexMap;
@@ -73,7 +72,7 @@ impl ItemIndex {
     pub(crate) fn taking(
         &self,
         alloc: Global,
-        schemas: &Schemas,
+        schemas: &Derivations<'_>,
         shape: &Shape,
     ) -> Result<Vec<bool>, AllocError>
         ensures { IfOk result (λ tests. tests.items ≡ tests_at self.now (is_taken schemas.now shape.now)) }
@@ -233,7 +232,7 @@ fn add_name(
 // Whether each item type takes a shape, behind the start, where those that may take it are listed by number.
 fn tests_of_listed(
     alloc: Global,
-    schemas: &Schemas,
+    schemas: &Derivations<'_>,
     shape: &Shape,
     items: &[ItemType],
     numbers: &[usize],
@@ -251,7 +250,7 @@ fn tests_of_listed(
 
 // Puts down whether the item type of a number takes a shape.
 fn test_item(
-    schemas: &Schemas,
+    schemas: &Derivations<'_>,
     shape: &Shape,
     items: &[ItemType],
     number: usize,
@@ -261,6 +260,6 @@ fn test_item(
     ensures { tests.new.items ≡ slice_set tests.old.items (number + 1) (slice_index_or (tests_at items.now (is_taken schemas.now shape.now)) (number + 1) false) }
 {
     if number < items.len() {
-        tests[number + 1] = takes_shape(schemas, shape, &items[number]);
+        tests[number + 1] = schemas.takes_shape(shape, &items[number]);
     }
 }

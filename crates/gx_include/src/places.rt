@@ -139,7 +139,7 @@ pub(crate) fn takes_shape(schemas: &Schemas, shape: &Shape, item: &ItemType) -> 
 }
 
 // Whether a name fits an optional one.
-fn fits(wanted: &Option<Name>, name: &Name) -> bool
+pub(crate) fn fits(wanted: &Option<Name>, name: &Name) -> bool
     ensures { result ≡ name_fits wanted.now name.now }
 {
     match wanted {

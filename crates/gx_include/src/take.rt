@@ -1,14 +1,18 @@
 // What a type takes.
 
-ghost use Rattle.std.specs.Prelude.{◌≡◌, [], ◌∷◌, IfOk, OnOk, IsTrue, ◌↔◌};
+ghost use Rattle.std.specs.Prelude.{◌≡◌, ◌+◌, [], ◌∷◌, IfOk, OnOk, IsTrue, ◌↔◌};
 ghost use Rattle.gx_types.specs.Takes.{Takes};
+ghost use Rattle.gx_types.specs.TypeRules.{positions_of};
+ghost use Rattle.gx_include.specs.Following.{AreFollowing};
+ghost use Rattle.gx_include.specs.ItemIndex.{items_of};
 ghost use Rattle.gx_include.specs.Step.{step_over};
 ghost use Rattle.gx_include.specs.Test.{is_taken, IsDecided};
 
-use crate::following::{ends_at_one, following, places_behind};
+use crate::following::{ends_at_one, following};
 use crate::item_index::ItemIndex;
 use crate::places::meet;
 use crate::step::{ends_at, next_positions, only, taking_positions};
+use crate::transitions::Transitions;
 use gx_types::schemas::Schemas;
 use gx_types::sequence_type::Ty;
 use gx_types::shape::Shape;
@@ -53,21 +57,32 @@ fn takes_by_places(
 ) -> Result<bool, AllocError>
     ensures { IfOk result (λ answer. IsTrue answer ↔ Takes schemas.now t.now list.now) }
 {
-    let _declarations = schemas.types();
     let items = ItemIndex::new(alloc, t)?;
     let rows = following(alloc, t, items.count())?;
-    let mut places = start_alone(alloc)?;
+    let end = takes_by_rows(alloc, schemas, t, &items, rows.as_slice(), list)?;
+    Ok(end)
+}
+
+// The same with the item types of the type, and with the positions that may come next behind the start and behind each of them.
+fn takes_by_rows(
+    alloc: Global,
+    schemas: &Schemas,
+    t: &Ty,
+    items: &ItemIndex,
+    rows: &[Vec<bool>],
+    list: &[Shape],
+) -> Result<bool, AllocError>
+    requires items { items.now ≡ items_of t.now }
+    requires rows { AreFollowing t.now (positions_of t.now + 1) rows.now }
+    ensures { IfOk result (λ answer. IsTrue answer ↔ Takes schemas.now t.now list.now) }
+{
+    let _declarations = schemas.types();
+    let mut transitions = Transitions::anew(alloc, start_alone(alloc)?)?;
+    let mut state = 0;
     for shape in list {
-        places = places_behind(
-            alloc,
-            schemas,
-            &items,
-            rows.as_slice(),
-            places.as_slice(),
-            shape,
-        )?;
+        state = transitions.next(alloc, schemas, items, rows, state, shape)?;
     }
-    let end = ends_at_one(alloc, t, places.as_slice())?;
+    let end = ends_at_one(alloc, t, transitions.places(state))?;
     Ok(end)
 }
 

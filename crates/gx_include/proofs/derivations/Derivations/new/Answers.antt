@@ -1,0 +1,8 @@
+use Rattle.gx_include.proofs.derivations.Derivations.new.Goals as goal
+
+pub invariant_of-result : goal.invariant_of-result
+invariant_of-result c = record {
+  numbered = c.in_ok-numbers.ensures.numbers;
+  all_numbered = c.in_ok-numbers.ensures.all;
+  by_kind = c.in_ok-columns.ensures;
+}

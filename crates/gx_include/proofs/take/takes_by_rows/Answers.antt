@@ -1,0 +1,55 @@
+use Rattle.std.proofs.Common.{◌≡◌, ◌+◌, true, sym, ◌∙◌, ap, subst, ◌∷◌, [], ◌↔◌, ℕ, List, drop, arith}
+use Rattle.std.specs.Bool.{IsTrue}
+use Rattle.std.proofs.lemmas.List.{drop_more}
+use Rattle.std.proofs.Math.ListN.{drop_of_length-le}
+use Rattle.gx_types.specs.Takes.{Takes}
+use Rattle.gx_include.specs.ItemIndex.{IsListed}
+use Rattle.gx_include.specs.Step.{single, is_end}
+use Rattle.gx_include.specs.Test.{is_taken}
+use Rattle.gx_include.specs.Transitions.{places_at}
+use Rattle.gx_include.proofs.Decided.{decided}
+use Rattle.gx_include.proofs.PlaceLists.{ReadsOne, behind_are, behind_within, start_within, places_start, places_go_on, places_end}
+use Rattle.gx_include.proofs.Targets.{anew_kept}
+use Rattle.gx_include.proofs.take.takes_by_rows.Goals as goal
+
+pub loop-shape-init : goal.loop-shape-init
+loop-shape-init c =
+    let s = c.args.schemas.now in
+    let t = c.args.t.now in
+    let anew = c.in_ok-transitions.ensures in
+    let places = places_at c.in_ok-transitions.transitions.states.keys 0 in
+    let start : places ≡ 0 ∷ [] = anew.state ∙ c.in_ok-start_alone.ensures in
+    record {
+      kept = anew_kept c.args.rows.now c.args.items.now s _ c.in_ok-transitions.transitions.states.keys c.in_ok-transitions.transitions.targets anew;
+      known = omega (arith, anew.one);
+      within = start_within t places start;
+      reads = subst (λ (ps : List ℕ). ReadsOne s t ps c.args.list.now ↔ Takes s t c.args.list.now) (sym start) (places_start s t c.args.list.now);
+    }
+
+pub loop-shape-preserved : goal.loop-shape-preserved
+loop-shape-preserved c =
+    let s = c.args.schemas.now in
+    let t = c.args.t.now in
+    let x = is_taken s c.shape-item.result in
+    let before = places_at c.loop-shape.transitions.states.keys c.loop-shape.state in
+    let after = places_at c.next.new.self.states.keys c.in_ok-state.state in
+    let front = drop_more c.args.list.now c.loop-shape.shape-index c.shape-item.result c.loop-shape-test.true
+    ∙ ap (λ x. x ∷ drop (c.loop-shape.shape-index + 1) c.args.list.now) (sym c.shape-item.is) in
+    record {
+      kept = c.in_ok-state.ensures.kept;
+      known = c.in_ok-state.ensures.within;
+      within = behind_within t x c.args.rows.now c.args.items.now before after c.requires.items c.in_ok-state.ensures.next;
+      reads =
+          places_go_on s t before after (drop c.loop-shape.shape-index c.args.list.now) (drop (c.loop-shape.shape-index + 1) c.args.list.now) c.shape-item.result front
+          (behind_are t x c.args.rows.now c.args.items.now before after c.requires.items c.requires.rows c.loop-shape.invariant.within c.in_ok-state.ensures.next)
+          (decided s c.types-declarations.ensures.invariant.grounded c.shape-item.result t) c.loop-shape.invariant.reads;
+    }
+
+pub returns : goal.returns
+returns c =
+    let s = c.args.schemas.now in
+    let t = c.args.t.now in
+    let places = places_at c.loop-shape.transitions.states.keys c.loop-shape.state in
+    places_end s t places (drop c.loop-shape.shape-index c.args.list.now) c.in_ok-end.end (drop_of_length-le c.args.list.now c.loop-shape-test.false)
+    (subst (λ (ps : List ℕ). IsTrue c.in_ok-end.end ↔ ((place : ℕ) × IsListed place ps × (is_end t (single place) ≡ true))) c.places.ensures c.in_ok-end.ensures)
+    c.loop-shape.invariant.reads
