@@ -9,6 +9,7 @@ mod ElementViewLemmas
 mod Earlier
 mod TypeItems
 mod ContentItems
+mod ContentPositions
 mod Agreement
 mod KeptKinds
 mod ExtensionLemmas

@@ -1,16 +1,19 @@
 -- The laws of contents.
-use Rattle.std.specs.Prelude.{◌≡◌, ℕ, Bool, true, List, None, Some}
+use Rattle.std.specs.Prelude.{◌≡◌, ℕ, ◌≤◌, Bool, true, List, None, Some}
 use Rattle.std.specs.Bool.{IsTrue}
+use Rattle.gx_base.specs.declared.limits.TheConstants.{CONTENT_POSITIONS}
 use Rattle.gx_base.specs.declared.type_name.TypeName.{TypeName}
 use Rattle.gx_types.specs.declared.item_type.ItemType.{ItemType}
 use Rattle.gx_types.specs.declared.item_type.ItemType.TheVariants as items
 use Rattle.gx_types.specs.Prime.{items_of}
 use Rattle.gx_types.specs.SchemaInvariant.{DeclaresOneTypeAName, HoldsOfEach}
+use Rattle.gx_types.specs.TypeRules.{positions_of}
 use Rattle.gx_components.specs.declared.component.ModelGroup.{ModelGroup}
 use Rattle.gx_components.specs.declared.component.TypeComponent.{TypeComponent}
 use Rattle.gx_contents.specs.ContentKnots.{content_of_type}
 use Rattle.gx_contents.specs.Disagreement.{first_disagreement}
 use Rattle.gx_contents.specs.ElementKinds.{element_kinds_pass}
+use Rattle.gx_contents.specs.GroupPositions.{positions_with_texts}
 use Rattle.gx_contents.specs.MixedContents.{model_of}
 
 -- where no element particle disagrees, each content model has one type for a name
@@ -28,3 +31,8 @@ IsPassingItem passes mixed _ = ⊥
 abbrev pub ElementsKeep : Type 0
 ElementsKeep = (passes : TypeName → Bool) (types : List TypeComponent) (groups : List ModelGroup) → element_kinds_pass passes types groups ≡ true → (mixed : Bool) (number : ℕ) →
     HoldsOfEach (IsPassingItem passes mixed) (items_of (model_of mixed (content_of_type types groups number).content))
+
+-- a content model has no more positions than a content may have, with a text in front and one behind each
+abbrev pub ContentsAreBounded : Type 0
+ContentsAreBounded = (types : List TypeComponent) (groups : List ModelGroup) (mixed : Bool) (number : ℕ) →
+    positions_of (model_of mixed (content_of_type types groups number).content) ≤ positions_with_texts CONTENT_POSITIONS

@@ -1,6 +1,6 @@
 // Laws over the definitions.
 
-ghost use Rattle.gx_contents.specs.Laws.{ElementsKeep, OneTypeAName};
+ghost use Rattle.gx_contents.specs.Laws.{ContentsAreBounded, ElementsKeep, OneTypeAName};
 
 /// Where no element particle disagrees, elements of one name have one type in each content model (XML Schema 1.0 part 1, section
 /// 3.8.6, Element Declarations Consistent).
@@ -12,4 +12,10 @@ pub fn one_type_a_name()
 /// passes it, or a text where texts are allowed.
 pub fn elements_keep()
     ensures { ElementsKeep }
+{}
+
+/// No content model has more positions than a content may have, with a text in front of them and one behind each: nothing is seen
+/// of a content that has more.
+pub fn contents_are_bounded()
+    ensures { ContentsAreBounded }
 {}
