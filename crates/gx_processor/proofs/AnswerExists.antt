@@ -6,8 +6,8 @@ use Rattle.gx_base.specs.declared.code.Code.TheVariants.{XPST0003, GLXS0001, SEN
 use Rattle.gx_base.specs.declared.limits.TheConstants.{FILE_BYTES}
 use Rattle.gx_types.specs.SchemaSet.{SchemaSet}
 use Rattle.gx_types.specs.SchemaInvariant.{IsSchemaSet}
-use Rattle.gx_schema.specs.Import.{Imported, declares, breaks, imported}
-use Rattle.gx_schema.specs.Laws.{ImportsAreSchemaSets}
+use Rattle.gx_schema.specs.Import.{Imported, declares, breaks, IsImported}
+use Rattle.gx_schema.specs.Laws.{AnImportExists, ImportsAreSchemaSets}
 use Rattle.gx_core.specs.declared.expression.Core.{Core}
 use Rattle.gx_core.specs.declared.typed.TypedCore.{TypedCore}
 use Rattle.gx_model.specs.Item.{Items}
@@ -44,10 +44,10 @@ use Rattle.gx_processor.specs.declared.status.Status.{Status}
 use Rattle.gx_processor.specs.declared.status.Status.TheVariants as status
 use Rattle.gx_processor.specs.NamedQuery.{NamedQuery, named_query, unknown_name, query_named}
 use Rattle.gx_processor.specs.Command.{Command, run_file, check_file, query_file, command_of, texts_to_compare}
-use Rattle.gx_processor.specs.FaultLines.{line, usage_line, left_type_line, right_type_line, read_fault_line, code_line, placed_line, binding_line, long_document_line, document_line, import_line}
+use Rattle.gx_processor.specs.FaultLines.{line, usage_line, left_type_line, right_type_line, read_fault_line, code_line, placed_line, binding_line, long_document_line, document_line, import_line, shown_with}
 use Rattle.gx_processor.specs.Serialisation.{serialised}
 use Rattle.gx_processor.specs.TypeBytes.{type_bytes}
-use Rattle.gx_processor.specs.Answer.{Answer, writes, refuses, can_be_written, AnswersTexts, AnswersOutcome, AnswersEvaluated, AnswersRead, AnswersLoaded, AnswersFiles, AnswersOver, AnswersBound, AnswersTyped, AnswersJudged, AnswersNamed, AnswersImported, AnswersBuilt, AnswersParsed, AnswersBytes, AnswersFile, AnswersCommand, AnswersWords, AnAnswerExists}
+use Rattle.gx_processor.specs.Answer.{Answer, writes, refuses, can_be_written, AnswersTexts, AnswersOutcome, AnswersEvaluated, AnswersRead, AnswersLoaded, AnswersFiles, AnswersOver, AnswersBound, AnswersTyped, AnswersJudged, AnswersNamed, AnswersImported, AnswersSources, AnswersBuilt, AnswersParsed, AnswersBytes, AnswersFile, AnswersCommand, AnswersWords, AnAnswerExists}
 
 outcome_answers : (schemas : SchemaSet) (t : SequenceType) (before : Forest) (o : Outcome Items) → Keeps (typed_setting schemas) before t o → (a : Answer) × AnswersOutcome o a
 outcome_answers schemas t before (gives items forest) h = (writes (serialised forest items), refl)
@@ -140,35 +140,42 @@ module _ (files : Files) (schemas : SchemaSet) (invariant : IsSchemaSet schemas)
   named_answers command (named_query core) untyped = judged_answers command core (query_judged schemas core) (untyped core refl) refl
   named_answers command (unknown_name place code) untyped = (refuses status.Query (placed_line code place), refl)
 
-imported_answers : ImportsAreSchemaSets → (files : Files) (command : Command) (tree : SyntaxQuery) (roots : List SourceTree) (told : Imported) → unbuilt_query tree ≡ None → imported (sources_of roots) ≡ told → (a : Answer) × AnswersImported files command tree (schema_files tree) told a
+imported_answers : ImportsAreSchemaSets → (files : Files) (command : Command) (tree : SyntaxQuery) (roots : List SourceTree) (told : Imported) → unbuilt_query tree ≡ None → IsImported (sources_of roots) told → (a : Answer) × AnswersImported files command tree (schema_files tree) told a
 imported_answers imports files command tree roots (declares schemas) built e =
     named_answers files schemas (imports (sources_of roots) schemas e) command (query_named schemas tree) (λ core named. named_queries_have_untyped_documents schemas tree core built named)
-imported_answers imports files command tree roots (breaks rule file name) built e = (refuses status.Schema (import_line rule (file_name_at (schema_files tree) file) name), refl)
+imported_answers imports files command tree roots (breaks rule file name list) built e =
+    (refuses status.Schema (import_line rule (file_name_at (schema_files tree) file) (shown_with rule name list)), refl)
 
-built_answers : ImportsAreSchemaSets → (files : Files) (command : Command) (tree : SyntaxQuery) (unbuilt : Option Place) → unbuilt_query tree ≡ unbuilt → (a : Answer) × AnswersBuilt files command tree unbuilt a
-built_answers imports files command tree None built =
-    files_answers status.Schema files (schema_files tree) [] (length (schema_files tree)) (λ roots next. AnswersImported files command tree (schema_files tree) (imported (sources_of roots)) next) tt (omega arith)
-    (λ roots are each. imported_answers imports files command tree roots (imported (sources_of roots)) built refl)
-built_answers imports files command tree (Some place) built = (refuses status.Query (placed_line XPST0003 place), refl)
+sources_answers : AnImportExists → ImportsAreSchemaSets → (files : Files) (command : Command) (tree : SyntaxQuery) (roots : List SourceTree) → unbuilt_query tree ≡ None → (a : Answer) × AnswersSources files command tree roots a
+sources_answers exists imports files command tree roots built =
+    let told = exists (sources_of roots) in
+    let answer = imported_answers imports files command tree roots told.0 built told.1 in
+    (answer.0, (told.0, told.1, answer.1))
 
-parsed_answers : ImportsAreSchemaSets → (files : Files) (command : Command) (p : Parsing) → (a : Answer) × AnswersParsed files command p a
-parsed_answers imports files command (parsed tree) = built_answers imports files command tree (unbuilt_query tree) refl
-parsed_answers imports files command (refused rule place) = (refuses status.Query (placed_line (rule_code rule) place), refl)
+built_answers : AnImportExists → ImportsAreSchemaSets → (files : Files) (command : Command) (tree : SyntaxQuery) (unbuilt : Option Place) → unbuilt_query tree ≡ unbuilt → (a : Answer) × AnswersBuilt files command tree unbuilt a
+built_answers exists imports files command tree None built =
+    files_answers status.Schema files (schema_files tree) [] (length (schema_files tree)) (AnswersSources files command tree) tt (omega arith)
+    (λ roots are each. sources_answers exists imports files command tree roots built)
+built_answers exists imports files command tree (Some place) built = (refuses status.Query (placed_line XPST0003 place), refl)
 
-file_answers : ImportsAreSchemaSets → (files : Files) (command : Command) (bytes : List ℕ) (short : Bool) → (a : Answer) × MatchBool short (AnswersBytes files command bytes a) (a ≡ refuses status.Query (code_line GLXS0001))
-file_answers imports files command bytes false = (refuses status.Query (code_line GLXS0001), refl)
-file_answers imports files command bytes true =
+parsed_answers : AnImportExists → ImportsAreSchemaSets → (files : Files) (command : Command) (p : Parsing) → (a : Answer) × AnswersParsed files command p a
+parsed_answers exists imports files command (parsed tree) = built_answers exists imports files command tree (unbuilt_query tree) refl
+parsed_answers exists imports files command (refused rule place) = (refuses status.Query (placed_line (rule_code rule) place), refl)
+
+file_answers : AnImportExists → ImportsAreSchemaSets → (files : Files) (command : Command) (bytes : List ℕ) (short : Bool) → (a : Answer) × MatchBool short (AnswersBytes files command bytes a) (a ≡ refuses status.Query (code_line GLXS0001))
+file_answers exists imports files command bytes false = (refuses status.Query (code_line GLXS0001), refl)
+file_answers exists imports files command bytes true =
     let parsing = a_parsing_exists bytes in
-    let answer = parsed_answers imports files command parsing.0 in
+    let answer = parsed_answers exists imports files command parsing.0 in
     (answer.0, (parsing.0, parsing.1, answer.1))
 
-loaded_answers : ImportsAreSchemaSets → (files : Files) (command : Command) (file : Option (List ℕ)) → (a : Answer) × AnswersFile files command file a
-loaded_answers imports files command None = (refuses status.ReadFault (read_fault_line (query_file command)), refl)
-loaded_answers imports files command (Some bytes) = file_answers imports files command bytes (nat_le (length bytes) FILE_BYTES)
+loaded_answers : AnImportExists → ImportsAreSchemaSets → (files : Files) (command : Command) (file : Option (List ℕ)) → (a : Answer) × AnswersFile files command file a
+loaded_answers exists imports files command None = (refuses status.ReadFault (read_fault_line (query_file command)), refl)
+loaded_answers exists imports files command (Some bytes) = file_answers exists imports files command bytes (nat_le (length bytes) FILE_BYTES)
 
-command_answers : ImportsAreSchemaSets → (files : Files) (command : Option Command) → (a : Answer) × AnswersCommand files command a
-command_answers imports files None = (refuses status.Usage usage_line, refl)
-command_answers imports files (Some command) = loaded_answers imports files command (file_of files (query_file command))
+command_answers : AnImportExists → ImportsAreSchemaSets → (files : Files) (command : Option Command) → (a : Answer) × AnswersCommand files command a
+command_answers exists imports files None = (refuses status.Usage usage_line, refl)
+command_answers exists imports files (Some command) = loaded_answers exists imports files command (file_of files (query_file command))
 
 -- two texts that are compared
 texts_answer : (left right : List ℕ) → (a : Answer) × AnswersTexts left right a
@@ -179,9 +186,9 @@ texts_answer left right =
       | inr (inr b) ↦ (writes (line b.0), inr (inr (b.0, b.1, refl)))
     ]
 
-words_answer : ImportsAreSchemaSets → (files : Files) (texts : Option (List ℕ × List ℕ)) (asked : Option Command) → (a : Answer) × AnswersWords files texts asked a
-words_answer imports files (Some texts) asked = texts_answer (chars texts.0) (chars texts.1)
-words_answer imports files None asked = command_answers imports files asked
+words_answer : AnImportExists → ImportsAreSchemaSets → (files : Files) (texts : Option (List ℕ × List ℕ)) (asked : Option Command) → (a : Answer) × AnswersWords files texts asked a
+words_answer exists imports files (Some texts) asked = texts_answer (chars texts.0) (chars texts.1)
+words_answer exists imports files None asked = command_answers exists imports files asked
 
-pub an_answer_exists : ImportsAreSchemaSets → AnAnswerExists
-an_answer_exists imports words files = words_answer imports files (texts_to_compare words) (command_of words)
+pub an_answer_exists : AnImportExists → ImportsAreSchemaSets → AnAnswerExists
+an_answer_exists exists imports words files = words_answer exists imports files (texts_to_compare words) (command_of words)

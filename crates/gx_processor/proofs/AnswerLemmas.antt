@@ -7,7 +7,8 @@ use Rattle.std.proofs.lemmas.Slice.Eq.{bytes_eq-Decides}
 use Rattle.gx_subtype.proofs.OneText.{one_text}
 use Rattle.gx_base.specs.declared.code.Code.TheVariants.{GLXS0001, SENR0001}
 use Rattle.gx_types.specs.SchemaSet.{SchemaSet}
-use Rattle.gx_schema.specs.Import.{Imported, declares, breaks, imported}
+use Rattle.gx_schema.specs.Import.{Imported, declares, breaks}
+use Rattle.gx_schema.specs.Laws.{ImportsAreOne}
 use Rattle.gx_core.specs.declared.expression.Core.{Core}
 use Rattle.gx_core.specs.declared.typed.TypedCore.{TypedCore}
 use Rattle.gx_core.specs.Expression.{outer_of}
@@ -35,7 +36,7 @@ use Rattle.gx_processor.specs.Command.{Command, run_file, check_file, query_file
 use Rattle.gx_processor.specs.Externals.{external_words}
 use Rattle.gx_processor.specs.SchemaFiles.{schema_files, sources_of}
 use Rattle.gx_processor.specs.FaultLines.{line, code_line, placed_line, long_document_line, document_line}
-use Rattle.gx_processor.specs.Answer.{Answer, writes, refuses, can_be_written, AnswersOutcome, AnswersEvaluated, AnswersRead, AnswersLoaded, AnswersFiles, AnswersOver, AnswersBound, AnswersTyped, AnswersJudged, AnswersNamed, AnswersImported, AnswersBuilt, AnswersParsed, AnswersBytes, AnswersFile, AnswersCommand, AnswersTexts, AnswersWords, Answers, ChecksRefuseForRuns}
+use Rattle.gx_processor.specs.Answer.{Answer, writes, refuses, can_be_written, AnswersOutcome, AnswersEvaluated, AnswersRead, AnswersLoaded, AnswersFiles, AnswersOver, AnswersBound, AnswersTyped, AnswersJudged, AnswersNamed, AnswersImported, AnswersSources, AnswersBuilt, AnswersParsed, AnswersBytes, AnswersFile, AnswersCommand, AnswersTexts, AnswersWords, Answers, ChecksRefuseForRuns}
 
 outcome_unique : (o : Outcome Items) (a b : Answer) → AnswersOutcome o a → AnswersOutcome o b → a ≡ b
 outcome_unique (gives items forest) a b h k = h ∙ sym k
@@ -96,33 +97,37 @@ named_unique files command schemas (unknown_name place code) a b h k = h ∙ sym
 
 imported_unique : (files : Files) (command : Command) (tree : SyntaxQuery) (names : List (List ℕ)) (told : Imported) (a b : Answer) → AnswersImported files command tree names told a → AnswersImported files command tree names told b → a ≡ b
 imported_unique files command tree names (declares schemas) a b h k = named_unique files command schemas (query_named schemas tree) a b h k
-imported_unique files command tree names (breaks rule file name) a b h k = h ∙ sym k
+imported_unique files command tree names (breaks rule file name list) a b h k = h ∙ sym k
 
-built_unique : (files : Files) (command : Command) (tree : SyntaxQuery) (unbuilt : Option Place) (a b : Answer) → AnswersBuilt files command tree unbuilt a → AnswersBuilt files command tree unbuilt b → a ≡ b
-built_unique files command tree None a b h k =
-    files_unique status.Schema files (schema_files tree) [] (λ roots next. AnswersImported files command tree (schema_files tree) (imported (sources_of roots)) next) a b
-    (λ roots f g. imported_unique files command tree (schema_files tree) (imported (sources_of roots)) a b f g) h k
-built_unique files command tree (Some place) a b h k = h ∙ sym k
+sources_unique : ImportsAreOne → (files : Files) (command : Command) (tree : SyntaxQuery) (roots : List SourceTree) (a b : Answer) → AnswersSources files command tree roots a → AnswersSources files command tree roots b → a ≡ b
+sources_unique single files command tree roots a b h k =
+    imported_unique files command tree (schema_files tree) h.0 a b h.2
+    (subst (λ (told : Imported). AnswersImported files command tree (schema_files tree) told b) (single (sources_of roots) k.0 h.0 k.1 h.1) k.2)
 
-parsed_unique : (files : Files) (command : Command) (p : Parsing) (a b : Answer) → AnswersParsed files command p a → AnswersParsed files command p b → a ≡ b
-parsed_unique files command (parsed tree) a b h k = built_unique files command tree (unbuilt_query tree) a b h k
-parsed_unique files command (refused rule place) a b h k = h ∙ sym k
+built_unique : ImportsAreOne → (files : Files) (command : Command) (tree : SyntaxQuery) (unbuilt : Option Place) (a b : Answer) → AnswersBuilt files command tree unbuilt a → AnswersBuilt files command tree unbuilt b → a ≡ b
+built_unique single files command tree None a b h k =
+    files_unique status.Schema files (schema_files tree) [] (AnswersSources files command tree) a b (λ roots f g. sources_unique single files command tree roots a b f g) h k
+built_unique single files command tree (Some place) a b h k = h ∙ sym k
 
-bytes_unique : (files : Files) (command : Command) (bytes : List ℕ) (a b : Answer) → AnswersBytes files command bytes a → AnswersBytes files command bytes b → a ≡ b
-bytes_unique files command bytes a b h k =
-    parsed_unique files command h.0 a b h.2 (subst (λ (p : Parsing). AnswersParsed files command p b) (one_parsing bytes k.0 h.0 k.1 h.1) k.2)
+parsed_unique : ImportsAreOne → (files : Files) (command : Command) (p : Parsing) (a b : Answer) → AnswersParsed files command p a → AnswersParsed files command p b → a ≡ b
+parsed_unique single files command (parsed tree) a b h k = built_unique single files command tree (unbuilt_query tree) a b h k
+parsed_unique single files command (refused rule place) a b h k = h ∙ sym k
 
-match_unique : (files : Files) (command : Command) (short : Bool) (bytes : List ℕ) (c a b : Answer) → MatchBool short (AnswersBytes files command bytes a) (a ≡ c) → MatchBool short (AnswersBytes files command bytes b) (b ≡ c) → a ≡ b
-match_unique files command true bytes c a b h k = bytes_unique files command bytes a b h k
-match_unique files command false bytes c a b h k = h ∙ sym k
+bytes_unique : ImportsAreOne → (files : Files) (command : Command) (bytes : List ℕ) (a b : Answer) → AnswersBytes files command bytes a → AnswersBytes files command bytes b → a ≡ b
+bytes_unique single files command bytes a b h k =
+    parsed_unique single files command h.0 a b h.2 (subst (λ (p : Parsing). AnswersParsed files command p b) (one_parsing bytes k.0 h.0 k.1 h.1) k.2)
 
-file_unique : (files : Files) (command : Command) (file : Option (List ℕ)) (a b : Answer) → AnswersFile files command file a → AnswersFile files command file b → a ≡ b
-file_unique files command None a b h k = h ∙ sym k
-file_unique files command (Some bytes) a b h k = match_unique files command (nat_le (length bytes) 16777216) bytes (refuses status.Query (code_line GLXS0001)) a b h k
+match_unique : ImportsAreOne → (files : Files) (command : Command) (short : Bool) (bytes : List ℕ) (c a b : Answer) → MatchBool short (AnswersBytes files command bytes a) (a ≡ c) → MatchBool short (AnswersBytes files command bytes b) (b ≡ c) → a ≡ b
+match_unique single files command true bytes c a b h k = bytes_unique single files command bytes a b h k
+match_unique single files command false bytes c a b h k = h ∙ sym k
 
-pub command_unique : (files : Files) (asked : Option Command) (a b : Answer) → AnswersCommand files asked a → AnswersCommand files asked b → a ≡ b
-command_unique files None a b h k = h ∙ sym k
-command_unique files (Some command) a b h k = file_unique files command (file_of files (query_file command)) a b h k
+file_unique : ImportsAreOne → (files : Files) (command : Command) (file : Option (List ℕ)) (a b : Answer) → AnswersFile files command file a → AnswersFile files command file b → a ≡ b
+file_unique single files command None a b h k = h ∙ sym k
+file_unique single files command (Some bytes) a b h k = match_unique single files command (nat_le (length bytes) 16777216) bytes (refuses status.Query (code_line GLXS0001)) a b h k
+
+pub command_unique : ImportsAreOne → (files : Files) (asked : Option Command) (a b : Answer) → AnswersCommand files asked a → AnswersCommand files asked b → a ≡ b
+command_unique single files None a b h k = h ∙ sym k
+command_unique single files (Some command) a b h k = file_unique single files command (file_of files (query_file command)) a b h k
 
 texts_unique : (left right : List ℕ) (a b : Answer) → AnswersTexts left right a → AnswersTexts left right b → a ≡ b
 texts_unique left right a b (inl h) (inl k) = h.1 ∙ sym k.1
@@ -135,12 +140,12 @@ texts_unique left right a b (inr (inr h)) (inl k) = absurd (k.0 h.1.1.lower h.1.
 texts_unique left right a b (inr (inr h)) (inr (inl k)) = absurd (k.2 h.1.1.upper h.1.1.right_is)
 texts_unique left right a b (inr (inr h)) (inr (inr k)) = h.2 ∙ ap (λ (bytes : List ℕ). writes (line bytes)) (one_text left right h.0 k.0 h.1 k.1) ∙ sym k.2
 
-words_unique : (files : Files) (texts : Option (List ℕ × List ℕ)) (asked : Option Command) (a b : Answer) → AnswersWords files texts asked a → AnswersWords files texts asked b → a ≡ b
-words_unique files (Some texts) asked a b h k = texts_unique (chars texts.0) (chars texts.1) a b h k
-words_unique files None asked a b h k = command_unique files asked a b h k
+words_unique : ImportsAreOne → (files : Files) (texts : Option (List ℕ × List ℕ)) (asked : Option Command) (a b : Answer) → AnswersWords files texts asked a → AnswersWords files texts asked b → a ≡ b
+words_unique single files (Some texts) asked a b h k = texts_unique (chars texts.0) (chars texts.1) a b h k
+words_unique single files None asked a b h k = command_unique single files asked a b h k
 
-pub answer_unique : (words : List (List ℕ)) (files : Files) (a b : Answer) → Answers words files a → Answers words files b → a ≡ b
-answer_unique words files a b h k = words_unique files (texts_to_compare words) (command_of words) a b h k
+pub answer_unique : ImportsAreOne → (words : List (List ℕ)) (files : Files) (a b : Answer) → Answers words files a → Answers words files b → a ≡ b
+answer_unique single words files a b h k = words_unique single files (texts_to_compare words) (command_of words) a b h k
 
 -- the parts of two pairs that are equal
 pub same_parts : (p q : List ℕ × List ℕ) → Some p ≡ Some q → (p.0 ≡ q.0) × (p.1 ≡ q.1)
@@ -193,7 +198,11 @@ named_refused files name bindings schemas (unknown_name place code) status line 
 imported_refused : (files : Files) (name : List ℕ) (bindings : List (List ℕ)) (tree : SyntaxQuery) (names : List (List ℕ)) (told : Imported) (status : Status) (line : List ℕ) → AnswersImported files (check_file name) tree names told (refuses status line)
     → AnswersImported files (run_file name bindings) tree names told (refuses status line)
 imported_refused files name bindings tree names (declares schemas) status line h = named_refused files name bindings schemas (query_named schemas tree) status line h
-imported_refused files name bindings tree names (breaks rule file construct) status line h = h
+imported_refused files name bindings tree names (breaks rule file construct list) status line h = h
+
+sources_refused : (files : Files) (name : List ℕ) (bindings : List (List ℕ)) (tree : SyntaxQuery) (roots : List SourceTree) (status : Status) (line : List ℕ) → AnswersSources files (check_file name) tree roots (refuses status line)
+    → AnswersSources files (run_file name bindings) tree roots (refuses status line)
+sources_refused files name bindings tree roots status line h = (h.0, h.1, imported_refused files name bindings tree (schema_files tree) h.0 status line h.2)
 
 -- what follows from the roots of files that hold documents follows from the files
 read_through : (told : Status) (file bytes : List ℕ) (Next Other : SourceTree → Answer → Type 0) (a : Answer) → ((t : SourceTree) → Next t a → Other t a) → AnswersRead told file bytes Next a → AnswersRead told file bytes Other a
@@ -219,9 +228,8 @@ files_through told files (name ∷ names) before Next Other a f h =
 built_refused : (files : Files) (name : List ℕ) (bindings : List (List ℕ)) (tree : SyntaxQuery) (unbuilt : Option Place) (told : Status) (line : List ℕ) → AnswersBuilt files (check_file name) tree unbuilt (refuses told line)
     → AnswersBuilt files (run_file name bindings) tree unbuilt (refuses told line)
 built_refused files name bindings tree None told line h =
-    files_through status.Schema files (schema_files tree) [] (λ roots next. AnswersImported files (check_file name) tree (schema_files tree) (imported (sources_of roots)) next)
-    (λ roots next. AnswersImported files (run_file name bindings) tree (schema_files tree) (imported (sources_of roots)) next) (refuses told line)
-    (λ roots k. imported_refused files name bindings tree (schema_files tree) (imported (sources_of roots)) told line k) h
+    files_through status.Schema files (schema_files tree) [] (AnswersSources files (check_file name) tree) (AnswersSources files (run_file name bindings) tree) (refuses told line)
+    (λ roots k. sources_refused files name bindings tree roots told line k) h
 built_refused files name bindings tree (Some place) told line h = h
 
 parsed_refused : (files : Files) (name : List ℕ) (bindings : List (List ℕ)) (p : Parsing) (status : Status) (line : List ℕ) → AnswersParsed files (check_file name) p (refuses status line) → AnswersParsed files (run_file name bindings) p (refuses status line)

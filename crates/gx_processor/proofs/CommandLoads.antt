@@ -14,7 +14,8 @@ use Rattle.gx_syntax.specs.Query.{parsed, Parses}
 use Rattle.gx_xml.specs.Reading.{IsDocumentOf}
 use Rattle.gx_xml.specs.SourceTree.{SourceTree}
 use Rattle.gx_xml.proofs.OneReading.{one_document}
-use Rattle.gx_schema.specs.Import.{Imported, declares, breaks, imported}
+use Rattle.gx_schema.specs.Import.{Imported, declares, breaks, IsImported}
+use Rattle.gx_schema.specs.Laws.{ImportsAreOne}
 use Rattle.gx_documents.specs.declared.documents.DocumentFault.TheVariants as faults
 use Rattle.gx_documents.specs.Documents.{Files, HoldsKept, HoldKept, DocumentsLoaded}
 use Rattle.gx_documents.proofs.ReadLemmas.{rose_since}
@@ -61,22 +62,23 @@ same_roots files (name ∷ names) (x ∷ a) (y ∷ b) h k = ap₂ (λ (root : So
 
 abbrev schemas_told : Imported → SchemaSet → SchemaSet
 schemas_told (declares schemas) other = schemas
-schemas_told (breaks rule file name) other = other
+schemas_told (breaks rule file name list) other = other
 
 -- under which a query imports one set of schemas
-one_import : (files : Files) (tree other : SyntaxQuery) (a b : SchemaSet) → tree ≡ other → ImportsSchemas files tree a → ImportsSchemas files other b → a ≡ b
-one_import files tree other a b same h k =
+one_import : ImportsAreOne → (files : Files) (tree other : SyntaxQuery) (a b : SchemaSet) → tree ≡ other → ImportsSchemas files tree a → ImportsSchemas files other b → a ≡ b
+one_import single files tree other a b same h k =
     let roots = same_roots files (schema_files tree) h.roots k.roots h.held (subst (λ (t : SyntaxQuery). HoldKept KeepsRoot files (schema_files t) k.roots) (sym same) k.held) in
-    ap (λ (told : Imported). schemas_told told a) (sym h.imports ∙ ap (λ (rs : List SourceTree). imported (sources_of rs)) roots ∙ k.imports)
+    ap (λ (told : Imported). schemas_told told a)
+    (single (sources_of k.roots) (declares a) (declares b) (subst (λ (rs : List SourceTree). IsImported (sources_of rs) (declares a)) roots h.imports) k.imports)
 
 abbrev core_named : NamedQuery → Core → Core
 core_named (named_query core) other = core
 core_named (unknown_name place code) other = other
 
-pub one_query : (files : Files) (name : List ℕ) (s u : SchemaSet) (a b : Core) → HoldsQuery files name s a → HoldsQuery files name u b → (s ≡ u) × (a ≡ b)
-one_query files name s u a b q r =
+pub one_query : ImportsAreOne → (files : Files) (name : List ℕ) (s u : SchemaSet) (a b : Core) → HoldsQuery files name s a → HoldsQuery files name u b → (s ≡ u) × (a ≡ b)
+one_query single files name s u a b q r =
     let tree = one_tree files name q.read r.read in
-    let schemas = one_import files q.read.tree r.read.tree s u tree q.imports r.imports in
+    let schemas = one_import single files q.read.tree r.read.tree s u tree q.imports r.imports in
     (schemas, ap (λ (n : NamedQuery). core_named n a) (sym q.named ∙ ap₂ query_named schemas tree ∙ r.named))
 
 abbrev typing_judged : QueryJudgement → TypedCore → TypedCore
@@ -119,9 +121,9 @@ abbrev pub RefusedAlways : Files → List ℕ → Refusal → Type 0
 RefusedAlways files name e = (command : Command) → RefusesSo e (AnswersFile files command (file_of files name))
 
 -- has no type
-refused_has_none : (files : Files) (name : List ℕ) (status : Status) (line : List ℕ) → AnswersFile files (check_file name) (file_of files name) (refuses status line) → HoldsTypedQuery files name → ⊥
-refused_has_none files name status line h q =
-    let same = command_unique files (Some (check_file name)) (refuses status line) (writes (type_bytes (query_type q.typing))) h
+refused_has_none : ImportsAreOne → (files : Files) (name : List ℕ) (status : Status) (line : List ℕ) → AnswersFile files (check_file name) (file_of files name) (refuses status line) → HoldsTypedQuery files name → ⊥
+refused_has_none single files name status line h q =
+    let same = command_unique single files (Some (check_file name)) (refuses status line) (writes (type_bytes (query_type q.typing))) h
     (query_answers files (check_file name) q.schemas q.core q.typing (writes (type_bytes (query_type q.typing))) q.query q.judgement refl) in
     cc
 
@@ -129,34 +131,34 @@ query_alone : (files : Files) (command : Command) (loads : List (List ℕ)) → 
 query_alone files (check_file name) loads none h = h
 query_alone files (run_file name bindings) loads none h = (loads, [], h, inr (none, refl), sym (append-nil loads))
 
-query_loads : (files : Files) (command : Command) (loads : List (List ℕ)) (e : Refusal) → IsOfQuery e → RefusedAlways files (query_file command) e → RefusalLoads (QueryLoads files (query_file command)) loads e → RefusalLoads (CommandLoads files command) loads e
-query_loads files command loads refusal.ReadFault own h l = begins files command loads l
-query_loads files command loads refusal.Memory own h l = begins files command loads l
-query_loads files command loads refusal.TooLong own h l = query_alone files command loads (refused_has_none files (query_file command) _ _ (h (check_file (query_file command)))) l
-query_loads files command loads (refusal.Query code place) own h l = query_alone files command loads (refused_has_none files (query_file command) _ _ (h (check_file (query_file command)))) l
-query_loads files command loads (refusal.SchemaFile file faults.Unread) own h l = begins files command loads l
-query_loads files command loads (refusal.SchemaFile file faults.TooLong) own h l = query_alone files command loads (refused_has_none files (query_file command) _ _ (h (check_file (query_file command)))) l
-query_loads files command loads (refusal.SchemaFile file (faults.Refused rule place)) own h l = query_alone files command loads (refused_has_none files (query_file command) _ _ (h (check_file (query_file command)))) l
-query_loads files command loads (refusal.Schema rule file name) own h l = query_alone files command loads (refused_has_none files (query_file command) _ _ (h (check_file (query_file command)))) l
-query_loads files command loads (refusal.Binding fault) own h l = absurd own
-query_loads files command loads (refusal.Document file fault) own h l = absurd own
-query_loads files command loads (refusal.Dynamic code) own h l = absurd own
+query_loads : ImportsAreOne → (files : Files) (command : Command) (loads : List (List ℕ)) (e : Refusal) → IsOfQuery e → RefusedAlways files (query_file command) e → RefusalLoads (QueryLoads files (query_file command)) loads e → RefusalLoads (CommandLoads files command) loads e
+query_loads single files command loads refusal.ReadFault own h l = begins files command loads l
+query_loads single files command loads refusal.Memory own h l = begins files command loads l
+query_loads single files command loads refusal.TooLong own h l = query_alone files command loads (refused_has_none single files (query_file command) _ _ (h (check_file (query_file command)))) l
+query_loads single files command loads (refusal.Query code place) own h l = query_alone files command loads (refused_has_none single files (query_file command) _ _ (h (check_file (query_file command)))) l
+query_loads single files command loads (refusal.SchemaFile file faults.Unread) own h l = begins files command loads l
+query_loads single files command loads (refusal.SchemaFile file faults.TooLong) own h l = query_alone files command loads (refused_has_none single files (query_file command) _ _ (h (check_file (query_file command)))) l
+query_loads single files command loads (refusal.SchemaFile file (faults.Refused rule place)) own h l = query_alone files command loads (refused_has_none single files (query_file command) _ _ (h (check_file (query_file command)))) l
+query_loads single files command loads (refusal.Schema rule file name) own h l = query_alone files command loads (refused_has_none single files (query_file command) _ _ (h (check_file (query_file command)))) l
+query_loads single files command loads (refusal.Binding fault) own h l = absurd own
+query_loads single files command loads (refusal.Document file fault) own h l = absurd own
+query_loads single files command loads (refusal.Dynamic code) own h l = absurd own
 
 may_load_query : (command : Command) (loads schemas : List (List ℕ)) → loads ≡ query_file command ∷ schemas → MayLoad (Some command) loads
 may_load_query (check_file name) loads schemas h = (schemas, h)
 may_load_query (run_file name bindings) loads schemas h = (schemas, [], h ∙ ap (λ (ns : List (List ℕ)). name ∷ ns) (sym (append-nil schemas)), tt)
 
-refused_loads : (V : Type 0) (told : Option Files) (command : Command) (loads : List (List ℕ)) (e : Refusal) → IsOfQuery e → IfSome told (λ files. RefusedAlways files (query_file command) e)
+refused_loads : ImportsAreOne → (V : Type 0) (told : Option Files) (command : Command) (loads : List (List ℕ)) (e : Refusal) → IsOfQuery e → IfSome told (λ files. RefusedAlways files (query_file command) e)
     → IfSome told (λ files. RefusalLoads (QueryLoads files (query_file command)) loads e) → IfSome told (λ files. OutcomeLoads {V = V} (CommandLoads files command) loads (Err e))
-refused_loads V None command loads e own h l = tt
-refused_loads V (Some files) command loads e own h l = query_loads files command loads e own h l
+refused_loads single V None command loads e own h l = tt
+refused_loads single V (Some files) command loads e own h l = query_loads single files command loads e own h l
 
-pub query_refusal_loads : {V : Type 0} (library : LibraryUse) (command : Command) (e : Refusal) → QuerySo library (query_file command) (Err e) → OutputLoads {V = V} library command (Err e)
-query_refusal_loads {V} library command e q = record {
+pub query_refusal_loads : ImportsAreOne → {V : Type 0} (library : LibraryUse) (command : Command) (e : Refusal) → QuerySo library (query_file command) (Err e) → OutputLoads {V = V} library command (Err e)
+query_refusal_loads single {V} library command e q = record {
   names = q.loads;
   loaded = q.loaded;
   may = may_load_query command q.loads q.first.0 q.first.1;
-  told = refused_loads V (library.files library.before) command q.loads e q.own q.refused q.told;
+  told = refused_loads single V (library.files library.before) command q.loads e q.own q.refused q.told;
   failed = q.failed;
 }
 
@@ -194,7 +196,7 @@ check_loads library name loads schemas (Err (refusal.Dynamic code)) only first t
 
 -- ---- a run
 
-module _ (files : Files) (name : List ℕ) (bindings : List (List ℕ)) (query : TypedQuery) (q : HoldsQuery files name query.schemas (plain_query query.core)) (j : query_judged query.schemas (plain_query query.core) ≡ query_typed query.core)
+module _ (single : ImportsAreOne) (files : Files) (name : List ℕ) (bindings : List (List ℕ)) (query : TypedQuery) (q : HoldsQuery files name query.schemas (plain_query query.core)) (j : query_judged query.schemas (plain_query query.core) ≡ query_typed query.core)
     (front : List (List ℕ)) (f : QueryLoads files name front) where
   abbrev held : HoldsTypedQuery files name
   held = record { schemas = query.schemas; core = plain_query query.core; typing = query.core; query = q; judgement = j }
@@ -207,7 +209,7 @@ module _ (files : Files) (name : List ℕ) (bindings : List (List ℕ)) (query :
 
   same_run : (typed : HoldsTypedQuery files name) (loads : List (List ℕ)) → RunLoads files bindings typed.schemas typed.core typed.typing loads → Loaded loads
   same_run typed loads h =
-      let same = one_query files name typed.schemas query.schemas typed.core (plain_query query.core) typed.query q in
+      let same = one_query single files name typed.schemas query.schemas typed.core (plain_query query.core) typed.query q in
       let same_typing = one_typing typed.schemas query.schemas typed.core (plain_query query.core) typed.typing query.core same.0 same.1 typed.judgement j in
       subst (λ (s : SchemaSet). RunLoads files bindings s (plain_query query.core) query.core loads) same.0
       (subst (λ (c : Core). RunLoads files bindings typed.schemas c query.core loads) same.1 (subst (λ (u : TypedCore). RunLoads files bindings typed.schemas typed.core u loads) same_typing h))
@@ -296,16 +298,16 @@ all_told : {Told : Type 0} (told : Option Told) (P Q R S : Told → Type 0) → 
 all_told None P Q R S f p q r = tt
 all_told (Some x) P Q R S f p q r = f x p q r
 
-pub run_loads : {Z : Type 0} (library : LibraryUse) (between : library.Library) (name : List ℕ) (bindings : List (List ℕ)) (query : TypedQuery) (result : Result (String Z) Refusal) → library.files between ≡ library.files library.before
+pub run_loads : ImportsAreOne → {Z : Type 0} (library : LibraryUse) (between : library.Library) (name : List ℕ) (bindings : List (List ℕ)) (query : TypedQuery) (result : Result (String Z) Refusal) → library.files between ≡ library.files library.before
     → library.faults library.before ≤ library.faults between → QuerySo (before library between) name (Ok query) → query_judged query.schemas (plain_query query.core) ≡ query_typed query.core → RunsSo (behind library between) bindings query.schemas query.core result
     → OutputLoads library (run_file name bindings) result
-run_loads library between name bindings query result same counted q j r = record {
+run_loads single library between name bindings query result same counted q j r = record {
   names = q.loads ++ r.names;
   loaded = loads_append library.was_loaded q.loads r.names library.before between library.after q.loaded r.loaded;
   may = (q.first.0, r.names, ap (λ (ns : List (List ℕ)). ns ++ r.names) q.first.1, r.bound);
   told = all_told (library.files library.before) (λ files. HoldsQuery files name query.schemas (plain_query query.core)) (λ files. QueryLoads files name q.loads)
       (λ files. OutcomeLoads (RunLoads files bindings query.schemas (plain_query query.core) query.core) r.names result) (λ files. OutcomeLoads (CommandLoads files (run_file name bindings)) (q.loads ++ r.names) result)
-      (λ files held loads h. outcome_loads files name bindings query held j q.loads loads r.names result r.own h) q.held q.told
+      (λ files held loads h. outcome_loads single files name bindings query held j q.loads loads r.names result r.own h) q.held q.told
       (subst (λ (told : Option Files). IfSome told (λ files. OutcomeLoads (RunLoads files bindings query.schemas (plain_query query.core) query.core) r.names result)) same r.told);
   failed = run_fails library between name q.loads r.names result q.loaded counted r.own r.failed;
 }

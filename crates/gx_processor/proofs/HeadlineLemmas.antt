@@ -6,8 +6,8 @@ use Rattle.std.proofs.lemmas.List.{append-nil}
 use Rattle.gx_base.specs.declared.code.Code.TheVariants.{GLXS0001, SENR0001}
 use Rattle.gx_types.specs.SchemaSet.{SchemaSet}
 use Rattle.gx_types.specs.SchemaInvariant.{IsSchemaSet}
-use Rattle.gx_schema.specs.Import.{Imported, declares, breaks, imported}
-use Rattle.gx_schema.specs.Laws.{ImportsAreSchemaSets}
+use Rattle.gx_schema.specs.Import.{Imported, declares, breaks, IsImported}
+use Rattle.gx_schema.specs.Laws.{ImportsAreOne, ImportsAreSchemaSets}
 use Rattle.gx_core.specs.declared.expression.Core.{Core}
 use Rattle.gx_core.specs.declared.typed.TypedCore.{TypedCore}
 use Rattle.gx_model.specs.Item.{Items}
@@ -40,7 +40,7 @@ use Rattle.gx_processor.specs.SchemaFiles.{schema_files, sources_of, KeepsRoot}
 use Rattle.gx_processor.specs.NamedQuery.{NamedQuery, named_query, unknown_name, query_named}
 use Rattle.gx_processor.specs.TypeBytes.{type_bytes}
 use Rattle.gx_processor.specs.FaultLines.{code_line, placed_line, long_document_line}
-use Rattle.gx_processor.specs.Answer.{Answer, writes, refuses, status_of, output_of, can_be_written, AnswersOutcome, AnswersEvaluated, AnswersRead, AnswersLoaded, AnswersFiles, AnswersOver, AnswersBound, AnswersRun, AnswersTyped, AnswersJudged, AnswersNamed, AnswersImported, AnswersSchemas, AnswersBuilt, AnswersParsed, AnswersBytes, AnswersFile, Answers}
+use Rattle.gx_processor.specs.Answer.{Answer, writes, refuses, status_of, output_of, can_be_written, AnswersOutcome, AnswersEvaluated, AnswersRead, AnswersLoaded, AnswersFiles, AnswersOver, AnswersBound, AnswersRun, AnswersTyped, AnswersJudged, AnswersNamed, AnswersImported, AnswersSources, AnswersSchemas, AnswersBuilt, AnswersParsed, AnswersBytes, AnswersFile, Answers}
 use Rattle.gx_processor.specs.Run.{Run}
 use Rattle.gx_processor.specs.Promises.{LeavesAnswer}
 use Rattle.gx_processor.specs.Headline.{BindDocuments, RunEnds, RunsTyped, ChecksTyped, HoldsTyped, RunsAsChecked, RejectsUntyped}
@@ -77,25 +77,25 @@ files_answer told files (name ∷ names) (t ∷ roots) before Next a h k =
     subst (λ (f : List SourceTree). Next f a) (append_assoc before (t ∷ []) roots) (files_answer told files names roots (before ++ t ∷ []) Next a h.1 next)
 
 -- the answer to words that name a command over a file with a query of this Core
-schemas_answer : (files : Files) (command : Command) (tree : SyntaxQuery) (schemas : SchemaSet) (a : Answer) → ImportsSchemas files tree schemas → AnswersSchemas files command tree a → AnswersNamed files command schemas (query_named schemas tree) a
-schemas_answer files command tree schemas a i h =
-    let of_roots = files_answer Schema files (schema_files tree) i.roots [] (λ roots next. AnswersImported files command tree (schema_files tree) (imported (sources_of roots)) next) a i.held h in
-    subst (λ (told : Imported). AnswersImported files command tree (schema_files tree) told a) i.imports of_roots
+schemas_answer : ImportsAreOne → (files : Files) (command : Command) (tree : SyntaxQuery) (schemas : SchemaSet) (a : Answer) → ImportsSchemas files tree schemas → AnswersSchemas files command tree a → AnswersNamed files command schemas (query_named schemas tree) a
+schemas_answer single files command tree schemas a i h =
+    let of_roots = files_answer Schema files (schema_files tree) i.roots [] (AnswersSources files command tree) a i.held h in
+    subst (λ (told : Imported). AnswersImported files command tree (schema_files tree) told a) (single (sources_of i.roots) of_roots.0 (declares schemas) of_roots.1 i.imports) of_roots.2
 
-judged_answer : (words : List (List ℕ)) (files : Files) (command : Command) (schemas : SchemaSet) (core : Core) (a : Answer) → command_of words ≡ Some command → HoldsQuery files (query_file command) schemas core → Answers words files a
+judged_answer : ImportsAreOne → (words : List (List ℕ)) (files : Files) (command : Command) (schemas : SchemaSet) (core : Core) (a : Answer) → command_of words ≡ Some command → HoldsQuery files (query_file command) schemas core → Answers words files a
     → AnswersJudged files command schemas core (query_judged schemas core) a
-judged_answer words files command schemas core a e q h =
+judged_answer single words files command schemas core a e q h =
     let r = q.read in
     let at = answer_at words files command r.bytes a e r.held h in
     let of_bytes = short_answer files command (nat_le (length r.bytes) 16777216) r.bytes a (refuses Query (code_line GLXS0001)) (le-leb (length r.bytes) 16777216 r.within) at in
     let same = one_parsing r.bytes of_bytes.0 (parsed r.tree) of_bytes.1 r.query.parses in
     let of_tree = subst (λ (p : Parsing). AnswersParsed files command p a) same of_bytes.2 in
     let of_built = subst (λ (o : Option Place). AnswersBuilt files command r.tree o a) r.query.built of_tree in
-    subst (λ (n : NamedQuery). AnswersNamed files command schemas n a) q.named (schemas_answer files command r.tree schemas a q.imports of_built)
+    subst (λ (n : NamedQuery). AnswersNamed files command schemas n a) q.named (schemas_answer single files command r.tree schemas a q.imports of_built)
 
-typed_answer : (words : List (List ℕ)) (files : Files) (command : Command) (schemas : SchemaSet) (core : Core) (t : TypedCore) (a : Answer) → command_of words ≡ Some command → HoldsQuery files (query_file command) schemas core
+typed_answer : ImportsAreOne → (words : List (List ℕ)) (files : Files) (command : Command) (schemas : SchemaSet) (core : Core) (t : TypedCore) (a : Answer) → command_of words ≡ Some command → HoldsQuery files (query_file command) schemas core
     → query_judged schemas core ≡ query_typed t → Answers words files a → AnswersTyped files command schemas core t a
-typed_answer words files command schemas core t a e q j h = subst (λ (k : QueryJudgement). AnswersJudged files command schemas core k a) j (judged_answer words files command schemas core a e q h)
+typed_answer single words files command schemas core t a e q j h = subst (λ (k : QueryJudgement). AnswersJudged files command schemas core k a) j (judged_answer single words files command schemas core a e q h)
 
 -- the documents that the words bind
 trees_of_documents : (files : Files) (names : List (List ℕ)) (trees : Forest) → HoldTrees files names trees → AreDocumentTrees trees × (length trees ≡ length names)
@@ -143,10 +143,10 @@ run_answer files bindings schemas core t documents a yes' b h =
     subst (λ (f : Forest). AnswersEvaluated schemas core f a) (sym held.2)
     (files_answer Document files (files_bound (external_words core.declarations) bindings) held.0 [] (AnswersOver schemas core) a held.1 read)
 
-pub typed_run : (run : Run) (files : Files) → TypesAreKept → ImportsAreSchemaSets → NamedQueriesHaveUntypedDocuments → AnsweredOrStarved run files → RunsTyped run files
-typed_run run files kept sound untyped (inr m) name bindings schemas core t documents e q j yes' b = inr (inr m)
-typed_run run files kept sound untyped (inl answered) name bindings schemas core t documents e q j yes' b =
-    let of_run = typed_answer run.words files (run_file name bindings) schemas core t answered.answer e q j answered.answers in
+pub typed_run : ImportsAreOne → (run : Run) (files : Files) → TypesAreKept → ImportsAreSchemaSets → NamedQueriesHaveUntypedDocuments → AnsweredOrStarved run files → RunsTyped run files
+typed_run single run files kept sound untyped (inr m) name bindings schemas core t documents e q j yes' b = inr (inr m)
+typed_run single run files kept sound untyped (inl answered) name bindings schemas core t documents e q j yes' b =
+    let of_run = typed_answer single run.words files (run_file name bindings) schemas core t answered.answer e q j answered.answers in
     let of_outcome = run_answer files bindings schemas core t documents answered.answer yes' b of_run in
     let trees = trees_of_documents files (files_bound (external_words core.declarations) bindings) documents b.held in
     let each = trees.1 ∙ length_bound (external_words core.declarations) bindings in
@@ -154,10 +154,10 @@ typed_run run files kept sound untyped (inl answered) name bindings schemas core
     let keeps = kept schemas core t documents invariant trees.0 each (untyped schemas q.read.tree core q.read.query.built q.named) j in
     outcome_runs run schemas core t documents (query_outcome schemas core (document_nodes documents) documents) answered.answer refl keeps of_outcome answered.status answered.sinks
 
-pub typed_check : (run : Run) (files : Files) → AnsweredOrStarved run files → ChecksTyped run files
-typed_check run files (inr m) name schemas core t e q j = inr m
-typed_check run files (inl answered) name schemas core t e q j =
-    let is = typed_answer run.words files (check_file name) schemas core t answered.answer e q j answered.answers in
+pub typed_check : ImportsAreOne → (run : Run) (files : Files) → AnsweredOrStarved run files → ChecksTyped run files
+typed_check single run files (inr m) name schemas core t e q j = inr m
+typed_check single run files (inl answered) name schemas core t e q j =
+    let is = typed_answer single run.words files (check_file name) schemas core t answered.answer e q j answered.answers in
     let sinks = subst (λ (b : Answer). LeavesAnswer b run) is answered.sinks in
     inl (record { status = answered.status ∙ ap status_of is; output = sinks.0; line = sinks.1 })
 
@@ -171,7 +171,7 @@ named_printed : (files : Files) (name : List ℕ) (schemas : SchemaSet) (n : Nam
 named_printed files name schemas (named_query core) printed h = let j = judged_printed files name schemas core (query_judged schemas core) printed h in (core, j.0, refl, j.1, j.2)
 named_printed files name schemas (unknown_name place code) printed h = cc
 
-imported_printed : (files : Files) (name : List ℕ) (read : HoldsSyntax files name) (told : Imported) (roots : List SourceTree) (printed : List ℕ) → HoldKept KeepsRoot files (schema_files read.tree) roots → imported (sources_of roots) ≡ told
+imported_printed : (files : Files) (name : List ℕ) (read : HoldsSyntax files name) (told : Imported) (roots : List SourceTree) (printed : List ℕ) → HoldKept KeepsRoot files (schema_files read.tree) roots → IsImported (sources_of roots) told
     → AnswersImported files (check_file name) read.tree (schema_files read.tree) told (writes printed) → HoldsTyped files name printed
 imported_printed files name read (declares schemas) roots printed held e h =
     let n = named_printed files name schemas (query_named schemas read.tree) printed h in
@@ -183,7 +183,7 @@ imported_printed files name read (declares schemas) roots printed held e h =
       judgement = n.3;
       text = n.4;
     }
-imported_printed files name read (breaks rule file construct) roots printed held e h = cc
+imported_printed files name read (breaks rule file construct list) roots printed held e h = cc
 
 -- an output comes only where all files hold documents
 read_printed : (told : Status) (file bytes : List ℕ) (Next : SourceTree → Answer → Type 0) (printed : List ℕ) → AnswersRead told file bytes Next (writes printed) → (root : SourceTree) × IsDocumentOf bytes root × Next root (writes printed)
@@ -212,8 +212,8 @@ files_printed told files (name ∷ names) before Next printed h =
 
 schemas_printed : (files : Files) (name : List ℕ) (read : HoldsSyntax files name) (printed : List ℕ) → AnswersSchemas files (check_file name) read.tree (writes printed) → HoldsTyped files name printed
 schemas_printed files name read printed h =
-    let all = files_printed Schema files (schema_files read.tree) [] (λ roots next. AnswersImported files (check_file name) read.tree (schema_files read.tree) (imported (sources_of roots)) next) printed h in
-    imported_printed files name read (imported (sources_of all.0)) all.0 printed all.1 refl all.2
+    let all = files_printed Schema files (schema_files read.tree) [] (AnswersSources files (check_file name) read.tree) printed h in
+    imported_printed files name read all.2.0 all.0 printed all.1 all.2.1 all.2.2
 
 built_printed : (files : Files) (name bytes : List ℕ) (tree : SyntaxQuery) (unbuilt : Option Place) (printed : List ℕ) → file_of files name ≡ Some bytes → length bytes ≤ 16777216 → Parses bytes (parsed tree) → unbuilt_query tree ≡ unbuilt
     → AnswersBuilt files (check_file name) tree unbuilt (writes printed) → HoldsTyped files name printed
@@ -238,9 +238,9 @@ run_as_checked run files runs checking name bindings printed e k h =
     let q = file_printed files name (file_of files name) printed refl (answer_asked checking files (check_file name) (writes printed) k h) in
     (q, λ yes' documents b. runs name bindings q.schemas q.core q.typing documents e q.query q.judgement yes' b)
 
-pub rejected_query : (run : Run) (files : Files) → QueryRejectionNamesFailure → AnsweredOrStarved run files → RejectsUntyped run files
-rejected_query run files names (inr m) command schemas core place code e q j = inr m
-rejected_query run files names (inl answered) command schemas core place code e q j =
-    let is = subst (λ (k : QueryJudgement). AnswersJudged files command schemas core k answered.answer) j (judged_answer run.words files command schemas core answered.answer e q answered.answers) in
+pub rejected_query : ImportsAreOne → (run : Run) (files : Files) → QueryRejectionNamesFailure → AnsweredOrStarved run files → RejectsUntyped run files
+rejected_query single run files names (inr m) command schemas core place code e q j = inr m
+rejected_query single run files names (inl answered) command schemas core place code e q j =
+    let is = subst (λ (k : QueryJudgement). AnswersJudged files command schemas core k answered.answer) j (judged_answer single run.words files command schemas core answered.answer e q answered.answers) in
     let sinks = subst (λ (b : Answer). LeavesAnswer b run) is answered.sinks in
     inl (record { fails = names schemas core place code j; status = answered.status ∙ ap status_of is; output = sinks.0; line = sinks.1 })

@@ -1,11 +1,11 @@
 -- What the schemas that a query imports say, from the reading of their files.
-use Rattle.std.proofs.Common.{◌≡◌, ℕ, List, [], Result, Ok, Err, string_bytes, IfErr, MatchResult, inl, inr, refl, sym, ap, subst}
+use Rattle.std.proofs.Common.{◌≡◌, ℕ, List, [], Result, Ok, Err, string_bytes, IfErr, MatchResult, inl, inr, refl, sym, ap₂, subst}
 use Rattle.gx_types.specs.SchemaSet.{SchemaSet}
 use Rattle.gx_io.specs.LibraryUse.{LibraryUse}
 use Rattle.gx_ast.specs.declared.query.Query.{Query as SyntaxQuery}
 use Rattle.gx_xml.specs.declared.source.Source.{Source}
 use Rattle.gx_xml.specs.SourceTree.{SourceTree}
-use Rattle.gx_schema.specs.Import.{Imported, declares, imported}
+use Rattle.gx_schema.specs.Import.{declares, breaks, IsImported}
 use Rattle.gx_documents.specs.declared.documents.DocumentFault.TheVariants as faults
 use Rattle.gx_documents.specs.declared.documents.DocumentsError.{DocumentsError}
 use Rattle.gx_documents.specs.declared.documents.DocumentsError.TheVariants.{Failed, Memory as NoMemory}
@@ -14,12 +14,12 @@ use Rattle.gx_documents.specs.Reading.{EndsWith, HasReadFault, ReadSources}
 use Rattle.gx_processor.specs.declared.refusal.Refusal.{Refusal}
 use Rattle.gx_processor.specs.declared.refusal.Refusal.TheVariants as refusal
 use Rattle.gx_processor.specs.declared.status.Status.TheVariants as status
-use Rattle.gx_processor.specs.Answer.{Answer, refuses, AnswersImported, AnswersSchemas}
+use Rattle.gx_processor.specs.Answer.{Answer, refuses, AnswersSchemas, AnswersSources}
 use Rattle.gx_processor.specs.Command.{Command}
 use Rattle.gx_processor.specs.FaultLines.{import_line}
-use Rattle.gx_processor.specs.ImportReplies.{unread_schema, BreaksRule, DeclaresSo, DeclaredSo, IsOfImport, FailsAtSchema, ImportsSo}
+use Rattle.gx_processor.specs.ImportReplies.{unread_schema, BreaksRule, DeclaresIn, DeclaresSo, DeclaredSo, IsOfImport, FailsAtSchema, ImportsSo}
 use Rattle.gx_processor.specs.Query.{ImportsSchemas}
-use Rattle.gx_processor.specs.SchemaFiles.{schema_files, sources_of}
+use Rattle.gx_processor.specs.SchemaFiles.{schema_files}
 use Rattle.gx_processor.specs.Loading.{AreFirstOf}
 use Rattle.gx_processor.specs.Replies.{RefusesSo, OutcomeLoads}
 use Rattle.gx_processor.proofs.LoadLemmas.{hold_sources, roots_answer, stopped_answers, all_loaded, stopped_loaded, stopped_first, one_load, whole_is_front}
@@ -30,7 +30,7 @@ module _ (tree : SyntaxQuery) where
   names = schema_files tree
 
   abbrev Followed : Files → Command → List SourceTree → Answer → Type 0
-  Followed files command roots next = AnswersImported files command tree (schema_files tree) (imported (sources_of roots)) next
+  Followed files command roots next = AnswersSources files command tree roots next
 
   abbrev Refused : Files → Refusal → Type 0
   Refused files e = (command : Command) → RefusesSo e (AnswersSchemas files command tree)
@@ -80,13 +80,14 @@ module _ (tree : SyntaxQuery) where
   }
 
   -- files that are read
-  broken_answers : (files : Files) (sources : List Source) (loads : List (List ℕ)) (e : Refusal) → EndsWith KeepsSource files names loads (Ok sources) → BreaksRule names (imported sources) e → Refused files e
+  broken_answers : (files : Files) (sources : List Source) (loads : List (List ℕ)) (e : Refusal) → EndsWith KeepsSource files names loads (Ok sources) → BreaksRule names sources e → Refused files e
   broken_answers files sources loads (refusal.Schema rule file construct) ends b command =
       let held = hold_sources files names sources ends.0 in
-      roots_answer status.Schema files names held.0 [] (Followed files command) _ held.1
-      (subst (λ (ss : List Source). AnswersImported files command tree names (imported ss) (refuses status.Schema (import_line rule (string_bytes file) construct))) held.2
-      (subst (λ (told : Imported). AnswersImported files command tree names told (refuses status.Schema (import_line rule (string_bytes file) construct))) (sym b.1)
-      (ap (λ (name : List ℕ). refuses status.Schema (import_line rule name construct)) b.2)))
+      roots_answer status.Schema files names held.0 [] (Followed files command) _ held.1 (
+        breaks rule b.0 b.1 b.2,
+        subst (λ (ss : List Source). IsImported ss (breaks rule b.0 b.1 b.2)) held.2 b.3,
+        ap₂ (λ (name shown : List ℕ). refuses status.Schema (import_line rule name shown)) b.4 b.5,
+      )
   broken_answers files sources loads refusal.Memory ends b command = tt
   broken_answers files sources loads refusal.ReadFault ends b command = absurd b
   broken_answers files sources loads refusal.TooLong ends b command = absurd b
@@ -97,17 +98,17 @@ module _ (tree : SyntaxQuery) where
   broken_answers files sources loads (refusal.Dynamic code) ends b command = absurd b
 
   declared_answers : (files : Files) (sources : List Source) (loads : List (List ℕ)) (result : Result SchemaSet Refusal) → EndsWith KeepsSource files names loads (Ok sources)
-      → MatchResult result (λ schemas. imported sources ≡ declares schemas) (BreaksRule names (imported sources)) → Answered files result
+      → DeclaresIn names sources result → Answered files result
   declared_answers files sources loads (Ok schemas) ends h =
       let held = hold_sources files names sources ends.0 in
-      record { roots = held.0; held = held.1; imports = subst (λ (ss : List Source). imported ss ≡ declares schemas) held.2 h }
+      record { roots = held.0; held = held.1; imports = subst (λ (ss : List Source). IsImported ss (declares schemas)) held.2 h }
   declared_answers files sources loads (Err e) ends h = broken_answers files sources loads e ends h
 
   sources_loaded : (files : Files) (sources : List Source) (loads : List (List ℕ)) → EndsWith KeepsSource files names loads (Ok sources) → DocumentsLoaded files names loads
   sources_loaded files sources loads ends = subst (λ (ns : List (List ℕ)). DocumentsLoaded files names ns) (sym ends.1) (all_loaded KeepsSource files names sources ends.0)
 
   declared_loads : (files : Files) (sources : List Source) (loads : List (List ℕ)) (result : Result SchemaSet Refusal) → EndsWith KeepsSource files names loads (Ok sources)
-      → MatchResult result (λ schemas. imported sources ≡ declares schemas) (BreaksRule names (imported sources)) → OutcomeLoads (DocumentsLoaded files names) loads result
+      → DeclaresIn names sources result → OutcomeLoads (DocumentsLoaded files names) loads result
   declared_loads files sources loads (Ok schemas) ends h = sources_loaded files sources loads ends
   declared_loads files sources loads (Err (refusal.Schema rule file construct)) ends h = sources_loaded files sources loads ends
   declared_loads files sources loads (Err refusal.Memory) ends h = λ whole k. whole_is_front loads whole (one_load files names loads whole (sources_loaded files sources loads ends) k)
@@ -119,7 +120,7 @@ module _ (tree : SyntaxQuery) where
   declared_loads files sources loads (Err (refusal.Document file fault)) ends h = absurd h
   declared_loads files sources loads (Err (refusal.Dynamic code)) ends h = absurd h
 
-  declared_fails : (library : LibraryUse) (sources : List Source) (loads : List (List ℕ)) (result : Result SchemaSet Refusal) → MatchResult result (λ schemas. imported sources ≡ declares schemas) (BreaksRule names (imported sources))
+  declared_fails : (library : LibraryUse) (sources : List Source) (loads : List (List ℕ)) (result : Result SchemaSet Refusal) → DeclaresIn names sources result
       → FailsAtSchema library loads result × IfErr result IsOfImport
   declared_fails library sources loads (Ok schemas) h = (tt, tt)
   declared_fails library sources loads (Err (refusal.Schema rule file construct)) h = (tt, tt)
@@ -163,9 +164,9 @@ module _ (tree : SyntaxQuery) where
 
 -- what the documents that were read declare
 pub declared_so : (library : LibraryUse) (names : List (List ℕ)) (read sources : List Source) (result : Result SchemaSet Refusal) → sources ≡ read → ReadSources library names (Ok read) →
-    MatchResult result (λ schemas. imported sources ≡ declares schemas) (BreaksRule names (imported sources)) → DeclaredSo library names result
+    DeclaresIn names sources result → DeclaredSo library names result
 declared_so library names read sources result e reads told = record {
   read = Ok read;
   reads = reads;
-  follows = subst (λ (all : List Source). MatchResult result (λ schemas. imported all ≡ declares schemas) (BreaksRule names (imported all))) e told;
+  follows = subst (λ (all : List Source). DeclaresIn names all result) e told;
 }

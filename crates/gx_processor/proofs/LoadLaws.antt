@@ -6,7 +6,8 @@ use Rattle.std.proofs.lemmas.List.{append-nil}
 use Rattle.gx_base.specs.declared.code.Code.TheVariants.{GLXS0001, SENR0001}
 use Rattle.gx_base.specs.declared.place.Place.{Place}
 use Rattle.gx_types.specs.SchemaSet.{SchemaSet}
-use Rattle.gx_schema.specs.Import.{Imported, declares, breaks, imported}
+use Rattle.gx_schema.specs.Import.{Imported, declares, breaks, IsImported}
+use Rattle.gx_schema.specs.Laws.{ImportsAreOne}
 use Rattle.gx_core.specs.declared.expression.Core.{Core}
 use Rattle.gx_core.specs.declared.typed.TypedCore.{TypedCore}
 use Rattle.gx_core.specs.Expression.{outer_of}
@@ -22,7 +23,7 @@ use Rattle.gx_documents.specs.Bindings.{Misbound, misbound, files_bound}
 use Rattle.gx_documents.specs.Documents.{Files, HoldKept, DocumentsLoaded}
 use Rattle.gx_processor.specs.declared.status.Status.{Status}
 use Rattle.gx_processor.specs.declared.status.Status.TheVariants as status
-use Rattle.gx_processor.specs.Answer.{Answer, refuses, can_be_written, AnswersRead, AnswersLoaded, AnswersFiles, AnswersOver, AnswersBound, AnswersRun, AnswersTyped, AnswersJudged, AnswersNamed, AnswersImported, AnswersSchemas, AnswersBuilt, AnswersParsed, AnswersBytes, AnswersFile, AnswersCommand, AnswersWords}
+use Rattle.gx_processor.specs.Answer.{Answer, refuses, can_be_written, AnswersRead, AnswersLoaded, AnswersFiles, AnswersOver, AnswersBound, AnswersRun, AnswersTyped, AnswersJudged, AnswersNamed, AnswersImported, AnswersSources, AnswersSchemas, AnswersBuilt, AnswersParsed, AnswersBytes, AnswersFile, AnswersCommand, AnswersWords}
 use Rattle.gx_processor.specs.Command.{Command, run_file, check_file, query_file, command_of, texts_to_compare}
 use Rattle.gx_processor.specs.Externals.{external_words}
 use Rattle.gx_processor.specs.FaultLines.{code_line, placed_line, long_document_line}
@@ -31,7 +32,7 @@ use Rattle.gx_processor.specs.Query.{HoldsSyntax, HoldsQuery}
 use Rattle.gx_processor.specs.SchemaFiles.{schema_files, sources_of, KeepsRoot}
 use Rattle.gx_processor.proofs.CommandLoads.{one_tree, one_query, one_typing}
 
-module _ (files others : Files) where
+module _ (single : ImportsAreOne) (files others : Files) where
   -- ---- documents
 
   abbrev Moves : Option (List ℕ) → (Next Other : SourceTree → Answer → Type 0) → Answer → Type 0
@@ -105,11 +106,15 @@ module _ (files others : Files) where
   abbrev Queries : Command → List ℕ → Answer → Type 0
   Queries command name a = (schemas : SchemaSet) (core : Core) → HoldsQuery files name schemas core → Types' command schemas core (query_judged schemas core) a
 
-  imported_moves : (command : Command) (name : List ℕ) (read : HoldsSyntax files name) (roots : List SourceTree) (told : Imported) (a : Answer) → HoldKept KeepsRoot files (schema_files read.tree) roots → imported (sources_of roots) ≡ told → Queries command name a
+  imported_moves : (command : Command) (name : List ℕ) (read : HoldsSyntax files name) (roots : List SourceTree) (told : Imported) (a : Answer) → HoldKept KeepsRoot files (schema_files read.tree) roots → IsImported (sources_of roots) told → Queries command name a
       → AnswersImported files command read.tree (schema_files read.tree) told a → AnswersImported others command read.tree (schema_files read.tree) told a
   imported_moves command name read roots (declares schemas) a held e f h =
       named_moves command schemas (query_named schemas read.tree) a (λ core n. f schemas core (record { read = read; imports = record { roots = roots; held = held; imports = e }; named = n })) h
-  imported_moves command name read roots (breaks rule file construct) a held e f h = h
+  imported_moves command name read roots (breaks rule file construct list) a held e f h = h
+
+  sources_move : (command : Command) (name : List ℕ) (read : HoldsSyntax files name) (roots : List SourceTree) (a : Answer) → HoldKept KeepsRoot files (schema_files read.tree) roots → Queries command name a
+      → AnswersSources files command read.tree roots a → AnswersSources others command read.tree roots a
+  sources_move command name read roots a held f h = (h.0, h.1, imported_moves command name read roots h.0 a held h.1 f h.2)
 
   -- what the schema files of a tree are loaded for
   abbrev Trees : List ℕ → Type 0
@@ -118,9 +123,8 @@ module _ (files others : Files) where
   schemas_move : (command : Command) (name : List ℕ) (read : HoldsSyntax files name) (a : Answer) → Trees name → Queries command name a → AnswersSchemas files command read.tree a → AnswersSchemas others command read.tree a
   schemas_move command name read a trees f h =
       let l = trees read in
-      files_move status.Schema (schema_files read.tree) l.0 [] (λ roots next. AnswersImported files command read.tree (schema_files read.tree) (imported (sources_of roots)) next)
-      (λ roots next. AnswersImported others command read.tree (schema_files read.tree) (imported (sources_of roots)) next) a l.1 l.2
-      (λ roots held k. imported_moves command name read roots (imported (sources_of roots)) a held refl f k) h
+      files_move status.Schema (schema_files read.tree) l.0 [] (AnswersSources files command read.tree) (AnswersSources others command read.tree) a l.1 l.2
+      (λ roots held k. sources_move command name read roots a held f k) h
 
   built_moves : (command : Command) (name bytes : List ℕ) (tree : SyntaxQuery) (unbuilt : Option Place) (a : Answer) → file_of files name ≡ Some bytes → length bytes ≤ 16777216 → Parses bytes (parsed tree) → unbuilt_query tree ≡ unbuilt → Trees name → Queries command name a
       → AnswersBuilt files command tree unbuilt a → AnswersBuilt others command tree unbuilt a
@@ -170,7 +174,7 @@ module _ (files others : Files) where
 
   behind_moves : (name : List ℕ) (bindings loads : List (List ℕ)) (a : Answer) → BehindQuery files name bindings loads → AgreeOn loads files others → Queries (run_file name bindings) name a
   behind_moves name bindings loads a (inl l) agree schemas core q t j k =
-      let one = one_query files name l.0.schemas schemas l.0.core core l.0.query q in
+      let one = one_query single files name l.0.schemas schemas l.0.core core l.0.query q in
       let typing = one_typing l.0.schemas schemas l.0.core core l.0.typing t one.0 one.1 l.0.judgement j in
       let same_schemas = subst (λ (s : SchemaSet). RunLoads files bindings s core t loads) one.0
       (subst (λ (c : Core). RunLoads files bindings l.0.schemas c t loads) one.1 (subst (λ (u : TypedCore). RunLoads files bindings l.0.schemas l.0.core u loads) typing l.1)) in
@@ -193,5 +197,5 @@ module _ (files others : Files) where
   words_move (Some texts) asked loads a l agree h = h
   words_move None asked loads a l agree h = asked_moves asked loads a l agree h
 
-pub answers_look_at_their_loads : AnswersLookAtTheirLoads
-answers_look_at_their_loads words files others loads a l agree h = words_move files others (texts_to_compare words) (command_of words) loads a l agree h
+pub answers_look_at_their_loads : ImportsAreOne → AnswersLookAtTheirLoads
+answers_look_at_their_loads single words files others loads a l agree h = words_move single files others (texts_to_compare words) (command_of words) loads a l agree h

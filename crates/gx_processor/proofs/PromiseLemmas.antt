@@ -8,6 +8,7 @@ use Rattle.std.proofs.lemmas.Bool.{leb-true}
 use Rattle.gx_base.specs.declared.code.Code.TheVariants.{GLXS0001}
 use Rattle.gx_io.specs.Put.{GrowsBy}
 use Rattle.gx_io.specs.SinkUse.{SinkUse, IsUntouched, Grew, GrewByPrefix, SinkFailed, Took, TookPart}
+use Rattle.gx_schema.specs.Laws.{ImportsAreOne}
 use Rattle.gx_processor.specs.declared.status.Status.{Status}
 use Rattle.gx_processor.specs.declared.status.Status.TheVariants.{Done, Usage, Query, Schema, Document, Dynamic, ReadFault, WriteFault, Memory}
 use Rattle.gx_processor.specs.declared.reply.Reply.{Reply}
@@ -167,13 +168,13 @@ PartOfOutput run files = (answer : Answer) → Answers run.words files answer �
 untouched_is_part : (run : Run) → IsUntouched run.out → WhereTold run (PartOfOutput run)
 untouched_is_part run u = told_always (run.library.files run.library.before) (PartOfOutput run) (λ files answer h cut. untouched_grows run.out (output_of answer) u)
 
-pub part_promised : (run : Run) → Course run → WhereTold run (PartOfOutput run)
-part_promised run (to_output bytes asked a p) =
+pub part_promised : ImportsAreOne → (run : Run) → Course run → WhereTold run (PartOfOutput run)
+part_promised single run (to_output bytes asked a p) =
     told_so (run.library.files run.library.before) (λ files. Answers run.words files (writes bytes)) (PartOfOutput run)
-    (λ files h answer k cut. subst (λ (b : Answer). GrewByPrefix run.out (output_of b)) (answer_unique run.words files (writes bytes) answer h k) (output_part bytes run.status run.out run.err p).1) a
-part_promised run (to_read_fault file f rose u p) = untouched_is_part run u
-part_promised run (to_refusal status line form a u p) = untouched_is_part run u
-part_promised run (to_no_memory m u v) = untouched_is_part run u
+    (λ files h answer k cut. subst (λ (b : Answer). GrewByPrefix run.out (output_of b)) (answer_unique single run.words files (writes bytes) answer h k) (output_part bytes run.status run.out run.err p).1) a
+part_promised single run (to_read_fault file f rose u p) = untouched_is_part run u
+part_promised single run (to_refusal status line form a u p) = untouched_is_part run u
+part_promised single run (to_no_memory m u v) = untouched_is_part run u
 
 -- the cause of each status
 abbrev pub CauseOf : Run → Status → Type 0
@@ -263,10 +264,10 @@ AnsweredOrStarved run files = IsAnswered run files ⊎ (run.status ≡ Memory)
 pub faultless_answered : (run : Run) → Course run → (files : Files) → (IsCertain run.status → IsAnswered run files) → IsFaultless run → AnsweredOrStarved run files
 faultless_answered run course files answered f = elim (faultless_is_certain run course f) [ inl c ↦ inl (answered c) | inr m ↦ inr m ]
 
-pub complete_at : (run : Run) (files : Files) (bytes : List ℕ) → Answers run.words files (writes bytes) → AnsweredOrStarved run files → ((run.status ≡ Done) × Took run.out bytes) ⊎ (run.status ≡ Memory)
-complete_at run files bytes h (inr m) = inr m
-complete_at run files bytes h (inl answered) =
-    let is = answer_unique run.words files answered.answer (writes bytes) answered.answers h in
+pub complete_at : ImportsAreOne → (run : Run) (files : Files) (bytes : List ℕ) → Answers run.words files (writes bytes) → AnsweredOrStarved run files → ((run.status ≡ Done) × Took run.out bytes) ⊎ (run.status ≡ Memory)
+complete_at single run files bytes h (inr m) = inr m
+complete_at single run files bytes h (inl answered) =
+    let is = answer_unique single run.words files answered.answer (writes bytes) answered.answers h in
     inl (answered.status ∙ ap status_of is, (subst (λ (b : Answer). LeavesAnswer b run) is answered.sinks).0)
 
 -- a status other than Done

@@ -1,7 +1,7 @@
 -- All promises of a run, from what the parts of the public call show of it.
 use Rattle.std.proofs.Common.{ℕ, List, subst}
 use Rattle.gx_documents.specs.Laws.{DocumentsAreHonest}
-use Rattle.gx_schema.specs.Laws.{ImportsAreSchemaSets}
+use Rattle.gx_schema.specs.Laws.{ImportsAreOne, ImportsAreSchemaSets}
 use Rattle.gx_processor.specs.UntypedDocuments.{NamedQueriesHaveUntypedDocuments}
 use Rattle.gx_processor.specs.Command.{command_of}
 use Rattle.gx_processor.specs.Loading.{LoadsAsked, LoadsOf, AreFirstOf}
@@ -25,10 +25,11 @@ pub record Laws : Type 0 where
   pub honest : DocumentsAreHonest
   pub untyped : NamedQueriesHaveUntypedDocuments
   pub imports : ImportsAreSchemaSets
+  pub single : ImportsAreOne
 
 -- the loads
-loads_promised : (run : Run) (reply : Reply) → Shows run reply → LoadsSteps run
-loads_promised run reply v =
+loads_promised : ImportsAreOne → (run : Run) (reply : Reply) → Shows run reply → LoadsSteps run
+loads_promised single run reply v =
     let told = run.library.files run.library.before in
     record {
       names = v.loads.names;
@@ -37,7 +38,7 @@ loads_promised run reply v =
       all = told_so told (λ files. ReplyLoads (LoadsAsked files (command_of run.words)) v.loads.names reply) (λ files. IsCertain run.status → LoadsOf run.words files v.loads.names)
           (λ files h c. reply_all (LoadsAsked files (command_of run.words)) v.loads.names reply run.status run.out run.err v.ends h c) v.loads.told;
       first = told_so told (λ files. ReplyLoads (LoadsAsked files (command_of run.words)) v.loads.names reply) (λ files. (loads : List (List ℕ)) → LoadsOf run.words files loads → AreFirstOf v.loads.names loads)
-          (λ files h. reply_first files (command_of run.words) v.loads.names reply h) v.loads.told;
+          (λ files h. reply_first single files (command_of run.words) v.loads.names reply h) v.loads.told;
     }
 
 pub promised : (run : Run) (reply : Reply) → Laws → Shows run reply → Promises run
@@ -50,12 +51,12 @@ promised run reply laws v =
     told_so told (λ files. IsCertain run.status → IsAnswered run files) _ (λ files a f. faultless_answered run course files a f) answer in
     record {
       answer = answer;
-      loads = loads_promised run reply v;
+      loads = loads_promised laws.single run reply v;
       output_put = output_put_promised run course;
       line_put = line_put_promised run course;
       output = output_promised run course;
       line = line_promised run course;
-      part = part_promised run course;
+      part = part_promised laws.single run course;
       usage = λ e. subst (CauseOf run) e (cause_promised run course);
       usage_always = λ line misuse. usage_promised reply run.status run.out run.err (v.usage line misuse) v.ends;
       document = λ e. subst (CauseOf run) e (cause_promised run course);
@@ -63,10 +64,10 @@ promised run reply laws v =
       read_fault = λ e. subst (CauseOf run) e (cause_promised run course);
       write_fault = λ e. subst (CauseOf run) e (cause_promised run course);
       too_long = told_so told (λ files. IsCertain run.status → IsAnswered run files) _ (λ files a long certain. too_long_refused run files (a certain) long) answer;
-      complete = told_so told (λ files. IsFaultless run → AnsweredOrStarved run files) _ (λ files a bytes h f. complete_at run files bytes h (a f)) faultless;
+      complete = told_so told (λ files. IsFaultless run → AnsweredOrStarved run files) _ (λ files a bytes h f. complete_at laws.single run files bytes h (a f)) faultless;
       compared = compared_promised run course;
-      headline = told_so told (λ files. IsFaultless run → AnsweredOrStarved run files) _ (λ files a f. typed_run run files kept laws.imports laws.untyped (a f)) faultless;
-      checked = told_so told (λ files. IsFaultless run → AnsweredOrStarved run files) _ (λ files a f. typed_check run files (a f)) faultless;
-      as_checked = told_so told (λ files. IsFaultless run → AnsweredOrStarved run files) _ (λ files a f. run_as_checked run files (typed_run run files kept laws.imports laws.untyped (a f))) faultless;
-      rejected = told_so told (λ files. IsFaultless run → AnsweredOrStarved run files) _ (λ files a f. rejected_query run files laws.names (a f)) faultless;
+      headline = told_so told (λ files. IsFaultless run → AnsweredOrStarved run files) _ (λ files a f. typed_run laws.single run files kept laws.imports laws.untyped (a f)) faultless;
+      checked = told_so told (λ files. IsFaultless run → AnsweredOrStarved run files) _ (λ files a f. typed_check laws.single run files (a f)) faultless;
+      as_checked = told_so told (λ files. IsFaultless run → AnsweredOrStarved run files) _ (λ files a f. run_as_checked run files (typed_run laws.single run files kept laws.imports laws.untyped (a f))) faultless;
+      rejected = told_so told (λ files. IsFaultless run → AnsweredOrStarved run files) _ (λ files a f. rejected_query laws.single run files laws.names (a f)) faultless;
     }

@@ -5,7 +5,7 @@ use Rattle.std.proofs.lemmas.Bool.{le-leb}
 use Rattle.gx_base.specs.declared.code.Code.{Code}
 use Rattle.gx_base.specs.declared.code.Code.TheVariants.{GLXS0001}
 use Rattle.gx_types.specs.SchemaSet.{SchemaSet}
-use Rattle.gx_schema.specs.Import.{Imported, imported}
+use Rattle.gx_schema.specs.Import.{declares}
 use Rattle.gx_core.specs.declared.expression.Core.{Core}
 use Rattle.gx_core.specs.declared.typed.TypedCore.{TypedCore}
 use Rattle.gx_static.specs.QueryJudgement.{QueryJudgement, query_typed, query_judged}
@@ -31,8 +31,8 @@ use Rattle.gx_normal.specs.Normalisation.{query_core}
 use Rattle.gx_processor.specs.NamedQuery.{NamedQuery, named_query, unknown_name, unless_refused, query_named}
 use Rattle.gx_processor.specs.Query.{IsTreeOf, HoldsSyntax, ImportsSchemas, HoldsQuery}
 use Rattle.gx_processor.specs.QueryReplies.{AreOfNone, IsNotBuilt, HoldsThisTree}
-use Rattle.gx_processor.specs.SchemaFiles.{schema_files, sources_of}
-use Rattle.gx_processor.specs.Answer.{Answer, writes, refuses, AnswersTyped, AnswersJudged, AnswersNamed, AnswersImported, AnswersSchemas, AnswersBuilt, AnswersBytes, AnswersFile, AnswersCommand}
+use Rattle.gx_processor.specs.SchemaFiles.{schema_files}
+use Rattle.gx_processor.specs.Answer.{Answer, writes, refuses, AnswersTyped, AnswersJudged, AnswersNamed, AnswersSources, AnswersSchemas, AnswersBuilt, AnswersBytes, AnswersFile, AnswersCommand}
 use Rattle.gx_processor.specs.Replies.{RefusesSo}
 use Rattle.gx_processor.specs.RunReplies.{AnswersSo}
 use Rattle.gx_processor.proofs.LoadLemmas.{roots_answer}
@@ -64,8 +64,7 @@ named_answers files command schemas n core a e h = subst (λ (m : NamedQuery). A
 -- the schema files of a tree hold documents, which declare these schemas
 pub schemas_answer : (files : Files) (command : Command) (tree : SyntaxQuery) (schemas : SchemaSet) (a : Answer) → ImportsSchemas files tree schemas → AnswersNamed files command schemas (query_named schemas tree) a → AnswersSchemas files command tree a
 schemas_answer files command tree schemas a i h =
-    roots_answer status.Schema files (schema_files tree) i.roots [] (λ roots next. AnswersImported files command tree (schema_files tree) (imported (sources_of roots)) next) a i.held
-    (subst (λ (told : Imported). AnswersImported files command tree (schema_files tree) told a) (sym i.imports) h)
+    roots_answer status.Schema files (schema_files tree) i.roots [] (AnswersSources files command tree) a i.held (declares schemas, i.imports, h)
 
 built_answers : (files : Files) (command : Command) (tree : SyntaxQuery) (unbuilt : Option Place) (a : Answer) → unbuilt ≡ None → AnswersSchemas files command tree a → AnswersBuilt files command tree unbuilt a
 built_answers files command tree unbuilt a e h = subst (λ (o : Option Place). AnswersBuilt files command tree o a) (sym e) h

@@ -11,6 +11,7 @@ use Rattle.gx_documents.specs.Bindings.{Misbound, misbound, files_bound}
 use Rattle.gx_documents.specs.BindingView.{plain_fault}
 use Rattle.gx_documents.specs.Documents.{Files}
 use Rattle.gx_base.specs.declared.code.Code.TheVariants.{GLXS0001}
+use Rattle.gx_schema.specs.Laws.{ImportsAreOne}
 use Rattle.gx_processor.specs.declared.status.Status.{Status}
 use Rattle.gx_processor.specs.declared.status.Status.TheVariants as status
 use Rattle.gx_processor.specs.declared.reply.Reply.{Reply}
@@ -44,43 +45,43 @@ run_once : (files : Files) (bindings : List (List ℕ)) (schemas : SchemaSet) (c
 run_once files bindings schemas core t a b h k =
     match_once files (can_be_written schemas t) (misbound (external_words core.declarations) bindings) (files_bound (external_words core.declarations) bindings) a b h k
 
-behind_once : (files : Files) (name : List ℕ) (bindings a b : List (List ℕ)) → BehindQuery files name bindings a → BehindQuery files name bindings b → a ≡ b
-behind_once files name bindings a b (inl h) (inl k) =
-    let same = one_query files name k.0.schemas h.0.schemas k.0.core h.0.core k.0.query h.0.query in
+behind_once : ImportsAreOne → (files : Files) (name : List ℕ) (bindings a b : List (List ℕ)) → BehindQuery files name bindings a → BehindQuery files name bindings b → a ≡ b
+behind_once single files name bindings a b (inl h) (inl k) =
+    let same = one_query single files name k.0.schemas h.0.schemas k.0.core h.0.core k.0.query h.0.query in
     let same_typing = one_typing k.0.schemas h.0.schemas k.0.core h.0.core k.0.typing h.0.typing same.0 same.1 k.0.judgement h.0.judgement in
     let other = subst (λ (s : SchemaSet). RunLoads files bindings s h.0.core h.0.typing b) same.0
     (subst (λ (c : Core). RunLoads files bindings k.0.schemas c h.0.typing b) same.1 (subst (λ (u : TypedCore). RunLoads files bindings k.0.schemas k.0.core u b) same_typing k.1)) in
     run_once files bindings h.0.schemas h.0.core h.0.typing a b h.1 other
-behind_once files name bindings a b (inl h) (inr k) = absurd (k.0 h.0)
-behind_once files name bindings a b (inr h) (inl k) = absurd (h.0 k.0)
-behind_once files name bindings a b (inr h) (inr k) = h.1 ∙ sym k.1
+behind_once single files name bindings a b (inl h) (inr k) = absurd (k.0 h.0)
+behind_once single files name bindings a b (inr h) (inl k) = absurd (h.0 k.0)
+behind_once single files name bindings a b (inr h) (inr k) = h.1 ∙ sym k.1
 
-command_once : (files : Files) (command : Command) (a b : List (List ℕ)) → CommandLoads files command a → CommandLoads files command b → a ≡ b
-command_once files (check_file name) a b h k = one_query_load files name a b h k
-command_once files (run_file name bindings) a b h k =
-    h.4 ∙ ap₂ (λ (front : List (List ℕ)) rest. front ++ rest) (one_query_load files name h.0 k.0 h.2 k.2) (behind_once files name bindings h.1 k.1 h.3 k.3) ∙ sym k.4
+command_once : ImportsAreOne → (files : Files) (command : Command) (a b : List (List ℕ)) → CommandLoads files command a → CommandLoads files command b → a ≡ b
+command_once single files (check_file name) a b h k = one_query_load files name a b h k
+command_once single files (run_file name bindings) a b h k =
+    h.4 ∙ ap₂ (λ (front : List (List ℕ)) rest. front ++ rest) (one_query_load files name h.0 k.0 h.2 k.2) (behind_once single files name bindings h.1 k.1 h.3 k.3) ∙ sym k.4
 
-asked_once : (files : Files) (asked : Option Command) (a b : List (List ℕ)) → LoadsAsked files asked a → LoadsAsked files asked b → a ≡ b
-asked_once files None a b h k = h ∙ sym k
-asked_once files (Some command) a b h k = command_once files command a b h k
+asked_once : ImportsAreOne → (files : Files) (asked : Option Command) (a b : List (List ℕ)) → LoadsAsked files asked a → LoadsAsked files asked b → a ≡ b
+asked_once single files None a b h k = h ∙ sym k
+asked_once single files (Some command) a b h k = command_once single files command a b h k
 
-all_are_first : (files : Files) (asked : Option Command) (names : List (List ℕ)) → LoadsAsked files asked names → AreFirst (LoadsAsked files asked) names
-all_are_first files asked names h loads k = whole_is_front names loads (asked_once files asked names loads h k)
+all_are_first : ImportsAreOne → (files : Files) (asked : Option Command) (names : List (List ℕ)) → LoadsAsked files asked names → AreFirst (LoadsAsked files asked) names
+all_are_first single files asked names h loads k = whole_is_front names loads (asked_once single files asked names loads h k)
 
 -- ---- from a reply
 
-pub reply_first : (files : Files) (asked : Option Command) (names : List (List ℕ)) (r : Reply) → ReplyLoads (LoadsAsked files asked) names r → AreFirst (LoadsAsked files asked) names
-reply_first files asked names (Output text) h = all_are_first files asked names h
-reply_first files asked names (Fault status.Done line) h = all_are_first files asked names h
-reply_first files asked names (Fault status.Usage line) h = all_are_first files asked names h
-reply_first files asked names (Fault status.Query line) h = all_are_first files asked names h
-reply_first files asked names (Fault status.Schema line) h = all_are_first files asked names h
-reply_first files asked names (Fault status.Document line) h = all_are_first files asked names h
-reply_first files asked names (Fault status.Dynamic line) h = all_are_first files asked names h
-reply_first files asked names (Fault status.ReadFault line) h = h
-reply_first files asked names (Fault status.WriteFault line) h = all_are_first files asked names h
-reply_first files asked names (Fault status.Memory line) h = all_are_first files asked names h
-reply_first files asked names Starved h = h
+pub reply_first : ImportsAreOne → (files : Files) (asked : Option Command) (names : List (List ℕ)) (r : Reply) → ReplyLoads (LoadsAsked files asked) names r → AreFirst (LoadsAsked files asked) names
+reply_first single files asked names (Output text) h = all_are_first single files asked names h
+reply_first single files asked names (Fault status.Done line) h = all_are_first single files asked names h
+reply_first single files asked names (Fault status.Usage line) h = all_are_first single files asked names h
+reply_first single files asked names (Fault status.Query line) h = all_are_first single files asked names h
+reply_first single files asked names (Fault status.Schema line) h = all_are_first single files asked names h
+reply_first single files asked names (Fault status.Document line) h = all_are_first single files asked names h
+reply_first single files asked names (Fault status.Dynamic line) h = all_are_first single files asked names h
+reply_first single files asked names (Fault status.ReadFault line) h = h
+reply_first single files asked names (Fault status.WriteFault line) h = all_are_first single files asked names h
+reply_first single files asked names (Fault status.Memory line) h = all_are_first single files asked names h
+reply_first single files asked names Starved h = h
 
 -- a certain status comes from a reply whose steps were all made
 pub reply_all : (Steps : List (List ℕ) → Type 0) (names : List (List ℕ)) (r : Reply) (result : Status) (out err : SinkUse) → Ends r result out err → ReplyLoads Steps names r → IsCertain result → Steps names
@@ -145,18 +146,18 @@ comparison_loads library asked left right r untouched none h = idle_loads librar
 abbrev IsOther : Status → Type 0
 IsOther told = told ≡ status.ReadFault → ⊥
 
-fault_told : (files : Files) (command : Command) (names : List (List ℕ)) (told : Status) (line : List ℕ) (r : Reply) → IsOther told → IsFaultOrStarved told line r → CommandLoads files command names → ReplyLoads (LoadsAsked files (Some command)) names r
-fault_told files command names told line (Output text) other h k = absurd h
-fault_told files command names told line (Fault status.Done text) other h k = k
-fault_told files command names told line (Fault status.Usage text) other h k = k
-fault_told files command names told line (Fault status.Query text) other h k = k
-fault_told files command names told line (Fault status.Schema text) other h k = k
-fault_told files command names told line (Fault status.Document text) other h k = k
-fault_told files command names told line (Fault status.Dynamic text) other h k = k
-fault_told files command names told line (Fault status.ReadFault text) other h k = absurd (other (sym h.0))
-fault_told files command names told line (Fault status.WriteFault text) other h k = k
-fault_told files command names told line (Fault status.Memory text) other h k = k
-fault_told files command names told line Starved other h k = all_are_first files (Some command) names k
+fault_told : ImportsAreOne → (files : Files) (command : Command) (names : List (List ℕ)) (told : Status) (line : List ℕ) (r : Reply) → IsOther told → IsFaultOrStarved told line r → CommandLoads files command names → ReplyLoads (LoadsAsked files (Some command)) names r
+fault_told single files command names told line (Output text) other h k = absurd h
+fault_told single files command names told line (Fault status.Done text) other h k = k
+fault_told single files command names told line (Fault status.Usage text) other h k = k
+fault_told single files command names told line (Fault status.Query text) other h k = k
+fault_told single files command names told line (Fault status.Schema text) other h k = k
+fault_told single files command names told line (Fault status.Document text) other h k = k
+fault_told single files command names told line (Fault status.Dynamic text) other h k = k
+fault_told single files command names told line (Fault status.ReadFault text) other h k = absurd (other (sym h.0))
+fault_told single files command names told line (Fault status.WriteFault text) other h k = k
+fault_told single files command names told line (Fault status.Memory text) other h k = k
+fault_told single files command names told line Starved other h k = all_are_first single files (Some command) names k
 
 fault_unfailed : (library : LibraryUse) (names : List (List ℕ)) (told : Status) (line : List ℕ) (r : Reply) → IsOther told → IsFaultOrStarved told line r → ReplyFailed library names r
 fault_unfailed library names told line (Output text) other h = tt
@@ -183,20 +184,20 @@ unread_failed library names line (Fault status.ReadFault text) h k = subst (λ (
 unread_failed library names line (Fault _ text) h k = tt
 unread_failed library names line Starved h k = tt
 
-refusal_told : (files : Files) (command : Command) (names : List (List ℕ)) (e : Refusal) (r : Reply) → IsReplyOf (query_file command) e r → RefusalLoads (CommandLoads files command) names e → ReplyLoads (LoadsAsked files (Some command)) names r
-refusal_told files command names refusal.ReadFault r h k = unread_told (CommandLoads files command) names (read_fault_line (query_file command)) r h k
-refusal_told files command names refusal.TooLong r h k = fault_told files command names status.Query (code_line GLXS0001) r (λ e. cc) h k
-refusal_told files command names (refusal.Query code place) r h k = fault_told files command names status.Query (placed_line code place) r (λ e. cc) h k
-refusal_told files command names (refusal.SchemaFile file faults.Unread) r h k = unread_told (CommandLoads files command) names (read_fault_line (string_bytes file)) r h k
-refusal_told files command names (refusal.SchemaFile file faults.TooLong) r h k = fault_told files command names status.Schema (long_document_line (string_bytes file)) r (λ e. cc) h k
-refusal_told files command names (refusal.SchemaFile file (faults.Refused rule place)) r h k = fault_told files command names status.Schema (document_line rule (string_bytes file) place) r (λ e. cc) h k
-refusal_told files command names (refusal.Schema rule file construct) r h k = fault_told files command names status.Schema (import_line rule (string_bytes file) construct) r (λ e. cc) h k
-refusal_told files command names (refusal.Binding fault) r h k = fault_told files command names status.Usage (binding_line (plain_fault fault)) r (λ e. cc) h k
-refusal_told files command names (refusal.Document file faults.Unread) r h k = unread_told (CommandLoads files command) names (read_fault_line (string_bytes file)) r h k
-refusal_told files command names (refusal.Document file faults.TooLong) r h k = fault_told files command names status.Document (long_document_line (string_bytes file)) r (λ e. cc) h k
-refusal_told files command names (refusal.Document file (faults.Refused rule place)) r h k = fault_told files command names status.Document (document_line rule (string_bytes file) place) r (λ e. cc) h k
-refusal_told files command names (refusal.Dynamic code) r h k = fault_told files command names status.Dynamic (code_line code) r (λ e. cc) h k
-refusal_told files command names refusal.Memory r h k = subst (λ (z : Reply). ReplyLoads (LoadsAsked files (Some command)) names z) (sym h) k
+refusal_told : ImportsAreOne → (files : Files) (command : Command) (names : List (List ℕ)) (e : Refusal) (r : Reply) → IsReplyOf (query_file command) e r → RefusalLoads (CommandLoads files command) names e → ReplyLoads (LoadsAsked files (Some command)) names r
+refusal_told single files command names refusal.ReadFault r h k = unread_told (CommandLoads files command) names (read_fault_line (query_file command)) r h k
+refusal_told single files command names refusal.TooLong r h k = fault_told single files command names status.Query (code_line GLXS0001) r (λ e. cc) h k
+refusal_told single files command names (refusal.Query code place) r h k = fault_told single files command names status.Query (placed_line code place) r (λ e. cc) h k
+refusal_told single files command names (refusal.SchemaFile file faults.Unread) r h k = unread_told (CommandLoads files command) names (read_fault_line (string_bytes file)) r h k
+refusal_told single files command names (refusal.SchemaFile file faults.TooLong) r h k = fault_told single files command names status.Schema (long_document_line (string_bytes file)) r (λ e. cc) h k
+refusal_told single files command names (refusal.SchemaFile file (faults.Refused rule place)) r h k = fault_told single files command names status.Schema (document_line rule (string_bytes file) place) r (λ e. cc) h k
+refusal_told single files command names (refusal.Schema rule file construct) r h k = fault_told single files command names status.Schema (import_line rule (string_bytes file) construct) r (λ e. cc) h k
+refusal_told single files command names (refusal.Binding fault) r h k = fault_told single files command names status.Usage (binding_line (plain_fault fault)) r (λ e. cc) h k
+refusal_told single files command names (refusal.Document file faults.Unread) r h k = unread_told (CommandLoads files command) names (read_fault_line (string_bytes file)) r h k
+refusal_told single files command names (refusal.Document file faults.TooLong) r h k = fault_told single files command names status.Document (long_document_line (string_bytes file)) r (λ e. cc) h k
+refusal_told single files command names (refusal.Document file (faults.Refused rule place)) r h k = fault_told single files command names status.Document (document_line rule (string_bytes file) place) r (λ e. cc) h k
+refusal_told single files command names (refusal.Dynamic code) r h k = fault_told single files command names status.Dynamic (code_line code) r (λ e. cc) h k
+refusal_told single files command names refusal.Memory r h k = subst (λ (z : Reply). ReplyLoads (LoadsAsked files (Some command)) names z) (sym h) k
 
 refusal_failed : (library : LibraryUse) (command : Command) (names : List (List ℕ)) (e : Refusal) (r : Reply) → IsReplyOf (query_file command) e r → RefusalFailed library (query_file command) names e → ReplyFailed library names r
 refusal_failed library command names refusal.ReadFault r h k = unread_failed library names (read_fault_line (query_file command)) r h k
@@ -213,12 +214,12 @@ refusal_failed library command names (refusal.Document file (faults.Refused rule
 refusal_failed library command names (refusal.Dynamic code) r h k = fault_unfailed library names status.Dynamic (code_line code) r (λ e. cc) h
 refusal_failed library command names refusal.Memory r h k = subst (λ (z : Reply). ReplyFailed library names z) (sym h) tt
 
-pub refusal_loads : {V : Type 0} (library : LibraryUse) (command : Command) (e : Refusal) (r : Reply) → IsReplyOf (query_file command) e r → OutputLoads {V = V} library command (Err e) → LoadsSo library (Some command) r
-refusal_loads library command e r h l = record {
+pub refusal_loads : ImportsAreOne → {V : Type 0} (library : LibraryUse) (command : Command) (e : Refusal) (r : Reply) → IsReplyOf (query_file command) e r → OutputLoads {V = V} library command (Err e) → LoadsSo library (Some command) r
+refusal_loads single library command e r h l = record {
   names = l.names;
   loaded = l.loaded;
   may = l.may;
   told = told_so (library.files library.before) (λ files. RefusalLoads (CommandLoads files command) l.names e) (λ files. ReplyLoads (LoadsAsked files (Some command)) l.names r)
-      (λ files k. refusal_told files command l.names e r h k) l.told;
+      (λ files k. refusal_told single files command l.names e r h k) l.told;
   failed = refusal_failed library command l.names e r h l.failed;
 }

@@ -7,6 +7,7 @@ use Rattle.gx_static.specs.QueryJudgement.{query_typed, query_judged}
 use Rattle.gx_io.specs.Calls.{Loads}
 use Rattle.gx_io.specs.LibraryUse.{LibraryUse}
 use Rattle.gx_documents.specs.Documents.{Files}
+use Rattle.gx_schema.specs.Laws.{ImportsAreOne}
 use Rattle.gx_processor.specs.declared.refusal.Refusal.{Refusal}
 use Rattle.gx_processor.specs.declared.refusal.Refusal.TheVariants as refusal
 use Rattle.gx_processor.specs.Answer.{writes, AnswersRun, AnswersTyped}
@@ -58,11 +59,11 @@ check_cause Runs t (Err (refusal.Dynamic code)) h = absurd h
 
 -- ---- a command
 
-pub typed_loads : {Z : Type 0} (library : LibraryUse) (between : library.Library) (command : Command) (query : TypedQuery) (result : Result (String Z) Refusal) → library.files between ≡ library.files library.before
+pub typed_loads : ImportsAreOne → {Z : Type 0} (library : LibraryUse) (between : library.Library) (command : Command) (query : TypedQuery) (result : Result (String Z) Refusal) → library.files between ≡ library.files library.before
     → library.faults library.before ≤ library.faults between → QuerySo (before library between) (query_file command) (Ok query) → query_judged query.schemas (plain_query query.core) ≡ query_typed query.core
     → TypedSo (behind library between) command query.schemas query.core result → OutputLoads library command result
-typed_loads library between (run_file name bindings) query result same counted q j h = run_loads library between name bindings query result same counted q j h
-typed_loads library between (check_file name) query result same counted q j h =
+typed_loads single library between (run_file name bindings) query result same counted q j h = run_loads single library between name bindings query result same counted q j h
+typed_loads single library between (check_file name) query result same counted q j h =
     check_loads library name q.loads q.first.0 result (subst (λ (after : library.Library). Loads library.was_loaded q.loads library.before after) (sym h.1) q.loaded) q.first.1 q.told (written_or_starved query.core result h.0)
 
 pub typed_answers_so : {Z : Type 0} (library : LibraryUse) (between : library.Library) (command : Command) (schemas : SchemaSet) (t : TypedCore) (result : Result (String Z) Refusal) → library.files between ≡ library.files library.before

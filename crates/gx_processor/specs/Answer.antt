@@ -39,9 +39,9 @@ use Rattle.gx_documents.specs.Bindings.{Misbound, misbound, files_bound}
 use Rattle.gx_documents.specs.Documents.{Files, document_nodes}
 use Rattle.gx_processor.specs.Externals.{external_words}
 use Rattle.gx_processor.specs.SchemaFiles.{schema_files, sources_of, file_name_at}
-use Rattle.gx_schema.specs.Import.{Imported, declares, breaks, imported}
+use Rattle.gx_schema.specs.Import.{Imported, declares, breaks, IsImported}
 use Rattle.gx_processor.specs.Command.{Command, run_file, check_file, query_file, command_of, texts_to_compare}
-use Rattle.gx_processor.specs.FaultLines.{line, usage_line, left_type_line, right_type_line, read_fault_line, code_line, placed_line, binding_line, long_document_line, document_line, import_line}
+use Rattle.gx_processor.specs.FaultLines.{line, usage_line, left_type_line, right_type_line, read_fault_line, code_line, placed_line, binding_line, long_document_line, document_line, import_line, shown_with}
 use Rattle.gx_base.specs.declared.limits.TheConstants.{FILE_BYTES}
 
 -- bytes for standard output, or a refusal with its fault line
@@ -129,12 +129,17 @@ AnswersNamed files command schemas (named_query core) answer = AnswersJudged fil
 -- what the schema files of these names declare
 abbrev pub AnswersImported : Files → Command → Query → (names : List (List ℕ)) → Imported → Answer → Type 0
 AnswersImported files command tree names (declares schemas) answer = AnswersNamed files command schemas (query_named schemas tree) answer
-AnswersImported files command tree names (breaks rule file name) answer = answer ≡ refuses status.Schema (import_line rule (file_name_at names file) name)
+AnswersImported files command tree names (breaks rule file name list) answer =
+    answer ≡ refuses status.Schema (import_line rule (file_name_at names file) (shown_with rule name list))
+
+-- what documents with these roots declare
+abbrev pub AnswersSources : Files → Command → Query → (roots : List SourceTree) → Answer → Type 0
+AnswersSources files command tree roots answer = (told : Imported) × IsImported (sources_of roots) told × AnswersImported files command tree (schema_files tree) told answer
 
 -- the documents in its schema files
 abbrev pub AnswersSchemas : Files → Command → Query → Answer → Type 0
 AnswersSchemas files command tree answer =
-    AnswersFiles status.Schema files (schema_files tree) [] (λ roots next. AnswersImported files command tree (schema_files tree) (imported (sources_of roots)) next) answer
+    AnswersFiles status.Schema files (schema_files tree) [] (AnswersSources files command tree) answer
 
 -- a production that is not built yet
 abbrev pub AnswersBuilt : Files → Command → Query → (unbuilt : Option Place) → Answer → Type 0

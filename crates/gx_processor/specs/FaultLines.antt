@@ -9,6 +9,9 @@ use Rattle.gx_xml.specs.declared.refusal.XmlRule.TheVariants as rules
 use Rattle.gx_documents.specs.Bindings.{Misbound, unknown, doubled, missing}
 use Rattle.std.specs.Str.{encode_utf8_all}
 use Rattle.gx_schema.specs.declared.refusal.SchemaRule.{SchemaRule}
+use Rattle.gx_types.specs.declared.shape.Shape.{Shape}
+use Rattle.gx_typetext.specs.NameText.{word}
+use Rattle.gx_typetext.specs.ShapeText.{shapes_text}
 use Rattle.gx_schema.specs.declared.refusal.SchemaRule.TheVariants as schema_rules
 
 -- ended by a line feed
@@ -81,13 +84,23 @@ schema_rule_name schema_rules.TooLarge = codes "TooLarge"
 schema_rule_name schema_rules.NotARestriction = codes "NotARestriction"
 schema_rule_name schema_rules.TooManyPairs = codes "TooManyPairs"
 
--- a rule, and the file and the name of what breaks it there
-abbrev pub import_line : SchemaRule → (file name : List ℕ) → List ℕ
-import_line rule file name = line (schema_rule_name rule ++ codes " in " ++ file ++ codes ": " ++ encode_utf8_all name)
+-- what breaks a rule: its name, and for a restriction that is not sound the list of shapes that it allows and its base does not
+abbrev pub shown_with : SchemaRule → (name : List ℕ) → List Shape → List ℕ
+shown_with schema_rules.NotARestriction name list = name ++ word (codes ": ") ++ shapes_text list
+shown_with schema_rules.NotInProfile name list = name
+shown_with schema_rules.UnknownName name list = name
+shown_with schema_rules.Inconsistent name list = name
+shown_with schema_rules.Circular name list = name
+shown_with schema_rules.TooLarge name list = name
+shown_with schema_rules.TooManyPairs name list = name
+
+-- a rule, and the file and what breaks it there
+abbrev pub import_line : SchemaRule → (file shown : List ℕ) → List ℕ
+import_line rule file shown = line (schema_rule_name rule ++ codes " in " ++ file ++ codes ": " ++ encode_utf8_all shown)
 
 -- the line of refused schema files
 abbrev pub IsSchemaLine : List ℕ → Type 0
-IsSchemaLine told = IsDocumentLine told ⊎ ((rule : SchemaRule) × (file : List ℕ) × (name : List ℕ) × (told ≡ import_line rule file name))
+IsSchemaLine told = IsDocumentLine told ⊎ ((rule : SchemaRule) × (file : List ℕ) × (shown : List ℕ) × (told ≡ import_line rule file shown))
 
 abbrev pub write_fault_line : List ℕ
 write_fault_line = line (codes "WriteFault")

@@ -5,7 +5,8 @@ use Rattle.gx_types.specs.SchemaSet.{SchemaSet}
 use Rattle.gx_io.specs.LibraryUse.{LibraryUse, LoadsOnly}
 use Rattle.gx_ast.specs.declared.query.Query.{Query}
 use Rattle.gx_xml.specs.declared.source.Source.{Source}
-use Rattle.gx_schema.specs.Import.{Imported, declares, breaks, imported}
+use Rattle.gx_schema.specs.Import.{declares, breaks, IsImported}
+use Rattle.gx_types.specs.declared.shape.Shape.{Shape}
 use Rattle.gx_documents.specs.declared.documents.DocumentsError.{DocumentsError}
 use Rattle.gx_documents.specs.declared.documents.DocumentsError.TheVariants.{Failed, Memory as NoMemory}
 use Rattle.gx_documents.specs.declared.documents.DocumentFault.TheVariants as faults
@@ -15,7 +16,7 @@ use Rattle.gx_processor.specs.declared.refusal.Refusal.{Refusal}
 use Rattle.gx_processor.specs.declared.refusal.Refusal.TheVariants as refusal
 use Rattle.gx_processor.specs.Answer.{AnswersSchemas}
 use Rattle.gx_processor.specs.Command.{Command}
-use Rattle.gx_processor.specs.FaultLines.{read_fault_line}
+use Rattle.gx_processor.specs.FaultLines.{read_fault_line, shown_with}
 use Rattle.gx_processor.specs.Query.{ImportsSchemas}
 use Rattle.gx_processor.specs.SchemaFiles.{schema_files, file_name_at}
 use Rattle.gx_processor.specs.Replies.{RefusesSo, OutcomeLoads, LoadFailed}
@@ -26,14 +27,19 @@ unread_schema (Failed file fault) = refusal.SchemaFile file fault
 unread_schema NoMemory = refusal.Memory
 
 -- files of these names break a rule, or memory is wanting
-abbrev pub BreaksRule : (names : List (List ℕ)) → Imported → Refusal → Type 0
-BreaksRule names told (refusal.Schema rule file name) = (number : ℕ) × (told ≡ breaks rule number name) × (string_bytes file ≡ file_name_at names number)
-BreaksRule names told refusal.Memory = Unit {0}
-BreaksRule names told _ = ⊥
+abbrev pub BreaksRule : (names : List (List ℕ)) → List Source → Refusal → Type 0
+BreaksRule names sources (refusal.Schema rule file shown) =
+    (number : ℕ) × (name : List ℕ) × (list : List Shape) × IsImported sources (breaks rule number name list) × (string_bytes file ≡ file_name_at names number) × (shown ≡ shown_with rule name list)
+BreaksRule names sources refusal.Memory = Unit {0}
+BreaksRule names sources _ = ⊥
+
+-- what documents declare under these names, or the rule that they break
+abbrev pub DeclaresIn : (names : List (List ℕ)) → List Source → Result SchemaSet Refusal → Type 0
+DeclaresIn names sources result = MatchResult result (λ schemas. IsImported sources (declares schemas)) (BreaksRule names sources)
 
 -- how an import goes on behind the reading of its files
 abbrev pub DeclaresSo : (names : List (List ℕ)) → Result (List Source) DocumentsError → Result SchemaSet Refusal → Type 0
-DeclaresSo names (Ok sources) result = MatchResult result (λ schemas. imported sources ≡ declares schemas) (BreaksRule names (imported sources))
+DeclaresSo names (Ok sources) result = DeclaresIn names sources result
 DeclaresSo names (Err error) result = result ≡ Err (unread_schema error)
 
 pub record DeclaredSo (library : LibraryUse) (names : List (List ℕ)) (result : Result SchemaSet Refusal) : Type 0 where

@@ -8,7 +8,7 @@ use Rattle.gx_io.specs.Load.{file_of}
 use Rattle.gx_ast.specs.declared.query.Query.{Query}
 use Rattle.gx_syntax.specs.Query.{Parses, parsed}
 use Rattle.gx_xml.specs.SourceTree.{SourceTree}
-use Rattle.gx_schema.specs.Import.{imported, declares}
+use Rattle.gx_schema.specs.Import.{IsImported, declares}
 use Rattle.gx_normal.specs.Unbuilt.{unbuilt_query}
 use Rattle.gx_processor.specs.SchemaFiles.{schema_files, sources_of, KeepsRoot}
 use Rattle.gx_processor.specs.NamedQuery.{named_query, query_named}
@@ -30,7 +30,7 @@ pub record HoldsSyntax (files : Files) (name : List ℕ) : Type 0 where
 pub record ImportsSchemas (files : Files) (tree : Query) (schemas : SchemaSet) : Type 0 where
   pub roots : List SourceTree
   pub held : HoldKept KeepsRoot files (schema_files tree) roots
-  pub imports : imported (sources_of roots) ≡ declares schemas
+  pub imports : IsImported (sources_of roots) (declares schemas)
 
 -- the query in a file has this Core under the schemas that it imports
 pub record HoldsQuery (files : Files) (name : List ℕ) (schemas : SchemaSet) (core : Core) : Type 0 where

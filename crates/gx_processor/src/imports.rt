@@ -1,21 +1,26 @@
 // The schemas that a query imports.
 
-ghost use Rattle.std.specs.Prelude.{◌≡◌, ◌≤◌, ◌++◌, map, string_bytes, IfOk, MatchResult, OnOk};
+ghost use Rattle.std.specs.Prelude.{◌≡◌, ◌≤◌, ◌++◌, codes, map, string_bytes, IfOk, OnOk};
 ghost use Rattle.std.specs.Str.{encode_utf8_all};
-ghost use Rattle.gx_schema.specs.Import.{declares, imported};
+ghost use Rattle.gx_typetext.specs.NameText.{word};
+ghost use Rattle.gx_typetext.specs.ShapeText.{shapes_text};
 ghost use Rattle.gx_io.specs.LibraryUse.{library_use};
 ghost use Rattle.gx_documents.specs.BindingView.{word_bytes};
-ghost use Rattle.gx_processor.specs.ImportReplies.{BreaksRule, DeclaredSo, ImportsSo, unread_schema};
+ghost use Rattle.gx_processor.specs.FaultLines.{shown_with};
+ghost use Rattle.gx_processor.specs.ImportReplies.{DeclaredSo, DeclaresIn, ImportsSo, unread_schema};
 ghost use Rattle.gx_processor.specs.SchemaFiles.{files_named, file_name_at, schema_files};
 
 use crate::refusal::Refusal;
 use gx_ast::query::{Query, Setting, SettingNode};
 use gx_base::text::Text;
+use gx_base::text_builder::TextBuilder;
 use gx_documents::documents::{DocumentsError, read_sources};
 use gx_io::Library;
 use gx_schema::import::import;
-use gx_schema::refusal::SchemaRefusal;
+use gx_schema::refusal::{SchemaRefusal, SchemaRule};
 use gx_types::schemas::Schemas;
+use gx_types::shape::Shape;
+use gx_typetext::shapes::print_shapes;
 use gx_xml::source::Source;
 use std::alloc::{AllocError, Global};
 
@@ -54,16 +59,56 @@ fn declared_in<L: Library>(
 
 // What the documents of schema files of these names declare.
 fn declared(alloc: Global, files: &[String], sources: &[Source]) -> Result<Schemas, Refusal>
-    ensures { MatchResult result (λ schemas. imported sources.now ≡ declares schemas) (BreaksRule (word_bytes files.now) (imported sources.now)) }
+    ensures { DeclaresIn (word_bytes files.now) sources.now result }
 {
     match import(alloc, sources) {
         Ok(schemas) => Ok(schemas),
-        Err(SchemaRefusal::Refused { rule, file, name }) => {
+        Err(
+            SchemaRefusal::Refused {
+                rule,
+                file,
+                name,
+                list,
+            },
+        ) => {
             let file = file_name_at(alloc, files, file)?;
-            Err(Refusal::Schema { rule, file, name })
+            let shown = shown_with(alloc, rule, name, list.as_slice())?;
+            Err(Refusal::Schema { rule, file, shown })
         }
         Err(SchemaRefusal::Memory) => Err(Refusal::Memory),
     }
+}
+
+// What breaks a rule: its name, and the list of a restriction that is not sound.
+fn shown_with(
+    alloc: Global,
+    rule: SchemaRule,
+    name: Text,
+    list: &[Shape],
+) -> Result<Text, AllocError>
+    ensures { IfOk result (λ shown. shown ≡ shown_with rule name list.now) }
+{
+    match rule {
+        SchemaRule::NotARestriction => with_list(alloc, &name, list),
+        SchemaRule::NotInProfile
+        | SchemaRule::UnknownName
+        | SchemaRule::Inconsistent
+        | SchemaRule::Circular
+        | SchemaRule::TooLarge
+        | SchemaRule::TooManyPairs => Ok(name),
+    }
+}
+
+// A name, and a list of shapes behind it.
+fn with_list(alloc: Global, name: &Text, list: &[Shape]) -> Result<Text, AllocError>
+    ensures { IfOk result (λ shown. shown ≡ name.now ++ word (codes ": ") ++ shapes_text list.now) }
+{
+    let list = print_shapes(alloc, list)?;
+    let mut shown = TextBuilder::new(alloc);
+    shown.push_text(name)?;
+    shown.push_str(": ")?;
+    shown.push_text(&list)?;
+    shown.finish()
 }
 
 // The name of the file of a number.

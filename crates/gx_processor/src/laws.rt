@@ -6,19 +6,22 @@ ghost use Rattle.gx_processor.specs.Loading.{AnswersLookAtTheirLoads};
 ghost use Rattle.gx_documents.specs.Documents.{Files};
 ghost use Rattle.gx_processor.specs.UntypedDocuments.{NamedQueriesHaveUntypedDocuments};
 
-use gx_schema::laws::imports_are_schema_sets;
+use gx_schema::laws::{an_import_exists, imports_are_one, imports_are_schema_sets};
 
 /// The words and the files have an answer.
 pub fn an_answer_exists()
     ensures { AnAnswerExists }
 {
     imports_are_schema_sets();
+    an_import_exists();
 }
 
 /// The words and the files have at most one answer.
 pub fn one_answer()
     ensures { (words : List (List ℕ)) (files : Files) (a b : Answer) → Answers words files a → Answers words files b → a ≡ b }
-{}
+{
+    imports_are_one();
+}
 
 /// What a check of a file refuses, a run of it refuses with the same line.
 pub fn checks_refuse_for_runs()
@@ -28,7 +31,9 @@ pub fn checks_refuse_for_runs()
 /// An answer looks at no other files than those that its steps load.
 pub fn answers_look_at_their_loads()
     ensures { AnswersLookAtTheirLoads }
-{}
+{
+    imports_are_one();
+}
 
 /// Each external variable of a query, all of whose productions are built, is a document without types.
 pub fn named_queries_have_untyped_documents()

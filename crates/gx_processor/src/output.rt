@@ -18,6 +18,7 @@ use crate::run::run;
 use gx_core::dismantle::dismantle_query;
 use gx_core::typed::TypedCore;
 use gx_io::Library;
+use gx_schema::laws::imports_are_one;
 use gx_types::sequence_type::Ty;
 use gx_typetext::print::print_type;
 use std::alloc::{AllocError, Global};
@@ -36,6 +37,7 @@ pub fn output<L: Library>(
         (λ refusal. RefusesSo refusal (AnswersCommand files (Some (plain_command command.entry))))) }
     ensures cause { IfErr result (HasCause (IsRun (plain_command command.entry))) }
 {
+    imports_are_one();
     match typed_query(alloc, command.file(), library) {
         Ok(query) => typed_output(alloc, command, query, library),
         Err(refusal) => Err(refusal),

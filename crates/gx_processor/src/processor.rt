@@ -28,7 +28,7 @@ use gx_documents::bindings::BindingFault;
 use gx_documents::documents::DocumentFault;
 use gx_documents::laws::documents_are_honest;
 use gx_io::{Library, PutError, Sink};
-use gx_schema::laws::imports_are_schema_sets;
+use gx_schema::laws::{imports_are_one, imports_are_schema_sets};
 use gx_schema::refusal::SchemaRule;
 use gx_static::laws::{query_rejection_names_a_failure, query_typing_is_sound};
 use gx_subtype::subtype::{Side, SubtypeError, subtype};
@@ -63,6 +63,7 @@ pub fn galax<L: Library, O: Sink, E: Sink>(
     documents_are_honest();
     named_queries_have_untyped_documents();
     imports_are_schema_sets();
+    imports_are_one();
     let reply = reply_to(alloc, words, library);
     finish(reply, out, err)
 }
@@ -91,6 +92,7 @@ fn query_reply<L: Library>(alloc: Global, command: Command<'_>, library: &mut L)
     ensures answer { IfSome (L.files library.old) (λ files. RepliesSo result (AnswersCommand files (Some (plain_command command.entry)))) }
     ensures cause { IsQueryReply (plain_command command.entry) result }
 {
+    imports_are_one();
     match output(alloc, command, library) {
         Ok(text) => Reply::Output(text),
         Err(refusal) => refused(alloc, command.file(), refusal),
@@ -108,7 +110,7 @@ fn refused(alloc: Global, file: &str, refusal: Refusal) -> Reply
         Refusal::SchemaFile(name, found) => {
             document_fault(alloc, Status::Schema, name.as_str(), found)
         }
-        Refusal::Schema { rule, file, name } => import_fault(alloc, rule, file.as_str(), &name),
+        Refusal::Schema { rule, file, shown } => import_fault(alloc, rule, file.as_str(), &shown),
         Refusal::Binding(found) => misbound(alloc, found),
         Refusal::Document(name, found) => {
             document_fault(alloc, Status::Document, name.as_str(), found)
@@ -167,11 +169,11 @@ fn broken_rule(alloc: Global, status: Status, rule: XmlRule, file: &str, place: 
 }
 
 // A refusal of schema files with the rule that they break, the file and what breaks it.
-fn import_fault(alloc: Global, rule: SchemaRule, file: &str, name: &Text) -> Reply
-    ensures { IsFaultOrStarved Status.Schema (import_line rule file.now name.now) result }
+fn import_fault(alloc: Global, rule: SchemaRule, file: &str, shown: &Text) -> Reply
+    ensures { IsFaultOrStarved Status.Schema (import_line rule file.now shown.now) result }
 {
-    let name = name.as_str();
-    match format!(in alloc; "{} in {file}: {name}\n", schema_rule_name(rule)) {
+    let shown = shown.as_str();
+    match format!(in alloc; "{} in {file}: {shown}\n", schema_rule_name(rule)) {
         Ok(text) => Reply::Fault(Status::Schema, text),
         Err(AllocError) => Reply::Starved,
     }

@@ -9,7 +9,7 @@ use gx_schema::refusal::SchemaRule;
 use std::alloc::AllocError;
 
 /// Why a command has no output: the query's file could not be read or is too long, the query is refused at a place, the schema file
-/// of this name holds no document, or breaks a rule with what this name shows, the words bind the query's external variables wrongly,
+/// of this name holds no document, or breaks a rule by what is shown, the words bind the query's external variables wrongly,
 /// the file of this name holds no document, its evaluation raises an error, or memory is wanting.
 #[derive(Debug, Drop)]
 pub enum Refusal {
@@ -23,7 +23,7 @@ pub enum Refusal {
     Schema {
         rule: SchemaRule,
         file: String,
-        name: Text,
+        shown: Text,
     },
     Binding(BindingFault),
     Document(String, DocumentFault),

@@ -1,10 +1,12 @@
 pub mod ContentLemmas
+pub mod CountableTypes
 pub mod Declarations
 pub mod DerivationLemmas
 pub mod DistinctNames
 pub mod EarlierFound
 pub mod FaultExamples
 pub mod HeldKinds
+pub mod Imports
 pub mod KindLemmas
 pub mod Lists
 pub mod Made
@@ -17,6 +19,7 @@ pub mod PlacesInOrder
 pub mod SameComplexTypes
 pub mod SeenLemmas
 pub mod SameCircles
+pub mod Refusals
 pub mod SchemaSets
 pub mod ShortEnds
 pub mod SimpleBases

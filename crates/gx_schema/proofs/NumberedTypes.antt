@@ -7,7 +7,6 @@ use Rattle.gx_base.specs.declared.type_name.TypeName.{TypeName}
 use Rattle.gx_base.specs.declared.type_name.TypeName.TheVariants as names
 use Rattle.gx_types.specs.SchemaInvariant.{HoldsOfEach, is_built_in}
 use Rattle.gx_profile.specs.declared.reference.Reference.{Reference}
-use Rattle.gx_profile.specs.declared.written.AttributeMember.{AttributeMember}
 use Rattle.gx_profile.specs.declared.written.ContentKind.{ContentKind}
 use Rattle.gx_profile.specs.declared.written.ContentKind.TheVariants as contents
 use Rattle.gx_profile.specs.declared.written.Derivation.{Derivation as WrittenDerivation}
@@ -38,7 +37,7 @@ use Rattle.gx_schema.specs.declared.unread.DeclarationKind.{DeclarationKind}
 use Rattle.gx_schema.specs.declared.unread.DeclarationKind.TheVariants as declared_kinds
 use Rattle.gx_schema.specs.SchemaTypes.{type_forms}
 use Rattle.gx_schema.specs.TypeForms.{form_of_content, form_of_derivation, form_of_simple_type, form_of_type, forms_of}
-use Rattle.gx_schema.specs.Unread.{is_read_base, is_read_derivation, is_read_method, unread_definition, unread_named, unread_type, unread_where}
+use Rattle.gx_schema.specs.Unread.{is_read_base, is_read_derivation, unread_definition, unread_named, unread_type, unread_where}
 use Rattle.gx_schema.proofs.Lists.{holds_front}
 use Rattle.gx_schema.proofs.NothingFound.{Refers}
 use Rattle.gx_schema.proofs.SimpleTypes.{IsReadBase, IsReadForm}
@@ -120,10 +119,6 @@ simple_form documents place (simple.Restriction at base facets) e refer =
 simple_form documents place (simple.List at item) e refer =
     base_read documents item (read_where (is_read_base item) place declared_kinds.SimpleType e) (λ reference f. reference_refers (declared_number documents) at item reference f refer)
 
-second_true : (a b : Bool) → (a && b) ≡ true → b ≡ true
-second_true true b e = e
-second_true false b e = absurd (cc)
-
 content_form : (count : ℕ) (content : ContentKind) (base : Base) (facets : List WrittenFacet) → IsReadBase count base → IsReadForm count (form_of_content content base facets)
 content_form count contents.Simple base facets read = read
 content_form count contents.Complex base facets read = read
@@ -132,14 +127,13 @@ method_form : (count : ℕ) (method : DerivationMethod) (from : DerivedFrom) (fa
 method_form count methods.Extension from facets read = content_form count from.content from.base facets read
 method_form count methods.Restriction from facets read = content_form count from.content from.base facets read
 
-derivation_form : (documents : List DocumentTree) (derivation : Option WrittenDerivation) (members : List AttributeMember) (facets : List WrittenFacet) → is_read_derivation derivation members ≡ true →
+derivation_form : (documents : List DocumentTree) (derivation : Option WrittenDerivation) (facets : List WrittenFacet) → is_read_derivation derivation ≡ true →
     HoldsOfEach (Refers (declared_number documents)) (base_mentions derivation) →
     IsReadForm (length (type_names_in documents)) (form_of_derivation (derivation_of (globals_of documents) derivation) facets)
-derivation_form documents None members facets e refer = tt
-derivation_form documents (Some derivation) members facets e refer =
+derivation_form documents None facets e refer = tt
+derivation_form documents (Some derivation) facets e refer =
     method_form (length (type_names_in documents)) derivation.method (derived_from (globals_of documents) derivation) facets
-    (base_read documents derivation.base (second_true (is_read_method derivation.method derivation.content members) (is_read_base derivation.base) e)
-    (λ reference f. reference_refers (declared_number documents) derivation.place derivation.base reference f refer))
+    (base_read documents derivation.base e (λ reference f. reference_refers (declared_number documents) derivation.place derivation.base reference f refer))
 
 -- what is read and refers has a form that is read
 definition_form : (documents : List DocumentTree) (groups : List ModelGroup) (place : ℕ) (definition : TypeDefinition) → unread_definition place definition ≡ None →
@@ -147,7 +141,7 @@ definition_form : (documents : List DocumentTree) (groups : List ModelGroup) (pl
     IsReadForm (length (type_names_in documents)) (form_of_type (form_placed (globals_of documents) (first_inner documents) groups definition).placed)
 definition_form documents groups place (Simple definition) e refer = simple_form documents place definition e refer
 definition_form documents groups place (Complex definition) e refer =
-    derivation_form documents definition.derivation definition.attributes definition.facets (read_where (is_read_derivation definition.derivation definition.attributes) place declared_kinds.Restriction e)
+    derivation_form documents definition.derivation definition.facets (read_where (is_read_derivation definition.derivation) place declared_kinds.ComplexType e)
     (holds_front (Refers (declared_number documents)) (base_mentions definition.derivation) (content_mentions definition.particle ++ members_mentions definition.attributes) refer)
 
 abbrev pub IsReadType : List DocumentTree → TypeDeclaration → Type 0

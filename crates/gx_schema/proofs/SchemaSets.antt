@@ -23,7 +23,6 @@ use Rattle.gx_profile.specs.declared.written.TypeReference.{TypeReference}
 use Rattle.gx_profile.specs.declared.written.TypeReference.TheVariants as types
 use Rattle.gx_profile.specs.declared.written.TypeDeclaration.{TypeDeclaration}
 use Rattle.gx_profile.specs.DocumentTree.{DocumentTree}
-use Rattle.gx_profile.specs.Profile.{outside_files}
 use Rattle.gx_components.specs.declared.mention.ComponentKind.TheVariants as kinds
 use Rattle.gx_components.specs.Components.{declared_element}
 use Rattle.gx_components.specs.DeclaredNames.{declarations_in, declared_number, first_type_from, names_of_kind, type_names_in, types_in}
@@ -48,7 +47,7 @@ use Rattle.gx_schema.specs.declared.found.Found.{Found}
 use Rattle.gx_schema.specs.declared.unread.DeclarationKind.TheVariants as declared_kinds
 use Rattle.gx_schema.specs.Doubled.{doubled_declared_name, doubled_of_kind, doubled_type, doubled_type_name}
 use Rattle.gx_schema.specs.Found.{found_by_number, globals_found, types_found}
-use Rattle.gx_schema.specs.Import.{declares, unless_broken, documents_of, found_in_file, documents_judged, unknown_found}
+use Rattle.gx_schema.specs.Import.{declares, unless_broken, found_in_file, documents_judged, unknown_found}
 use Rattle.gx_schema.specs.Circular.{circular, circular_attribute_group, circular_group, circular_type}
 use Rattle.gx_schema.specs.DerivationFaults.{first_derivation_fault}
 use Rattle.gx_schema.specs.FirstFound.{earlier_found}
@@ -56,7 +55,6 @@ use Rattle.gx_schema.specs.Inconsistent.{differing_extension, disagreeing_elemen
 use Rattle.gx_schema.specs.NamedKinds.{first_failing, is_named_kind, is_simple_form, is_simple_kind, is_simple_number, kind_found, unnamed_kind, unsimple_kind}
 use Rattle.gx_schema.specs.SeenComponents.{seen_components, type_components}
 use Rattle.gx_schema.specs.TooLarge.{too_large}
-use Rattle.gx_schema.specs.Laws.{ImportsAreSchemaSets}
 use Rattle.gx_schema.specs.SchemaTypes.{schema_element, schemas_written, type_forms}
 use Rattle.gx_schema.specs.TypeNumbers.{first_type_number, type_number_from}
 use Rattle.gx_schema.specs.Unread.{is_read_type, unread_declaration, unread_global, unread_type}
@@ -339,6 +337,5 @@ judged_are_schema_sets laws documents schemas e =
     let told = is_judged documents schemas e in
     subst IsSchemaSet (sym told.1) (set_where_judged laws documents told.0)
 
-pub imports_are_schema_sets : Laws → ImportsAreSchemaSets
-imports_are_schema_sets laws files schemas e =
-    judged_are_schema_sets laws (documents_of files) schemas (rest_told NotInProfile (outside_files 0 files) (documents_judged (documents_of files)) schemas e)
+pub written_where_judged : (documents : List DocumentTree) (schemas : SchemaSet) → documents_judged documents ≡ declares schemas → schemas ≡ schemas_written documents
+written_where_judged documents schemas e = (is_judged documents schemas e).1

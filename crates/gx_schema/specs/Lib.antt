@@ -1,6 +1,5 @@
 pub mod TypeNumbers
 pub mod Unread
-pub mod RefusalView
 pub mod Found
 pub mod FirstFound
 pub mod FirstNumber
@@ -20,6 +19,7 @@ pub mod Circular
 pub mod TooLarge
 pub mod MeaningsView
 pub mod NamedKinds
+pub mod RestrictedTypes
 pub mod Import
 pub mod ReadView
 pub mod Laws

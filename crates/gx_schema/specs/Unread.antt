@@ -1,16 +1,11 @@
--- The declarations of schema documents that are not read yet: complex types by restriction, but of simple content without attributes, and what names a
--- type that no declaration within the profile names. The first in the text is where files are refused.
-use Rattle.std.specs.Prelude.{ℕ, ◌+◌, nat_le, Bool, true, false, ◌&&◌, List, [], ◌∷◌, codes, is_some, Option, None, Some, if◌then◌else◌}
+-- The declarations of schema documents that are not read: those that name a type which no declaration within the profile names. The first in the text is
+-- where files are refused.
+use Rattle.std.specs.Prelude.{ℕ, ◌+◌, nat_le, Bool, true, false, List, [], ◌∷◌, codes, is_some, Option, None, Some, if◌then◌else◌}
 use Rattle.std.specs.Option.{option_or, option_map}
 use Rattle.gx_base.specs.declared.type_name.TypeName.{TypeName}
 use Rattle.gx_base.specs.declared.type_name.TypeName.TheVariants as names
 use Rattle.gx_types.specs.SchemaInvariant.{is_nameable}
-use Rattle.gx_profile.specs.declared.written.AttributeMember.{AttributeMember}
-use Rattle.gx_profile.specs.declared.written.ContentKind.{ContentKind}
-use Rattle.gx_profile.specs.declared.written.ContentKind.TheVariants as contents
 use Rattle.gx_profile.specs.declared.written.Derivation.{Derivation}
-use Rattle.gx_profile.specs.declared.written.DerivationMethod.{DerivationMethod}
-use Rattle.gx_profile.specs.declared.written.DerivationMethod.TheVariants as methods
 use Rattle.gx_profile.specs.declared.written.GlobalDeclaration.{GlobalDeclaration}
 use Rattle.gx_profile.specs.declared.written.GlobalDeclaration.TheVariants.{Element, Attribute, Group, AttributeGroup}
 use Rattle.gx_profile.specs.declared.written.SimpleTypeDefinition.{SimpleTypeDefinition}
@@ -51,23 +46,13 @@ abbrev pub base_written : SimpleTypeDefinition → TypeReference
 base_written (simple.Restriction place base facets) = base
 base_written (simple.List place item) = item
 
--- all derivations are read but for restrictions of complex content, and of simple content with attributes
-abbrev pub is_read_restriction : ContentKind → List AttributeMember → Bool
-is_read_restriction contents.Simple [] = true
-is_read_restriction contents.Simple (member ∷ members) = false
-is_read_restriction contents.Complex members = false
-
-abbrev pub is_read_method : DerivationMethod → ContentKind → List AttributeMember → Bool
-is_read_method methods.Extension content members = true
-is_read_method methods.Restriction content members = is_read_restriction content members
-
-abbrev pub is_read_derivation : Option Derivation → List AttributeMember → Bool
-is_read_derivation None members = true
-is_read_derivation (Some derivation) members = is_read_method derivation.method derivation.content members && is_read_base derivation.base
+abbrev pub is_read_derivation : Option Derivation → Bool
+is_read_derivation None = true
+is_read_derivation (Some derivation) = is_read_base derivation.base
 
 abbrev pub unread_definition : (place : ℕ) → TypeDefinition → Option Unread
 unread_definition place (Simple definition) = unread_where (is_read_base (base_written definition)) place kinds.SimpleType
-unread_definition place (Complex definition) = unread_where (is_read_derivation definition.derivation definition.attributes) place kinds.Restriction
+unread_definition place (Complex definition) = unread_where (is_read_derivation definition.derivation) place kinds.ComplexType
 
 -- a type is not built in
 abbrev pub unread_named : TypeName → (place : ℕ) → TypeDefinition → Option Unread
@@ -103,7 +88,7 @@ first_by_place (Some one) (Some other) = if nat_le one.place other.place then So
 -- the element that a declaration is
 abbrev pub element_of_kind : DeclarationKind → List ℕ
 element_of_kind kinds.SimpleType = codes "xs:simpleType"
-element_of_kind kinds.Restriction = codes "xs:restriction"
+element_of_kind kinds.ComplexType = codes "xs:complexType"
 element_of_kind kinds.Element = codes "xs:element"
 element_of_kind kinds.Attribute = codes "xs:attribute"
 

@@ -1,11 +1,13 @@
 // What schema files declare.
 
-ghost use Rattle.std.specs.Prelude.{◌≡◌, map, IfOk, IfErr, OnOk, option_map, None};
+ghost use Rattle.std.specs.Prelude.{◌≡◌, map, IfOk, IfErr, OnOk, [], option_map, None};
 ghost use Rattle.gx_components.specs.Components.{AreComponents};
 ghost use Rattle.gx_components.specs.DeclaredNames.{type_names_in};
 ghost use Rattle.gx_schema.specs.Circular.{circular};
 ghost use Rattle.gx_profile.specs.DocumentTree.{DocumentTree};
-ghost use Rattle.gx_schema.specs.Import.{components_judged, declares, found_in_file, imported, documents_judged, kinds_judged, names_judged, unknown_found, unless_broken, IsSchemaRefusal};
+ghost use Rattle.gx_profile.specs.Profile.{outside_files};
+ghost use Rattle.gx_schema.specs.Import.{breaks, broken_at, components_judged, declares, found_in_file, documents_judged, documents_of, kinds_judged, names_judged, read_in_files, unknown_found, unless_broken, IsImported, IsJudged, IsRefusalTold, IsRefusalWith, IsSchemaRefusal};
+ghost use Rattle.gx_schema.specs.RestrictedTypes.{restricted_types};
 ghost use Rattle.gx_schema.specs.SchemaTypes.{meanings_seen, schemas_written, type_forms};
 ghost use Rattle.gx_varieties.specs.Varieties.{IsMarked};
 ghost use Rattle.gx_schema.specs.MeaningsView.{SameMeanings, meanings_view};
@@ -19,11 +21,12 @@ use crate::found::Found;
 use crate::inconsistent::inconsistent;
 use crate::named_kinds::{unnamed_kind, unsimple_kind};
 use crate::refusal::{SchemaRefusal, SchemaRule};
+use crate::restricted_types::judge_restricted;
 use crate::schema_types::{TypeTables, schema_elements, schema_types};
 use crate::seen_components::{
     CircleMarks, SeenComponents, circles, hide_attribute_groups, hide_bases, hide_groups,
 };
-use crate::seen_meanings::{seen_contents, seen_uses};
+use crate::seen_meanings::{seen_contents, seen_restrictions, seen_uses};
 use crate::too_large::too_large;
 use crate::type_forms::type_forms;
 use crate::unread::unread_declaration;
@@ -35,7 +38,7 @@ use gx_components::components::components;
 use gx_components::names::type_names_in;
 use gx_components::unknown::unknown;
 use gx_contents::laws::{elements_keep, one_type_a_name};
-use gx_profile::profile::schema_documents;
+use gx_profile::profile::{ProfileRefusal, schema_documents};
 use gx_profile::written::SchemaDocument;
 use gx_types::declaration::{Declared, GlobalElement};
 use gx_types::schemas::Schemas;
@@ -45,43 +48,98 @@ use gx_varieties::variety::varieties;
 use gx_xml::source::Source;
 use std::alloc::{AllocError, Global};
 
-/// What schema files declare (XML Schema 1.0 part 1, section 3.15), exactly where they keep to all rules; else the first rule, in the
-/// order of `SchemaRule`, that one of them breaks, at its first place over the files. Restrictions of complex content are not read as
-/// yet, and the first of them counts as a construct outside the profile.
+/// What schema files declare (XML Schema 1.0 part 1, section 3.15), exactly where they keep to all rules; else the first rule that one
+/// of them breaks, at its first place over the files. The rules are tried in this order: `NotInProfile`, `UnknownName`, `Inconsistent`,
+/// `Circular` and `TooLarge`; then, over the restrictions of complex types in the order of the types, `NotARestriction` or
+/// `TooManyPairs`.
 pub fn import(alloc: Global, files: &[Source]) -> Result<Schemas, SchemaRefusal>
-    ensures declared { IfOk result (λ schemas. imported files.now ≡ declares schemas) }
-    ensures refused { IfErr result (IsSchemaRefusal (imported files.now)) }
+    ensures declared { IfOk result (λ schemas. IsImported files.now (declares schemas)) }
+    ensures refused { IfErr result (IsSchemaRefusal files.now) }
 {
-    let documents = schema_documents(alloc, files)?;
+    let documents = documents_inside(alloc, files)?;
     judge(alloc, documents.as_slice())
 }
 
+// The documents of files, where no construct is outside the profile.
+fn documents_inside(alloc: Global, files: &[Source]) -> Result<Vec<SchemaDocument>, SchemaRefusal>
+    ensures inside { IfOk result (λ documents. outside_files 0 files.now ≡ None) }
+    ensures documents { IfOk result (λ documents. documents.items ≡ documents_of files.now) }
+    ensures refused { IfErr result (IsRefusalWith (read_in_files files.now)) }
+{
+    match schema_documents(alloc, files) {
+        Ok(documents) => Ok(documents),
+        Err(ProfileRefusal::Outside { file, name }) => {
+            Err(refused(alloc, SchemaRule::NotInProfile, file, name))
+        }
+        Err(ProfileRefusal::Memory) => Err(SchemaRefusal::Memory),
+    }
+}
+
 fn judge(alloc: Global, documents: &[SchemaDocument]) -> Result<Schemas, SchemaRefusal>
-    ensures declared { IfOk result (λ schemas. documents_judged documents.now ≡ declares schemas) }
-    ensures refused { IfErr result (IsSchemaRefusal (documents_judged documents.now)) }
+    ensures declared { IfOk result (λ schemas. IsJudged documents.now (documents_judged documents.now) (declares schemas)) }
+    ensures refused { IfErr result (IsRefusalTold (IsJudged documents.now (documents_judged documents.now))) }
+{
+    let read = judge_declarations(alloc, documents)?;
+    judge_schemas(alloc, documents, read)
+}
+
+// All rules but those on restrictions.
+fn judge_declarations(
+    alloc: Global,
+    documents: &[SchemaDocument],
+) -> Result<ReadComponents, SchemaRefusal>
+    ensures read { IfOk result (IsRead documents.now) }
+    ensures passes { OnOk result (documents_judged documents.now ≡ declares (schemas_written documents.now)) }
+    ensures refused { IfErr result (IsRefusalWith (documents_judged documents.now)) }
 {
     judge_names(alloc, documents)?;
     let read = read(alloc, documents)?;
     judge_components(alloc, documents, &read)?;
-    Ok(schemas_written(alloc, documents, read)?)
+    Ok(read)
+}
+
+// The rules on restrictions.
+fn judge_schemas(
+    alloc: Global,
+    documents: &[SchemaDocument],
+    read: ReadComponents,
+) -> Result<Schemas, SchemaRefusal>
+    requires read { IsRead documents.now read }
+    requires judged { documents_judged documents.now ≡ declares (schemas_written documents.now) }
+    ensures declared { IfOk result (λ schemas. IsJudged documents.now (declares (schemas_written documents.now)) (declares schemas)) }
+    ensures refused { IfErr result (IsRefusalTold (IsJudged documents.now (declares (schemas_written documents.now)))) }
+{
+    let restricted = restricted_types_read(alloc, documents, &read)?;
+    let schemas = schemas_written(alloc, documents, read)?;
+    judge_restricted(alloc, documents, &schemas, &restricted)?;
+    Ok(schemas)
+}
+
+fn restricted_types_read(
+    alloc: Global,
+    documents: &[SchemaDocument],
+    read: &ReadComponents,
+) -> Result<Vec<bool>, AllocError>
+    requires { IsRead documents.now read.now }
+    ensures { IfOk result (λ restricted. restricted.items ≡ restricted_types (seen_components documents.now).types) }
+{
+    seen_restrictions(alloc, &read.seen)
 }
 
 // Everything is read, and each name refers to something.
 fn judge_names(alloc: Global, documents: &[SchemaDocument]) -> Result<(), SchemaRefusal>
     ensures passes { OnOk result (documents_judged documents.now
         ≡ components_judged documents.now (type_forms documents.now) (seen_components documents.now) (declares (schemas_written documents.now))) }
-    ensures refused { IfErr result (IsSchemaRefusal (documents_judged documents.now)) }
+    ensures refused { IfErr result (IsRefusalWith (documents_judged documents.now)) }
 {
     if let Some((file, name)) = unread_declaration(alloc, documents)? {
-        let rule = SchemaRule::NotInProfile;
-        return Err(SchemaRefusal::Refused { rule, file, name });
+        return Err(refused(alloc, SchemaRule::NotInProfile, file, name));
     }
     match unknown(alloc, documents)? {
-        Some(unknown) => Err(SchemaRefusal::Refused {
-            rule: SchemaRule::UnknownName,
-            file: unknown.file,
-            name: unknown.name,
-        }),
+        Some(unknown) => {
+            let rule = SchemaRule::UnknownName;
+            Err(refused(alloc, rule, unknown.file, unknown.name))
+        }
         None => Ok(()),
     }
 }
@@ -178,16 +236,16 @@ fn judge_components(
 ) -> Result<(), SchemaRefusal>
     requires { IsRead documents.now read.now }
     ensures passes { OnOk result (components_judged documents.now (type_forms documents.now) (seen_components documents.now) (declares (schemas_written documents.now)) ≡ declares (schemas_written documents.now)) }
-    ensures refused { IfErr result (IsSchemaRefusal (components_judged documents.now (type_forms documents.now) (seen_components documents.now) (declares (schemas_written documents.now)))) }
+    ensures refused { IfErr result (IsRefusalWith (components_judged documents.now (type_forms documents.now) (seen_components documents.now) (declares (schemas_written documents.now)))) }
 {
     if let Some(found) = inconsistent(alloc, documents, &read.forms, &read.seen)? {
-        return Err(refused(SchemaRule::Inconsistent, found));
+        return Err(refused_at(alloc, SchemaRule::Inconsistent, found));
     }
     if let Some(found) = circular(alloc, documents, read)? {
-        return Err(refused(SchemaRule::Circular, found));
+        return Err(refused_at(alloc, SchemaRule::Circular, found));
     }
     if let Some(found) = too_large(alloc, documents, &read.seen)? {
-        return Err(refused(SchemaRule::TooLarge, found));
+        return Err(refused_at(alloc, SchemaRule::TooLarge, found));
     }
     judge_kinds(alloc, documents, read)
 }
@@ -215,26 +273,32 @@ fn judge_kinds(
 ) -> Result<(), SchemaRefusal>
     requires { IsRead documents.now read.now }
     ensures passes { OnOk result (kinds_judged (type_names_in documents.now) (type_forms documents.now) (seen_components documents.now) (declares (schemas_written documents.now)) ≡ declares (schemas_written documents.now)) }
-    ensures refused { IfErr result (IsSchemaRefusal (kinds_judged (type_names_in documents.now) (type_forms documents.now) (seen_components documents.now) (declares (schemas_written documents.now)))) }
+    ensures refused { IfErr result (IsRefusalWith (kinds_judged (type_names_in documents.now) (type_forms documents.now) (seen_components documents.now) (declares (schemas_written documents.now)))) }
 {
     if let Some((file, name)) = unnamed_kind(alloc, &read.names, &read.seen)? {
-        let rule = SchemaRule::UnknownName;
-        return Err(SchemaRefusal::Refused { rule, file, name });
+        return Err(refused(alloc, SchemaRule::UnknownName, file, name));
     }
     if let Some((file, name)) = unsimple_kind(alloc, &read.names, &read.forms, &read.seen)? {
-        let rule = SchemaRule::Inconsistent;
-        return Err(SchemaRefusal::Refused { rule, file, name });
+        return Err(refused(alloc, SchemaRule::Inconsistent, file, name));
     }
     Ok(())
 }
 
-fn refused(rule: SchemaRule, found: Found) -> SchemaRefusal
-    ensures { result ≡ SchemaRefusal.Refused rule found.file found.name }
+fn refused_at(alloc: Global, rule: SchemaRule, found: Found) -> SchemaRefusal
+    ensures { IsRefusalWith (broken_at rule found []) result }
+{
+    refused(alloc, rule, found.file, found.name)
+}
+
+// A rule is broken that no list of shapes goes with.
+fn refused(alloc: Global, rule: SchemaRule, file: u32, name: Text) -> SchemaRefusal
+    ensures { IsRefusalWith (breaks rule file name []) result }
 {
     SchemaRefusal::Refused {
         rule,
-        file: found.file,
-        name: found.name,
+        file,
+        name,
+        list: Vec::new(alloc),
     }
 }
 

@@ -1,9 +1,10 @@
 // Laws over the definitions.
 
-ghost use Rattle.gx_schema.specs.Laws.{ImportsAreSchemaSets};
+ghost use Rattle.gx_schema.specs.Laws.{AnImportExists, ImportsAreOne, ImportsAreSchemaSets};
 
 use gx_attributes::laws::{kinds_are_written, uses_are_distinct};
-use gx_contents::laws::{elements_keep, one_type_a_name};
+use gx_contents::laws::{contents_are_bounded, elements_keep, one_type_a_name};
+use gx_restriction::laws::{a_judgement_exists, judgements_are_one};
 use gx_varieties::laws::{no_first_fault, none_is_circular, varieties_solve};
 
 /// What schema files declare keeps to what declarations keep to: names are known and distinct, bases end at built-in types, and
@@ -18,4 +19,26 @@ pub fn imports_are_schema_sets()
     elements_keep();
     uses_are_distinct();
     kinds_are_written();
+}
+
+/// The import of schema files ends in one way: with these schemas, or with this rule, at this place.
+pub fn imports_are_one()
+    ensures { ImportsAreOne }
+{
+    judgements_are_one();
+}
+
+/// The import of any schema files ends.
+pub fn an_import_exists()
+    ensures { AnImportExists }
+{
+    varieties_solve();
+    none_is_circular();
+    no_first_fault();
+    one_type_a_name();
+    elements_keep();
+    uses_are_distinct();
+    kinds_are_written();
+    contents_are_bounded();
+    a_judgement_exists();
 }

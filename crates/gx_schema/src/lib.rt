@@ -14,6 +14,7 @@ pub mod laws;
 mod named_kinds;
 mod occurrences;
 pub mod refusal;
+mod restricted_types;
 mod schema_types;
 mod seen_components;
 mod seen_meanings;

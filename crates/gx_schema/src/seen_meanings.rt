@@ -1,11 +1,13 @@
-// The contents, the positions and the attributes of the types that are seen.
+// The contents, the positions and the attributes of the types that are seen, and which of them are restrictions.
 
 ghost use Rattle.std.specs.Prelude.{◌≡◌, ℕ, IfOk, [], slice_index_or};
 ghost use Rattle.gx_attributes.specs.TypeUses.{uses_of_type};
 ghost use Rattle.gx_contents.specs.ContentKnots.{content_of_type};
 ghost use Rattle.gx_contents.specs.PositionKnots.{positions_of_type};
 ghost use Rattle.gx_schema.specs.MeaningsView.{effective_at};
+ghost use Rattle.gx_schema.specs.RestrictedTypes.{restricted_types};
 
+use crate::restricted_types::restricted_types;
 use crate::seen_components::SeenComponents;
 use gx_attributes::uses::attribute_uses;
 use gx_contents::contents::contents;
@@ -35,4 +37,11 @@ pub fn seen_uses(alloc: Global, seen: &SeenComponents) -> Result<Vec<AttributeUs
     ensures { IfOk result (λ uses. (number : ℕ) → slice_index_or uses.items number [] ≡ uses_of_type seen.now.types seen.now.attribute_groups number) }
 {
     attribute_uses(alloc, &seen.types, &seen.attribute_groups)
+}
+
+/// Which types are restrictions of complex types.
+pub fn seen_restrictions(alloc: Global, seen: &SeenComponents) -> Result<Vec<bool>, AllocError>
+    ensures { IfOk result (λ restricted. restricted.items ≡ restricted_types seen.now.types) }
+{
+    restricted_types(alloc, &seen.types)
 }

@@ -1,17 +1,17 @@
-// Declarations that are not read yet.
+// Declarations that are not read.
 
 ghost use Rattle.std.specs.Prelude.{◌≡◌, IfOk};
 ghost use Rattle.gx_types.specs.SchemaInvariant.{is_nameable};
 ghost use Rattle.gx_schema.specs.TypeNumbers.{AreTypeNumbers};
-ghost use Rattle.gx_schema.specs.Unread.{base_written, first_by_place, first_unread, first_unread_global, first_unread_type, is_read_base, is_read_derivation, is_read_method, is_read_restriction, is_read_type, element_of_kind, unread_declaration, unread_definition, unread_from, unread_global, unread_type, unread_where};
+ghost use Rattle.gx_schema.specs.Unread.{base_written, first_by_place, first_unread, first_unread_global, first_unread_type, is_read_base, is_read_derivation, is_read_type, element_of_kind, unread_declaration, unread_definition, unread_from, unread_global, unread_type, unread_where};
 
 use crate::type_numbers::{TypeNumbers, number_of, type_numbers};
 use gx_base::text::Text;
 use gx_base::type_name::{Builtin, TypeName};
 use gx_components::names::type_names_in;
 use gx_profile::written::{
-    AttributeMember, ContentKind, Derivation, DerivationMethod, GlobalDeclaration, SchemaDocument,
-    SimpleTypeDefinition, TypeDeclaration, TypeDefinition, TypeReference,
+    Derivation, GlobalDeclaration, SchemaDocument, SimpleTypeDefinition, TypeDeclaration,
+    TypeDefinition, TypeReference,
 };
 use std::alloc::{AllocError, Global};
 
@@ -19,7 +19,7 @@ use std::alloc::{AllocError, Global};
 #[derive(Clone, Copy, Debug, PartialEq, Eq)]
 enum DeclarationKind {
     SimpleType,
-    Restriction,
+    ComplexType,
     Element,
     Attribute,
 }
@@ -127,45 +127,20 @@ fn unread_definition(place: u64, definition: &TypeDefinition) -> Option<Unread>
             DeclarationKind::SimpleType,
         ),
         TypeDefinition::Complex(definition) => unread_where(
-            is_read_derivation(&definition.derivation, definition.attributes.as_slice()),
+            is_read_derivation(&definition.derivation),
             place,
-            DeclarationKind::Restriction,
+            DeclarationKind::ComplexType,
         ),
     }
 }
 
-// Whether a complex type with these attributes is derived so.
-fn is_read_derivation(derivation: &Option<Derivation>, attributes: &[AttributeMember]) -> bool
-    ensures { result ≡ is_read_derivation derivation.now attributes.now }
+// Whether a complex type may be derived so.
+fn is_read_derivation(derivation: &Option<Derivation>) -> bool
+    ensures { result ≡ is_read_derivation derivation.now }
 {
     match derivation {
         None => true,
-        Some(derivation) => {
-            is_read_method(derivation.method, derivation.content, attributes)
-                && is_read_base(&derivation.base)
-        }
-    }
-}
-
-fn is_read_method(
-    method: DerivationMethod,
-    content: ContentKind,
-    attributes: &[AttributeMember],
-) -> bool
-    ensures { result ≡ is_read_method method content attributes.now }
-{
-    match method {
-        DerivationMethod::Extension => true,
-        DerivationMethod::Restriction => is_read_restriction(content, attributes),
-    }
-}
-
-fn is_read_restriction(content: ContentKind, attributes: &[AttributeMember]) -> bool
-    ensures { result ≡ is_read_restriction content attributes.now }
-{
-    match content {
-        ContentKind::Simple => attributes.is_empty(),
-        ContentKind::Complex => false,
+        Some(derivation) => is_read_base(&derivation.base),
     }
 }
 
@@ -265,7 +240,7 @@ fn element_of_kind(alloc: Global, kind: DeclarationKind) -> Result<Text, AllocEr
 {
     match kind {
         DeclarationKind::SimpleType => Text::from_str(alloc, "xs:simpleType"),
-        DeclarationKind::Restriction => Text::from_str(alloc, "xs:restriction"),
+        DeclarationKind::ComplexType => Text::from_str(alloc, "xs:complexType"),
         DeclarationKind::Element => Text::from_str(alloc, "xs:element"),
         DeclarationKind::Attribute => Text::from_str(alloc, "xs:attribute"),
     }

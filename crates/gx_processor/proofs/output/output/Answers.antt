@@ -10,7 +10,7 @@ pub returns-in-Ok-clause-loads : goal.returns-in-Ok-clause-loads
 returns-in-Ok-clause-loads g c =
     let library = library_use g.L.Library.files g.L.Library.faults g.L.Library.was_loaded c.args.library.now c.typed_output.new.library in
     let command = plain_command c.args.command in
-    typed_loads library c.typed_query.new.library command c.in-Ok.query c.typed_output.result c.typed_query.ensures.told c.typed_query.ensures.counted (rw c.file.ensures at c.in-Ok.ensures.query) c.in-Ok.ensures.typed
+    typed_loads c.imports_are_one.ensures library c.typed_query.new.library command c.in-Ok.query c.typed_output.result c.typed_query.ensures.told c.typed_query.ensures.counted (rw c.file.ensures at c.in-Ok.ensures.query) c.in-Ok.ensures.typed
     c.typed_output.ensures.typed
 
 pub returns-in-Ok-clause-output : goal.returns-in-Ok-clause-output
@@ -35,7 +35,7 @@ returns-in-Ok-clause-cause g c =
 pub returns-in-Err-clause-loads : goal.returns-in-Err-clause-loads
 returns-in-Err-clause-loads g c =
     let library = library_use g.L.Library.files g.L.Library.faults g.L.Library.was_loaded c.args.library.now c.typed_query.new.library in
-    query_refusal_loads library (plain_command c.args.command) c.in-Err.refusal (rw c.file.ensures at c.in-Err.ensures.query)
+    query_refusal_loads c.imports_are_one.ensures library (plain_command c.args.command) c.in-Err.refusal (rw c.file.ensures at c.in-Err.ensures.query)
 
 pub returns-in-Err-clause-refused : goal.returns-in-Err-clause-refused
 returns-in-Err-clause-refused g c = query_refused (g.L.Library.files c.args.library.now) (plain_command c.args.command) c.in-Err.refusal (rw c.file.ensures at c.in-Err.ensures.query).refused

@@ -20,5 +20,6 @@ returns g c =
       honest = c.documents_are_honest.ensures;
       untyped = c.named_queries_have_untyped_documents.ensures;
       imports = c.imports_are_schema_sets.ensures;
+      single = c.imports_are_one.ensures;
     })
     (record { formed = c.reply_to-reply.ensures.cause; usage = c.reply_to-reply.ensures.usage; ends = c.finish.ensures; answers = c.reply_to-reply.ensures.answer; loads = c.reply_to-reply.ensures.loads })

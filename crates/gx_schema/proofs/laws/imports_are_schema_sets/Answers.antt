@@ -1,4 +1,4 @@
-use Rattle.gx_schema.proofs.SchemaSets.{imports_are_schema_sets}
+use Rattle.gx_schema.proofs.Imports.{imports_are_schema_sets}
 use Rattle.gx_schema.proofs.laws.imports_are_schema_sets.Goals as goal
 
 pub returns : goal.returns

@@ -5,9 +5,9 @@ pub returns-in-SimpleType : goal.returns-in-SimpleType
 unfolding chars
 returns-in-SimpleType c = rw c.in-SimpleType.is c.from_str.ensures
 
-pub returns-in-Restriction : goal.returns-in-Restriction
+pub returns-in-ComplexType : goal.returns-in-ComplexType
 unfolding chars
-returns-in-Restriction c = rw c.in-Restriction.is c.from_str-in-Restriction.ensures
+returns-in-ComplexType c = rw c.in-ComplexType.is c.from_str-in-ComplexType.ensures
 
 pub returns-in-Element : goal.returns-in-Element
 unfolding chars
