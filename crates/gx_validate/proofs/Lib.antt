@@ -1,0 +1,9 @@
+pub mod Tests
+pub mod ScopeLemmas
+pub mod CharacterLemmas
+pub mod Takings
+pub mod Annotations
+pub mod Models
+pub mod TypedAttributes
+pub mod TypedChildren
+pub mod Outcomes

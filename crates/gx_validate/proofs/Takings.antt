@@ -1,0 +1,88 @@
+-- The test whether a type takes a list of shapes is exact.
+use Rattle.std.proofs.Common.{◌≡◌, Bool, true, false, List, [], ◌∷◌, inl, inr, refl, sym, ◌∙◌, ap, ◌↔◌, Result, Ok, Err, IfOk, Option, Some, None, subst}
+use Rattle.std.specs.Prelude.{unwrap_or}
+use Rattle.std.specs.Bool.{IsTrue}
+use Rattle.gx_types.specs.declared.shape.Shape.{Shape}
+use Rattle.gx_types.specs.declared.shape.Shape.TheVariants as shapes
+use Rattle.gx_types.specs.declared.item_type.ItemType.TheVariants as items
+use Rattle.gx_types.specs.SchemaSet.{SchemaSet}
+use Rattle.gx_types.specs.declared.declaration.Declared.{Declared}
+use Rattle.gx_types.specs.Grounded.{Grounded}
+use Rattle.gx_types.specs.Derivation.{bases_of}
+use Rattle.gx_types.specs.ItemTakes.{ItemTakes}
+use Rattle.gx_types.specs.Takes.{Takes}
+use Rattle.gx_types.specs.SequenceType.{SequenceType}
+use Rattle.gx_include.specs.Step.{single, step_over, is_end}
+use Rattle.gx_include.specs.Test.{is_taken}
+use Rattle.gx_include.proofs.SetReads.{Reads, reads_forward, reads_back, end_reads, reads_end, start_reads, reads_start}
+use Rattle.gx_include.proofs.Decided.{decided}
+use Rattle.gx_validate.specs.Taking.{set_behind, takes_shapes, is_text_at_most}
+use Rattle.gx_validate.specs.ElementContent.{text_model, complex_model, content_model}
+
+-- from a set of positions the list leads to one where the type may end, exactly where the set reads the list
+walk_reads : (s : SchemaSet) (t : SequenceType) → Grounded (bases_of s) → (shapes : List Shape) (set : List Bool)
+    → (is_end t (set_behind s t shapes set) ≡ true) ↔ Reads s t set shapes
+walk_reads s t g [] set = (end_reads s t set, reads_end s t set)
+walk_reads s t g (x ∷ xs) set =
+    let next = walk_reads s t g xs (step_over t (is_taken s x) set) in
+    (λ h. reads_forward s x t set xs (decided s g x t) (next.0 h), λ h. next.1 (reads_back s x t set xs (decided s g x t) h))
+
+pub takes_where_tested : (s : SchemaSet) (t : SequenceType) (shapes : List Shape) → Grounded (bases_of s) → takes_shapes s t shapes ≡ true → Takes s t shapes
+unfolding takes_shapes
+takes_where_tested s t shapes g h = reads_start s t shapes ((walk_reads s t g shapes (single 0)).0 h)
+
+pub tested_where_takes : (s : SchemaSet) (t : SequenceType) (shapes : List Shape) → Grounded (bases_of s) → Takes s t shapes → takes_shapes s t shapes ≡ true
+unfolding takes_shapes
+tested_where_takes s t shapes g h = (walk_reads s t g shapes (single 0)).1 (start_reads s t shapes h)
+
+-- two tests of one fact agree
+agree : {P : Type 0} (a b : Bool) → (a ≡ true → P) → (P → a ≡ true) → (b ≡ true → P) → (P → b ≡ true) → a ≡ b
+agree true true f g h k = refl
+agree false false f g h k = refl
+agree true false f g h k = sym (k (f refl))
+agree false true f g h k = g (h refl)
+
+-- an answer that is exact is that of the test
+answer_is_tested : (s : SchemaSet) (t : SequenceType) (shapes : List Shape) (answer : Bool) → Grounded (bases_of s)
+    → IsTrue answer ↔ Takes s t shapes → answer ≡ takes_shapes s t shapes
+answer_is_tested s t shapes answer g e =
+    agree answer (takes_shapes s t shapes) e.0 e.1 (takes_where_tested s t shapes g) (tested_where_takes s t shapes g)
+
+exact_result : {E : Type 0} (s : SchemaSet) (t : SequenceType) (shapes : List Shape) (r : Result Bool E) → Grounded (bases_of s)
+    → IfOk r (λ answer. IsTrue answer ↔ Takes s t shapes) → IfOk r (λ answer. answer ≡ takes_shapes s t shapes)
+exact_result s t shapes (Ok answer) g h = answer_is_tested s t shapes answer g h
+exact_result s t shapes (Err e) g h = h
+
+-- of the content of a type that has a model
+pub exact_answer : {E : Type 0} (s : SchemaSet) (holder : Option Declared) (model : SequenceType) (shapes : List Shape) (r : Result Bool E) → Grounded (bases_of s)
+    → complex_model holder ≡ Some model → IfOk r (λ answer. IsTrue answer ↔ Takes s model shapes) → IfOk r (λ answer. answer ≡ takes_shapes s (content_model holder) shapes)
+exact_answer s holder model shapes r g e h =
+    subst (λ (t : SequenceType). IfOk r (λ answer. answer ≡ takes_shapes s t shapes)) (sym (ap (λ o. unwrap_or o text_model) e)) (exact_result s model shapes r g h)
+
+-- a text or nothing is what the model of a text takes
+text_takes : (s : SchemaSet) (shapes : List Shape) → is_text_at_most shapes ≡ true → Takes s text_model shapes
+text_takes s [] h = inl refl
+text_takes s (shapes.Text ∷ []) h = inr (shapes.Text, refl, tt)
+text_takes s (shapes.Text ∷ (y ∷ ys)) h = absurd (cc)
+text_takes s (shapes.Elem n t ∷ xs) h = absurd (cc)
+text_takes s (shapes.Attr n t ∷ xs) h = absurd (cc)
+text_takes s (shapes.Doc d ∷ xs) h = absurd (cc)
+text_takes s (shapes.Atom t ∷ xs) h = absurd (cc)
+
+text_item : (s : SchemaSet) (x : Shape) → ItemTakes s items.Text x → is_text_at_most (x ∷ []) ≡ true
+text_item s shapes.Text h = refl
+text_item s (shapes.Elem n t) h = absurd h
+text_item s (shapes.Attr n t) h = absurd h
+text_item s (shapes.Doc d) h = absurd h
+text_item s (shapes.Atom t) h = absurd h
+
+takes_text : (s : SchemaSet) (shapes : List Shape) → Takes s text_model shapes → is_text_at_most shapes ≡ true
+takes_text s shapes (inl e) = ap is_text_at_most e
+takes_text s shapes (inr h) = ap is_text_at_most h.1 ∙ text_item s h.0 h.2
+
+-- of the content of a type that has none
+pub text_is_tested : (s : SchemaSet) (holder : Option Declared) (shapes : List Shape) → Grounded (bases_of s) → complex_model holder ≡ None
+    → is_text_at_most shapes ≡ takes_shapes s (content_model holder) shapes
+text_is_tested s holder shapes g e =
+    agree (is_text_at_most shapes) (takes_shapes s text_model shapes) (text_takes s shapes) (takes_text s shapes) (takes_where_tested s text_model shapes g) (tested_where_takes s text_model shapes g)
+    ∙ ap (λ o. takes_shapes s (unwrap_or o text_model) shapes) (sym e)

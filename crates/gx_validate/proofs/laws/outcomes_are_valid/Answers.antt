@@ -1,0 +1,5 @@
+use Rattle.gx_validate.proofs.Outcomes as outcomes
+use Rattle.gx_validate.proofs.laws.outcomes_are_valid.Goals as goal
+
+pub returns : goal.returns
+returns c = outcomes.outcomes_are_valid

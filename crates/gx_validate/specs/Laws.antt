@@ -1,0 +1,28 @@
+-- The laws of validation.
+use Rattle.std.specs.Prelude.{◌≡◌, ◌↔◌, Ok, Err, IsSome}
+use Rattle.gx_base.specs.declared.name.Name.{Name}
+use Rattle.gx_tree.specs.PlainTree.{PlainTree}
+use Rattle.gx_types.specs.SchemaSet.{SchemaSet, global_type}
+use Rattle.gx_types.specs.SchemaInvariant.{IsSchemaSet}
+use Rattle.gx_xml.specs.SourceTree.{SourceTree}
+use Rattle.gx_xml.specs.Sound.{IsSoundSource}
+use Rattle.gx_validate.specs.Outcome.{Fault, validated}
+use Rattle.gx_validate.specs.Valid.{IsValidTree}
+
+-- a tree is what validation comes to, exactly where it is valid
+abbrev pub OutcomesAreValid : Type 0
+OutcomesAreValid =
+    (schemas : SchemaSet) (root : Name) (u : SourceTree) (v : PlainTree) → IsSchemaSet schemas → IsSome (global_type schemas root) → IsSoundSource u
+    → (validated schemas root u ≡ Ok v) ↔ IsValidTree schemas root u v
+
+-- at most one tree is valid
+abbrev pub ValidTreesAreOne : Type 0
+ValidTreesAreOne =
+    (schemas : SchemaSet) (root : Name) (u : SourceTree) (v w : PlainTree) → IsSchemaSet schemas → IsSome (global_type schemas root) → IsSoundSource u
+    → IsValidTree schemas root u v → IsValidTree schemas root u w → v ≡ w
+
+-- there is a fault exactly where no tree is valid
+abbrev pub FaultsExcludeTrees : Type 0
+FaultsExcludeTrees =
+    (schemas : SchemaSet) (root : Name) (u : SourceTree) → IsSchemaSet schemas → IsSome (global_type schemas root) → IsSoundSource u
+    → ((fault : Fault) × (validated schemas root u ≡ Err fault)) ↔ ((v : PlainTree) → IsValidTree schemas root u v → ⊥)

@@ -1,0 +1,9 @@
+pub mod InstanceAttributes
+pub mod Annotation
+pub mod ElementContent
+pub mod Taking
+pub mod Rules
+pub mod Outcome
+pub mod Valid
+pub mod Laws
+pub mod ScopeView

@@ -1,0 +1,15 @@
+//! Validation: the typed tree of a document that is valid against schemas, or the first rule that it breaks.
+#![tactic(auto)]
+
+mod annotation;
+mod attributes;
+mod children;
+mod content;
+pub mod invalid;
+pub mod laws;
+mod path;
+mod qname;
+mod rules;
+mod scope;
+pub mod validate;
+mod values;

@@ -1,0 +1,121 @@
+// Names in texts.
+
+ghost use Rattle.std.specs.Prelude.{◌≡◌, IfOk, reverse};
+ghost use Rattle.std.specs.List.{list_all};
+ghost use Rattle.gx_base.specs.NameCharacters.{is_ncname_character};
+ghost use Rattle.gx_profile.specs.Lexical.{colon_in, is_local_name, is_qname, local_in, prefix_in};
+ghost use Rattle.gx_validate.specs.Annotation.{without_space_before, without_space_around};
+
+use gx_base::characters::{is_name_character, is_name_start, is_white_space, next_character};
+use gx_base::text::Text;
+use gx_base::text_builder::TextBuilder;
+use std::alloc::{AllocError, Global};
+
+/// The characters of a text.
+pub fn characters(alloc: Global, text: &Text) -> Result<Vec<char>, AllocError>
+    ensures { IfOk result (λ characters. characters.items ≡ text.now) }
+{
+    let mut characters = Vec::new(alloc);
+    let mut rest = text.as_str().chars();
+    while let Some(character) = next_character(&mut rest) {
+        characters.push(character)?;
+    }
+    Ok(characters)
+}
+
+/// The text of characters.
+pub fn text_of(alloc: Global, characters: &[char]) -> Result<Text, AllocError>
+    ensures { IfOk result (λ text. text ≡ characters.now) }
+{
+    let mut builder = TextBuilder::new(alloc);
+    for character in characters {
+        builder.push(*character)?;
+    }
+    builder.finish()
+}
+
+fn without_space_before(characters: &[char]) -> &[char]
+    ensures { result.now ≡ without_space_before characters.now }
+{
+    let mut rest = characters;
+    while let Some((first, others)) = rest.split_first() {
+        if !is_white_space(*first) {
+            return rest;
+        }
+        rest = others;
+    }
+    rest
+}
+
+fn without_space_behind(characters: &[char]) -> &[char]
+    ensures { result.now ≡ reverse (without_space_before (reverse characters.now)) }
+{
+    let mut rest = characters;
+    while let Some((last, others)) = rest.split_last() {
+        if !is_white_space(*last) {
+            return rest;
+        }
+        rest = others;
+    }
+    rest
+}
+
+/// What stands between the white space at both ends.
+pub fn without_space_around(characters: &[char]) -> &[char]
+    ensures { result.now ≡ without_space_around characters.now }
+{
+    without_space_behind(without_space_before(characters))
+}
+
+fn are_name_characters(characters: &[char]) -> bool
+    ensures { result ≡ list_all is_ncname_character characters.now }
+{
+    characters.iter().all(|c| is_name_character(*c))
+}
+
+// Whether the characters are a name without a colon (Namespaces in XML 1.0, section 3).
+fn is_local_name(characters: &[char]) -> bool
+    ensures { result ≡ is_local_name characters.now }
+{
+    match characters.split_first() {
+        Some((first, others)) => is_name_start(*first) && are_name_characters(others),
+        None => false,
+    }
+}
+
+fn colon_in(characters: &[char]) -> Option<usize>
+    ensures { result ≡ colon_in characters.now }
+{
+    characters.iter().position(|c| *c == ':')
+}
+
+/// Whether the characters are a name with or without a prefix (Namespaces in XML 1.0, section 4).
+pub fn is_qname(characters: &[char]) -> bool
+    ensures { result ≡ is_qname characters.now }
+{
+    match colon_in(characters) {
+        Some(colon) => is_local_name(&characters[..colon])
+            && is_local_name(&characters[colon + 1..]),
+        None => is_local_name(characters),
+    }
+}
+
+/// What stands in front of the first colon.
+pub fn prefix_in(characters: &[char]) -> &[char]
+    ensures { result.now ≡ prefix_in characters.now }
+{
+    match colon_in(characters) {
+        Some(colon) => &characters[..colon],
+        None => &[],
+    }
+}
+
+/// What stands behind the first colon, or all where there is none.
+pub fn local_in(characters: &[char]) -> &[char]
+    ensures { result.now ≡ local_in characters.now }
+{
+    match colon_in(characters) {
+        Some(colon) => &characters[colon + 1..],
+        None => characters,
+    }
+}

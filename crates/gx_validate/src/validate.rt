@@ -1,0 +1,214 @@
+// The trees of valid documents.
+
+ghost use Rattle.std.specs.Prelude.{◌≡◌, [], ◌∷◌, ◌++◌, IfErr, IfOk, IsSome, OnOk, Ok, option_copied};
+ghost use Rattle.gx_tree.specs.PlainTree.{a_tree, document, no_trees};
+ghost use Rattle.gx_types.specs.SchemaSet.{global_type};
+ghost use Rattle.gx_validate.specs.Outcome.{IsInvalid, IsRefusedHere, at_itself, root_type, typed_child, typed_contents, typed_element, typed_root, validated, with_kept_text};
+ghost use Rattle.gx_validate.specs.Rules.{element_judged};
+ghost use Rattle.gx_validate.specs.ScopeView.{scope_declarations};
+ghost use Rattle.gx_xml.specs.SourceView.{contents_of};
+
+use crate::annotation::annotation;
+use crate::attributes::{typed_attributes, uses_allowed};
+use crate::content::{Texts, is_ignored, texts_allowed, type_of_child};
+use crate::invalid::{Invalid, InvalidRule};
+use crate::path::{number_among_siblings, within_step};
+use crate::rules::broken_rule;
+use crate::scope::{Scope, outermost, within};
+use gx_base::name::Name;
+use gx_base::text::Text;
+use gx_base::type_name::{Builtin, TypeName};
+use gx_tree::tree::{Tree, TreeNode};
+use gx_types::declaration::Declared;
+use gx_types::schemas::Schemas;
+use gx_xml::source::{Source, SourceAttribute, SourceChild, SourceElement};
+use std::alloc::{AllocError, Global};
+
+/// The tree of a document with its types, exactly where it is valid (XML Schema 1.0 part 1, sections 3.3.4 and 3.4.4): the root has the
+/// name of that global element. Else the first rule that is broken, in document order and at one element in the order WrongRoot,
+/// BadXsiType, Nil, ExtraAttribute, MissingAttribute, TextInElementContent, WrongContent, BadSimpleValue.
+pub fn validate(
+    alloc: Global,
+    schemas: &Schemas,
+    root: &Name,
+    source: &Source,
+) -> Result<Tree, Invalid>
+    requires { IsSome (global_type schemas.now root.now) }
+    ensures tree { IfOk result (λ t. validated schemas.now root.now source.now.root ≡ Ok t) }
+    ensures fault { IfErr result (λ e. IsInvalid e (validated schemas.now root.now source.now.root)) }
+{
+    match typed_root(alloc, schemas, root, &source.root) {
+        Ok(tree) => Ok(document(alloc, tree)?),
+        Err(invalid) => Err(within_step(alloc, &source.root.name, 1, invalid)),
+    }
+}
+
+// The document node over a tree.
+fn document(alloc: Global, tree: Tree) -> Result<Tree, AllocError>
+    ensures { IfOk result (λ t. t ≡ document (a_tree tree no_trees)) }
+{
+    let mut children = Vec::new(alloc);
+    children.push(tree)?;
+    Ok(Tree {
+        node: TreeNode::Document(children),
+    })
+}
+
+fn typed_root(
+    alloc: Global,
+    schemas: &Schemas,
+    root: &Name,
+    element: &SourceElement,
+) -> Result<Tree, Invalid>
+    ensures tree { IfOk result (λ t. typed_root schemas.now root.now element.now ≡ Ok t) }
+    ensures fault { IfErr result (λ e. IsInvalid e (typed_root schemas.now root.now element.now)) }
+{
+    if element.name != *root {
+        return Err(broken_here(alloc, InvalidRule::WrongRoot));
+    }
+    let declared = root_type(schemas, root)?;
+    typed_element(alloc, schemas, &outermost(alloc), &declared, element)
+}
+
+// The declared type of a root of a name.
+fn root_type(schemas: &Schemas, root: &Name) -> Result<TypeName, AllocError>
+    ensures { IfOk result (λ t. t ≡ root_type schemas.now root.now) }
+{
+    match schemas.global(root) {
+        Some(declared) => declared.clone(),
+        None => Ok(TypeName::Builtin(Builtin::Untyped)),
+    }
+}
+
+// That a rule is broken at the element itself.
+fn broken_here(alloc: Global, rule: InvalidRule) -> Invalid
+    ensures { IsRefusedHere rule result }
+{
+    match Text::empty(alloc) {
+        Ok(path) => Invalid::Refused { rule, path },
+        Err(AllocError) => Invalid::Memory,
+    }
+}
+
+#[cycle(validate)]
+fn typed_element<'a>(
+    alloc: Global,
+    schemas: &Schemas,
+    scope: &Scope<'a>,
+    declared: &TypeName,
+    element: &'a SourceElement,
+) -> Result<Tree, Invalid>
+    ensures tree { IfOk result (λ t. typed_element schemas.entry.now (scope_declarations scope.entry.now) declared.entry.now element.entry.now ≡ Ok t) }
+    ensures fault { IfErr result (λ e. IsInvalid e (typed_element schemas.entry.now (scope_declarations scope.entry.now) declared.entry.now element.entry.now)) }
+{
+    let scope = within(alloc, scope, &element.declarations)?;
+    let kind = element_judged(
+        alloc,
+        schemas,
+        &scope,
+        declared,
+        &element.attributes,
+        &element.children,
+    )?;
+    let holder = schemas.declared(&kind);
+    let name = element.name.clone()?;
+    let attributes = typed_attributes(alloc, uses_allowed(holder), &element.attributes)?;
+    let children = typed_contents(alloc, schemas, &scope, holder, &element.children)?;
+    Ok(Tree {
+        node: TreeNode::Element {
+            name,
+            kind,
+            attributes,
+            children,
+        },
+    })
+}
+
+// The type of an element, or the first rule that it breaks.
+fn element_judged<'a>(
+    alloc: Global,
+    schemas: &Schemas,
+    scope: &Scope<'a>,
+    declared: &TypeName,
+    attributes: &[SourceAttribute],
+    children: &'a [SourceChild],
+) -> Result<TypeName, Invalid>
+    ensures kind { IfOk result (λ t. element_judged schemas.entry.now (scope_declarations scope.entry.now) declared.entry.now attributes.entry.now (contents_of children.entry.now) ≡ Ok t) }
+    ensures fault { IfErr result (λ e. IsInvalid e (at_itself (element_judged schemas.entry.now (scope_declarations scope.entry.now) declared.entry.now attributes.entry.now (contents_of children.entry.now)))) }
+{
+    let Some(kind) = annotation(alloc, schemas, scope, declared, attributes)? else {
+        return Err(broken_here(alloc, InvalidRule::BadXsiType));
+    };
+    let holder = schemas.declared(&kind);
+    match broken_rule(alloc, schemas, scope, &kind, holder, attributes, children)? {
+        Some(rule) => Err(broken_here(alloc, rule)),
+        None => Ok(kind),
+    }
+}
+
+#[cycle(validate)]
+fn typed_contents<'a>(
+    alloc: Global,
+    schemas: &Schemas,
+    scope: &Scope<'a>,
+    holder: Option<&Declared>,
+    children: &'a [SourceChild],
+) -> Result<Vec<Tree>, Invalid>
+    ensures trees { IfOk result (λ ts. typed_contents schemas.entry.now (scope_declarations scope.entry.now) (option_copied holder.entry) [] (contents_of children.entry.now) ≡ Ok ts.items) }
+    ensures fault { IfErr result (λ e. IsInvalid e (typed_contents schemas.entry.now (scope_declarations scope.entry.now) (option_copied holder.entry) [] (contents_of children.entry.now))) }
+{
+    let texts = texts_allowed(holder);
+    let mut done = Vec::new(alloc);
+    let mut left = children;
+    while let Some((child, others)) = left.split_first() {
+        match child {
+            SourceChild::Element(element) => {
+                let tree = typed_child(alloc, schemas, scope, holder, &done, element)?;
+                add_tree(&mut done, tree)?;
+            }
+            SourceChild::Text(text) => add_text(&mut done, texts, text)?,
+        }
+        left = others;
+    }
+    Ok(done)
+}
+
+// The tree of a child behind siblings whose trees are done.
+#[cycle(validate)]
+fn typed_child<'a>(
+    alloc: Global,
+    schemas: &Schemas,
+    scope: &Scope<'a>,
+    holder: Option<&Declared>,
+    done: &Vec<Tree>,
+    element: &'a SourceElement,
+) -> Result<Tree, Invalid>
+    ensures tree { IfOk result (λ t. typed_child schemas.entry.now (scope_declarations scope.entry.now) (option_copied holder.entry) done.entry.now.items element.entry.now ≡ Ok t) }
+    ensures fault { IfErr result (λ e. IsInvalid e (typed_child schemas.entry.now (scope_declarations scope.entry.now) (option_copied holder.entry) done.entry.now.items element.entry.now)) }
+{
+    let declared = type_of_child(holder, &element.name)?;
+    match typed_element(alloc, schemas, scope, &declared, element) {
+        Ok(tree) => Ok(tree),
+        Err(invalid) => {
+            let number = number_among_siblings(done, &element.name);
+            Err(within_step(alloc, &element.name, number, invalid))
+        }
+    }
+}
+
+// Adds a text where it is part of the content.
+fn add_text(done: &mut Vec<Tree>, texts: Texts, text: &Text) -> Result<(), AllocError>
+    ensures { OnOk result (done.new.items ≡ with_kept_text texts done.old.items text.now) }
+{
+    if is_ignored(texts, text) {
+        return Ok(());
+    }
+    let node = TreeNode::Text(text.clone()?);
+    add_tree(done, Tree { node })
+}
+
+fn add_tree(done: &mut Vec<Tree>, tree: Tree) -> Result<(), AllocError>
+    ensures { OnOk result (done.new.items ≡ done.old.items ++ tree ∷ []) }
+{
+    Ok(done.push(tree)?)
+}
