@@ -54,34 +54,34 @@ parts_of (PElement e ∷ ps) = element_part e (parts_of ps)
 parts_of (Enclosed e ∷ ps) = enclosed_part e (parts_of ps)
 
 abbrev pub form_of_node : ExprNode → SyntaxForm
-form_of_node (Number z) = number z
+form_of_node (Number z) = number z.value
 form_of_node (String t) = string t
 form_of_node (Variable q) = variable q
 form_of_node (Parenthesised a) = parenthesised a.value
 form_of_node Empty = empty_sequence
 form_of_node Context = context_item
-form_of_node (Call q es) = call q (trees_of es.items)
+form_of_node (Call c) = call c.value.name (trees_of c.value.arguments.items)
 form_of_node (Sequence a b) = comma a.value b.value
-form_of_node (Flwor cs stable ks e) = flwor (clauses_of cs.items) stable (keys_of ks.items) e.value
-form_of_node (Quantified every bs e) = quantified every (bindings_of bs.items) e.value
-form_of_node (Typeswitch a cs d e) = typeswitch a.value (cases_of cs.items) d e.value
+form_of_node (Flwor f) = flwor (clauses_of f.value.clauses.items) f.value.stable (keys_of f.value.keys.items) f.value.returned
+form_of_node (Quantified q) = quantified q.value.every (bindings_of q.value.bindings.items) q.value.condition
+form_of_node (Typeswitch t) = typeswitch t.value.operand (cases_of t.value.cases.items) t.value.default t.value.otherwise
 form_of_node (If a b c) = conditional a.value b.value c.value
 form_of_node (Binary o a b) = binary o a.value b.value
-form_of_node (InstanceOf a t) = instance_of a.value t
-form_of_node (TreatAs a t) = treat_as a.value t
-form_of_node (CastableAs a t) = castable_as a.value t
-form_of_node (CastAs a t) = cast_as a.value t
+form_of_node (InstanceOf a t) = instance_of a.value t.value
+form_of_node (TreatAs a t) = treat_as a.value t.value
+form_of_node (CastableAs a t) = castable_as a.value t.value
+form_of_node (CastAs a t) = cast_as a.value t.value
 form_of_node (Signed minus a) = signed minus a.value
 form_of_node (Path descendants a b) = path descendants a.value b.value
 form_of_node (Step s) = axis_step s
 form_of_node ParentStep = parent_step
-form_of_node (Filtered a es) = filtered a.value (trees_of es.items)
-form_of_node (Direct d) = direct d.name (attributes_of d.attributes.items) (parts_of d.content.items)
+form_of_node (Filtered f) = filtered f.value.operand (trees_of f.value.predicates.items)
+form_of_node (Direct d) = direct d.value.name (attributes_of d.value.attributes.items) (parts_of d.value.content.items)
 form_of_node (Document a) = document_node a.value
 form_of_node (TextNode a) = text_node a.value
-form_of_node (ComputedElement q a) = element_node q a.value
+form_of_node (ComputedElement q a) = element_node q.value a.value
 form_of_node (EmptyElement q) = empty_element q
-form_of_node (ComputedAttribute q a) = attribute_node q a.value
+form_of_node (ComputedAttribute q a) = attribute_node q.value a.value
 form_of_node (EmptyAttribute q) = empty_attribute q
 
 abbrev pub syntax_of : Place → ExprNode → SyntaxTree

@@ -51,12 +51,13 @@ pub struct Expr {
     pub node: ExprNode,
 }
 
-/// What stands at the root of an expression (XQuery 1.0, section 3).
+/// What stands at the root of an expression (XQuery 1.0, section 3). What is large or rare is in a box, so that an operator
+/// or a literal takes few bytes.
 #[cycle(expression)]
 #[derive(Debug, Drop)]
 pub enum ExprNode {
     /// A numeric literal.
-    Number(Number),
+    Number(Box<Number>),
     /// A string literal.
     String(Text),
     /// A variable.
@@ -68,27 +69,27 @@ pub enum ExprNode {
     /// `.`.
     Context,
     /// A function call.
-    Call(QName, Vec<Expr>),
+    Call(Box<Call>),
     /// Two expressions with a comma between. `a, b, c` is `(a, b), c`.
     Sequence(Box<Expr>, Box<Expr>),
-    /// A FLWOR: its clauses, whether its order is stable, its sort keys, and what is returned.
-    Flwor(Vec<Clause>, bool, Vec<Key>, Box<Expr>),
-    /// `some`, or `every` where that is true, with its bindings and its condition.
-    Quantified(bool, Vec<Binding>, Box<Expr>),
-    /// A typeswitch: the operand, the cases, and the default.
-    Typeswitch(Box<Expr>, Vec<Case>, DefaultHead, Box<Expr>),
+    /// A FLWOR.
+    Flwor(Box<Flwor>),
+    /// A quantified expression.
+    Quantified(Box<Quantified>),
+    /// A typeswitch.
+    Typeswitch(Box<Typeswitch>),
     /// `if`, `then` and `else`.
     If(Box<Expr>, Box<Expr>, Box<Expr>),
     /// Two operands with an operator between. Chains nest to the left.
     Binary(BinaryOperator, Box<Expr>, Box<Expr>),
     /// `instance of`.
-    InstanceOf(Box<Expr>, SequenceType),
+    InstanceOf(Box<Expr>, Box<SequenceType>),
     /// `treat as`.
-    TreatAs(Box<Expr>, SequenceType),
+    TreatAs(Box<Expr>, Box<SequenceType>),
     /// `castable as`.
-    CastableAs(Box<Expr>, SingleType),
+    CastableAs(Box<Expr>, Box<SingleType>),
     /// `cast as`.
-    CastAs(Box<Expr>, SingleType),
+    CastAs(Box<Expr>, Box<SingleType>),
     /// A sign, `-` where that is true.
     Signed(bool, Box<Expr>),
     /// A path of two parts, with `//` between where that is true. Paths nest to the left.
@@ -98,21 +99,66 @@ pub enum ExprNode {
     /// `..`.
     ParentStep,
     /// An expression with its predicates.
-    Filtered(Box<Expr>, Vec<Expr>),
+    Filtered(Box<Filtered>),
     /// A direct element, at its `<`.
-    Direct(DirectElement),
+    Direct(Box<DirectElement>),
     /// `document { .. }`.
     Document(Box<Expr>),
     /// `text { .. }`.
     TextNode(Box<Expr>),
     /// `element q { .. }`.
-    Element(QName, Box<Expr>),
+    Element(Box<QName>, Box<Expr>),
     /// `element q {}`.
     EmptyElement(QName),
     /// `attribute q { .. }`.
-    Attribute(QName, Box<Expr>),
+    Attribute(Box<QName>, Box<Expr>),
     /// `attribute q {}`.
     EmptyAttribute(QName),
+}
+
+/// A function call.
+#[cycle(expression)]
+#[derive(Debug, Drop)]
+pub struct Call {
+    pub name: QName,
+    pub arguments: Vec<Expr>,
+}
+
+/// A FLWOR, and whether its order is stable (XQuery 1.0, section 3.8).
+#[cycle(expression)]
+#[derive(Debug, Drop)]
+pub struct Flwor {
+    pub clauses: Vec<Clause>,
+    pub stable: bool,
+    pub keys: Vec<Key>,
+    pub returned: Expr,
+}
+
+/// `some`, or `every` where that is true, with its condition behind `satisfies` (XQuery 1.0, section 3.11).
+#[cycle(expression)]
+#[derive(Debug, Drop)]
+pub struct Quantified {
+    pub every: bool,
+    pub bindings: Vec<Binding>,
+    pub condition: Expr,
+}
+
+/// A typeswitch, with the head of its default and the expression behind that (XQuery 1.0, section 3.12.2).
+#[cycle(expression)]
+#[derive(Debug, Drop)]
+pub struct Typeswitch {
+    pub operand: Expr,
+    pub cases: Vec<Case>,
+    pub default: DefaultHead,
+    pub otherwise: Expr,
+}
+
+/// An expression with its predicates (XQuery 1.0, sections 3.2.2 and 3.3.2).
+#[cycle(expression)]
+#[derive(Debug, Drop)]
+pub struct Filtered {
+    pub operand: Expr,
+    pub predicates: Vec<Expr>,
 }
 
 /// A binding of a `for`, a `let` or a quantified expression.

@@ -1,6 +1,7 @@
 //! The syntax trees of queries: expressions, types, direct constructors and declarations.
 #![tactic(auto)]
 
+pub mod boxed;
 pub mod dismantle;
 pub mod expression;
 pub mod items;

@@ -1,5 +1,6 @@
 // Sequence types and kind tests as they are written.
 
+use crate::boxed::Boxed;
 use crate::name::{Axis, NameTest, QName, Variable};
 use gx_base::place::Place;
 
@@ -76,8 +77,8 @@ pub struct SingleType {
 /// A node test.
 #[derive(Debug, Drop)]
 pub enum NodeTest {
-    Kind(KindTest),
-    Name(NameTest),
+    Kind(Boxed<KindTest>),
+    Name(Boxed<NameTest>),
 }
 
 /// An axis step without its predicates: the axis as it is written, if it is, and the test. `@` is the attribute axis.

@@ -295,7 +295,7 @@ impl<'a, 's> Resolving<'a, 's> {
     {
         let place = tree.place;
         match &tree.node {
-            ExprNode::Number(value) => Ok(self.leaf(alloc, place, Construct::Number(*value))?),
+            ExprNode::Number(value) => Ok(self.leaf(alloc, place, Construct::Number(**value))?),
             ExprNode::String(text) => {
                 let text = text.clone()?;
                 Ok(self.leaf(alloc, place, Construct::String(text))?)
@@ -306,35 +306,41 @@ impl<'a, 's> Resolving<'a, 's> {
             }
             ExprNode::Empty => Ok(self.leaf(alloc, place, Construct::Empty)?),
             ExprNode::Context => Ok(self.leaf(alloc, place, Construct::Context)?),
-            ExprNode::Call(name, arguments) => {
-                self.open_call(alloc, place, name, arguments.as_slice())
+            ExprNode::Call(call) => {
+                self.open_call(alloc, place, &call.name, call.arguments.as_slice())
             }
             ExprNode::Sequence(first, second) => {
                 Ok(self.open_two(alloc, place, Construct::Sequence, first, second)?)
             }
-            ExprNode::Flwor(clauses, _, keys, returned) => {
+            ExprNode::Flwor(flwor) => {
                 let rest = Rest {
                     word: BindingWord::Let,
                     bindings: &[],
-                    clauses: clauses.as_slice(),
-                    keys: keys.as_slice(),
-                    returned,
+                    clauses: flwor.clauses.as_slice(),
+                    keys: flwor.keys.as_slice(),
+                    returned: &flwor.returned,
                 };
                 Ok(self.open_bindings(alloc, place, Construct::Flwor, rest)?)
             }
-            ExprNode::Quantified(every, bindings, condition) => {
+            ExprNode::Quantified(quantified) => {
                 let rest = Rest {
                     word: BindingWord::Satisfies,
-                    bindings: bindings.as_slice(),
+                    bindings: quantified.bindings.as_slice(),
                     clauses: &[],
                     keys: &[],
-                    returned: condition,
+                    returned: &quantified.condition,
                 };
-                Ok(self.open_bindings(alloc, place, Construct::Quantified(*every), rest)?)
+                let construct = Construct::Quantified(quantified.every);
+                Ok(self.open_bindings(alloc, place, construct, rest)?)
             }
-            ExprNode::Typeswitch(operand, cases, head, otherwise) => {
-                Ok(self.open_typeswitch(alloc, place, operand, cases.as_slice(), head, otherwise)?)
-            }
+            ExprNode::Typeswitch(switch) => Ok(self.open_typeswitch(
+                alloc,
+                place,
+                &switch.operand,
+                switch.cases.as_slice(),
+                &switch.default,
+                &switch.otherwise,
+            )?),
             ExprNode::If(test, chosen, otherwise) => {
                 Ok(self.open_three(alloc, place, test, chosen, otherwise)?)
             }
@@ -359,8 +365,9 @@ impl<'a, 's> Resolving<'a, 's> {
             }
             ExprNode::Step(step) => self.step_from_context(alloc, place, step),
             ExprNode::ParentStep => Ok(self.leaf(alloc, place, Construct::ParentStep)?),
-            ExprNode::Filtered(operand, predicates) => {
-                Ok(self.open_filtered(alloc, place, operand, predicates.as_slice())?)
+            ExprNode::Filtered(filtered) => {
+                let predicates = filtered.predicates.as_slice();
+                Ok(self.open_filtered(alloc, place, &filtered.operand, predicates)?)
             }
             ExprNode::Direct(element) => {
                 let attributes = element.attributes.as_slice();

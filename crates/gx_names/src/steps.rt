@@ -1,9 +1,10 @@
 // Axis steps.
 
 ghost use Rattle.std.specs.Prelude.{◌≡◌, [], IfOk, unwrap_or};
+ghost use Rattle.gx_ast.specs.declared.sequence_type.NodeTest.TheVariants as node_tests;
 ghost use Rattle.gx_names.specs.Refused.{Judges};
 ghost use Rattle.gx_names.specs.Environment.{uri_of};
-ghost use Rattle.gx_names.specs.Steps.{attribute_asked, axis_of_step, axis_written, element_asked, kind_tested, kind_written, name_refusals, name_tested, node_name, step_refusals, step_tested};
+ghost use Rattle.gx_names.specs.Steps.{attribute_asked, axis_of_step, axis_of_test, axis_written, element_asked, kind_tested, kind_written, name_refusals, name_tested, node_name, step_refusals, step_tested};
 
 use crate::names::Names;
 use crate::refusal::NameRefusal;
@@ -36,10 +37,28 @@ fn axis_written(axis: WrittenAxis) -> Axis
 pub(crate) fn axis_of_step(step: &AxisStep) -> Axis
     ensures { result ≡ axis_of_step step.now }
 {
-    match (step.axis, &step.test) {
-        (Some(axis), _) => axis_written(axis),
-        (None, NodeTest::Kind(KindTest::Attribute(_, _))) => Axis::Attribute,
-        (None, _) => Axis::Child,
+    match step.axis {
+        Some(axis) => axis_written(axis),
+        None => axis_of_test(&step.test),
+    }
+}
+
+// The axis of a test with no axis before it.
+fn axis_of_test(test: &NodeTest) -> Axis
+    ensures { result ≡ axis_of_test test.now }
+{
+    match test {
+        NodeTest::Kind(test) => axis_of_kind(test.get()),
+        NodeTest::Name(_) => Axis::Child,
+    }
+}
+
+fn axis_of_kind(test: &KindTest) -> Axis
+    ensures { result ≡ axis_of_test (node_tests.Kind test.now) }
+{
+    match test {
+        KindTest::Attribute(_, _) => Axis::Attribute,
+        _ => Axis::Child,
     }
 }
 
@@ -52,8 +71,8 @@ pub(crate) fn check_step(
     ensures { Judges result (step_refusals names.now step.now) }
 {
     match &step.test {
-        NodeTest::Kind(test) => check_test(alloc, names, test),
-        NodeTest::Name(test) => check_name(names, axis_of_step(step), test),
+        NodeTest::Kind(test) => check_test(alloc, names, test.get()),
+        NodeTest::Name(test) => check_name(names, axis_of_step(step), test.get()),
     }
 }
 
@@ -92,9 +111,9 @@ pub(crate) fn step_tested(
     ensures { IfOk result (λ test. test ≡ step_tested names.now step.now) }
 {
     match &step.test {
-        NodeTest::Kind(test) => kind_tested(alloc, names, test),
+        NodeTest::Kind(test) => kind_tested(alloc, names, test.get()),
         NodeTest::Name(test) => {
-            let test = name_tested(alloc, names, axis_of_step(step), test)?;
+            let test = name_tested(alloc, names, axis_of_step(step), test.get())?;
             Ok(Test::Named(test))
         }
     }

@@ -168,7 +168,7 @@ impl<'a, 's> Using<'a, 's> {
             | ExprNode::EmptyElement(_)
             | ExprNode::EmptyAttribute(_) => Ok(()),
             ExprNode::Variable(name) => self.variable(alloc, name),
-            ExprNode::Call(name, arguments) => self.call(alloc, name, arguments.as_slice()),
+            ExprNode::Call(call) => self.call(alloc, &call.name, call.arguments.as_slice()),
             ExprNode::Parenthesised(inner)
             | ExprNode::InstanceOf(inner, _)
             | ExprNode::TreatAs(inner, _)
@@ -186,34 +186,36 @@ impl<'a, 's> Using<'a, 's> {
                 self.tasks.push(Task::Tree(otherwise))?;
                 self.open_two(test, chosen)
             }
-            ExprNode::Flwor(clauses, _, keys, returned) => {
+            ExprNode::Flwor(flwor) => {
                 let rest = Rest {
                     word: BindingWord::Let,
                     bindings: &[],
-                    clauses: clauses.as_slice(),
-                    keys: keys.as_slice(),
-                    returned,
+                    clauses: flwor.clauses.as_slice(),
+                    keys: flwor.keys.as_slice(),
+                    returned: &flwor.returned,
                 };
                 self.tasks.push(Task::Clauses(rest))
             }
-            ExprNode::Quantified(_, bindings, condition) => {
+            ExprNode::Quantified(quantified) => {
                 let rest = Rest {
                     word: BindingWord::Satisfies,
-                    bindings: bindings.as_slice(),
+                    bindings: quantified.bindings.as_slice(),
                     clauses: &[],
                     keys: &[],
-                    returned: condition,
+                    returned: &quantified.condition,
                 };
                 self.tasks.push(Task::Clauses(rest))
             }
-            ExprNode::Typeswitch(operand, cases, head, otherwise) => {
-                self.tasks.push(Task::Default(head, otherwise))?;
-                self.tasks.push(Task::Cases(cases.as_slice()))?;
-                self.tasks.push(Task::Tree(operand))
+            ExprNode::Typeswitch(switch) => {
+                self.tasks
+                    .push(Task::Default(&switch.default, &switch.otherwise))?;
+                self.tasks.push(Task::Cases(switch.cases.as_slice()))?;
+                self.tasks.push(Task::Tree(&switch.operand))
             }
-            ExprNode::Filtered(operand, predicates) => {
-                self.tasks.push(Task::Trees(predicates.as_slice()))?;
-                self.tasks.push(Task::Tree(operand))
+            ExprNode::Filtered(filtered) => {
+                self.tasks
+                    .push(Task::Trees(filtered.predicates.as_slice()))?;
+                self.tasks.push(Task::Tree(&filtered.operand))
             }
             ExprNode::Direct(element) => {
                 let attributes = element.attributes.as_slice();

@@ -202,7 +202,7 @@ fn open_tree<'a>(tree: &'a Expr, pending: &mut Stack<Pending<'a>>) -> Result<(),
         | ExprNode::CastableAs(operand, _)
         | ExprNode::CastAs(operand, _)
         | ExprNode::Signed(_, operand) => pending.push(Pending::Tree(operand)),
-        ExprNode::Call(_, arguments) => pending.push(Pending::Trees(arguments.as_slice())),
+        ExprNode::Call(call) => pending.push(Pending::Trees(call.arguments.as_slice())),
         ExprNode::Sequence(first, second) => open_three(first, None, second, pending),
         ExprNode::Binary(operator, left, right) => {
             open_three(
@@ -217,10 +217,10 @@ fn open_tree<'a>(tree: &'a Expr, pending: &mut Stack<Pending<'a>>) -> Result<(),
             pending.push(Pending::Tree(chosen))?;
             pending.push(Pending::Tree(test))
         }
-        ExprNode::Flwor(clauses, _, keys, returned) => {
-            pending.push(Pending::Tree(returned))?;
-            pending.push(Pending::Found(unbuilt_keys(keys.as_slice())))?;
-            pending.push(Pending::Clauses(clauses.as_slice()))
+        ExprNode::Flwor(flwor) => {
+            pending.push(Pending::Tree(&flwor.returned))?;
+            pending.push(Pending::Found(unbuilt_keys(flwor.keys.as_slice())))?;
+            pending.push(Pending::Clauses(flwor.clauses.as_slice()))
         }
         ExprNode::InstanceOf(operand, _) | ExprNode::TreatAs(operand, _) => {
             open_front(operand, tree.place, pending)
@@ -228,9 +228,9 @@ fn open_tree<'a>(tree: &'a Expr, pending: &mut Stack<Pending<'a>>) -> Result<(),
         ExprNode::Path(descendants, left, right) => {
             open_three(left, unbuilt_if(*descendants, tree.place), right, pending)
         }
-        ExprNode::Filtered(operand, predicates) => open_front(
-            operand,
-            unbuilt_predicates(predicates.as_slice(), tree.place),
+        ExprNode::Filtered(filtered) => open_front(
+            &filtered.operand,
+            unbuilt_predicates(filtered.predicates.as_slice(), tree.place),
             pending,
         ),
         _ => pending.push(Pending::Found(Some(tree.place))),

@@ -1,5 +1,6 @@
 -- What node tests read.
-use Rattle.std.proofs.Common.{◌≡◌, ℕ, ◌+◌, refl, Bool, true, false, if◌then◌else◌, List, [], ◌∷◌, sym, ap, subst, ◌∙◌, Option, Some, None}
+use Rattle.std.proofs.Common.{◌≡◌, ℕ, ◌+◌, refl, Bool, true, false, if◌then◌else◌, List, [], ◌∷◌, sym, ap, subst, ◌∙◌, Option, Some, None, Result, Ok, Err}
+use Rattle.std.specs.Prelude.{IfOk}
 use Rattle.gx_base.specs.declared.place.Place.{Place}
 use Rattle.gx_ast.specs.declared.name.QName.{QName}
 use Rattle.gx_ast.specs.declared.name.Axis.TheVariants as axis
@@ -9,7 +10,7 @@ use Rattle.gx_grammar.specs.Grammar.{token, empty, ◌&◌, keyed, choose, made}
 use Rattle.gx_grammar.specs.Apart.{is}
 use Rattle.gx_grammar.specs.First.{by_character}
 use Rattle.gx_grammar.specs.Reading.{State, Reading}
-use Rattle.gx_grammar.specs.Ran.{Standing, Ran, Looked, IsDone, left_of}
+use Rattle.gx_grammar.specs.Ran.{Standing, Loses, Ran, Looked, IsDone, left_of}
 use Rattle.gx_syntax.specs.declared.word.Word.TheVariants as word
 use Rattle.gx_syntax.specs.declared.kind_words.KindWord.{KindWord}
 use Rattle.gx_syntax.specs.declared.kind_words.TestContent.{TestContent}
@@ -21,8 +22,18 @@ use Rattle.gx_syntax.specs.Grammar.{Phrase, word_of, lexeme, at_tokens, literal,
 use Rattle.gx_scan.specs.Reading.{read_in, read_one}
 use Rattle.gx_syntax.specs.Types.{Gave, kind_word, content, content_made}
 use Rattle.gx_syntax.specs.NodeTests.{test_of, step_tree, test_made, maybe_content, local_value, any_value, test_value, step_made, wildcard_made, in_namespace, if_wildcard, wildcard_or, wildcard, kind_content, behind_test, any_test, any_step, node_test, axis_test, attribute_step, wildcard_step}
+use Rattle.gx_parse.specs.Parsing.{KeepsTest}
 use Rattle.gx_parse.proofs.Chains.{ran_any}
 use Rattle.gx_parse.proofs.Phrases.{in_token, in_both, in_keyed, in_empty, in_left, in_right, in_made}
+use Rattle.gx_parse.proofs.TypesPhrases.{gave_none, loses_ended, ran_loses}
+
+-- where a test is kept, it is given
+pub gave_test : {E : Type 0} (test : Option NodeTest) (wanted : NodeTest) (made : Result NodeTest E) (a b c : Standing) (read : State → Reading Made)
+    → Ran (test_made wanted) a b read → IfOk made (λ t. t ≡ wanted) → KeepsTest test made b c → Gave test_made test a c read
+gave_test test wanted (Ok t) a b c read h e k =
+    subst (λ o. Gave test_made o a c read) (sym k.0) (subst (λ d. Ran (test_made t) a d read) (sym k.1) (subst (λ x. Ran (test_made x) a b read) (sym e) h))
+gave_test test wanted (Err x) a b c read h e k =
+    subst (λ o. Gave test_made o a c read) (sym k.0) (gave_none test_made nothing a c read (loses_ended b c k.1) (ran_loses (test_made wanted) nothing a b c read h k.1))
 
 module _ (text : List ℕ) (n : ℕ) where
   abbrev reading : Phrase → State → Reading Made

@@ -1,10 +1,11 @@
 -- What the functions of the parser read.
-use Rattle.std.specs.Prelude.{◌≡◌, ℕ, zero, suc, List, [], ◌∷◌, ◌++◌, Bool, true, false, if◌then◌else◌, Result, Ok, Err, None}
+use Rattle.std.specs.Prelude.{◌≡◌, ℕ, zero, suc, List, [], ◌∷◌, ◌++◌, Bool, true, false, if◌then◌else◌, Result, Ok, Err, Option, Some, None}
 use Rattle.gx_base.specs.declared.place.Place.{Place}
 use Rattle.gx_ast.specs.SyntaxTree.{SyntaxTree, SyntaxTrees, at as located, signed, axis_step, call, filtered, a_tree, no_tree}
 use Rattle.gx_ast.specs.SyntaxView.{trees_of}
 use Rattle.gx_ast.specs.declared.name.QName.{QName}
 use Rattle.gx_ast.specs.declared.name.NameTest.TheVariants.{Named}
+use Rattle.gx_ast.specs.declared.sequence_type.NodeTest.{NodeTest}
 use Rattle.gx_ast.specs.declared.sequence_type.NodeTest.TheVariants.{Name as by_name}
 use Rattle.gx_grammar.specs.Grammar.{empty, ◌&◌, rule, made as made_of}
 use Rattle.gx_grammar.specs.Value.{node, nothing, pair}
@@ -68,6 +69,11 @@ read_chain text n m count t s =
 abbrev pub KeepsTree : {E : Type 0} → SyntaxTree → Result SyntaxTree E → Standing → Standing → Type 0
 KeepsTree t (Ok made) before after = (t ≡ made) × (after ≡ before)
 KeepsTree t (Err e) before after = Loses before after
+
+-- a test was kept, or memory did not suffice for it
+abbrev pub KeepsTest : {E : Type 0} → Option NodeTest → Result NodeTest E → Standing → Standing → Type 0
+KeepsTest test (Ok made) before after = (test ≡ Some made) × (after ≡ before)
+KeepsTest test (Err e) before after = (test ≡ None) × Loses before after
 
 -- trees in front of others
 abbrev pub trees_before : List SyntaxTree → SyntaxTrees → SyntaxTrees

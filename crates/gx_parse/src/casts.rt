@@ -30,6 +30,7 @@ fn tested(
     ensures { IfOk result (λ e. e ≡ at place (test_form test operand kind)) }
 {
     let operand = Box::new(alloc, operand)?;
+    let kind = Box::new(alloc, kind)?;
     let node = match test {
         TypeTest::InstanceOf => ExprNode::InstanceOf(operand, kind),
         TypeTest::TreatAs => ExprNode::TreatAs(operand, kind),
@@ -48,6 +49,7 @@ fn cast(
     ensures { IfOk result (λ e. e ≡ at place (cast_form test operand kind)) }
 {
     let operand = Box::new(alloc, operand)?;
+    let kind = Box::new(alloc, kind)?;
     let node = match test {
         CastTest::CastableAs => ExprNode::CastableAs(operand, kind),
         CastTest::CastAs => ExprNode::CastAs(operand, kind),

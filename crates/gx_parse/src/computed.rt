@@ -47,7 +47,7 @@ fn constructor_name(reader: &mut Reader<'_>, source: &Source<'_>) -> Option<QNam
         return None;
     };
     reader.gap();
-    match name.at(source.alloc(), place) {
+    match name.at(source, place) {
         Ok(written) => Some(written),
         Err(_) => {
             reader.lose();

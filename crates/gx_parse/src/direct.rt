@@ -62,7 +62,7 @@ fn element(reader: &mut Reader<'_>, source: &Source<'_>, levels: u8) -> Expr
     };
     let attributes = attributes(reader, source, levels);
     let content = content_if_any(reader, source, levels, &name);
-    let made = trees::direct(source.alloc(), place, name_place, name, attributes, content);
+    let made = trees::direct(source, place, name_place, name, attributes, content);
     keep(reader, made)
 }
 
@@ -113,7 +113,7 @@ fn bare_name(reader: &mut Reader<'_>, source: &Source<'_>) -> Option<QName>
     let Some(name) = reader.name(source.alloc()) else {
         return None;
     };
-    match name.at(source.alloc(), place) {
+    match name.at(source, place) {
         Ok(written) => Some(written),
         Err(_) => {
             reader.lose();

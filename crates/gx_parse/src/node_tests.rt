@@ -1,11 +1,13 @@
 // The reader of node tests and axes.
 
-ghost use Rattle.std.specs.Prelude.{◌≡◌, ◌+◌, ℕ};
+ghost use Rattle.std.specs.Prelude.{◌≡◌, ◌+◌, ℕ, IfOk};
+ghost use Rattle.gx_ast.specs.declared.sequence_type.NodeTest.TheVariants as node_test_is;
 ghost use Rattle.gx_grammar.specs.Ran.{Ran, left_of};
 ghost use Rattle.gx_syntax.specs.Grammar.{place_in, test_or_literal};
 ghost use Rattle.gx_scan.specs.Names.{name_made};
 ghost use Rattle.gx_syntax.specs.NodeTests.{any_step, any_test, attribute_step, axis_test, behind_test, in_namespace, kind_content, maybe_content, node_test, test_made, test_of, wildcard, wildcard_step};
-ghost use Rattle.gx_syntax.specs.Nodes.{name_length, tree};
+ghost use Rattle.gx_parse.specs.Parsing.{KeepsTest};
+ghost use Rattle.gx_syntax.specs.Nodes.{name_at, name_length, tree};
 ghost use Rattle.gx_scan.specs.Reading.{read_in};
 ghost use Rattle.gx_syntax.specs.Types.{Gave};
 
@@ -13,6 +15,7 @@ use crate::parts::lexeme;
 use crate::strings::literal;
 use crate::trees;
 use crate::types::content;
+use gx_ast::boxed::Boxed;
 use gx_ast::expression::Expr;
 use gx_ast::name::{Axis, NameTest, QName};
 use gx_ast::sequence_type::NodeTest;
@@ -23,18 +26,68 @@ use gx_scan::reader::Reader;
 use gx_scan::source::Source;
 use gx_syntax::kind_words::{KindWord, TestContent};
 use gx_syntax::word::{Word, WordSet};
+use std::alloc::{AllocError, Global};
+
+/// The test that a name test is.
+pub fn by_name(alloc: Global, test: NameTest) -> Result<NodeTest, AllocError>
+    ensures { IfOk result (λ made. made ≡ node_test_is.Name test) }
+{
+    Ok(NodeTest::Name(Boxed::new(alloc, test)?))
+}
 
 /// The test of a name, with what stands in parentheses behind the name of a kind test (XQuery 1.0, section 3.2.1.2).
-pub fn test_of(kind: Option<KindWord>, name: QName, content: Option<TestContent>) -> NodeTest
-    ensures { result ≡ test_of kind name content }
+pub fn test_of(
+    alloc: Global,
+    kind: Option<KindWord>,
+    name: QName,
+    content: Option<TestContent>,
+) -> Result<NodeTest, AllocError>
+    ensures { IfOk result (λ test. test ≡ test_of kind name content) }
 {
     let Some(kind) = kind else {
-        return NodeTest::Name(NameTest::Named(name));
+        return by_name(alloc, NameTest::Named(name));
     };
     let Some(content) = content else {
-        return NodeTest::Name(NameTest::Named(name));
+        return by_name(alloc, NameTest::Named(name));
     };
-    NodeTest::Kind(kind_test(kind, name.place, content))
+    let test = kind_test(kind, name.place, content);
+    Ok(NodeTest::Kind(Boxed::new(alloc, test)?))
+}
+
+// The test of a name at a place, with what stands in parentheses behind it.
+fn test_at(
+    source: &Source<'_>,
+    place: Place,
+    kind: Option<KindWord>,
+    name: ReadName,
+    content: Option<TestContent>,
+) -> Result<NodeTest, AllocError>
+    ensures { IfOk result (λ test. test ≡ test_of kind (name_at place (name_made name)) content) }
+{
+    let name = name.at(source, place)?;
+    test_of(source.alloc(), kind, name, content)
+}
+
+// The test that any name in the namespace of a prefix passes, which was read as a name at a place.
+fn in_namespace(source: &Source<'_>, place: Place, prefix: ReadName) -> Result<NodeTest, AllocError>
+    ensures { IfOk result (λ test. test ≡ in_namespace (name_at place (name_made prefix))) }
+{
+    let prefix = prefix.at(source, place)?;
+    let test = NameTest::AnyInNamespace(prefix.place, prefix.local);
+    by_name(source.alloc(), test)
+}
+
+// The test that was made; none where memory did not suffice.
+fn keep(reader: &mut Reader<'_>, made: Result<NodeTest, AllocError>) -> Option<NodeTest>
+    ensures { KeepsTest result made reader.old reader.new }
+{
+    match made {
+        Ok(test) => Some(test),
+        Err(_) => {
+            reader.lose();
+            None
+        }
+    }
 }
 
 // Reads `*`, or `*:` and a name.
@@ -45,14 +98,16 @@ fn wildcard(reader: &mut Reader<'_>, source: &Source<'_>) -> Option<NodeTest>
     let place = source.place(reader.left());
     if !has_prefix {
         lexeme(reader, WordSet::Only(Word::AnyName));
-        return Some(NodeTest::Name(NameTest::Any(place)));
+        let made = by_name(source.alloc(), NameTest::Any(place));
+        return keep(reader, made);
     }
     reader.word(WordSet::Only(Word::AnyPrefix));
     let Some(local) = reader.ncname(source.alloc()) else {
         return None;
     };
     reader.gap();
-    Some(NodeTest::Name(NameTest::AnyNamespace(place, local)))
+    let made = by_name(source.alloc(), NameTest::AnyNamespace(place, local));
+    keep(reader, made)
 }
 
 /// Reads the parentheses of a kind test, if they stand there.
@@ -90,20 +145,8 @@ fn behind_test(
     let Some(content) = kind_content(reader, source, kind) else {
         return None;
     };
-    match name.at(source.alloc(), place) {
-        Ok(written) => Some(test_of(kind, written, content)),
-        Err(_) => {
-            reader.lose();
-            None
-        }
-    }
-}
-
-// The test that any name in the namespace of a prefix passes, which was read as a name.
-fn in_namespace(prefix: QName) -> NodeTest
-    ensures { result ≡ in_namespace prefix }
-{
-    NodeTest::Name(NameTest::AnyInNamespace(prefix.place, prefix.local))
+    let made = test_at(source, place, kind, name, content);
+    keep(reader, made)
 }
 
 // Reads the gap behind a name and `:*`, as a test. The name stood at the place.
@@ -117,13 +160,8 @@ fn any_test(
     ensures { (n : ℕ) → Gave test_made result reader.old reader.new (read_in source.now n (any_test (place_in source.now) (name_made name))) }
 {
     reader.gap();
-    match name.at(source.alloc(), place) {
-        Ok(written) => Some(in_namespace(written)),
-        Err(_) => {
-            reader.lose();
-            None
-        }
-    }
+    let made = in_namespace(source, place, name);
+    keep(reader, made)
 }
 
 /// Reads the gap behind a name and `:*`, as a step. The name stood at the place.

@@ -40,7 +40,7 @@ fn parse_text(alloc: Global, text: &[char]) -> Result<Query, SyntaxRefusal>
     ensures refused { IfErr result (λ e. RefusesText e text.now) }
 {
     let source = Source::new(alloc, text)?;
-    let mut reader = Reader::new(text);
+    let mut reader = Reader::new(alloc, text);
     let tree = query(&mut reader, &source);
     match reader.outcome() {
         None => Ok(tree),

@@ -13,7 +13,7 @@ ghost use Rattle.gx_syntax.specs.Tokens.{one_of};
 
 use crate::members::Members;
 use crate::trees;
-use gx_ast::expression::{Expr, ExprNode};
+use gx_ast::expression::Expr;
 use gx_base::place::Place;
 use gx_scan::reader::Reader;
 use gx_scan::source::Source;
@@ -163,8 +163,8 @@ pub fn numeral(reader: &mut Reader<'_>, source: &Source<'_>) -> Expr
     let number = reader.number(source.alloc());
     reader.number_end();
     reader.gap();
-    let node = ExprNode::Number(number);
-    Expr { place, node }
+    let made = trees::number(source.alloc(), place, number);
+    keep(reader, made)
 }
 
 /// Reads a variable.
@@ -178,7 +178,7 @@ pub fn variable(reader: &mut Reader<'_>, source: &Source<'_>) -> Expr
         return trees::missing();
     };
     reader.gap();
-    let made = trees::variable(source.alloc(), place, name_place, name);
+    let made = trees::variable(source, place, name_place, name);
     keep(reader, made)
 }
 

@@ -212,15 +212,15 @@ fn after_name(
         let Some(content) = kind_content(reader, source, kind) else {
             return trees::missing();
         };
-        let made = trees::tested(source.alloc(), place, kind, name, content);
+        let made = trees::tested(source, place, kind, name, content);
         return keep(reader, made);
     }
     if !reader.starts_with('(') {
-        let made = trees::named(source.alloc(), place, name);
+        let made = trees::named(source, place, name);
         return keep(reader, made);
     }
     let arguments = arguments(reader, source, levels);
-    let made = trees::called(source.alloc(), place, name, arguments);
+    let made = trees::called(source, place, name, arguments);
     keep(reader, made)
 }
 

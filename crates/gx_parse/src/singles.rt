@@ -85,13 +85,13 @@ fn keyword_step(
 {
     if !reader.looks_at_parenthesis() {
         reader.neither();
-        let made = trees::named(source.alloc(), place, name);
+        let made = trees::named(source, place, name);
         return keep(reader, made);
     }
     reader.parenthesis();
     reader.gap();
     let arguments = arguments_in(reader, source, levels);
-    let made = trees::called(source.alloc(), place, name, arguments);
+    let made = trees::called(source, place, name, arguments);
     keep(reader, made)
 }
 
@@ -133,7 +133,7 @@ fn begun(
         return branched(reader, source, levels, place, branching);
     }
     reader.no_parenthesis();
-    let made = trees::named(source.alloc(), place, name);
+    let made = trees::named(source, place, name);
     let first = keep(reader, made);
     let path = path(reader, source, levels, first);
     ladder(reader, source, levels, 8, path)

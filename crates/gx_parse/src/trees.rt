@@ -1,7 +1,7 @@
 // Trees of their parts.
 
 ghost use Rattle.std.specs.Prelude.{◌≡◌, IfOk, None, false};
-ghost use Rattle.gx_ast.specs.SyntaxTree.{at, binary as binary_form, comma, conditional, direct as direct_form, flwor as flwor_form, parenthesised as parenthesised_form, path as path_form, quantified as quantified_form, signed as signed_form, string as string_form, typeswitch as typeswitch_form, variable};
+ghost use Rattle.gx_ast.specs.SyntaxTree.{at, binary as binary_form, comma, conditional, direct as direct_form, flwor as flwor_form, number as number_form, parenthesised as parenthesised_form, path as path_form, quantified as quantified_form, signed as signed_form, string as string_form, typeswitch as typeswitch_form, variable};
 ghost use Rattle.gx_syntax.specs.Nodes.{Found, binary_of, dots_value, is_minus, is_slashes, join_binary, join_comma, join_path, name_at, tree};
 ghost use Rattle.gx_syntax.specs.Computed.{computed_form, empty_form, named_form};
 ghost use Rattle.gx_syntax.specs.NodeTests.{step_tree, test_of};
@@ -10,16 +10,18 @@ ghost use Rattle.gx_scan.specs.Names.{name_made};
 ghost use Rattle.gx_grammar.specs.Value.{node, nothing, pair};
 ghost use Rattle.gx_ast.specs.SyntaxView.{attributes_of, bindings_of, cases_of, clauses_of, keys_of, parts_of, trees_of};
 
-use crate::node_tests::test_of;
+use crate::node_tests::{by_name, test_of};
 use gx_ast::expression::{
-    BinaryOperator, Binding, Case, Clause, DirectAttribute, DirectElement, Expr, ExprNode, Key,
-    Part,
+    BinaryOperator, Binding, Call, Case, Clause, DirectAttribute, DirectElement, Expr, ExprNode,
+    Filtered, Flwor, Key, Part, Quantified, Typeswitch,
 };
 use gx_ast::name::{Axis, NameTest, QName};
 use gx_ast::sequence_type::{AxisStep, DefaultHead, NodeTest};
 use gx_base::place::Place;
 use gx_base::text_builder::TextBuilder;
+use gx_num::Number;
 use gx_scan::names::ReadName;
+use gx_scan::source::Source;
 use gx_syntax::kind_words::{KindWord, TestContent};
 use gx_syntax::word::{ComputedNode, NamedNode, Word};
 use std::alloc::{AllocError, Global};
@@ -173,8 +175,13 @@ pub fn flwor(
 ) -> Result<Expr, AllocError>
     ensures { IfOk result (λ e. e ≡ at place (flwor_form (clauses_of clauses.items) stable (keys_of keys.items) returned)) }
 {
-    let returned = Box::new(alloc, returned)?;
-    let node = ExprNode::Flwor(clauses, stable, keys, returned);
+    let flwor = Flwor {
+        clauses,
+        stable,
+        keys,
+        returned,
+    };
+    let node = ExprNode::Flwor(Box::new(alloc, flwor)?);
     Ok(Expr { place, node })
 }
 
@@ -189,8 +196,13 @@ pub fn typeswitch(
 ) -> Result<Expr, AllocError>
     ensures { IfOk result (λ e. e ≡ at place (typeswitch_form operand (cases_of cases.items) default otherwise)) }
 {
-    let (operand, otherwise) = boxes(alloc, operand, otherwise)?;
-    let node = ExprNode::Typeswitch(operand, cases, default, otherwise);
+    let typeswitch = Typeswitch {
+        operand,
+        cases,
+        default,
+        otherwise,
+    };
+    let node = ExprNode::Typeswitch(Box::new(alloc, typeswitch)?);
     Ok(Expr { place, node })
 }
 
@@ -204,20 +216,23 @@ pub fn quantified(
 ) -> Result<Expr, AllocError>
     ensures { IfOk result (λ e. e ≡ at place (quantified_form every (bindings_of bindings.items) condition)) }
 {
-    let condition = Box::new(alloc, condition)?;
-    let node = ExprNode::Quantified(every, bindings, condition);
+    let quantified = Quantified {
+        every,
+        bindings,
+        condition,
+    };
+    let node = ExprNode::Quantified(Box::new(alloc, quantified)?);
     Ok(Expr { place, node })
 }
 
 /// A step that is a name.
-pub fn named(alloc: Global, place: Place, name: ReadName) -> Result<Expr, AllocError>
+pub fn named(source: &Source<'_>, place: Place, name: ReadName) -> Result<Expr, AllocError>
     ensures { IfOk result (λ e. e ≡ named_tree (name_at place (name_made name))) }
 {
-    let name = name.at(alloc, place)?;
+    let name = name.at(source, place)?;
     let place = name.place;
-    let test = NodeTest::Name(NameTest::Named(name));
-    let node = ExprNode::Step(AxisStep { axis: None, test });
-    Ok(Expr { place, node })
+    let test = by_name(source.alloc(), NameTest::Named(name))?;
+    Ok(step(place, None, test))
 }
 
 /// A step of a test at its first token, with its axis as it is written.
@@ -230,7 +245,7 @@ pub fn step(place: Place, axis: Option<Axis>, test: NodeTest) -> Expr
 
 /// A step that is a name, or a kind test where its parentheses stand behind the name.
 pub fn tested(
-    alloc: Global,
+    source: &Source<'_>,
     place: Place,
     kind: Option<KindWord>,
     name: ReadName,
@@ -238,9 +253,10 @@ pub fn tested(
 ) -> Result<Expr, AllocError>
     ensures { IfOk result (λ e. e ≡ step_tree (name_at place (name_made name)).place None (test_of kind (name_at place (name_made name)) content)) }
 {
-    let name = name.at(alloc, place)?;
+    let name = name.at(source, place)?;
     let place = name.place;
-    Ok(step(place, None, test_of(kind, name, content)))
+    let test = test_of(source.alloc(), kind, name, content)?;
+    Ok(step(place, None, test))
 }
 
 /// A step with its predicates, if there are any.
@@ -251,35 +267,40 @@ pub fn filtered(alloc: Global, step: Expr, predicates: Vec<Expr>) -> Result<Expr
         return Ok(step);
     }
     let place = step.place;
-    let node = ExprNode::Filtered(Box::new(alloc, step)?, predicates);
+    let filtered = Filtered {
+        operand: step,
+        predicates,
+    };
+    let node = ExprNode::Filtered(Box::new(alloc, filtered)?);
     Ok(Expr { place, node })
 }
 
 /// A call.
 pub fn called(
-    alloc: Global,
+    source: &Source<'_>,
     place: Place,
     name: ReadName,
     arguments: Vec<Expr>,
 ) -> Result<Expr, AllocError>
     ensures { IfOk result (λ e. e ≡ called_tree (name_at place (name_made name)) (trees_of arguments.items)) }
 {
-    let name = name.at(alloc, place)?;
+    let name = name.at(source, place)?;
     let place = name.place;
-    let node = ExprNode::Call(name, arguments);
+    let call = Call { name, arguments };
+    let node = ExprNode::Call(Box::new(source.alloc(), call)?);
     Ok(Expr { place, node })
 }
 
 /// A variable.
 pub fn variable(
-    alloc: Global,
+    source: &Source<'_>,
     place: Place,
     name_place: Place,
     name: ReadName,
 ) -> Result<Expr, AllocError>
     ensures { IfOk result (λ e. e ≡ at place (variable (name_at name_place (name_made name)))) }
 {
-    let name = name.at(alloc, name_place)?;
+    let name = name.at(source, name_place)?;
     let node = ExprNode::Variable(name);
     Ok(Expr { place, node })
 }
@@ -295,6 +316,14 @@ pub fn dots(place: Place, word: Word) -> Expr
     Expr { place, node }
 }
 
+/// A numeric literal.
+pub fn number(alloc: Global, place: Place, value: Number) -> Result<Expr, AllocError>
+    ensures { IfOk result (λ e. e ≡ at place (number_form value)) }
+{
+    let node = ExprNode::Number(Box::new(alloc, value)?);
+    Ok(Expr { place, node })
+}
+
 /// A string literal.
 pub fn string(place: Place, text: TextBuilder) -> Result<Expr, AllocError>
     ensures { IfOk result (λ e. e ≡ at place (string_form text)) }
@@ -305,7 +334,7 @@ pub fn string(place: Place, text: TextBuilder) -> Result<Expr, AllocError>
 
 /// A direct element, whose name stands at a place of its own.
 pub fn direct(
-    alloc: Global,
+    source: &Source<'_>,
     place: Place,
     name_place: Place,
     name: ReadName,
@@ -314,12 +343,12 @@ pub fn direct(
 ) -> Result<Expr, AllocError>
     ensures { IfOk result (λ e. e ≡ at place (direct_form (name_at name_place (name_made name)) (attributes_of attributes.items) (parts_of content.items))) }
 {
-    let name = name.at(alloc, name_place)?;
-    let node = ExprNode::Direct(DirectElement {
-        name,
+    let element = DirectElement {
+        name: name.at(source, name_place)?,
         attributes: fitted(attributes),
         content: fitted(content),
-    });
+    };
+    let node = ExprNode::Direct(Box::new(source.alloc(), element)?);
     Ok(Expr { place, node })
 }
 
@@ -350,6 +379,7 @@ pub fn named_node(
 ) -> Result<Expr, AllocError>
     ensures { IfOk result (λ e. e ≡ at place (named_form word name content)) }
 {
+    let name = Box::new(alloc, name)?;
     let content = Box::new(alloc, content)?;
     let node = match word {
         NamedNode::Element => ExprNode::Element(name, content),

@@ -28,7 +28,7 @@ pub fn written_name(reader: &mut Reader<'_>, source: &Source<'_>) -> Option<QNam
         return None;
     };
     reader.gap();
-    match name.at(source.alloc(), place) {
+    match name.at(source, place) {
         Ok(written) => Some(written),
         Err(_) => {
             reader.lose();
@@ -267,7 +267,7 @@ fn behind_type(
     let Some(tail) = type_tail(reader, source, word) else {
         return None;
     };
-    match name.at(source.alloc(), place) {
+    match name.at(source, place) {
         Ok(written) => Some(type_of(word, written, tail)),
         Err(_) => {
             reader.lose();

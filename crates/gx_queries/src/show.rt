@@ -86,9 +86,9 @@ fn show_node<'a>(
         ExprNode::TextNode(inner) => show_of(out, "text ", inner, pieces),
         ExprNode::Signed(true, inner) => show_of(out, "- ", inner, pieces),
         ExprNode::Signed(false, inner) => show_of(out, "+ ", inner, pieces),
-        ExprNode::Call(name, arguments) => {
-            show_named(out, "call ", name)?;
-            Ok(pieces.push(Piece::Trees(arguments.as_slice()))?)
+        ExprNode::Call(call) => {
+            show_named(out, "call ", &call.name)?;
+            Ok(pieces.push(Piece::Trees(call.arguments.as_slice()))?)
         }
         ExprNode::Element(name, content) => {
             show_named(out, "element ", name)?;
@@ -137,10 +137,10 @@ fn show_operator<'a>(
             write!(out, "cast as {kind:?} ")?;
             Ok(pieces.push(Piece::Tree(operand))?)
         }
-        ExprNode::Filtered(operand, predicates) => {
+        ExprNode::Filtered(filtered) => {
             out.push_str("filtered ")?;
-            pieces.push(Piece::Trees(predicates.as_slice()))?;
-            Ok(pieces.push(Piece::Tree(operand))?)
+            pieces.push(Piece::Trees(filtered.predicates.as_slice()))?;
+            Ok(pieces.push(Piece::Tree(&filtered.operand))?)
         }
         _ => show_binder(out, node, pieces),
     }
@@ -159,23 +159,23 @@ fn show_binder<'a>(
             pieces.push(Piece::Tree(chosen))?;
             Ok(pieces.push(Piece::Tree(test))?)
         }
-        ExprNode::Flwor(clauses, stable, keys, returned) => {
-            pieces.push(Piece::Tree(returned))?;
+        ExprNode::Flwor(flwor) => {
+            pieces.push(Piece::Tree(&flwor.returned))?;
             pieces.push(Piece::Word("return "))?;
-            pieces.push(Piece::Keys(keys.as_slice()))?;
-            pieces.push(Piece::Word(if *stable { "stable " } else { "" }))?;
-            Ok(pieces.push(Piece::Clauses(clauses.as_slice()))?)
+            pieces.push(Piece::Keys(flwor.keys.as_slice()))?;
+            pieces.push(Piece::Word(if flwor.stable { "stable " } else { "" }))?;
+            Ok(pieces.push(Piece::Clauses(flwor.clauses.as_slice()))?)
         }
-        ExprNode::Quantified(every, bindings, condition) => {
-            out.push_str(if *every { "every " } else { "some " })?;
-            pieces.push(Piece::Tree(condition))?;
-            Ok(pieces.push(Piece::Bindings(bindings.as_slice()))?)
+        ExprNode::Quantified(quantified) => {
+            out.push_str(if quantified.every { "every " } else { "some " })?;
+            pieces.push(Piece::Tree(&quantified.condition))?;
+            Ok(pieces.push(Piece::Bindings(quantified.bindings.as_slice()))?)
         }
-        ExprNode::Typeswitch(operand, cases, default, otherwise) => {
-            write!(out, "typeswitch {default:?} ")?;
-            pieces.push(Piece::Tree(otherwise))?;
-            pieces.push(Piece::Cases(cases.as_slice()))?;
-            Ok(pieces.push(Piece::Tree(operand))?)
+        ExprNode::Typeswitch(switch) => {
+            write!(out, "typeswitch {:?} ", switch.default)?;
+            pieces.push(Piece::Tree(&switch.otherwise))?;
+            pieces.push(Piece::Cases(switch.cases.as_slice()))?;
+            Ok(pieces.push(Piece::Tree(&switch.operand))?)
         }
         _ => Ok(()),
     }

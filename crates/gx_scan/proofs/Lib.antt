@@ -1,3 +1,4 @@
+pub mod EqualTexts
 pub mod Finding
 pub mod GapSteps
 pub mod MarkupScans

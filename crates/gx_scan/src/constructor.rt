@@ -8,6 +8,7 @@ ghost use Rattle.gx_syntax.specs.Tokens.{constructor, scan, seen, starts_constru
 use crate::gap::brace;
 use crate::markup::Looked;
 use crate::names::{NameFound, begins_no_word, find_name, find_name_end};
+use crate::shared_texts::SharedTexts;
 use std::alloc::{AllocError, Global};
 
 /// Whether a name with a `{` behind its gap stands at the front, and what is left behind the longest front that opens one.
@@ -37,11 +38,15 @@ pub fn starts_constructor(text: &[char]) -> bool
 }
 
 /// The name at the front with the `{` behind its gap (XQuery 1.0, section 3.7.3).
-pub fn find_constructor(alloc: Global, text: &[char]) -> Result<NameFound<'_>, AllocError>
+pub fn find_constructor<'a>(
+    alloc: Global,
+    parts: &mut SharedTexts,
+    text: &'a [char],
+) -> Result<NameFound<'a>, AllocError>
     ensures name { IfOk result (λ f. MatchOption f.name (scan constructor text.now ≡ None) (λ r. scan constructor text.now ≡ Some (name_made r.0, r.1.now))) }
     ensures seen { IfOk result (λ f. f.seen ≡ seen constructor text.now) }
 {
-    let NameFound { name, seen } = find_name(alloc, text)?;
+    let NameFound { name, seen } = find_name(alloc, parts, text)?;
     let Some((name, behind)) = name else {
         return Ok(NameFound { name: None, seen });
     };

@@ -14,4 +14,5 @@ pub mod reader;
 pub mod references;
 pub mod runs;
 pub mod scan;
+pub mod shared_texts;
 pub mod source;

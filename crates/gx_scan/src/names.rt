@@ -15,6 +15,8 @@ ghost use Rattle.gx_syntax.specs.Computed.{computed_named, node_named};
 ghost use Rattle.std.specs.Str.{chars};
 ghost use Rattle.gx_syntax.specs.Tokens.{scan_ncname, scan_qname, seen_qname, starts_local_part, starts_local_wildcard, wildcard_letters, begins_no_word, has_join};
 
+use crate::shared_texts::SharedTexts;
+use crate::source::Source;
 use gx_ast::name::QName;
 use gx_base::characters::{is_name_character, is_name_start};
 use gx_base::place::Place;
@@ -53,6 +55,19 @@ fn name_run(alloc: Global, text: &[char]) -> Result<(Text, &[char]), AllocError>
         rest = tail;
     }
     Ok((name.finish()?, rest))
+}
+
+// The characters of names at the front, which share their memory with equal ones, and what is behind them.
+fn name_part<'a>(
+    alloc: Global,
+    parts: &mut SharedTexts,
+    text: &'a [char],
+) -> Result<(Text, &'a [char]), AllocError>
+    ensures { IfOk result (λ r. (r.0 ≡ run_of is_ncname_character text.now) × (r.1.now ≡ behind_run is_ncname_character text.now)) }
+{
+    let (part, rest) = name_run(alloc, text)?;
+    let part = parts.share(part)?;
+    Ok((part, rest))
 }
 
 // Whether a name may begin here.
@@ -147,8 +162,12 @@ pub fn find_local_wildcard(text: &[char]) -> WildcardFound<'_>
     }
 }
 
-/// The QName at the front (Namespaces in XML 1.0, section 4).
-pub fn find_name(alloc: Global, text: &[char]) -> Result<NameFound<'_>, AllocError>
+/// The QName at the front (Namespaces in XML 1.0, section 4), whose parts share their characters with equal ones.
+pub fn find_name<'a>(
+    alloc: Global,
+    parts: &mut SharedTexts,
+    text: &'a [char],
+) -> Result<NameFound<'a>, AllocError>
     ensures name { IfOk result (λ f. MatchOption f.name (scan_qname text.now ≡ None) (λ r. scan_qname text.now ≡ Some (name_made r.0, r.1.now))) }
     ensures seen { IfOk result (λ f. f.seen ≡ seen_qname text.now) }
     // The name and what is behind it are the text.
@@ -160,7 +179,7 @@ pub fn find_name(alloc: Global, text: &[char]) -> Result<NameFound<'_>, AllocErr
             seen: text.len(),
         });
     }
-    let (first, behind) = name_run(alloc, text)?;
+    let (first, behind) = name_part(alloc, parts, text)?;
     let Some(tail) = local_part(behind) else {
         let seen = colon_seen(behind);
         let name = ReadName {
@@ -172,7 +191,7 @@ pub fn find_name(alloc: Global, text: &[char]) -> Result<NameFound<'_>, AllocErr
             seen,
         });
     };
-    let (local, rest) = name_run(alloc, tail)?;
+    let (local, rest) = name_part(alloc, parts, tail)?;
     let name = ReadName {
         first,
         second: Some(local),
@@ -411,14 +430,14 @@ impl ReadName {
     }
 
     /// The name at a place.
-    pub fn at(self, alloc: Global, place: Place) -> Result<QName, AllocError>
+    pub fn at(self, source: &Source<'_>, place: Place) -> Result<QName, AllocError>
         ensures { IfOk result (λ q. q ≡ name_at place (name_made self)) }
     {
         let ReadName { first, second } = self;
         match second {
             None => Ok(QName {
                 place,
-                prefix: Text::empty(alloc)?,
+                prefix: source.no_characters()?,
                 local: first,
             }),
             Some(local) => Ok(QName {

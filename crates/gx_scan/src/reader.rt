@@ -34,6 +34,7 @@ use crate::numbers::{LiteralFound, find_number, point_seen, starts_fraction};
 use crate::references::{find_part, find_reference};
 use crate::runs::{find_text, push_characters, push_text};
 use crate::scan::{find, find_only};
+use crate::shared_texts::SharedTexts;
 use gx_base::characters::is_name_start;
 use gx_base::text::Text;
 use gx_base::text_builder::TextBuilder;
@@ -65,13 +66,14 @@ pub enum End {
     Lost,
 }
 
-/// What is left of a text, how many characters are left behind the furthest one that fitted so far, and whether reading
-/// has ended.
+/// What is left of a text, how many characters are left behind the furthest one that fitted so far, whether reading has
+/// ended, and the parts of names that were read.
 #[derive(Drop)]
 pub struct Reader<'a> {
     rest: &'a [char],
     far: usize,
     end: Option<End>,
+    parts: SharedTexts,
 }
 
 impl<'a> Model for Reader<'a> {
@@ -87,13 +89,14 @@ impl<'a> Reader<'a> {
     ghost use Rattle.gx_grammar.specs.Ran.{Going};
 
     /// A reader at the front of a text.
-    pub fn new(text: &'a [char]) -> Reader<'a>
+    pub fn new(alloc: Global, text: &'a [char]) -> Reader<'a>
         ensures { result ≡ Going (start text.now) }
     {
         Reader {
             rest: text,
             far: text.len(),
             end: None,
+            parts: SharedTexts::new(alloc),
         }
     }
 }
@@ -308,7 +311,7 @@ impl Reader<'_> {
         if self.end.is_some() {
             return None;
         }
-        let Ok(found) = find_name(alloc, self.rest) else {
+        let Ok(found) = find_name(alloc, &mut self.parts, self.rest) else {
             self.end = Some(End::Lost);
             return None;
         };
@@ -774,7 +777,7 @@ impl Reader<'_> {
         if self.end.is_some() {
             return None;
         }
-        let Ok(found) = find_constructor(alloc, self.rest) else {
+        let Ok(found) = find_constructor(alloc, &mut self.parts, self.rest) else {
             self.end = Some(End::Lost);
             return None;
         };

@@ -1,9 +1,10 @@
 // A text with the places of its characters.
 
-ghost use Rattle.std.specs.Prelude.{◌≡◌, ◌+◌, ◌≤◌, All, IfOk, length};
+ghost use Rattle.std.specs.Prelude.{◌≡◌, ◌+◌, ◌≤◌, All, IfOk, [], length};
 ghost use Rattle.gx_grammar.specs.Places.{place_at};
 
 use gx_base::place::Place;
+use gx_base::text::Text;
 use gx_grammar::place::PlaceWalk;
 use std::alloc::{AllocError, Global};
 use std::marker::Model;
@@ -20,14 +21,17 @@ pub struct Mark {
     pub place: Place,
 }
 
-/// A text with marks, from which the place of any character is near, and an allocator. Contracts see the text.
+/// A text with marks, from which the place of any character is near, an allocator, and a text without characters. Contracts
+/// see the text.
 #[derive(Drop)]
 pub struct Source<'a> {
     alloc: Global,
     text: &'a [char],
     marks: Vec<Mark>,
+    empty: Text,
     ghost numbered: { length text.now ≤ 16777216 },
     ghost right: { All (λ m. m.place ≡ place_at text.now m.position) marks.items },
+    ghost without_characters: { empty ≡ [] },
 }
 
 impl<'a> Model for Source<'a> {
@@ -44,6 +48,7 @@ impl<'a> Source<'a> {
         requires { length text.now ≤ 16777216 }
         ensures { IfOk result (λ p. p ≡ text.now) }
     {
+        let empty = Text::empty(alloc)?;
         let mut walk = PlaceWalk::new(text);
         let mut marks = Vec::new(alloc);
         for index in 0..text.len() / SPACING + 1 {
@@ -51,7 +56,12 @@ impl<'a> Source<'a> {
             let place = walk.advance(position);
             marks.push(Mark { position, place })?;
         }
-        Ok(Source { alloc, text, marks })
+        Ok(Source {
+            alloc,
+            text,
+            marks,
+            empty,
+        })
     }
 }
 
@@ -61,6 +71,13 @@ impl Source<'_> {
     /// The allocator.
     pub fn alloc(&self) -> Global {
         self.alloc
+    }
+
+    /// The text without characters, which all that ask for it share.
+    pub fn no_characters(&self) -> Result<Text, AllocError>
+        ensures { IfOk result (λ text. text ≡ []) }
+    {
+        self.empty.clone()
     }
 
     /// The place of the character where so many are left.

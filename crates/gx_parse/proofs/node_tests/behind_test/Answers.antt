@@ -1,13 +1,13 @@
-use Rattle.std.proofs.Common.{Some, ap, subst, sym, ◌∙◌}
-use Rattle.gx_grammar.specs.Value.{nothing, pair}
+use Rattle.std.proofs.Common.{subst}
+use Rattle.gx_grammar.specs.Value.{nothing}
 use Rattle.gx_scan.specs.Names.{name_made}
 use Rattle.gx_syntax.specs.Nodes.{name_at}
 use Rattle.gx_syntax.specs.Grammar.{place_in}
 use Rattle.gx_scan.specs.Reading.{read_in}
 use Rattle.gx_grammar.specs.Ran.{Ran}
-use Rattle.gx_syntax.specs.NodeTests.{behind_test, maybe_content, test_made, test_of, test_value}
-use Rattle.gx_parse.proofs.TypesPhrases.{gave_none, loses_ended, ran_loses}
-use Rattle.gx_parse.proofs.NodeTestsPhrases.{test_read, test_value_is}
+use Rattle.gx_syntax.specs.NodeTests.{behind_test, maybe_content, test_made, test_of}
+use Rattle.gx_parse.proofs.TypesPhrases.{gave_none}
+use Rattle.gx_parse.proofs.NodeTestsPhrases.{gave_test, test_read, test_value_is}
 use Rattle.gx_parse.proofs.node_tests.behind_test.Goals as goal
 
 pub returns-in_default : goal.returns-in_default
@@ -16,14 +16,9 @@ returns-in_default c = λ n.
     gave_none test_made _ c.args.reader.now c.kind_content.new.reader (read_in c.args.source.now n (behind_test (place_in c.args.source.now) (name_made c.args.name))) done.0
     (test_read c.args.source.now n (name_made c.args.name) nothing c.kind_word-kind.result c.args.place c.args.reader.now c.gap.new.self c.kind_content.new.reader c.kind_word-kind.ensures c.requires c.gap.ensures (done.1 nothing))
 
-pub returns-in-Ok : goal.returns-in-Ok
-returns-in-Ok c = λ n.
-    let same = ap (λ q. test_made (test_of c.kind_word-kind.result q c.in-Some.content)) c.in-Ok.ensures in
-    subst (λ v. Ran v c.args.reader.now c.kind_content.new.reader (read_in c.args.source.now n (behind_test (place_in c.args.source.now) (name_made c.args.name)))) (test_value_is c.args.source.now n c.kind_word-kind.result (name_at c.args.place (name_made c.args.name)) c.in-Some.content ∙ sym (ap test_made c.test_of.ensures ∙ same))
-    (test_read c.args.source.now n (name_made c.args.name) (maybe_content c.in-Some.content) c.kind_word-kind.result c.args.place c.args.reader.now c.gap.new.self c.kind_content.new.reader c.kind_word-kind.ensures c.requires c.gap.ensures (c.in-Some.ensures n))
-
-pub returns-in-Err : goal.returns-in-Err
-returns-in-Err c = λ n.
-    gave_none test_made nothing c.args.reader.now c.lose.new.self (read_in c.args.source.now n (behind_test (place_in c.args.source.now) (name_made c.args.name))) (loses_ended c.kind_content.new.reader c.lose.new.self c.lose.ensures)
-    (ran_loses (test_value c.kind_word-kind.result (name_at c.args.place (name_made c.args.name)) (pair nothing (maybe_content c.in-Some.content))) nothing c.args.reader.now c.kind_content.new.reader c.lose.new.self (read_in c.args.source.now n (behind_test (place_in c.args.source.now) (name_made c.args.name)))
-    (test_read c.args.source.now n (name_made c.args.name) (maybe_content c.in-Some.content) c.kind_word-kind.result c.args.place c.args.reader.now c.gap.new.self c.kind_content.new.reader c.kind_word-kind.ensures c.requires c.gap.ensures (c.in-Some.ensures n)) c.lose.ensures)
+pub returns : goal.returns
+returns c = λ n.
+    gave_test c.keep.result (test_of c.kind_word-kind.result (name_at c.args.place (name_made c.args.name)) c.in-Some.content) c.test_at-made.result c.args.reader.now c.kind_content.new.reader c.keep.new.reader (read_in c.args.source.now n (behind_test (place_in c.args.source.now) (name_made c.args.name)))
+    (subst (λ v. Ran v c.args.reader.now c.kind_content.new.reader (read_in c.args.source.now n (behind_test (place_in c.args.source.now) (name_made c.args.name)))) (test_value_is c.args.source.now n c.kind_word-kind.result (name_at c.args.place (name_made c.args.name)) c.in-Some.content)
+    (test_read c.args.source.now n (name_made c.args.name) (maybe_content c.in-Some.content) c.kind_word-kind.result c.args.place c.args.reader.now c.gap.new.self c.kind_content.new.reader c.kind_word-kind.ensures c.requires c.gap.ensures (c.in-Some.ensures n)))
+    c.test_at-made.ensures c.keep.ensures
