@@ -18,7 +18,8 @@ use Rattle.gx_include.specs.ItemIndex.{items_of, tests_at}
 use Rattle.gx_include.specs.Step.{all_tests}
 use Rattle.gx_include.specs.Test.{is_taken}
 use Rattle.gx_include.specs.Trials.{with_names, IsOther, trial_shapes}
-use Rattle.gx_include.specs.Alphabet.{LetterEntry, entry_of_letter, entry_if, entries_at, entries_below, entries_over, entries_of_column, AreColumns, AreColumnsMore, IsAlphabet}
+use Rattle.gx_include.specs.Alphabet.{LetterEntry, entry_of_letter, entry_if, entries_at, entries_below, entries_over, entries_up_to, entries_of_column, shapes_asked, AreColumns, AreColumnsMore, IsAlphabet}
+use Rattle.gx_include.proofs.Asked.{asked_enough}
 use Rattle.gx_include.proofs.Lists.{flat_step}
 use Rattle.gx_include.proofs.Listed.{tests_are}
 
@@ -173,31 +174,42 @@ module _ {A : Type 0} where
       f ∙ ap (λ es. es ++ entries_of_column column) e ∙ ap (λ es. flat_map entries_of_column columns ++ es) (sym (append-nil (entries_of_column column)))
       ∙ sym (flat_map-append entries_of_column columns (column ∷ []))
 
-  pub below_are : (s : SchemaSet) (a b : SequenceType) (shapes : List Shape) (count : ℕ) (columns : List (Vec Letter A))
-      → AreColumns count (entries_over s (items_of a) (items_of b) shapes) columns → (k : ℕ) → k ≤ length columns → flat_map entries_of_column (take k columns) ≡ entries_below s a b shapes k
-  below_are s a b shapes count columns is zero h = refl
-  below_are s a b shapes count columns is (suc k) h =
+  pub below_are : (entries : ℕ → List LetterEntry) (count : ℕ) (columns : List (Vec Letter A)) → AreColumns count entries columns → (k : ℕ) → k ≤ length columns
+      → flat_map entries_of_column (take k columns) ≡ entries_up_to entries k
+  below_are entries count columns is zero h = refl
+  below_are entries count columns is (suc k) h =
       let q = there columns k (omega arith) in
       ap (λ n. flat_map entries_of_column (take n columns)) (sym (add-one k))
       ∙ sym (flat_step entries_of_column columns k q.0 (omega arith) (sym (get_or_from_slice_get columns k q.0 q.0 q.1)) [] (flat_map entries_of_column (take k columns))
       (flat_map entries_of_column (take k columns) ++ entries_of_column q.0) refl refl)
-      ∙ ap (λ es. es ++ entries_of_column q.0) (below_are s a b shapes count columns is k (omega arith))
-      ∙ ap (λ es. entries_below s a b shapes k ++ es) (is.are k q.0 q.1 ∙ over_is s a b shapes k)
+      ∙ ap (λ es. es ++ entries_of_column q.0) (below_are entries count columns is k (omega arith))
+      ∙ ap (λ es. entries_up_to entries k ++ es) (is.are k q.0 q.1)
 
-  -- the answer of the program
-  pub alphabet_is : (s : SchemaSet) (a b : SequenceType) (letters : List Letter) (columns : List (Vec Letter A)) (left right : List ItemType) (shapes : List Shape) (other : Name)
-      → IsOther (with_names (with_names [] a) b) other → map entry_of_letter letters ≡ flat_map entries_of_column columns → left ≡ items_of a → right ≡ items_of b
-      → AreColumns (length left + 1) (entries_over s left right shapes) columns → shapes ≡ trial_shapes (plain_types s) (with_names (with_names [] a) b ++ other ∷ []) → IsAlphabet s a b letters
-  alphabet_is s a b letters columns left right shapes other fresh e f g is h = record {
-    other = other;
-    fresh = fresh;
-    are =
-        let all : AreColumns (positions_of a + 1) (entries_over s (items_of a) (items_of b) shapes) columns =
-        subst (λ n. AreColumns n (entries_over s (items_of a) (items_of b) shapes) columns) (ap (λ n. n + 1) (length_items a))
-        (subst (λ ks. AreColumns (length (items_of a) + 1) (entries_over s (items_of a) ks shapes) columns) g
-        (subst (λ ks. AreColumns (length ks + 1) (entries_over s ks right shapes) columns) f is)) in
-        let count : length columns ≤ positions_of a + 1 = omega (arith, all.count_is) in
-        e ∙ ap (λ cs. flat_map entries_of_column cs) (sym (take_all (positions_of a + 1) columns count))
-        ∙ below_are s a b shapes (positions_of a + 1) columns all (positions_of a + 1) (omega (arith, all.count_is))
-        ∙ ap (λ xs. entries_below s a b xs (positions_of a + 1)) h;
-  }
+  -- the letters are those of the columns
+  pub letters_are : (entries : ℕ → List LetterEntry) (count : ℕ) (letters : List Letter) (columns : List (Vec Letter A)) → AreColumns count entries columns
+      → map entry_of_letter letters ≡ flat_map entries_of_column columns → map entry_of_letter letters ≡ entries_up_to entries count
+  letters_are entries count letters columns is e =
+      e ∙ ap (λ cs. flat_map entries_of_column cs) (sym (take_all count columns (omega (arith, is.count_is)))) ∙ below_are entries count columns is count (omega (arith, is.count_is))
+
+-- the answer of the program
+
+below_is : (s : SchemaSet) (a b : SequenceType) (names : List Name) (k : ℕ)
+    → entries_up_to (entries_over s (items_of a) (items_of b) (shapes_asked s (items_of a) names)) k ≡ entries_below s a b (trial_shapes (plain_types s) names) k
+below_is s a b names zero = refl
+below_is s a b names (suc k) =
+    ap (λ es. es ++ entries_over s (items_of a) (items_of b) (shapes_asked s (items_of a) names) k) (below_is s a b names k)
+    ∙ ap (λ es. entries_below s a b (trial_shapes (plain_types s) names) k ++ es)
+    (asked_enough s (items_of a) (items_of b) names k ∙ over_is s a b (trial_shapes (plain_types s) names) k)
+
+pub alphabet_is : (s : SchemaSet) (a b : SequenceType) (letters : List Letter) (left right : List ItemType) (other : Name) → IsOther (with_names (with_names [] a) b) other → left ≡ items_of a → right ≡ items_of b
+    → map entry_of_letter letters ≡ entries_up_to (entries_over s left right (shapes_asked s left (with_names (with_names [] a) b ++ other ∷ []))) (length left + 1) → IsAlphabet s a b letters
+alphabet_is s a b letters left right other fresh f g is = record {
+  other = other;
+  fresh = fresh;
+  are =
+      let names = with_names (with_names [] a) b ++ other ∷ [] in
+      is ∙ ap (λ ks. entries_up_to (entries_over s ks right (shapes_asked s ks names)) (length ks + 1)) f
+      ∙ ap (λ ks. entries_up_to (entries_over s (items_of a) ks (shapes_asked s (items_of a) names)) (length (items_of a) + 1)) g
+      ∙ ap (λ n. entries_up_to (entries_over s (items_of a) (items_of b) (shapes_asked s (items_of a) names)) (n + 1)) (length_items a)
+      ∙ below_is s a b names (positions_of a + 1);
+}

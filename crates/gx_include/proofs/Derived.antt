@@ -229,9 +229,13 @@ module _ {A S : Type 0} (s : SchemaSet) where
       by false e = all other
 
 module _ {A S Z : Type 0} (s : SchemaSet) where
-  pub looked_up : (numbers : IndexMap TypeName ℕ S) (columns : IndexMap TypeName (Vec Bool A) Z) → AreDerivations s numbers columns → (t kind : TypeName) (number : ℕ) (column : Vec Bool A)
+  pub looked_up : (numbers : IndexMap TypeName ℕ S) (bases : List (Option ℕ)) (columns : IndexMap TypeName (Vec Bool A) Z) → AreDerivations s numbers bases columns → (t kind : TypeName) (number : ℕ) (column : Vec Bool A)
       → get same_kind numbers t ≡ Some number → get same_kind columns kind ≡ Some column → get_or column.items number false ≡ is_derived s t kind
-  looked_up numbers columns are t kind number column e f =
+  looked_up numbers bases columns are t kind number column e f =
       let is = subst (λ o. IfSome o (IsNumberOf s t)) e (are.numbered t) in
       let flags = subst (λ o. IfSome o (λ (c : Vec Bool A). IsColumn s kind c.items)) f (are.by_kind kind) in
       flags.are number ∙ sym (derived_by_number s kind t number is)
+
+  pub column_of_kind : (numbers : IndexMap TypeName ℕ S) (bases : List (Option ℕ)) (columns : IndexMap TypeName (Vec Bool A) Z) → AreDerivations s numbers bases columns → (kind : TypeName) (found : Option (Vec Bool A))
+      → found ≡ get same_kind columns kind → IfSome found (λ (column : Vec Bool A). IsColumn s kind column.items)
+  column_of_kind numbers bases columns are kind found e = subst (λ o. IfSome o (λ (c : Vec Bool A). IsColumn s kind c.items)) (sym e) (are.by_kind kind)

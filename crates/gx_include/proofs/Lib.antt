@@ -25,3 +25,4 @@ pub mod SomeAnswer
 mod Symbols
 mod Targets
 mod Derived
+pub mod Asked

@@ -11,7 +11,8 @@ use Rattle.gx_include.specs.declared.letter.Letter.{Letter}
 use Rattle.gx_include.specs.ItemIndex.{tests_at}
 use Rattle.gx_include.specs.Step.{all_tests}
 use Rattle.gx_include.specs.Test.{is_taken}
-use Rattle.gx_include.specs.Inclusion.{plain_types}
+use Rattle.gx_include.specs.Asked.{types_asked}
+use Rattle.gx_include.specs.Inclusion.{built_in_types, plain_types}
 use Rattle.gx_include.specs.Trials.{with_names, IsOther, trial_shapes}
 
 -- a position of the left type, a shape, and the positions of the right type that take the shape
@@ -45,6 +46,15 @@ pub record IsAlphabet (schemas : SchemaSet) (a b : SequenceType) (letters : List
 abbrev pub entries_over : SchemaSet → (left right : List ItemType) → List Shape → ℕ → List LetterEntry
 entries_over schemas left right shapes place =
     flat_map (λ shape. entry_if place shape (tests_at left (is_taken schemas shape)) (tests_at right (is_taken schemas shape))) shapes
+
+-- the entries of the places below a bound
+abbrev pub entries_up_to : (ℕ → List LetterEntry) → ℕ → List LetterEntry
+entries_up_to entries zero = []
+entries_up_to entries (suc place) = entries_up_to entries place ++ entries place
+
+-- the shapes that are tried where the left type has these item types: of declared types those that the item types may take
+abbrev pub shapes_asked : SchemaSet → (left : List ItemType) → List Name → List Shape
+shapes_asked schemas left names = trial_shapes (built_in_types ++ types_asked schemas left) names
 
 abbrev pub entries_of_column : {A : Type 0} → Vec Letter A → List LetterEntry
 entries_of_column column = map entry_of_letter column.items

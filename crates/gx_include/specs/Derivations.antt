@@ -56,8 +56,9 @@ IsLead schemas kind derived (Base base) = derived ≡ is_derived_at schemas kind
 abbrev pub AreColumnsByKind : {A S : Type 0} → SchemaSet → IndexMap TypeName (Vec Bool A) S → Type 0
 AreColumnsByKind schemas columns = (kind : TypeName) → IfSome (get same_kind columns kind) (λ column. IsColumn schemas kind column.items)
 
--- numbers of all declared types, and columns of some types
-pub record AreDerivations {A S Z : Type 0} (schemas : SchemaSet) (numbers : IndexMap TypeName ℕ S) (columns : IndexMap TypeName (Vec Bool A) Z) : Type 0 where
+-- numbers of all declared types and of their bases, and columns of some types
+pub record AreDerivations {A S Z : Type 0} (schemas : SchemaSet) (numbers : IndexMap TypeName ℕ S) (bases : List (Option ℕ)) (columns : IndexMap TypeName (Vec Bool A) Z) : Type 0 where
   pub numbered : AreNumbers schemas numbers
   pub all_numbered : AllAreNumbered schemas numbers
+  pub with_bases : AreBases schemas bases
   pub by_kind : AreColumnsByKind schemas columns

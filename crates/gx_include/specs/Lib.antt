@@ -13,6 +13,7 @@ pub mod ItemIndex
 pub mod Following
 pub mod Transitions
 pub mod Derivations
+pub mod Asked
 pub mod Letters
 pub mod Verdict
 pub mod Trials

@@ -2,14 +2,13 @@
 
 ghost use Rattle.std.specs.Prelude.{◌≡◌, ◌+◌, ◌++◌, [], ◌∷◌, map, length, IfOk, OnOk};
 ghost use Rattle.std.specs.List.{flat_map, list_any};
-ghost use Rattle.gx_types.specs.SchemaSet.{names_declared};
 ghost use Rattle.gx_types.specs.Grounded.{Grounded};
 ghost use Rattle.gx_types.specs.Derivation.{bases_of};
-ghost use Rattle.gx_include.specs.Alphabet.{entry_of_letter, entry_if, entries_over, entries_of_column, AreColumns, AreColumnsMore, IsAlphabet};
+ghost use Rattle.gx_include.specs.Alphabet.{entry_of_letter, entry_if, entries_over, entries_of_column, entries_up_to, shapes_asked, AreColumns, AreColumnsMore, IsAlphabet};
 ghost use Rattle.gx_include.specs.Inclusion.{built_in_types};
 ghost use Rattle.gx_include.specs.ItemIndex.{tests_at};
 ghost use Rattle.gx_include.specs.Test.{is_taken};
-ghost use Rattle.gx_include.specs.Trials.{with_names, IsOther, trial_shapes, untyped};
+ghost use Rattle.gx_include.specs.Trials.{with_names, IsOther, untyped};
 
 use crate::derivations::Derivations;
 use crate::item_index::ItemIndex;
@@ -18,8 +17,7 @@ use crate::trial::{add_names, other_than, trials};
 use crate::walk::is_set;
 use gx_base::name::Name;
 use gx_base::type_name::{Builtin, TypeName};
-use gx_types::declaration::Declared;
-use gx_types::schemas::Schemas;
+use gx_types::item_type::ItemType;
 use gx_types::sequence_type::Ty;
 use gx_types::shape::Shape;
 use std::alloc::{AllocError, Global};
@@ -27,39 +25,60 @@ use std::alloc::{AllocError, Global};
 // The letters of two types.
 pub(crate) fn alphabet(
     alloc: Global,
-    schemas: &Schemas,
+    derivations: &mut Derivations<'_>,
     left: &Ty,
     right: &Ty,
 ) -> Result<Vec<Letter>, AllocError>
-    ensures letters { IfOk result (λ letters. IsAlphabet schemas.now left.now right.now letters.items) }
-    ensures grounded { OnOk result (Grounded (bases_of schemas.now)) }
+    ensures letters { IfOk result (λ letters. IsAlphabet derivations.old left.now right.now letters.items) }
+    ensures grounded { OnOk result (Grounded (bases_of derivations.old)) }
+    ensures kept { derivations.new ≡ derivations.old }
 {
-    let shapes = shapes_of_types(alloc, schemas.types(), left, right)?;
     let left_items = ItemIndex::new(alloc, left)?;
     let right_items = ItemIndex::new(alloc, right)?;
-    let columns = columns_of(alloc, schemas, &left_items, &right_items, shapes.as_slice())?;
+    derivations.ask(alloc, left_items.items())?;
+    derivations.ask(alloc, right_items.items())?;
+    let names = names_of_types(alloc, left, right)?;
+    let letters = letters_by_items(
+        alloc,
+        derivations,
+        &left_items,
+        &right_items,
+        names.as_slice(),
+    )?;
+    Ok(letters)
+}
+
+// The letters of two types by their item types and names.
+fn letters_by_items(
+    alloc: Global,
+    derivations: &Derivations<'_>,
+    left: &ItemIndex,
+    right: &ItemIndex,
+    names: &[Name],
+) -> Result<Vec<Letter>, AllocError>
+    ensures letters { IfOk result (λ letters. map entry_of_letter letters.items ≡ entries_up_to (entries_over derivations.now left.now right.now (shapes_asked derivations.now left.now names.now)) (length left.now + 1)) }
+    ensures grounded { OnOk result (Grounded (bases_of derivations.now)) }
+{
+    let _declarations = derivations.schemas().types();
+    let shapes = asked_shapes(alloc, derivations, left.items(), names)?;
+    let columns = columns_over(alloc, derivations, left, right, shapes.as_slice())?;
     let letters = letters_of(alloc, columns)?;
     Ok(letters)
 }
 
-// The shapes that are tried for two types.
-fn shapes_of_types(
+// The shapes that are tried: of declared types those that item types may take.
+fn asked_shapes(
     alloc: Global,
-    declarations: &[Declared],
-    left: &Ty,
-    right: &Ty,
+    derivations: &Derivations<'_>,
+    items: &[ItemType],
+    names: &[Name],
 ) -> Result<Vec<Shape>, AllocError>
-    ensures { IfOk result (λ shapes. (other : Name) × IsOther (with_names (with_names [] left.now) right.now) other × (shapes.items ≡ trial_shapes (built_in_types ++ names_declared declarations.now) (with_names (with_names [] left.now) right.now ++ other ∷ []))) }
+    ensures { IfOk result (λ shapes. shapes.items ≡ shapes_asked derivations.now items.now names.now) }
 {
-    let names = names_of_types(alloc, left, right)?;
-    let types = plain_types(alloc, declarations)?;
+    let declared = derivations.types_asked(alloc, items)?;
+    let types = plain_types(alloc, declared.as_slice())?;
     let element_types = element_types(alloc, types.as_slice())?;
-    let shapes = trials(
-        alloc,
-        types.as_slice(),
-        element_types.as_slice(),
-        names.as_slice(),
-    )?;
+    let shapes = trials(alloc, types.as_slice(), element_types.as_slice(), names)?;
     Ok(shapes)
 }
 
@@ -75,9 +94,9 @@ fn names_of_types(alloc: Global, left: &Ty, right: &Ty) -> Result<Vec<Name>, All
     Ok(names)
 }
 
-// The built-in types that a shape may have beside xs:untyped, and the declared types.
-fn plain_types(alloc: Global, declarations: &[Declared]) -> Result<Vec<TypeName>, AllocError>
-    ensures { IfOk result (λ types. types.items ≡ built_in_types ++ names_declared declarations.now) }
+// The built-in types that a shape may have beside xs:untyped, and some declared types.
+fn plain_types(alloc: Global, declared: &[TypeName]) -> Result<Vec<TypeName>, AllocError>
+    ensures { IfOk result (λ types. types.items ≡ built_in_types ++ declared.now) }
 {
     let mut types = vec![in alloc;
         TypeName::Builtin(Builtin::UntypedAtomic),
@@ -100,7 +119,7 @@ fn plain_types(alloc: Global, declarations: &[Declared]) -> Result<Vec<TypeName>
         TypeName::Builtin(Builtin::UnsignedByte),
         TypeName::Builtin(Builtin::Positive),
     ]?;
-    add_declared(&mut types, declarations)?;
+    add_types(&mut types, declared)?;
     Ok(types)
 }
 
@@ -114,16 +133,7 @@ fn element_types(alloc: Global, plain: &[TypeName]) -> Result<Vec<TypeName>, All
     Ok(types)
 }
 
-// Puts the types of declarations behind those of a list.
-fn add_declared(types: &mut Vec<TypeName>, declarations: &[Declared]) -> Result<(), AllocError>
-    ensures { OnOk result (types.new.items ≡ types.old.items ++ names_declared declarations.now) }
-{
-    for declaration in declarations {
-        types.push(declaration.name.clone()?)?;
-    }
-    Ok(())
-}
-
+// Puts types behind those of a list.
 fn add_types(types: &mut Vec<TypeName>, more: &[TypeName]) -> Result<(), AllocError>
     ensures { OnOk result (types.new.items ≡ types.old.items ++ more.now) }
 {
@@ -134,21 +144,6 @@ fn add_types(types: &mut Vec<TypeName>, more: &[TypeName]) -> Result<(), AllocEr
 }
 
 // The letters of each place, the start first, by shape.
-fn columns_of(
-    alloc: Global,
-    schemas: &Schemas,
-    left: &ItemIndex,
-    right: &ItemIndex,
-    shapes: &[Shape],
-) -> Result<Vec<Vec<Letter>>, AllocError>
-    ensures { IfOk result (λ columns. AreColumns (length left.now + 1) (entries_over schemas.now left.now right.now shapes.now) columns.items) }
-{
-    let derivations = Derivations::new(alloc, schemas, left.items(), right.items())?;
-    let columns = columns_over(alloc, &derivations, left, right, shapes)?;
-    Ok(columns)
-}
-
-// The same with which types are derived from those that are asked for.
 fn columns_over(
     alloc: Global,
     schemas: &Derivations<'_>,

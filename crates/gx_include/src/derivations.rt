@@ -1,6 +1,6 @@
 // Which declared types are derived from the types that item types ask for.
 
-ghost use Rattle.std.specs.Prelude.{◌≡◌, ℕ, IfOk, OnOk, IfSome, Some, slice_get, slice_set};
+ghost use Rattle.std.specs.Prelude.{◌≡◌, ◌++◌, [], ◌∷◌, ◌<◌, if◌then◌else◌, ℕ, IfOk, OnOk, IfSome, Some, length, slice_get, slice_index_or, slice_set, true, false};
 ghost use Rattle.gx_types.specs.Derivation.{is_derived};
 ghost use Rattle.indexmap.specs.IndexMap.{get};
 ghost use Rattle.gx_include.specs.Derivations.{same_kind, is_derived_at, IsColumn, AreNumbers, AllAreNumbered, AreBases, AreKnown, IsNumberOf, IsLead, AreColumnsByKind};
@@ -18,11 +18,13 @@ use indexmap::IndexMap;
 use std::alloc::{AllocError, Global};
 use std::marker::Model;
 
-// Schemas with the numbers of their declared types, and for some types which declared types are derived from them.
+/// Schemas with what derivation asks for, found once: the numbers of the declared types and of their bases, and for each type that
+/// was asked for so far, which declared types are derived from it.
 #[derive(Drop)]
-pub(crate) struct Derivations<'a> {
+pub struct Derivations<'a> {
     schemas: &'a Schemas,
     numbers: IndexMap<TypeName, usize>,
+    bases: Vec<Option<usize>>,
     columns: IndexMap<TypeName, Vec<bool>>,
 }
 
@@ -38,30 +40,111 @@ impl<'a> Model for Derivations<'a> {
 
     ghost view = { λ derivations. derivations.schemas.now };
 
-    ghost invariant = { λ derivations. AreDerivations derivations.schemas.now derivations.numbers derivations.columns };
+    ghost invariant = { λ derivations. AreDerivations derivations.schemas.now derivations.numbers derivations.bases.items derivations.columns };
 }
 
 impl<'a> Derivations<'a> {
-    ghost use Rattle.std.specs.Prelude.{◌≡◌, IfOk};
+    ghost use Rattle.std.specs.Prelude.{◌≡◌, ◌||◌, ◌<◌, ℕ, Bool, Vec, IfOk, IfSome, length, option_copied, slice_index_or, false};
+    ghost use Rattle.std.specs.declared.alloc.Global.{Global};
     ghost use Rattle.gx_types.specs.Derivation.{is_derived};
+    ghost use Rattle.gx_include.specs.Asked.{asks_at, is_asked_at, types_asked};
+    ghost use Rattle.gx_include.specs.Derivations.{is_derived_at, IsColumn};
     ghost use Rattle.gx_include.specs.Test.{is_taken};
 
-    // Schemas with the columns of the types that item types of two lists ask for.
-    pub(crate) fn new(
-        alloc: Global,
-        schemas: &'a Schemas,
-        left: &[ItemType],
-        right: &[ItemType],
-    ) -> Result<Derivations<'a>, AllocError>
+    /// The derivations of schemas.
+    pub fn new(alloc: Global, schemas: &'a Schemas) -> Result<Derivations<'a>, AllocError>
         ensures { IfOk result (λ derivations. derivations ≡ schemas.now) }
     {
         let numbers = numbers_of(alloc, schemas)?;
-        let columns = columns_of_types(alloc, schemas, &numbers, left, right)?;
+        let bases = bases_of(alloc, schemas, &numbers)?;
+        let columns = IndexMap::new(alloc);
         Ok(Derivations {
             schemas,
             numbers,
+            bases,
             columns,
         })
+    }
+
+    /// The schemas.
+    pub fn schemas(&self) -> &'a Schemas
+        ensures { result.now ≡ self.now }
+    {
+        self.schemas
+    }
+
+    // Finds which declared types are derived from those that item types ask for.
+    pub(crate) fn ask(&mut self, alloc: Global, items: &[ItemType]) -> Result<(), AllocError>
+        ensures { self.new ≡ self.old }
+    {
+        let bases = self.bases.as_slice();
+        add_columns(alloc, self.schemas, bases, items, &mut self.columns)
+    }
+
+    // The declared types of which item types may take shapes, in document order.
+    pub(crate) fn types_asked(
+        &self,
+        alloc: Global,
+        items: &[ItemType],
+    ) -> Result<Vec<TypeName>, AllocError>
+        ensures { IfOk result (λ types. types.items ≡ types_asked self.now items.now) }
+    {
+        let flags = self.flags_asked(alloc, items)?;
+        let mut types = Vec::new(alloc);
+        for (number, declared) in self.schemas().types().iter().enumerate() {
+            add_if(&mut types, declared, is_set(flags.as_slice(), number))?;
+        }
+        Ok(types)
+    }
+
+    // Whether item types may take a shape of each declared type.
+    fn flags_asked(&self, alloc: Global, items: &[ItemType]) -> Result<Vec<bool>, AllocError>
+        ensures { IfOk result (λ flags. (number : ℕ) → number < length self.now.types → slice_index_or flags.items number false ≡ is_asked_at self.now items.now number) }
+    {
+        let mut flags = vec![in alloc; false; self.bases.len()]?;
+        for item in items {
+            self.mark_asked(item, &mut flags);
+        }
+        Ok(flags)
+    }
+
+    // Marks the declared types of which an item type may take shapes.
+    fn mark_asked(&self, item: &ItemType, flags: &mut Vec<bool>)
+        ensures count { length flags.new.items ≡ length flags.old.items }
+        ensures flags { (number : ℕ) → number < length flags.old.items → slice_index_or flags.new.items number false ≡ slice_index_or flags.old.items number false || asks_at self.now number item.now }
+    {
+        match item {
+            ItemType::Element { kind, .. } | ItemType::Attribute { kind, .. } => {
+                self.mark_derived(kind, flags)
+            }
+            ItemType::Document(Some((_, kind))) | ItemType::Atom(kind) => {
+                self.mark_derived(kind, flags)
+            }
+            ItemType::Document(None) => mark_all(flags),
+            ItemType::Text => {}
+        }
+    }
+
+    // Marks the declared types that are derived from a type.
+    fn mark_derived(&self, kind: &TypeName, flags: &mut Vec<bool>)
+        ensures count { length flags.new.items ≡ length flags.old.items }
+        ensures flags { (number : ℕ) → number < length flags.old.items → slice_index_or flags.new.items number false ≡ slice_index_or flags.old.items number false || is_derived_at self.now kind.now number }
+    {
+        let column = self.columns.get(kind);
+        for number in 0..flags.len() {
+            flags[number] = flags[number] | self.is_derived_at(column, kind, number);
+        }
+    }
+
+    // Whether the declared type of a number is derived from a type, by its column if it was asked for.
+    fn is_derived_at(&self, column: Option<&Vec<bool>>, kind: &TypeName, number: usize) -> bool
+        requires { IfSome (option_copied column) (λ (column : Vec Bool Global). IsColumn self.now kind.now column.items) }
+        ensures { result ≡ is_derived_at self.now kind.now number }
+    {
+        match column {
+            Some(column) => is_set(column.as_slice(), number),
+            None => derives_at(self.schemas, kind, number),
+        }
     }
 
     // Whether a type is derived from another one.
@@ -97,22 +180,23 @@ impl<'a> Derivations<'a> {
     }
 }
 
-// The columns of the types that item types of two lists ask for.
-fn columns_of_types(
-    alloc: Global,
-    schemas: &Schemas,
-    numbers: &IndexMap<TypeName, usize>,
-    left: &[ItemType],
-    right: &[ItemType],
-) -> Result<IndexMap<TypeName, Vec<bool>>, AllocError>
-    requires { AreNumbers schemas.now numbers.now }
-    ensures { IfOk result (λ columns. AreColumnsByKind schemas.now columns) }
+fn mark_all(flags: &mut Vec<bool>)
+    ensures count { length flags.new.items ≡ length flags.old.items }
+    ensures flags { (number : ℕ) → number < length flags.old.items → slice_index_or flags.new.items number false ≡ true }
 {
-    let bases = bases_of(alloc, schemas, numbers)?;
-    let mut columns = IndexMap::new(alloc);
-    add_columns(alloc, schemas, bases.as_slice(), left, &mut columns)?;
-    add_columns(alloc, schemas, bases.as_slice(), right, &mut columns)?;
-    Ok(columns)
+    for number in 0..flags.len() {
+        flags[number] = true;
+    }
+}
+
+// Puts the name of a declared type behind those of a list, if a flag says so.
+fn add_if(types: &mut Vec<TypeName>, declared: &Declared, flag: bool) -> Result<(), AllocError>
+    ensures { OnOk result (types.new.items ≡ types.old.items ++ (if flag then declared.now.name ∷ [] else [])) }
+{
+    if flag {
+        types.push(declared.name.clone()?)?;
+    }
+    Ok(())
 }
 
 // The number of each declared type, in document order.
@@ -160,7 +244,7 @@ fn add_columns(
 ) -> Result<(), AllocError>
     requires bases { AreBases schemas.now bases.now }
     requires columns { AreColumnsByKind schemas.now columns.old }
-    ensures { OnOk result (AreColumnsByKind schemas.now columns.new) }
+    ensures { AreColumnsByKind schemas.now columns.new }
 {
     for item in items {
         if let Some(kind) = kind_asked(item) {
@@ -189,7 +273,7 @@ fn add_column(
 ) -> Result<(), AllocError>
     requires bases { AreBases schemas.now bases.now }
     requires columns { AreColumnsByKind schemas.now columns.old }
-    ensures { OnOk result (AreColumnsByKind schemas.now columns.new) }
+    ensures { AreColumnsByKind schemas.now columns.new }
 {
     if columns.contains_key(kind) {
         return Ok(());

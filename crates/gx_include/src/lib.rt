@@ -4,7 +4,7 @@
 mod alphabet;
 mod decide;
 pub mod decision;
-mod derivations;
+pub mod derivations;
 mod following;
 pub mod include;
 mod item_index;

@@ -3,6 +3,7 @@ use Rattle.std.proofs.Common.{◌≡◌, ℕ, ◌+◌, Bool, true, List, inl, in
 use Rattle.std.proofs.lemmas.Bool.{cases_lt}
 use Rattle.gx_types.specs.declared.declaration.Declared.{Declared}
 use Rattle.gx_types.specs.SchemaSet.{SchemaSet}
+use Rattle.gx_include.specs.declared.verdict.Verdict.{Verdict}
 use Rattle.gx_include.specs.declared.verdict.Verdict.TheVariants.{Yes}
 use Rattle.gx_restriction.specs.Restriction.{IsRestriction}
 use Rattle.gx_restriction.specs.Restrictions.{AreSoundBelow, is_restricted}
@@ -18,3 +19,7 @@ below_more schemas pairs restricted bound declared here judged below number othe
           (ap (λ found. unwrap_or found declared) (sym here ∙ ap (λ n. slice_get schemas.types n) same ∙ at))
           (judged (subst (λ n. is_restricted restricted n ≡ true) (sym same) is_one))
     ]
+
+-- a verdict is one on the schemas that are the same
+pub judged : (schemas other : SchemaSet) (pairs : ℕ) (declared : Declared) (one verdict : Verdict) → other ≡ schemas → one ≡ verdict → IsRestriction other pairs declared one → IsRestriction schemas pairs declared verdict
+judged schemas other pairs declared one verdict e f is = subst (λ (s : SchemaSet). IsRestriction s pairs declared verdict) e (subst (IsRestriction other pairs declared) f is)

@@ -5,7 +5,8 @@ ghost use Rattle.gx_restriction.specs.Attributes.{attribute_fault};
 ghost use Rattle.gx_restriction.specs.Restriction.{AreUsesJudged, IsRestriction, children_in, children_of_base, simple_children, uses_of_base};
 
 use crate::attributes::attribute_fault;
-use gx_include::include::included;
+use gx_include::derivations::Derivations;
+use gx_include::include::included_by;
 use gx_include::verdict::Verdict;
 use gx_types::declaration::{AttributeUse, Content, Declared};
 use gx_types::item_type::ItemType;
@@ -28,11 +29,26 @@ pub fn restricts(
 ) -> Result<Verdict, AllocError>
     ensures { IfOk result (IsRestriction schemas.now pairs declared.now) }
 {
+    let mut derivations = Derivations::new(alloc, schemas)?;
+    restricts_by(alloc, &mut derivations, declared, pairs)
+}
+
+/// The same by derivations, which serve for all declarations of the same schemas.
+pub fn restricts_by(
+    alloc: Global,
+    derivations: &mut Derivations<'_>,
+    declared: &Declared,
+    pairs: usize,
+) -> Result<Verdict, AllocError>
+    ensures verdict { IfOk result (IsRestriction derivations.old pairs declared.now) }
+    ensures kept { derivations.new ≡ derivations.old }
+{
     let text = simple_children(alloc)?;
+    let schemas = derivations.schemas();
     let base = schemas.declared(&declared.base);
     let children = children_in(&declared.content, &text);
     let of_base = children_of_base(base, &text);
-    match included(alloc, schemas, children, of_base, Some(pairs))? {
+    match included_by(alloc, derivations, children, of_base, Some(pairs))? {
         Verdict::Yes => judge_attributes(alloc, schemas, uses_of_base(base), declared),
         verdict => Ok(verdict),
     }

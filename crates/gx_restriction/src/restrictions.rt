@@ -3,7 +3,8 @@
 ghost use Rattle.std.specs.Prelude.{◌≡◌, IfOk, option_copied, slice_get};
 ghost use Rattle.gx_restriction.specs.Restrictions.{AreSoundBelow, AreJudged, is_restricted};
 
-use crate::restriction::restricts;
+use crate::restriction::restricts_by;
+use gx_include::derivations::Derivations;
 use gx_include::verdict::Verdict;
 use gx_types::declaration::Declared;
 use gx_types::schemas::Schemas;
@@ -29,11 +30,25 @@ pub fn judge_restrictions(
 ) -> Result<Restrictions, AllocError>
     ensures { IfOk result (AreJudged schemas.now pairs restricted.now) }
 {
-    let types = schemas.types();
+    let mut derivations = Derivations::new(alloc, schemas)?;
+    let judged = judge_by(alloc, &mut derivations, restricted, pairs)?;
+    Ok(judged)
+}
+
+// The same by derivations.
+fn judge_by(
+    alloc: Global,
+    derivations: &mut Derivations<'_>,
+    restricted: &[bool],
+    pairs: usize,
+) -> Result<Restrictions, AllocError>
+    ensures { IfOk result (AreJudged derivations.old pairs restricted.now) }
+{
+    let types = derivations.schemas().types();
     let mut number = 0;
     while let Some(declared) = type_at(types, number) {
         if is_restricted(restricted, number) {
-            match restricts(alloc, schemas, declared, pairs)? {
+            match restricts_by(alloc, derivations, declared, pairs)? {
                 Verdict::Yes => {}
                 Verdict::No(list) => return Ok(Restrictions::Unsound { number, list }),
                 Verdict::TooManyPairs => return Ok(Restrictions::Undecided { number }),

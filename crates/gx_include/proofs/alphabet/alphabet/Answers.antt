@@ -1,18 +1,16 @@
-use Rattle.std.proofs.Common.{◌++◌, ◌∷◌, [], ◌∙◌, ap, List}
-use Rattle.gx_types.specs.SchemaSet.{names_declared}
-use Rattle.gx_types.specs.declared.declaration.Declared.{Declared}
-use Rattle.gx_include.specs.Inclusion.{built_in_types}
-use Rattle.gx_include.specs.Trials.{with_names, trial_shapes}
+use Rattle.std.proofs.Common.{◌+◌, ◌∙◌, ap, length, List}
+use Rattle.gx_base.specs.declared.name.Name.{Name}
+use Rattle.gx_types.specs.SchemaSet.{SchemaSet}
+use Rattle.gx_include.specs.Alphabet.{entries_over, entries_up_to, shapes_asked}
 use Rattle.gx_include.proofs.Columns.{alphabet_is}
 use Rattle.gx_include.proofs.alphabet.alphabet.Goals as goal
 
 pub returns-clause-letters : goal.returns-clause-letters
 returns-clause-letters c =
-    let shapes = c.in_ok-shapes.ensures in
-    let names = with_names (with_names [] c.args.left.now) c.args.right.now ++ shapes.0 ∷ [] in
-    alphabet_is c.args.schemas.now c.args.left.now c.args.right.now c.in_ok-letters.letters.items c.in_ok-columns.columns.items c.in_ok-left_items.left_items c.in_ok-right_items.right_items c.as_slice.result.now
-    shapes.0 shapes.1 c.in_ok-letters.ensures c.in_ok-left_items.ensures c.in_ok-right_items.ensures c.in_ok-columns.ensures
-    (c.as_slice.ensures.value ∙ shapes.2 ∙ ap (λ (ds : List Declared). trial_shapes (built_in_types ++ names_declared ds) names) c.types.ensures.value)
-
-pub returns-clause-grounded : goal.returns-clause-grounded
-returns-clause-grounded c = c.types.ensures.invariant.grounded
+    let names = c.in_ok-names.ensures in
+    let left = c.in_ok-left_items.left_items in
+    let right = c.in_ok-right_items.right_items in
+    alphabet_is c.args.derivations.now c.args.left.now c.args.right.now c.in_ok-letters.letters.items left right names.0 names.1 c.in_ok-left_items.ensures c.in_ok-right_items.ensures
+    (c.in_ok-letters.ensures.letters
+    ∙ ap (λ (s : SchemaSet). entries_up_to (entries_over s left right (shapes_asked s left c.as_slice.result.now)) (length left + 1)) (c.ask-2.ensures ∙ c.ask.ensures)
+    ∙ ap (λ (ns : List Name). entries_up_to (entries_over c.args.derivations.now left right (shapes_asked c.args.derivations.now left ns)) (length left + 1)) (c.as_slice.ensures.value ∙ names.2))

@@ -2,11 +2,11 @@ use Rattle.std.proofs.Common.{sym, subst}
 use Rattle.gx_include.specs.Letters.{AreLetters, ServeAll}
 use Rattle.gx_include.specs.Verdict.{IsVerdictOver}
 use Rattle.gx_include.proofs.Alphabets.{are_letters, serve_all}
-use Rattle.gx_include.proofs.include.included.Goals as goal
+use Rattle.gx_include.proofs.include.included_by.Goals as goal
 
-pub returns : goal.returns
-returns c =
-    let s = c.args.schemas.now in
+pub returns-clause-answer : goal.returns-clause-answer
+returns-clause-answer c =
+    let s = c.args.derivations.now in
     let letters = c.in_ok-letters.letters.items in
     let are = are_letters s c.args.left.now c.args.right.now c.in_ok-letters.ensures.grounded letters c.in_ok-letters.ensures.letters in
     let serve = serve_all s c.args.left.now c.args.right.now c.in_ok-letters.ensures.grounded letters c.in_ok-letters.ensures.letters in

@@ -1,11 +1,12 @@
-use Rattle.std.proofs.Common.{◌≤◌, ◌-◌, length}
+use Rattle.std.proofs.Common.{◌≡◌, ◌≤◌, ◌-◌, length}
 use Rattle.gx_restriction.specs.Restrictions.{AreSoundBelow}
-use Rattle.gx_restriction.proofs.restrictions.judge_restrictions.Given as goal
+use Rattle.gx_restriction.proofs.restrictions.judge_by.Given as goal
 
 abbrev pub invariant-loop-declared : goal.invariant-loop-declared
 invariant-loop-declared l = record {
+  kept : l.derivations ≡ l.fn.derivations;
   within : l.number ≤ length l.types;
-  below : AreSoundBelow l.schemas l.pairs l.restricted l.number;
+  below : AreSoundBelow l.fn.derivations l.pairs l.restricted l.number;
 }
 
 abbrev pub decreases-loop-declared : goal.decreases-loop-declared
