@@ -12,3 +12,5 @@ pub mod Axes
 pub mod TypedValue
 pub mod Stepping
 pub mod Search
+pub mod DeclaredContent
+pub mod TypedTree

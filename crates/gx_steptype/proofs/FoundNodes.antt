@@ -3,7 +3,6 @@ use Rattle.std.proofs.Common.{◌≡◌, ℕ, suc, ◌+◌, Bool, true, false, L
 use Rattle.std.specs.List.{slice_get, flat_map}
 use Rattle.std.specs.Option.{option_map}
 use Rattle.gx_types.specs.declared.shape.Shape.{Shape}
-use Rattle.gx_types.specs.declared.shape.Shape.TheVariants as shapes
 use Rattle.gx_types.specs.SchemaSet.{SchemaSet}
 use Rattle.gx_tree.specs.declared.attribute.Attribute.{Attribute}
 use Rattle.gx_tree.specs.PlainTree.{PlainTree, attribute}
@@ -14,6 +13,8 @@ use Rattle.gx_model.specs.Location.{Location, along, located, node_of_tree}
 use Rattle.gx_model.specs.NodeTest.{KindTest, meets}
 use Rattle.gx_model.specs.Stepping.{kept_if, passing_children, attribute_along, passing_attributes}
 use Rattle.gx_steptype.proofs.Testing.{kept}
+use Rattle.gx_steptype.proofs.OwnAttributes.{attribute_shape}
+use Rattle.gx_steptype.proofs.PassingShapes.{passing}
 
 -- there are nodes of these shapes at these locations
 abbrev pub Found : PlainTree → List Location → List Shape → Type 0
@@ -51,10 +52,6 @@ pub tree_behind : (path more : List ℕ) (t : PlainTree) → tree_at t (path ++ 
 tree_behind [] more t = refl
 tree_behind (n ∷ path) more t = behind_child path more (tree_behind path more) (slice_get (children_of t) n)
 
--- what is made of the shapes that pass
-abbrev pub passing : SchemaSet → KindTest → Shape → List Shape
-passing s test x = kept (meets s test x) x
-
 abbrev pub node_passes : SchemaSet → KindTest → PlainTree → Bool
 node_passes s test t = meets s test (shape_of t)
 
@@ -71,10 +68,6 @@ children_have s test t u path e k (c ∷ ts) h =
     ∙ ap (λ (o : Option PlainTree). then_found o (λ v. Some v)) here
     ))
     (children_have s test t u path e (suc k) ts (λ i. subst (λ n. slice_get (children_of u) n ≡ slice_get ts i) (omega arith) (h (suc i))))
-
--- the shape of an attribute
-abbrev pub attribute_shape : Attribute → Shape
-attribute_shape a = shapes.Attr a.name a.kind
 
 pub attributes_have : (s : SchemaSet) (test : KindTest) (t u : PlainTree) (path : List ℕ) → tree_at t path ≡ Some u → (k : ℕ) (l : List Attribute)
     → ((i : ℕ) → slice_get (own_attributes u) (k + i) ≡ slice_get l i)

@@ -28,7 +28,7 @@ pub record IsChildNode (t : PlainTree) : Type 0 where
   pub content : IsContent t
   pub is_node : IsNode t
 
-content_is_proper : (t : PlainTree) → IsContent t → IsProper t
+pub content_is_proper : (t : PlainTree) → IsContent t → IsProper t
 content_is_proper (document ts) h = absurd h
 content_is_proper (element n k l ts) h = h
 content_is_proper (attribute a) h = absurd h

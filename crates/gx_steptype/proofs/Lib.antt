@@ -2,8 +2,16 @@ pub mod DerivedLemmas
 pub mod SameNames
 pub mod Replacing
 pub mod UntypedKinds
+pub mod CoveredTypes
+pub mod SimpleKinds
+pub mod FormedShapes
 pub mod Testing
+pub mod Arrangements
+pub mod PassingShapes
+pub mod OwnContent
+pub mod OwnAttributes
 pub mod HonestNodes
+pub mod SoundNodes
 pub mod FoundNodes
 pub mod ChildTypes
 pub mod AttributeTypes

@@ -1,10 +1,10 @@
 -- What a test leaves of an item type takes the shapes that pass.
-use Rattle.std.proofs.Common.{◌≡◌, Bool, true, false, ◌&&◌, List, [], ◌∷◌, Option, None, Some, inl, inr, refl, sym, ◌∙◌, ap, subst, if◌then◌else◌}
+use Rattle.std.proofs.Common.{◌≡◌, Bool, true, false, ◌&&◌, List, [], ◌∷◌, Option, None, Some, inl, inr, refl, sym, ◌∙◌, ap, if◌then◌else◌}
 use Rattle.std.proofs.lemmas.Bool.{true≢false}
 use Rattle.gx_base.specs.Name.{same_name}
 use Rattle.gx_base.specs.Text.{same_text}
 use Rattle.gx_base.specs.declared.name.Name.{Name}
-use Rattle.gx_base.specs.declared.type_name.Builtin.TheVariants.{AnyType, Untyped}
+use Rattle.gx_base.specs.declared.type_name.Builtin.TheVariants.{AnyType}
 use Rattle.gx_base.specs.declared.type_name.TypeName.{TypeName}
 use Rattle.gx_base.specs.declared.type_name.TypeName.TheVariants as names
 use Rattle.gx_types.specs.declared.item_type.ItemType.{ItemType}
@@ -18,14 +18,14 @@ use Rattle.gx_types.specs.Derivation.{bases_of, is_derived, DerivesFrom}
 use Rattle.gx_types.specs.Grounded.{Grounded}
 use Rattle.gx_types.specs.ItemTakes.{ItemTakes, name_fits}
 use Rattle.gx_types.specs.Takes.{Takes}
-use Rattle.gx_types.proofs.PublicLaws.{derivation_is_a_preorder, derivation_is_linear, all_types_are_derived_from_any_type}
+use Rattle.gx_types.proofs.PublicLaws.{derivation_is_a_preorder, derivation_is_linear}
 use Rattle.gx_types.proofs.DerivationTest.{derives_when_tested, tested_when_derives}
 use Rattle.gx_model.specs.NodeTest.{TypeTest, any_type, derived_from, no_type, KindTest, any_node, a_text, an_element, an_attribute, a_document, a_document_of, passes_name, passes_type, meets}
 use Rattle.gx_steptype.specs.declared.tested.Meeting.{Meeting}
 use Rattle.gx_steptype.specs.declared.tested.Meeting.TheVariants.{Never, Always, Possibly}
 use Rattle.gx_steptype.specs.TestedType.{met_if, name_met, type_met, both_met, narrowed_name, narrowed_type, where_met, at_most_possibly, tested_item}
-use Rattle.gx_steptype.specs.StepLaws.{IsUntypedShape}
 use Rattle.gx_steptype.proofs.SameNames.{names_agree, uris_agree, locals_agree}
+use Rattle.gx_steptype.proofs.FormedShapes.{IsFormed}
 
 -- a shape that passes
 abbrev pub kept : Bool → Shape → List Shape
@@ -138,35 +138,31 @@ named_takes s g wanted test named kind n t whole narrow x fits derives h k =
     (λ e. k (narrowed_name_fits wanted named n fits (first_of_both (passes_name wanted n) (passes_type s test t) e))
     (narrowed_type_fits s test kind t derives (second_of_both (passes_name wanted n) (passes_type s test t) e)))
 
-untyped_is_any : (s : SchemaSet) (t : TypeName) → t ≡ names.Builtin Untyped → DerivesFrom s t (names.Builtin AnyType)
-untyped_is_any s t e = subst (λ (u : TypeName). DerivesFrom s u (names.Builtin AnyType)) (sym e) (all_types_are_derived_from_any_type.builtin s Untyped)
-
 not_always : (m : Meeting) → Agrees (at_most_possibly m) false
 not_always Never = refl
 not_always Always = tt
 not_always Possibly = tt
 
 -- a document that may have any child
-any_document_takes : (s : SchemaSet) → Bases s → (wanted : NameTest) (test : TypeTest) (child : Option (Name × TypeName)) → IsUntypedShape (shapes.Doc child)
+any_document_takes : (s : SchemaSet) → Bases s → (wanted : NameTest) (test : TypeTest) (child : Option (Name × TypeName)) → IsFormed s (shapes.Doc child)
     → Passing s (a_document_of wanted test) (items.Document None) (shapes.Doc child)
 any_document_takes s g wanted test None p =
     met_takes s (at_most_possibly (both_met (name_met wanted None) (type_met s test (names.Builtin AnyType)))) false (items.Document None)
     (items.Document (Some (narrowed_name wanted None, narrowed_type s test (names.Builtin AnyType)))) (shapes.Doc None)
     (not_always (both_met (name_met wanted None) (type_met s test (names.Builtin AnyType)))) tt (λ e. absurd (true≢false (sym e)))
 any_document_takes s g wanted test (Some (n, t)) p =
-    let d = untyped_is_any s t p in
     met_takes s (at_most_possibly (both_met (name_met wanted None) (type_met s test (names.Builtin AnyType)))) (passes_name wanted n && passes_type s test t) (items.Document None)
     (items.Document (Some (narrowed_name wanted None, narrowed_type s test (names.Builtin AnyType)))) (shapes.Doc (Some (n, t)))
     (possibly_agrees (both_met (name_met wanted None) (type_met s test (names.Builtin AnyType))) (passes_name wanted n && passes_type s test t)
-    (both_agree (name_met wanted None) (type_met s test (names.Builtin AnyType)) (passes_name wanted n) (passes_type s test t) (name_agrees wanted None n refl) (type_agrees s g test (names.Builtin AnyType) t d)))
+    (both_agree (name_met wanted None) (type_met s test (names.Builtin AnyType)) (passes_name wanted n) (passes_type s test t) (name_agrees wanted None n refl) (type_agrees s g test (names.Builtin AnyType) t p)))
     tt
     (λ e. (
       narrowed_name_fits wanted None n refl (first_of_both (passes_name wanted n) (passes_type s test t) e),
-      narrowed_type_fits s test (names.Builtin AnyType) t d (second_of_both (passes_name wanted n) (passes_type s test t) e),
+      narrowed_type_fits s test (names.Builtin AnyType) t p (second_of_both (passes_name wanted n) (passes_type s test t) e),
     ))
 
 -- an item type and a shape, by the test
-pub tested_takes : (s : SchemaSet) → Grounded (bases_of s) → (test : KindTest) (kind : ItemType) (x : Shape) → IsUntypedShape x → ItemTakes s kind x
+pub tested_takes : (s : SchemaSet) → Grounded (bases_of s) → (test : KindTest) (kind : ItemType) (x : Shape) → IsFormed s x → ItemTakes s kind x
     → Takes s (tested_item s test kind) (kept (meets s test x) x)
 tested_takes s g any_node (items.Element named kind) (shapes.Elem n t) p h = (shapes.Elem n t, refl, h)
 tested_takes s g any_node (items.Attribute named kind) (shapes.Attr n t) p h = (shapes.Attr n t, refl, h)

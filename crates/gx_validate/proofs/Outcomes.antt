@@ -21,11 +21,13 @@ use Rattle.gx_xml.specs.declared.source.SourceAttribute.{SourceAttribute}
 use Rattle.gx_profile.specs.Contents.{tree_name}
 use Rattle.gx_validate.specs.InstanceAttributes.{has_nil}
 use Rattle.gx_validate.specs.Annotation.{annotation}
-use Rattle.gx_validate.specs.ElementContent.{content_model, has_values, texts_allowed, is_ignored, type_of_child, child_shapes}
+use Rattle.gx_model.specs.DeclaredContent.{content_model, has_values, uses_allowed, is_valued}
+use Rattle.gx_validate.specs.ElementContent.{texts_allowed, is_ignored, type_of_child, child_shapes}
 use Rattle.gx_validate.specs.Taking.{takes_shapes}
-use Rattle.gx_validate.specs.Rules.{uses_allowed, has_extra, lacks_required, has_stray_text, child_texts, is_valued, has_bad_attribute, has_bad_text, broken_rule, unless_rule_broken, element_judged_as, element_judged}
+use Rattle.gx_validate.specs.Rules.{has_extra, lacks_required, has_stray_text, child_texts, has_bad_attribute, has_bad_text, broken_rule, unless_rule_broken, element_judged_as, element_judged}
 use Rattle.gx_validate.specs.Outcome.{Fault, path_step, number_among_siblings, within_step, typed_attributes, and_then, at_itself, with_kept_text, typed_element, typed_contents, root_type, typed_root, validated}
-use Rattle.gx_validate.specs.Valid.{KeepsToType, IsWellTyped, AreWellTyped, IsTypedStart, IsTypedTree, AreTypedTrees, IsValidTree, IsGivenWhereRequired}
+use Rattle.gx_model.specs.TypedTree.{KeepsToType, IsWellTyped, AreWellTyped, IsGivenWhereRequired}
+use Rattle.gx_validate.specs.Valid.{IsTypedStart, IsTypedTree, AreTypedTrees, IsValidTree}
 use Rattle.gx_validate.specs.Laws.{OutcomesAreValid, ValidTreesAreOne, FaultsExcludeTrees}
 use Rattle.gx_validate.specs.declared.invalid.InvalidRule.{InvalidRule}
 use Rattle.gx_validate.specs.declared.invalid.InvalidRule.TheVariants as rules

@@ -17,7 +17,7 @@ use Rattle.gx_include.specs.Test.{is_taken}
 use Rattle.gx_include.proofs.SetReads.{Reads, reads_forward, reads_back, end_reads, reads_end, start_reads, reads_start}
 use Rattle.gx_include.proofs.Decided.{decided}
 use Rattle.gx_validate.specs.Taking.{set_behind, takes_shapes, is_text_at_most}
-use Rattle.gx_validate.specs.ElementContent.{text_model, complex_model, content_model}
+use Rattle.gx_model.specs.DeclaredContent.{text_model, complex_model, content_model}
 
 -- from a set of positions the list leads to one where the type may end, exactly where the set reads the list
 walk_reads : (s : SchemaSet) (t : SequenceType) → Grounded (bases_of s) → (shapes : List Shape) (set : List Bool)

@@ -16,8 +16,9 @@ use Rattle.gx_xml.specs.Sound.{HasNoRepeats}
 use Rattle.gx_xml.specs.Untyped.{is_instance_namespace, attribute_as_untyped, untyped_attributes}
 use Rattle.gx_xml.specs.declared.source.SourceAttribute.{SourceAttribute}
 use Rattle.gx_validate.specs.Outcome.{typed_attributes}
-use Rattle.gx_validate.specs.Rules.{use_named, is_extra, has_extra, is_present, lacks_required, type_of_use, type_of_attribute, is_valued, is_bad_attribute, has_bad_attribute}
-use Rattle.gx_validate.specs.Valid.{IsAllowedAttribute, IsGivenWhereRequired}
+use Rattle.gx_model.specs.DeclaredContent.{use_named, is_valued}
+use Rattle.gx_validate.specs.Rules.{is_extra, has_extra, is_present, lacks_required, type_of_use, type_of_attribute, is_bad_attribute, has_bad_attribute}
+use Rattle.gx_model.specs.TypedTree.{IsAllowedAttribute, IsGivenWhereRequired}
 use Rattle.gx_validate.proofs.Tests.{or_left_false, or_right_false, either_false}
 
 -- one attribute with its type

@@ -1,5 +1,5 @@
 -- What a type says of the children of its elements (XML Schema 1.0 part 1, sections 3.3.4 and 3.4.4).
-use Rattle.std.specs.Prelude.{ℕ, ◌++◌, Bool, true, false, List, [], ◌∷◌, Option, Some, None, is_none, unwrap_or, if◌then◌else◌}
+use Rattle.std.specs.Prelude.{ℕ, ◌++◌, Bool, true, false, List, [], ◌∷◌, Option, Some, None, unwrap_or, if◌then◌else◌}
 use Rattle.std.specs.Option.{option_or}
 use Rattle.gx_base.specs.Name.{same_name}
 use Rattle.gx_base.specs.declared.name.Name.{Name}
@@ -19,34 +19,12 @@ use Rattle.gx_xml.specs.SourceTree.{SourceTree, SourceContents, source, no_conte
 use Rattle.gx_xml.specs.declared.source.Declaration.{Declaration}
 use Rattle.gx_profile.specs.Contents.{tree_name}
 use Rattle.gx_profile.specs.Lexical.{is_blank}
+use Rattle.gx_model.specs.DeclaredContent.{content_model}
 use Rattle.gx_validate.specs.Annotation.{annotation}
 use Rattle.gx_validate.specs.declared.content.Texts.{Texts}
 use Rattle.gx_validate.specs.declared.content.Texts.TheVariants.{Kept, Ignored, Forbidden}
 
 -- The holder is the declaration of the type of the element whose children these are; a built-in type has none.
-
--- ---- the content model
-
--- a text, or nothing
-abbrev pub text_model : SequenceType
-text_model = optional (item items.Text)
-
-abbrev pub model_in : Content → Option SequenceType
-model_in (contents.Complex mixed model) = Some model
-model_in _ = None
-
--- the content model of a complex type that has one
-abbrev pub complex_model : Option Declared → Option SequenceType
-complex_model None = None
-complex_model (Some declared) = model_in declared.content
-
--- the children that a type allows: those of its content model, or a text where it has simple values
-abbrev pub content_model : Option Declared → SequenceType
-content_model holder = unwrap_or (complex_model holder) text_model
-
--- the text of an element of this type stands for simple values
-abbrev pub has_values : Option Declared → Bool
-has_values holder = is_none (complex_model holder)
 
 -- ---- texts
 

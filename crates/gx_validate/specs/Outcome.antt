@@ -18,7 +18,8 @@ use Rattle.gx_xml.specs.declared.source.SourceAttribute.{SourceAttribute}
 use Rattle.gx_profile.specs.Contents.{tree_name}
 use Rattle.gx_profile.specs.Words.{written_name}
 use Rattle.gx_validate.specs.ElementContent.{texts_allowed, is_ignored, type_of_child}
-use Rattle.gx_validate.specs.Rules.{uses_allowed, type_of_attribute, element_judged}
+use Rattle.gx_model.specs.DeclaredContent.{uses_allowed}
+use Rattle.gx_validate.specs.Rules.{type_of_attribute, element_judged}
 use Rattle.gx_validate.specs.declared.content.Texts.{Texts}
 use Rattle.gx_validate.specs.declared.invalid.Invalid.{Invalid}
 use Rattle.gx_validate.specs.declared.invalid.Invalid.TheVariants.{Memory, Refused}

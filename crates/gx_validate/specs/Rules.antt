@@ -1,5 +1,5 @@
 -- The rules that an element keeps to, apart from those of its children (XML Schema 1.0 part 1, sections 3.3.4, 3.4.4 and 3.14.4).
-use Rattle.std.specs.Prelude.{ℕ, Bool, true, false, not, ◌&&◌, ◌||◌, List, [], ◌∷◌, find, Option, Some, None, is_none, is_ok, Result, Ok, Err, if◌then◌else◌}
+use Rattle.std.specs.Prelude.{ℕ, Bool, true, false, not, ◌&&◌, ◌||◌, List, [], ◌∷◌, Option, Some, None, is_none, Result, Ok, Err, if◌then◌else◌}
 use Rattle.std.specs.List.{list_any}
 use Rattle.gx_base.specs.Name.{same_name}
 use Rattle.gx_base.specs.declared.name.Name.{Name}
@@ -8,7 +8,6 @@ use Rattle.gx_base.specs.declared.type_name.TypeName.{TypeName}
 use Rattle.gx_base.specs.declared.type_name.TypeName.TheVariants.{Builtin}
 use Rattle.gx_tree.specs.StringValue.{texts_joined}
 use Rattle.gx_types.specs.SchemaSet.{SchemaSet, declaration_of}
-use Rattle.gx_types.specs.SimpleValue.{values_of_text}
 use Rattle.gx_types.specs.declared.declaration.AttributeUse.{AttributeUse}
 use Rattle.gx_types.specs.declared.declaration.Declared.{Declared}
 use Rattle.gx_xml.specs.SourceTree.{SourceContents, no_content, a_child, a_text}
@@ -18,7 +17,8 @@ use Rattle.gx_xml.specs.declared.source.SourceAttribute.{SourceAttribute}
 use Rattle.gx_profile.specs.Lexical.{is_blank}
 use Rattle.gx_validate.specs.InstanceAttributes.{has_nil}
 use Rattle.gx_validate.specs.Annotation.{annotation}
-use Rattle.gx_validate.specs.ElementContent.{content_model, has_values, texts_allowed, child_shapes}
+use Rattle.gx_model.specs.DeclaredContent.{content_model, has_values, uses_allowed, use_named, is_valued}
+use Rattle.gx_validate.specs.ElementContent.{texts_allowed, child_shapes}
 use Rattle.gx_validate.specs.Taking.{takes_shapes}
 use Rattle.gx_validate.specs.declared.content.Texts.{Texts}
 use Rattle.gx_validate.specs.declared.content.Texts.TheVariants.{Kept, Ignored, Forbidden}
@@ -26,14 +26,6 @@ use Rattle.gx_validate.specs.declared.invalid.InvalidRule.{InvalidRule}
 use Rattle.gx_validate.specs.declared.invalid.InvalidRule.TheVariants as rules
 
 -- ---- attributes
-
--- the attributes that a type allows; a built-in type allows none
-abbrev pub uses_allowed : Option Declared → List AttributeUse
-uses_allowed None = []
-uses_allowed (Some declared) = declared.attributes
-
-abbrev pub use_named : List AttributeUse → Name → Option AttributeUse
-use_named uses name = find (λ (given : AttributeUse). same_name given.name name) uses
 
 -- an attribute counts where it does not speak of schemas
 abbrev pub counts : SourceAttribute → Bool
@@ -77,10 +69,6 @@ abbrev pub has_stray_text : Texts → SourceContents → Bool
 has_stray_text texts cs = list_any (is_stray texts) (child_texts cs)
 
 -- ---- simple values
-
--- a text stands for simple values of a type
-abbrev pub is_valued : SchemaSet → TypeName → List ℕ → Bool
-is_valued schemas t text = is_ok (values_of_text schemas t text)
 
 abbrev pub is_bad_attribute : SchemaSet → List AttributeUse → SourceAttribute → Bool
 is_bad_attribute schemas uses a = counts a && not (is_valued schemas (type_of_attribute uses a.name) a.value)

@@ -3,7 +3,8 @@
 ghost use Rattle.std.specs.Prelude.{◌≡◌, ◌&&◌, ◌++◌, not, is_none, IfOk, OnOk, option_copied};
 ghost use Rattle.std.specs.List.{list_any};
 ghost use Rattle.gx_validate.specs.Outcome.{typed_attributes};
-ghost use Rattle.gx_validate.specs.Rules.{type_of_attribute, counts, has_extra, is_extra, is_present, type_of_use, lacks_required, use_named, uses_allowed};
+ghost use Rattle.gx_model.specs.DeclaredContent.{use_named, uses_allowed};
+ghost use Rattle.gx_validate.specs.Rules.{type_of_attribute, counts, has_extra, is_extra, is_present, type_of_use, lacks_required};
 
 use crate::annotation::is_instance_namespace;
 use gx_base::name::Name;

@@ -2,7 +2,8 @@
 
 ghost use Rattle.std.specs.Prelude.{◌≡◌, ◌++◌, ◌∷◌, [], IfOk, OnOk, option_copied};
 ghost use Rattle.gx_tree.specs.StringValue.{texts_joined};
-ghost use Rattle.gx_validate.specs.ElementContent.{child_shape, child_shapes, content_model, text_shapes, texts_allowed};
+ghost use Rattle.gx_model.specs.DeclaredContent.{content_model};
+ghost use Rattle.gx_validate.specs.ElementContent.{child_shape, child_shapes, text_shapes, texts_allowed};
 ghost use Rattle.gx_validate.specs.Rules.{child_texts, has_stray_text};
 ghost use Rattle.gx_validate.specs.ScopeView.{scope_declarations};
 ghost use Rattle.gx_validate.specs.Taking.{is_text_at_most, takes_shapes};

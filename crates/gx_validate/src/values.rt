@@ -1,7 +1,8 @@
 // Simple values of elements and attributes.
 
 ghost use Rattle.std.specs.Prelude.{◌≡◌, ◌||◌, IfOk, option_copied};
-ghost use Rattle.gx_validate.specs.Rules.{has_bad_attribute, has_bad_text, is_bad_attribute, is_valued};
+ghost use Rattle.gx_model.specs.DeclaredContent.{is_valued};
+ghost use Rattle.gx_validate.specs.Rules.{has_bad_attribute, has_bad_text, is_bad_attribute};
 ghost use Rattle.gx_xml.specs.SourceView.{contents_of};
 
 use crate::attributes::{counts, type_of_attribute};
