@@ -1,9 +1,9 @@
 -- What a Core expression means (XQuery 1.0 and XPath 2.0 Formal Semantics, section 4; XQuery 1.0, section 3).
 use Rattle.std.specs.Prelude.{ℕ, Bool, true, false, List, [], ◌∷◌, ◌++◌, Option, Some, None, option_map}
 use Rattle.gx_types.specs.SchemaSet.{SchemaSet}
-use Rattle.gx_model.specs.Forest.{Forest, then_found, node_in}
-use Rattle.gx_model.specs.Item.{Item, atom, node, Items, atoms}
-use Rattle.gx_model.specs.TypedValue.{typed_value_of}
+use Rattle.gx_model.specs.Forest.{Forest}
+use Rattle.gx_model.specs.Item.{Item, atom, Items}
+use Rattle.gx_model.specs.Atomization.{atomized}
 use Rattle.gx_core.specs.declared.operator.Operator.{Operator}
 use Rattle.gx_core.specs.declared.operator.Operator.TheVariants as operators
 use Rattle.gx_core.specs.Expression.{Expression, At, Parts, no_parts, a_part}
@@ -30,21 +30,6 @@ Bindings = List (ℕ × Items)
 abbrev pub Denotation : Type 0
 Denotation = Bindings → Forest → Outcome Items
 
--- the typed values of an item, if it has any: an atomic value is its own
-abbrev pub values_of_item : Forest → Item → Option Items
-values_of_item forest (atom a) = Some (atom a ∷ [])
-values_of_item forest (node place) = option_map atoms (then_found (node_in forest place) typed_value_of)
-
-abbrev pub joined_values : Option Items → Option Items → Option Items
-joined_values None others = None
-joined_values (Some items) None = None
-joined_values (Some items) (Some others) = Some (items ++ others)
-
--- the typed values of items one behind another, where each item has some
-abbrev pub atomized : Forest → Items → Option Items
-atomized forest [] = Some []
-atomized forest (item ∷ items) = joined_values (values_of_item forest item) (atomized forest items)
-
 -- what an operator makes of its two operands
 abbrev pub binary_meaning : BinaryClass → Items → Items → Forest → Outcome Items
 binary_meaning (Arithmetic operation) xs ys forest = arithmetic operation xs ys forest
@@ -59,7 +44,7 @@ acts context operators.Empty [] forest = gives [] forest
 acts context operators.Seq (xs ∷ ys ∷ []) forest = gives (xs ++ ys) forest
 acts context operators.Nodes (xs ∷ []) forest = nodes_alone xs forest
 acts context operators.Order (xs ∷ []) forest = put_in_order xs forest
-acts context operators.DataOf (xs ∷ []) forest = given (atomized forest xs) (λ ys. gives ys forest)
+acts context operators.DataOf (xs ∷ []) forest = given (atomized context.schemas forest xs) (λ ys. gives ys forest)
 acts context (operators.Cast kind optional) (xs ∷ []) forest = cast_items context.schemas kind optional xs forest
 acts context (operators.Castable kind optional) (xs ∷ []) forest = castable_items context.schemas kind optional xs forest
 acts context (operators.Call function) values forest = called function values forest

@@ -9,11 +9,12 @@ use Rattle.gx_types.specs.SchemaSet.{SchemaSet}
 use Rattle.gx_model.specs.Forest.{Forest, PlainNode}
 use Rattle.gx_model.specs.Item.{Item, atom, node, Items}
 use Rattle.gx_model.specs.Axes.{on_axis}
+use Rattle.gx_model.specs.Atomization.{atomized, joined_values, values_of_item}
 use Rattle.gx_model.specs.DocumentOrder.{in_document_order}
 use Rattle.gx_core.specs.declared.operator.Operator.{Operator}
 use Rattle.gx_core.specs.declared.operator.Operator.TheVariants as operators
 use Rattle.gx_core.specs.Outcome.{Outcome, gives, wrong, after, given}
-use Rattle.gx_core.specs.Meaning.{Context, Bindings, Denotation, acts, atomized, denoted, joined_values, values_of_item}
+use Rattle.gx_core.specs.Meaning.{Context, Bindings, Denotation, acts, denoted}
 use Rattle.gx_core.specs.Paths.{is_node, places_of, put_in_order, stepped}
 use Rattle.gx_eval.specs.OneItem.{only_node}
 use Rattle.gx_eval.specs.Resume.{changed}
@@ -41,10 +42,10 @@ none_of_two : (a b : Bool) → (if a then true else b) ≡ false → (a ≡ fals
 none_of_two true b e = absurd (cc)
 none_of_two false b e = (refl, e)
 
-pub atoms_are_typed : (forest : Forest) (xs : Items) → list_any is_node xs ≡ false → atomized forest xs ≡ Some xs
-atoms_are_typed forest [] e = refl
-atoms_are_typed forest (atom a ∷ xs) e = ap (joined_values (Some (atom a ∷ []))) (atoms_are_typed forest xs e)
-atoms_are_typed forest (node place ∷ xs) e = absurd (cc)
+pub atoms_are_typed : (s : SchemaSet) (forest : Forest) (xs : Items) → list_any is_node xs ≡ false → atomized s forest xs ≡ Some xs
+atoms_are_typed s forest [] e = refl
+atoms_are_typed s forest (atom a ∷ xs) e = ap (joined_values (Some (atom a ∷ []))) (atoms_are_typed s forest xs e)
+atoms_are_typed s forest (node place ∷ xs) e = absurd (cc)
 
 joined_grouped : (xs ys : Items) (rest : Option Items) → joined_values (Some xs) (joined_values (Some ys) rest) ≡ joined_values (Some (xs ++ ys)) rest
 joined_grouped xs ys None = refl
@@ -55,19 +56,19 @@ appended_is typed now None e = absurd (cc)
 appended_is typed now (Some more) e = (more, refl, (cc))
 
 -- the typed values of one item more
-pub one_more_typed : (forest : Forest) (x : Item) (typed now rest : Items) → option_map (λ values. typed ++ values) (values_of_item forest x) ≡ Some now
-    → joined_values (Some now) (atomized forest rest) ≡ joined_values (Some typed) (atomized forest (x ∷ rest))
-one_more_typed forest x typed now rest e =
-    let found = appended_is typed now (values_of_item forest x) e in
-    ap (λ (v : Items). joined_values (Some v) (atomized forest rest)) found.2
-    ∙ sym (joined_grouped typed found.0 (atomized forest rest))
-    ∙ ap (λ (o : Option Items). joined_values (Some typed) (joined_values o (atomized forest rest))) (sym found.1)
+pub one_more_typed : (s : SchemaSet) (forest : Forest) (x : Item) (typed now rest : Items) → option_map (λ values. typed ++ values) (values_of_item s forest x) ≡ Some now
+    → joined_values (Some now) (atomized s forest rest) ≡ joined_values (Some typed) (atomized s forest (x ∷ rest))
+one_more_typed s forest x typed now rest e =
+    let found = appended_is typed now (values_of_item s forest x) e in
+    ap (λ (v : Items). joined_values (Some v) (atomized s forest rest)) found.2
+    ∙ sym (joined_grouped typed found.0 (atomized s forest rest))
+    ∙ ap (λ (o : Option Items). joined_values (Some typed) (joined_values o (atomized s forest rest))) (sym found.1)
 
 -- atomic values at hand are their own typed values
 pub data_at_hand : (k : Context) (forest : Forest) (operand : Denotation) (xs : Items) (bindings : Bindings) → operand bindings forest ≡ gives xs forest → list_any is_node xs ≡ false
     → denoted k operators.DataOf (operand ∷ []) bindings forest ≡ gives xs forest
 data_at_hand k forest operand xs bindings e h =
-    ap (λ (o : Outcome Items). after (after o (λ x f. gives (x ∷ []) f)) (acts k operators.DataOf)) e ∙ ap (λ (o : Option Items). given o (λ ys. gives ys forest)) (atoms_are_typed forest xs h)
+    ap (λ (o : Outcome Items). after (after o (λ x f. gives (x ∷ []) f)) (acts k operators.DataOf)) e ∙ ap (λ (o : Option Items). given o (λ ys. gives ys forest)) (atoms_are_typed k.schemas forest xs h)
 
 -- ---- operands that are changed where they stand
 
@@ -80,9 +81,9 @@ changes k operator first values more forest e = ap (λ (o : Outcome Items). afte
 
 pub atoms_stay : (k : Context) (first : ℕ) (values : Items) (forest : Forest) → list_any is_node (drop first values) ≡ false → changed k operators.DataOf first values forest ≡ gives values forest
 atoms_stay k first values forest h =
-    stays k operators.DataOf first values forest (ap (λ (o : Option Items). given o (λ ys. gives ys forest)) (atoms_are_typed forest (drop first values) h))
+    stays k operators.DataOf first values forest (ap (λ (o : Option Items). given o (λ ys. gives ys forest)) (atoms_are_typed k.schemas forest (drop first values) h))
 
-pub data_changes : (k : Context) (first : ℕ) (values typed : Items) (forest : Forest) → atomized forest (drop first values) ≡ Some typed → changed k operators.DataOf first values forest ≡ gives (take first values ++ typed) forest
+pub data_changes : (k : Context) (first : ℕ) (values typed : Items) (forest : Forest) → atomized k.schemas forest (drop first values) ≡ Some typed → changed k operators.DataOf first values forest ≡ gives (take first values ++ typed) forest
 data_changes k first values typed forest e = changes k operators.DataOf first values typed forest (ap (λ (o : Option Items). given o (λ ys. gives ys forest)) e)
 
 pub nodes_stay : (k : Context) (first : ℕ) (values : Items) (forest : Forest) → list_all is_node (drop first values) ≡ true → changed k operators.Nodes first values forest ≡ gives values forest

@@ -104,7 +104,9 @@ impl<'a> Evaluation<'a> {
     {
         match pending {
             Pending::Evaluate(expression) => self.open(alloc, schemas, forest, expression),
-            Pending::Change(operator, first) => self.apply_change(alloc, forest, operator, first),
+            Pending::Change(operator, first) => {
+                self.apply_change(alloc, schemas, forest, operator, first)
+            },
             Pending::Single(operator, first) => {
                 self.apply_single(alloc, schemas, forest, operator, first)
             }
@@ -210,14 +212,15 @@ impl<'a> Evaluation<'a> {
     fn apply_change(
         &mut self,
         alloc: Global,
+        schemas: &Schemas,
         forest: &Forest,
         operator: Change,
         first: usize,
     ) -> Result<(), Failure>
-        ensures value { (k : Context) → OnOk result (outcome_of k forest.now self.new ≡ outcome_with k forest.now (work.Change operator first) self.old) }
-        ensures failed { (k : Context) → IfErr result (λ e. FailsSo e (outcome_with k forest.now (work.Change operator first) self.old)) }
+        ensures value { let k = context_over schemas.now in OnOk result (outcome_of k forest.now self.new ≡ outcome_with k forest.now (work.Change operator first) self.old) }
+        ensures failed { let k = context_over schemas.now in IfErr result (λ e. FailsSo e (outcome_with k forest.now (work.Change operator first) self.old)) }
     {
-        change_values(alloc, forest, operator, first, &mut self.values)?;
+        change_values(alloc, schemas, forest, operator, first, &mut self.values)?;
         Ok(())
     }
 

@@ -4,7 +4,7 @@ ghost use Rattle.std.specs.Prelude.{◌≡◌, ◌++◌, OnOk, IfOk, IfErr, map,
 ghost use Rattle.std.specs.Option.{option_map};
 ghost use Rattle.gx_model.specs.Item.{node, atoms};
 ghost use Rattle.gx_core.specs.Outcome.{gives, given};
-ghost use Rattle.gx_core.specs.Meaning.{atomized, values_of_item};
+ghost use Rattle.gx_model.specs.Atomization.{atomized, values_of_item};
 ghost use Rattle.gx_core.specs.Paths.{places_of, put_in_order, stepped};
 ghost use Rattle.gx_eval.specs.Failing.{FailsSo};
 ghost use Rattle.gx_eval.specs.OrderedItems.{ordered_items};
@@ -76,15 +76,16 @@ pub(crate) fn put_in_order(
 // The typed values of items one behind another.
 pub(crate) fn atomized(
     alloc: Global,
+    schemas: &Schemas,
     forest: &Forest,
     items: &[ModelItem],
 ) -> Result<Vec<ModelItem>, Failure>
-    ensures value { IfOk result (λ typed. atomized forest.now items.now ≡ Some typed.items) }
-    ensures failed { IfErr result (λ e. FailsSo e (given (atomized forest.now items.now) (λ typed. gives typed forest.now))) }
+    ensures value { IfOk result (λ typed. atomized schemas.now forest.now items.now ≡ Some typed.items) }
+    ensures failed { IfErr result (λ e. FailsSo e (given (atomized schemas.now forest.now items.now) (λ typed. gives typed forest.now))) }
 {
     let mut typed = Vec::with_capacity(alloc, items.len())?;
     for item in items {
-        push_typed(alloc, forest, item, &mut typed)?;
+        push_typed(alloc, schemas, forest, item, &mut typed)?;
     }
     Ok(typed)
 }
@@ -92,16 +93,17 @@ pub(crate) fn atomized(
 // Adds the typed values of an item.
 fn push_typed(
     alloc: Global,
+    schemas: &Schemas,
     forest: &Forest,
     item: &ModelItem,
     typed: &mut Vec<ModelItem>,
 ) -> Result<(), Failure>
-    ensures value { OnOk result (option_map (λ values. typed.old.items ++ values) (values_of_item forest.now item.now) ≡ Some typed.new.items) }
-    ensures failed { IfErr result (λ e. FailsSo e (given (values_of_item forest.now item.now) (λ values. gives values forest.now))) }
+    ensures value { OnOk result (option_map (λ values. typed.old.items ++ values) (values_of_item schemas.now forest.now item.now) ≡ Some typed.new.items) }
+    ensures failed { IfErr result (λ e. FailsSo e (given (values_of_item schemas.now forest.now item.now) (λ values. gives values forest.now))) }
 {
     match &item.form {
         ItemForm::Atom(value) => Ok(typed.push(ModelItem::atom(value.clone()?))?),
-        ItemForm::Node(place) => match try_typed_value(alloc, forest, place)? {
+        ItemForm::Node(place) => match try_typed_value(alloc, schemas, forest, place)? {
             Some(values) => Ok(append_atoms(values.as_slice(), typed)?),
             None => Err(Failure::Wrong),
         },

@@ -10,6 +10,7 @@ pub mod OrderLaws
 pub mod NodeTest
 pub mod Axes
 pub mod TypedValue
+pub mod Atomization
 pub mod Stepping
 pub mod Search
 pub mod DeclaredContent

@@ -32,10 +32,10 @@ use Rattle.gx_tree.specs.StringValue.{string_value}
 use Rattle.gx_model.specs.Forest.{Forest, PlainNode, then_found, own_attributes, tree_at, attribute_at, node_in, IsHonest}
 use Rattle.gx_model.specs.Item.{Item, atom, node, Items, atoms}
 use Rattle.gx_model.specs.Belongs.{shape_of, item_shape, ValueFits, ItemFits, HaveShapes, Belongs}
-use Rattle.gx_model.specs.TypedValue.{has_untyped_value, untyped_value, typed_value_of}
+use Rattle.gx_model.specs.TypedValue.{untyped_atomic, value_at_type, typed_value_of}
+use Rattle.gx_model.specs.Atomization.{values_of_item, joined_values, atomized}
 use Rattle.gx_steptype.specs.StepLaws.{IsUntypedShape, value_shape}
 use Rattle.gx_steptype.proofs.HonestNodes.{IsNode, tree_is_node, node_at, attribute_is_untyped, shape_is_untyped}
-use Rattle.gx_core.specs.Meaning.{values_of_item, joined_values, atomized}
 
 -- ---- types of atomic values
 
@@ -102,11 +102,14 @@ tree_found s forest n path own (Some root) t honest e f = path_found path own ro
 node_is_untyped : (s : SchemaSet) (forest : Forest) (place : PlainNode) (t : PlainTree) → IsHonest s forest → node_in forest place ≡ Some t → IsUntyped t
 node_is_untyped s forest place t honest e = tree_found s forest place.tree place.path place.attribute (slice_get forest place.tree) t honest refl e
 
-untyped_has_value : (t : PlainTree) → IsUntyped t → has_untyped_value t ≡ true
-untyped_has_value (document ts) h = refl
-untyped_has_value (element name kind attributes ts) h = subst (λ (k : TypeName). same_type_name k (names.Builtin Untyped) ≡ true) (sym h.0) refl
-untyped_has_value (attribute a) h = subst (λ (k : TypeName). same_type_name k (names.Builtin UntypedAtomic) ≡ true) (sym h) refl
-untyped_has_value (text t) h = refl
+abbrev value_of : PlainTree → Atomic
+value_of t = untyped_atomic (string_value t)
+
+untyped_value_of : (s : SchemaSet) (t : PlainTree) → IsUntyped t → typed_value_of s t ≡ Some (value_of t ∷ [])
+untyped_value_of s (document ts) h = refl
+untyped_value_of s (element name kind attributes ts) h = ap (λ (k : TypeName). value_at_type s k (string_value (element name kind attributes ts))) h.0
+untyped_value_of s (attribute a) h = ap (λ (k : TypeName). value_at_type s k a.value) h
+untyped_value_of s (text t) h = refl
 
 -- the shape of an item is untyped, or atomic
 
@@ -115,12 +118,9 @@ pub record IsHonestItem (s : SchemaSet) (forest : Forest) (x : Item) (shape : Sh
   pub untyped : IsUntypedShape shape
   pub well_formed : IsWellFormedShape s shape
   pub value : Atomic
-  pub values : values_of_item forest x ≡ Some (atom value ∷ [])
+  pub values : values_of_item s forest x ≡ Some (atom value ∷ [])
   pub value_shaped : shapes.Atom value.kind ≡ value_shape shape
   pub fits : ValueFits s value.value value.kind
-
-abbrev value_of : PlainTree → Atomic
-value_of t = record { value = values.Untyped (string_value t); kind = names.Builtin UntypedAtomic }
 
 node_value_shape : (t : PlainTree) → shapes.Atom (names.Builtin UntypedAtomic) ≡ value_shape (shape_of t)
 node_value_shape (document ts) = refl
@@ -150,8 +150,8 @@ found_item s forest place shape (Some t) honest e f =
       well_formed = untyped_is_well_formed s t shape same p;
       value = value_of t;
       values =
-          ap (λ (found : Option PlainTree). option_map atoms (then_found found typed_value_of)) e
-          ∙ ap (λ (b : Bool). option_map atoms (if b then Some (untyped_value t) else None)) (untyped_has_value t u);
+          ap (λ (found : Option PlainTree). option_map atoms (then_found found (typed_value_of s))) e
+          ∙ ap (option_map atoms) (untyped_value_of s t u);
       value_shaped = node_value_shape t ∙ ap value_shape same;
       fits = refl;
     }
@@ -190,7 +190,7 @@ shapes_are_untyped s forest (x ∷ xs) (shape ∷ ss) honest h =
 -- the typed values of items are as many, with the shapes of typed values
 pub record AreAtomized (s : SchemaSet) (forest : Forest) (xs : Items) (ss : List Shape) : Type 0 where
   pub values : Items
-  pub atomized_so : atomized forest xs ≡ Some values
+  pub atomized_so : atomized s forest xs ≡ Some values
   pub shaped : HaveShapes s forest values (map value_shape ss)
 
 pub are_atomized : (s : SchemaSet) (forest : Forest) (xs : Items) (ss : List Shape) → IsHonest s forest → HaveShapes s forest xs ss → AreAtomized s forest xs ss
@@ -201,6 +201,6 @@ are_atomized s forest (x ∷ xs) (shape ∷ ss) honest h =
     let i = honest_item s forest x shape honest h.0 h.1 in
     let r = are_atomized s forest xs ss honest h.2 in record {
       values = atom i.value ∷ r.values;
-      atomized_so = ap (λ (o : Option Items). joined_values o (atomized forest xs)) i.values ∙ ap (joined_values (Some (atom i.value ∷ []))) r.atomized_so;
+      atomized_so = ap (λ (o : Option Items). joined_values o (atomized s forest xs)) i.values ∙ ap (joined_values (Some (atom i.value ∷ []))) r.atomized_so;
       shaped = (ap Some i.value_shaped, i.fits, r.shaped);
     }

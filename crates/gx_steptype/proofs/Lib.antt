@@ -17,3 +17,10 @@ pub mod ChildTypes
 pub mod AttributeTypes
 pub mod NearSteps
 pub mod DataTypes
+pub mod GivenLists
+pub mod Declarations
+pub mod ReadValues
+pub mod TypedValues
+pub mod WiderValues
+pub mod TypedNodes
+pub mod TypedData

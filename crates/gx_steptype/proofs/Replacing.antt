@@ -44,12 +44,12 @@ each_second : (P : Shape → Type 0) (xs ys : List Shape) → EachShape P (xs ++
 each_second P [] ys e = e
 each_second P (x ∷ xs) ys e = each_second P xs ys e.1
 
-some_first : (s : SchemaSet) (ts us : List SequenceType) (ss : List Shape) → SomeTakes s ts ss → SomeTakes s (ts ++ us) ss
+pub some_first : (s : SchemaSet) (ts us : List SequenceType) (ss : List Shape) → SomeTakes s ts ss → SomeTakes s (ts ++ us) ss
 some_first s [] us ss h = absurd h
 some_first s (t ∷ ts) us ss (inl h) = inl h
 some_first s (t ∷ ts) us ss (inr h) = inr (some_first s ts us ss h)
 
-some_second : (s : SchemaSet) (ts us : List SequenceType) (ss : List Shape) → SomeTakes s us ss → SomeTakes s (ts ++ us) ss
+pub some_second : (s : SchemaSet) (ts us : List SequenceType) (ss : List Shape) → SomeTakes s us ss → SomeTakes s (ts ++ us) ss
 some_second s [] us ss h = h
 some_second s (t ∷ ts) us ss h = inr (some_second s ts us ss h)
 

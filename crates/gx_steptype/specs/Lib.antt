@@ -6,3 +6,4 @@ pub mod StepType
 pub mod DataType
 pub mod StepAnswer
 pub mod StepLaws
+pub mod TypedLaws

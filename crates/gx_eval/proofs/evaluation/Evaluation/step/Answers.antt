@@ -6,7 +6,7 @@ use Rattle.gx_eval.proofs.evaluation.Evaluation.step.Goals as goal
 
 pub returns-in-Change-clause-failed : goal.returns-in-Change-clause-failed
 returns-in-Change-clause-failed c =
-    subst (λ (p : Pending). IfErr c.apply_change.result (λ e. FailsSo e (outcome_with (context_over c.args.schemas.now) c.args.forest.now p c.args.self.now))) (sym c.in-Change.is) (c.apply_change.ensures.failed (context_over c.args.schemas.now))
+    subst (λ (p : Pending). IfErr c.apply_change.result (λ e. FailsSo e (outcome_with (context_over c.args.schemas.now) c.args.forest.now p c.args.self.now))) (sym c.in-Change.is) c.apply_change.ensures.failed
 
 pub returns-in-Single-clause-failed : goal.returns-in-Single-clause-failed
 returns-in-Single-clause-failed c =
