@@ -20,11 +20,11 @@ use Rattle.gx_components.specs.declared.component.TypeComponent.{TypeComponent}
 use Rattle.gx_contents.specs.declared.elements.ElementParticle.{ElementParticle}
 use Rattle.gx_contents.specs.ContentKnots.{content_of_type}
 use Rattle.gx_contents.specs.Disagreement.{disagrees, earlier_particle, first_disagreement, first_disagreement_below, first_kind, is_other_kind, or_disagreement}
-use Rattle.gx_contents.specs.ElementKnots.{elements_of_group, elements_of_type, listed_type}
+use Rattle.gx_contents.specs.ElementKnots.{elements_of_group, elements_of_type}
+use Rattle.gx_contents.specs.Elements.{type_elements}
 use Rattle.gx_contents.specs.Knots.{all_end}
 use Rattle.gx_contents.specs.Laws.{OneTypeAName}
 use Rattle.gx_contents.specs.MixedContents.{model_of}
-use Rattle.gx_contents.specs.PositionKnots.{positions_of_group, positions_of_type}
 use Rattle.gx_contents.specs.Sources.{extended_types}
 use Rattle.gx_contents.proofs.ContentItems.{HoldsElements, IsAmong, IsElementOf, type_holds}
 use Rattle.gx_contents.proofs.KnotLemmas.{outside}
@@ -64,7 +64,7 @@ none_below contents (suc count) e number within =
 nothing_outside : (types : List TypeComponent) (groups : List ModelGroup) (number : ℕ) → length types ≤ number → elements_of_type types groups number ≡ []
 unfolding elements_of_type
 nothing_outside types groups number past =
-    let meant = listed_type (positions_of_group groups) (positions_of_type types groups) (elements_of_group groups) in
+    let meant = type_elements (elements_of_group groups) in
     let empty = outside meant [] types (length types) number (slice_get_past types number past) in
     elim (all_end extended_types types) as (λ (test : Bool). (if test then meaning_within meant [] types (length types) number else []) ≡ []) [ true ↦ empty | false ↦ refl ]
 

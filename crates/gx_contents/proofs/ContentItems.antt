@@ -1,12 +1,22 @@
 -- The items of a content are its element particles.
-use Rattle.std.proofs.Common.{◌≡◌, ℕ, zero, suc, ◌-◌, Bool, true, false, inl, inr, List, [], ◌∷◌, ◌++◌, length, Option, None, Some, map, slice_get, if◌then◌else◌, refl, sym, ◌∙◌, ap, subst, arith}
+use Rattle.std.proofs.Common.{◌≡◌, ℕ, zero, suc, ◌-◌, Bool, true, false, ◌&&◌, ◌||◌, nat_eq, inl, inr, List, [], ◌∷◌, ◌++◌, length, Option, None, Some, map, slice_get, if◌then◌else◌, refl, sym, ◌∙◌, ap, subst, arith}
 use Rattle.std.specs.Prelude.{fold, min, ◌⊎◌}
-use Rattle.std.proofs.lemmas.Bool.{cases_lt, lt-ltb}
+use Rattle.std.specs.List.{list_any}
+use Rattle.std.specs.Cmp.{unsigned_Decides}
+use Rattle.std.specs.Cmp.Lexicographic.{pointwise_decides}
+use Rattle.std.proofs.lemmas.Bool.{and_parts, cases_Bool, cases_lt, eqb-true, lt-ltb}
+use Rattle.gx_base.specs.Name.{same_name}
+use Rattle.gx_base.specs.Text.{same_text}
+use Rattle.gx_base.specs.declared.name.Name.{Name}
+use Rattle.gx_base.specs.declared.type_name.TypeName.{TypeName}
+use Rattle.gx_base.specs.declared.type_name.TypeName.TheVariants as names
+use Rattle.gx_types.specs.SameItemType.{same_type_name}
 use Rattle.gx_types.specs.SequenceType.{SequenceType, never, nothing}
 use Rattle.gx_types.specs.TypeRules.{joined_types}
 use Rattle.gx_types.specs.SchemaInvariant.{HoldsOfEach}
 use Rattle.gx_types.specs.declared.item_type.ItemType.{ItemType}
 use Rattle.gx_types.specs.declared.item_type.ItemType.TheVariants as items
+use Rattle.gx_types.proofs.EqualNames.{builtins_are_one}
 use Rattle.gx_references.specs.References.{meaning_in, meaning_within}
 use Rattle.gx_profile.specs.declared.role.Compositor.{Compositor}
 use Rattle.gx_profile.specs.declared.role.Compositor.TheVariants.{Sequence, Choice}
@@ -25,8 +35,8 @@ use Rattle.gx_contents.specs.declared.elements.ElementParticle.{ElementParticle}
 use Rattle.gx_contents.specs.declared.source.ContentSource.{ContentSource}
 use Rattle.gx_contents.specs.declared.source.ContentSource.TheVariants as sources
 use Rattle.gx_contents.specs.ContentKnots.{content_of_group, content_of_type, fitting_group, fitting_type}
-use Rattle.gx_contents.specs.ElementKnots.{elements_of_group, elements_of_type, listed_group, listed_type}
-use Rattle.gx_contents.specs.Elements.{may_occur, term_elements, particle_elements, particles_elements, elements_that_fit, elements_of_base, written_elements, sourced_elements, form_elements, type_elements_that_fit}
+use Rattle.gx_contents.specs.ElementKnots.{elements_of_group, elements_of_type}
+use Rattle.gx_contents.specs.Elements.{may_occur, same_written_name, same_written_type, same_particle, with_particle, with_particles, each_once, term_elements, particle_elements, particles_elements, group_elements, elements_of_base, written_elements, sourced_elements, form_elements, type_elements}
 use Rattle.gx_contents.specs.GroupContents.{term_content, particle_content, composed, content_that_fits, groups_in}
 use Rattle.gx_contents.specs.Knots.{all_end}
 use Rattle.gx_contents.specs.Occurrences.{bounded, copies, further_copies, least_copies, optional_copies}
@@ -69,7 +79,8 @@ elements_right others elements t h =
 
 term_items : (contents : ℕ → SequenceType) (elements : ℕ → List ElementParticle) → ((number : ℕ) → HoldsElements (elements number) (contents number)) → (place : ℕ) (term : Term) →
     HoldsElements (term_elements elements place term) (term_content contents term)
-term_items contents elements holds place (Element name kind) = (record { place = place; name = name; kind = kind }, inl refl, refl)
+term_items contents elements holds place (Element name kind) =
+    (record { place = place; name = name; kind = kind }, inl refl, refl)
 term_items contents elements holds place (Group number) = holds number
 
 occurs_or_not : (greatest : Option ℕ) → (may_occur greatest ≡ true) ⊎ (greatest ≡ Some 0)
@@ -124,21 +135,89 @@ composed_items : (P : ItemType → Type 0) (contents : ℕ → SequenceType) (co
 composed_items P contents Sequence particles h = sequence_items P contents particles nothing tt h
 composed_items P contents Choice particles h = items_among P (map (particle_content contents) particles) h
 
+-- ---- each particle once
+
+abbrev named : (uri prefix local : List ℕ) → Name
+named uri prefix local = record { uri = uri; prefix = prefix; local = local }
+
+abbrev particle_at : ℕ → Name → TypeName → ElementParticle
+particle_at place name kind = record { place = place; name = name; kind = kind }
+
+one_among : (element : ElementParticle) (elements : List ElementParticle) → list_any (same_particle element) elements ≡ true → (other : ElementParticle) × IsAmong elements other × (same_particle element other ≡ true)
+one_among element [] e = absurd (cc)
+one_among element (x ∷ xs) e = elim (cases_Bool (same_particle element x)) [
+  | inl same ↦ (x, inl refl, same)
+  | inr differs ↦
+      let (other, here, same) = one_among element xs (sym (ap (λ (t : Bool). t || list_any (same_particle element) xs) differs) ∙ e) in
+      (other, inr here, same)
+]
+
+equal_texts : (a b : List ℕ) → same_text a b ≡ true → a ≡ b
+equal_texts a b e = (pointwise_decides unsigned_Decides a b).0 e
+
+equal_names : (a b : Name) → same_written_name a b ≡ true → a ≡ b
+equal_names a b e =
+    let (names, prefixes) = and_parts (same_name a b) (same_text a.prefix b.prefix) e in
+    let (uris, locals) = and_parts (same_text a.uri b.uri) (same_text a.local b.local) names in
+    ap (λ (u : List ℕ). named u a.prefix a.local) (equal_texts a.uri b.uri uris)
+    ∙ ap (λ (p : List ℕ). named b.uri p a.local) (equal_texts a.prefix b.prefix prefixes)
+    ∙ ap (λ (l : List ℕ). named b.uri b.prefix l) (equal_texts a.local b.local locals)
+
+equal_types : (a b : TypeName) → same_written_type a b ≡ true → a ≡ b
+equal_types (names.Builtin a) (names.Builtin b) e = ap names.Builtin (builtins_are_one a b (and_parts (same_type_name (names.Builtin a) (names.Builtin b)) true e).0)
+equal_types (names.Named a) (names.Named b) e = ap names.Named (equal_names a b e)
+equal_types (names.Anonymous a) (names.Anonymous b) e = ap names.Anonymous (eqb-true a b (and_parts (nat_eq a b) true e).0)
+equal_types _ _ e = absurd (cc)
+
+-- particles that count as one are one
+equal_particles : (a b : ElementParticle) → same_particle a b ≡ true → a ≡ b
+equal_particles a b e =
+    let (first, kinds) = and_parts (nat_eq a.place b.place && same_written_name a.name b.name) (same_written_type a.kind b.kind) e in
+    let (places, names) = and_parts (nat_eq a.place b.place) (same_written_name a.name b.name) first in
+    ap (λ (p : ℕ). particle_at p a.name a.kind) (eqb-true a.place b.place places)
+    ∙ ap (λ (n : Name). particle_at b.place n a.kind) (equal_names a.name b.name names)
+    ∙ ap (λ (k : TypeName). particle_at b.place b.name k) (equal_types a.kind b.kind kinds)
+
+one_is_there : (elements : List ElementParticle) (element : ElementParticle) (test : Bool) → list_any (same_particle element) elements ≡ test → IsAmong (if test then elements else elements ++ element ∷ []) element
+one_is_there elements element true e =
+    let (other, here, same) = one_among element elements e in
+    subst (IsAmong elements) (sym (equal_particles element other same)) here
+one_is_there elements element false e = among_right elements (element ∷ []) element (inl refl)
+
+added_stays : (elements : List ElementParticle) (element other : ElementParticle) (test : Bool) → IsAmong elements other → IsAmong (if test then elements else elements ++ element ∷ []) other
+added_stays elements element other true here = here
+added_stays elements element other false here = among_left elements (element ∷ []) other here
+
+all_stay : (elements others : List ElementParticle) (element : ElementParticle) → IsAmong elements element → IsAmong (with_particles elements others) element
+all_stay elements [] element here = here
+all_stay elements (x ∷ xs) element here = all_stay (with_particle elements x) xs element (added_stays elements x element (list_any (same_particle x) elements) here)
+
+all_added : (elements others : List ElementParticle) (element : ElementParticle) → IsAmong others element → IsAmong (with_particles elements others) element
+all_added elements [] element here = absurd here
+all_added elements (x ∷ xs) element here = elim here [
+  | inl same ↦ subst (IsAmong (with_particles elements (x ∷ xs))) same (all_stay (with_particle elements x) xs x (one_is_there elements x (list_any (same_particle x) elements) refl))
+  | inr behind ↦ all_added (with_particle elements x) xs element behind
+]
+
+once_holds : (elements : List ElementParticle) (t : SequenceType) → HoldsElements elements t → HoldsElements (each_once elements) t
+once_holds elements t h = items_weaker (IsElementOf elements) (IsElementOf (each_once elements)) (λ kind it. (it.0, all_added [] elements it.0 it.1, it.2)) t h
+
 -- ---- groups
 
 group_items : (fits : Bool) (contents : ℕ → SequenceType) (elements : ℕ → List ElementParticle) → ((number : ℕ) → HoldsElements (elements number) (contents number)) → (group : ModelGroup) →
-    HoldsElements (elements_that_fit fits elements group) (content_that_fits fits contents group)
+    HoldsElements (group_elements elements group) (content_that_fits fits contents group)
 group_items true contents elements holds group =
-    composed_items (IsElementOf (particles_elements elements group.particles)) contents group.compositor group.particles (particles_items contents elements holds group.particles)
+    once_holds (particles_elements elements group.particles) (composed contents group.compositor group.particles)
+    (composed_items (IsElementOf (particles_elements elements group.particles)) contents group.compositor group.particles (particles_items contents elements holds group.particles))
 group_items false contents elements holds group = tt
 
 groups_within : (positions : ℕ → ℕ) (groups : List ModelGroup) (steps number : ℕ) →
-    HoldsElements (meaning_within (listed_group positions) [] groups steps number) (meaning_within (fitting_group positions) never groups steps number)
+    HoldsElements (meaning_within group_elements [] groups steps number) (meaning_within (fitting_group positions) never groups steps number)
 groups_within positions groups zero number = tt
 groups_within positions groups (suc steps) number =
-    let elements = meaning_within (listed_group positions) [] groups steps in
+    let elements = meaning_within group_elements [] groups steps in
     let contents = meaning_within (fitting_group positions) never groups steps in
-    elim (slice_get groups number) as (λ (g : Option ModelGroup). HoldsElements (meaning_in (listed_group positions) [] g elements) (meaning_in (fitting_group positions) never g contents)) [
+    elim (slice_get groups number) as (λ (g : Option ModelGroup). HoldsElements (meaning_in group_elements [] g elements) (meaning_in (fitting_group positions) never g contents)) [
       | None ↦ tt
       | Some group ↦ group_items (group_fits positions group) contents elements (groups_within positions groups steps) group
     ]
@@ -152,7 +231,7 @@ unfolding elements_of_group content_of_group
 group_holds groups number =
     let positions = positions_of_group groups in
     let steps = length groups in
-    seen_items (all_end groups_in groups) (meaning_within (listed_group positions) [] groups steps number) (meaning_within (fitting_group positions) never groups steps number) (groups_within positions groups steps number)
+    seen_items (all_end groups_in groups) (meaning_within group_elements [] groups steps number) (meaning_within (fitting_group positions) never groups steps number) (groups_within positions groups steps number)
 
 -- ---- types
 
@@ -183,17 +262,18 @@ form_items groups lists known contents elements holds (forms.Complex definition)
 
 type_items : (fits : Bool) (groups : ℕ → SequenceType) (lists : ℕ → List ElementParticle) → ((number : ℕ) → HoldsElements (lists number) (groups number)) → (contents : ℕ → Effective) (elements : ℕ → List ElementParticle) →
     ((number : ℕ) → HoldsElements (elements number) (contents number).content) → (component : TypeComponent) →
-    HoldsElements (type_elements_that_fit fits lists elements component) (type_content_that_fits fits groups contents component).content
-type_items true groups lists known contents elements holds component = form_items groups lists known contents elements holds component.form
+    HoldsElements (type_elements lists elements component) (type_content_that_fits fits groups contents component).content
+type_items true groups lists known contents elements holds component =
+    once_holds (form_elements lists elements component.form) (form_content groups contents component.form).content (form_items groups lists known contents elements holds component.form)
 type_items false groups lists known contents elements holds component = tt
 
 types_within : (of_groups of_types : ℕ → ℕ) (groups : ℕ → SequenceType) (lists : ℕ → List ElementParticle) → ((number : ℕ) → HoldsElements (lists number) (groups number)) → (types : List TypeComponent) (steps number : ℕ) →
-    HoldsElements (meaning_within (listed_type of_groups of_types lists) [] types steps number) (meaning_within (fitting_type of_groups of_types groups) unknown_content types steps number).content
+    HoldsElements (meaning_within (type_elements lists) [] types steps number) (meaning_within (fitting_type of_groups of_types groups) unknown_content types steps number).content
 types_within of_groups of_types groups lists known types zero number = tt
 types_within of_groups of_types groups lists known types (suc steps) number =
-    let elements = meaning_within (listed_type of_groups of_types lists) [] types steps in
+    let elements = meaning_within (type_elements lists) [] types steps in
     let contents = meaning_within (fitting_type of_groups of_types groups) unknown_content types steps in
-    elim (slice_get types number) as (λ (c : Option TypeComponent). HoldsElements (meaning_in (listed_type of_groups of_types lists) [] c elements) (meaning_in (fitting_type of_groups of_types groups) unknown_content c contents).content) [
+    elim (slice_get types number) as (λ (c : Option TypeComponent). HoldsElements (meaning_in (type_elements lists) [] c elements) (meaning_in (fitting_type of_groups of_types groups) unknown_content c contents).content) [
       | None ↦ tt
       | Some component ↦ type_items (type_fits of_groups of_types component) groups lists known contents elements (types_within of_groups of_types groups lists known types steps) component
     ]
@@ -210,6 +290,6 @@ type_holds types groups number =
     let of_groups = positions_of_group groups in
     let of_types = positions_of_type types groups in
     let steps = length types in
-    seen_content_items (all_end extended_types types) (meaning_within (listed_type of_groups of_types (elements_of_group groups)) [] types steps number)
+    seen_content_items (all_end extended_types types) (meaning_within (type_elements (elements_of_group groups)) [] types steps number)
     (meaning_within (fitting_type of_groups of_types (content_of_group groups)) unknown_content types steps number)
     (types_within of_groups of_types (content_of_group groups) (elements_of_group groups) (group_holds groups) types steps number)

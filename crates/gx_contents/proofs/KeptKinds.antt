@@ -1,6 +1,6 @@
 -- What holds of the types of all elements that are written holds of those in each content.
 use Rattle.std.proofs.Common.{◌≡◌, ℕ, zero, suc, Bool, true, false, inl, inr, List, [], ◌∷◌, ◌++◌, length, Option, None, Some, slice_get, if◌then◌else◌, refl, sym, ◌∙◌, ap, subst}
-use Rattle.std.specs.List.{flat_map, list_all}
+use Rattle.std.specs.List.{flat_map, list_all, list_any}
 use Rattle.std.proofs.lemmas.Bool.{and_parts}
 use Rattle.std.proofs.lemmas.List.Folds.{list_all-append}
 use Rattle.gx_base.specs.declared.type_name.TypeName.{TypeName}
@@ -23,13 +23,12 @@ use Rattle.gx_contents.specs.declared.source.ContentSource.{ContentSource}
 use Rattle.gx_contents.specs.declared.source.ContentSource.TheVariants as sources
 use Rattle.gx_contents.specs.ContentKnots.{content_of_type}
 use Rattle.gx_contents.specs.ElementKinds.{element_kinds_pass, kinds_of_content, kinds_of_form, kinds_of_group, kinds_of_particle, kinds_of_type}
-use Rattle.gx_contents.specs.ElementKnots.{elements_of_group, elements_of_type, listed_group, listed_type}
-use Rattle.gx_contents.specs.Elements.{may_occur, term_elements, particle_elements, particles_elements, elements_of_base, written_elements, sourced_elements, form_elements}
+use Rattle.gx_contents.specs.ElementKnots.{elements_of_group, elements_of_type}
+use Rattle.gx_contents.specs.Elements.{may_occur, same_particle, with_particle, with_particles, each_once, term_elements, particle_elements, particles_elements, group_elements, elements_of_base, written_elements, sourced_elements, form_elements, type_elements}
 use Rattle.gx_contents.specs.GroupContents.{groups_in}
 use Rattle.gx_contents.specs.Knots.{all_end}
 use Rattle.gx_contents.specs.Laws.{ElementsKeep, IsPassingItem}
 use Rattle.gx_contents.specs.MixedContents.{model_of}
-use Rattle.gx_contents.specs.PositionKnots.{group_fits, positions_of_group, positions_of_type, type_fits}
 use Rattle.gx_contents.specs.Sources.{extended_types, source_of}
 use Rattle.gx_contents.proofs.ContentItems.{HoldsElements, IsAmong, IsElementOf, type_holds}
 use Rattle.gx_contents.proofs.TypeItems.{each_item, items_mixed, items_weaker}
@@ -81,23 +80,36 @@ particles_pass passes groups known (particle ∷ others) e =
     let parts = all_both passes (kinds_of_particle particle) (flat_map kinds_of_particle others) e in
     pass_together passes (particle_elements groups particle) (particles_elements groups others) (particle_passes passes groups known particle parts.0) (particles_pass passes groups known others parts.1)
 
+-- ---- each particle once
+
+added_passes : (passes : TypeName → Bool) (test : Bool) (elements : List ElementParticle) (element : ElementParticle) → Pass passes elements → passes element.kind ≡ true → Pass passes (if test then elements else elements ++ element ∷ [])
+added_passes passes true elements element h k = h
+added_passes passes false elements element h k = pass_together passes elements (element ∷ []) h (k, tt)
+
+all_pass : (passes : TypeName → Bool) (elements others : List ElementParticle) → Pass passes elements → Pass passes others → Pass passes (with_particles elements others)
+all_pass passes elements [] h k = h
+all_pass passes elements (x ∷ xs) h k = all_pass passes (with_particle elements x) xs (added_passes passes (list_any (same_particle x) elements) elements x h k.0) k.1
+
+once_pass : (passes : TypeName → Bool) (elements : List ElementParticle) → Pass passes elements → Pass passes (each_once elements)
+once_pass passes elements h = all_pass passes [] elements tt h
+
 -- ---- groups
 
-groups_pass : (passes : TypeName → Bool) (positions : ℕ → ℕ) (groups : List ModelGroup) → list_all passes (flat_map kinds_of_group groups) ≡ true → (steps number : ℕ) →
-    Pass passes (meaning_within (listed_group positions) [] groups steps number)
-groups_pass passes positions groups e zero number = tt
-groups_pass passes positions groups e (suc steps) number =
-    let elements = meaning_within (listed_group positions) [] groups steps in
+groups_pass : (passes : TypeName → Bool) (groups : List ModelGroup) → list_all passes (flat_map kinds_of_group groups) ≡ true → (steps number : ℕ) →
+    Pass passes (meaning_within group_elements [] groups steps number)
+groups_pass passes groups e zero number = tt
+groups_pass passes groups e (suc steps) number =
+    let elements = meaning_within group_elements [] groups steps in
     let at = all_at passes kinds_of_group groups number in
-    elim (slice_get groups number) as (λ (g : Option ModelGroup). ((group : ModelGroup) → g ≡ Some group → list_all passes (kinds_of_group group) ≡ true) → Pass passes (meaning_in (listed_group positions) [] g elements)) [
+    elim (slice_get groups number) as (λ (g : Option ModelGroup). ((group : ModelGroup) → g ≡ Some group → list_all passes (kinds_of_group group) ≡ true) → Pass passes (meaning_in group_elements [] g elements)) [
       | None ↦ λ h. tt
-      | Some group ↦ λ h. passes_where passes (group_fits positions group) (particles_elements elements group.particles) (particles_pass passes elements (groups_pass passes positions groups e steps) group.particles (h group refl))
+      | Some group ↦ λ h. once_pass passes (particles_elements elements group.particles) (particles_pass passes elements (groups_pass passes groups e steps) group.particles (h group refl))
     ] (λ group here. at group e here)
 
 group_passes : (passes : TypeName → Bool) (groups : List ModelGroup) → list_all passes (flat_map kinds_of_group groups) ≡ true → (number : ℕ) → Pass passes (elements_of_group groups number)
 unfolding elements_of_group
 group_passes passes groups e number =
-    passes_where passes (all_end groups_in groups) (meaning_within (listed_group (positions_of_group groups)) [] groups (length groups) number) (groups_pass passes (positions_of_group groups) groups e (length groups) number)
+    passes_where passes (all_end groups_in groups) (meaning_within group_elements [] groups (length groups) number) (groups_pass passes groups e (length groups) number)
 
 -- ---- types
 
@@ -122,25 +134,25 @@ form_passes passes groups types of_groups of_types (forms.Simple definition) e =
 form_passes passes groups types of_groups of_types (forms.Complex definition) e =
     sourced_pass passes types of_types (source_of definition.derivation) (written_elements groups definition.content) (written_pass passes groups of_groups definition.content e)
 
-types_pass : (passes : TypeName → Bool) (groups types : ℕ → ℕ) (elements : ℕ → List ElementParticle) → ((number : ℕ) → Pass passes (elements number)) → (components : List TypeComponent) →
-    list_all passes (flat_map kinds_of_type components) ≡ true → (steps number : ℕ) → Pass passes (meaning_within (listed_type groups types elements) [] components steps number)
-types_pass passes groups types elements of_groups components e zero number = tt
-types_pass passes groups types elements of_groups components e (suc steps) number =
-    let known = meaning_within (listed_type groups types elements) [] components steps in
+types_pass : (passes : TypeName → Bool) (elements : ℕ → List ElementParticle) → ((number : ℕ) → Pass passes (elements number)) → (components : List TypeComponent) →
+    list_all passes (flat_map kinds_of_type components) ≡ true → (steps number : ℕ) → Pass passes (meaning_within (type_elements elements) [] components steps number)
+types_pass passes elements of_groups components e zero number = tt
+types_pass passes elements of_groups components e (suc steps) number =
+    let known = meaning_within (type_elements elements) [] components steps in
     let at = all_at passes kinds_of_type components number in
-    elim (slice_get components number) as (λ (c : Option TypeComponent). ((component : TypeComponent) → c ≡ Some component → list_all passes (kinds_of_type component) ≡ true) → Pass passes (meaning_in (listed_type groups types elements) [] c known)) [
+    elim (slice_get components number) as (λ (c : Option TypeComponent). ((component : TypeComponent) → c ≡ Some component → list_all passes (kinds_of_type component) ≡ true) → Pass passes (meaning_in (type_elements elements) [] c known)) [
       | None ↦ λ h. tt
       | Some component ↦ λ h.
-          passes_where passes (type_fits groups types component) (form_elements elements known component.form)
-          (form_passes passes elements known of_groups (types_pass passes groups types elements of_groups components e steps) component.form (h component refl))
+          once_pass passes (form_elements elements known component.form)
+          (form_passes passes elements known of_groups (types_pass passes elements of_groups components e steps) component.form (h component refl))
     ] (λ component here. at component e here)
 
 pub type_passes : (passes : TypeName → Bool) (types : List TypeComponent) (groups : List ModelGroup) → element_kinds_pass passes types groups ≡ true → (number : ℕ) → Pass passes (elements_of_type types groups number)
 unfolding elements_of_type
 type_passes passes types groups e number =
     let parts = all_both passes (flat_map kinds_of_type types) (flat_map kinds_of_group groups) e in
-    passes_where passes (all_end extended_types types) (meaning_within (listed_type (positions_of_group groups) (positions_of_type types groups) (elements_of_group groups)) [] types (length types) number)
-    (types_pass passes (positions_of_group groups) (positions_of_type types groups) (elements_of_group groups) (group_passes passes groups parts.1) types parts.0 (length types) number)
+    passes_where passes (all_end extended_types types) (meaning_within (type_elements (elements_of_group groups)) [] types (length types) number)
+    (types_pass passes (elements_of_group groups) (group_passes passes groups parts.1) types parts.0 (length types) number)
 
 -- ---- contents
 

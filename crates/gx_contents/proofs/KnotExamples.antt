@@ -77,12 +77,12 @@ unfolding positions_of_type positions_of_group
 four_positions = refl
 
 elements_in_order : elements_of_type two_types two_groups 1 ≡ element_at 11 97 string ∷ element_at 22 98 string ∷ element_at 5 97 integer ∷ []
-unfolding elements_of_type elements_of_group positions_of_type positions_of_group
+unfolding elements_of_type elements_of_group
 elements_in_order = refl
 
 -- the added a has another type than that of the base, and stands before it in the file
 added_disagrees : first_disagreement two_types two_groups ≡ Some (element_at 5 97 integer)
-unfolding first_disagreement elements_of_type elements_of_group positions_of_type positions_of_group
+unfolding first_disagreement elements_of_type elements_of_group
 added_disagrees = refl
 
 abbrev element : (letter : ℕ) → TypeName → SequenceType
@@ -114,6 +114,18 @@ too_many_counted = refl
 too_many_are_not_seen : content_of_group too_many 0 ≡ never
 unfolding content_of_group positions_of_group
 too_many_are_not_seen = refl
+
+-- a group that holds one twice, and one that holds that twice: each particle is listed once
+abbrev repeated : List ModelGroup
+repeated =
+    model_group Sequence (particle 11 (Some 1025) (Element (local_name 97) string) ∷ [])
+    ∷ model_group Choice (particle 21 (Some 1) (Group 0) ∷ particle 22 (Some 1) (Group 0) ∷ [])
+    ∷ model_group Choice (particle 31 (Some 1) (Group 1) ∷ particle 32 (Some 1) (Group 1) ∷ particle 33 (Some 1) (Element (local_name 97) integer) ∷ [])
+    ∷ []
+
+repeated_are_listed_once : elements_of_group repeated 2 ≡ element_at 11 97 string ∷ element_at 33 97 integer ∷ []
+unfolding elements_of_group
+repeated_are_listed_once = refl
 
 -- three of one name: the first by place of those that differ from the first
 first_by_place : or_disagreements None (element_at 10 97 string ∷ element_at 5 97 integer ∷ element_at 4 98 integer ∷ element_at 3 97 integer ∷ element_at 2 97 string ∷ []) ≡ Some (element_at 3 97 integer)

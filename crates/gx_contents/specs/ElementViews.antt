@@ -1,13 +1,22 @@
 -- What the bodies of declarations stand for whose element particles are listed.
-use Rattle.std.specs.Prelude.{List, []}
+use Rattle.std.specs.Prelude.{ℕ, List, []}
 use Rattle.gx_references.specs.Known.{known}
+use Rattle.gx_components.specs.declared.component.ModelGroup.{ModelGroup}
+use Rattle.gx_components.specs.declared.component.TypeComponent.{TypeComponent}
 use Rattle.gx_contents.specs.declared.element_lists.GroupElements.{GroupElements}
 use Rattle.gx_contents.specs.declared.element_lists.TypeElements.{TypeElements}
 use Rattle.gx_contents.specs.declared.elements.ElementParticle.{ElementParticle}
-use Rattle.gx_contents.specs.Views.{FittingGroup, FittingType}
 
-abbrev pub group_listed : GroupElements → FittingGroup
-group_listed body = record { fits = body.fits; group = body.group.now }
+abbrev pub group_listed : GroupElements → ModelGroup
+group_listed body = body.group.now
 
-abbrev pub type_listed : TypeElements → FittingType (List ElementParticle)
-type_listed body = record { fits = body.fits; groups = known [] body.groups.now; component = body.component.now }
+-- a type, over the element particles of groups
+pub record ListedType : Type 0 where
+  pub groups : ℕ → List ElementParticle
+  pub component : TypeComponent
+
+abbrev pub type_listed : TypeElements → ListedType
+type_listed body = record { groups = known [] body.groups.now; component = body.component.now }
+
+abbrev pub listed_over : (ℕ → List ElementParticle) → TypeComponent → ListedType
+listed_over groups component = record { groups = groups; component = component }

@@ -1,20 +1,16 @@
 // The element particles of groups and types.
 
-ghost use Rattle.std.specs.Prelude.{◌≡◌, ◌++◌, [], ℕ, IfOk, OnOk, length, map};
+ghost use Rattle.std.specs.Prelude.{◌≡◌, [], ℕ, IfOk, OnOk, map};
 ghost use Rattle.gx_references.specs.Known.{known};
-ghost use Rattle.gx_contents.specs.ElementKnots.{elements_of_type, listed_group, listed_type};
-ghost use Rattle.gx_contents.specs.ElementViews.{group_listed, type_listed};
-ghost use Rattle.gx_contents.specs.Elements.{complex_elements, elements_of_base, form_elements, may_occur, particle_elements, particles_elements, written_elements};
-ghost use Rattle.gx_contents.specs.GroupContents.{groups_in};
+ghost use Rattle.gx_contents.specs.ElementKnots.{elements_of_group, elements_of_type};
+ghost use Rattle.gx_contents.specs.ElementViews.{group_listed, listed_over, type_listed};
+ghost use Rattle.gx_contents.specs.Elements.{complex_elements, elements_of_base, form_elements, may_occur, particle_elements, particles_elements, type_elements, with_particles, written_elements};
 ghost use Rattle.gx_contents.specs.Knots.{meaning_at_ends};
 ghost use Rattle.gx_contents.specs.Sources.{extended_types};
-ghost use Rattle.gx_contents.specs.Views.{fitting_by, fitting_over};
 
-use crate::contents::{group_fits, type_fits};
 use crate::elements::{ElementParticle, ElementParticles, SharedElement};
 use crate::group_content::groups_in;
 use crate::knot::known_meanings;
-use crate::positions::{PositionTables, position_tables};
 use crate::source::{ContentSource, extended_types, source};
 use gx_base::name::Name;
 use gx_base::type_name::TypeName;
@@ -24,28 +20,27 @@ use gx_components::component::{
 use gx_references::body::Body;
 use std::alloc::{AllocError, Global};
 
-/// A model group among others, and whether it has no more positions than a content may have.
+/// A model group among others.
 #[derive(Clone, Copy)]
 pub struct GroupElements<'a> {
     pub group: &'a ModelGroup,
-    pub fits: bool,
 }
 
 impl<'a> Body for GroupElements<'a> {
     type Meaning = ElementParticles;
 
     ghost use Rattle.std.specs.Prelude.{[]};
-    ghost use Rattle.gx_contents.specs.Elements.{elements_that_fit};
-    ghost use Rattle.gx_contents.specs.ElementLaws.{elements_that_fit_agree};
+    ghost use Rattle.gx_contents.specs.Elements.{group_elements};
+    ghost use Rattle.gx_contents.specs.ElementLaws.{group_elements_agree};
     ghost use Rattle.gx_contents.specs.GroupContents.{groups_in};
 
     ghost named = { λ body. groups_in body.group.now };
 
-    ghost meant = { λ groups body. elements_that_fit body.fits groups body.group.now };
+    ghost meant = { λ groups body. group_elements groups body.group.now };
 
     ghost nothing = { [] };
 
-    ghost same = { λ f g body agree. elements_that_fit_agree body.fits f g body.group.now agree };
+    ghost same = { λ f g body agree. group_elements_agree f g body.group.now agree };
 
     fn references(&self, alloc: Global) -> Result<Vec<usize>, AllocError> {
         groups_in(alloc, self.group)
@@ -56,21 +51,17 @@ impl<'a> Body for GroupElements<'a> {
         alloc: Global,
         table: &[Option<ElementParticles>],
     ) -> Result<ElementParticles, AllocError> {
-        if self.fits {
-            particles_elements(alloc, table, self.group.particles.as_slice())
-        } else {
-            Ok(ElementParticles::none(alloc))
-        }
+        let mut elements = ElementParticles::none(alloc);
+        add_particles(alloc, table, self.group.particles.as_slice(), &mut elements)?;
+        Ok(elements)
     }
 }
 
-/// A type among others, with the element particles of all groups, and whether its content has no more positions than a content may
-/// have.
+/// A type among others, with the element particles of all groups.
 #[derive(Clone, Copy)]
 pub struct TypeElements<'a> {
     pub component: &'a TypeComponent,
     pub groups: &'a [Option<ElementParticles>],
-    pub fits: bool,
 }
 
 impl<'a> Body for TypeElements<'a> {
@@ -78,17 +69,17 @@ impl<'a> Body for TypeElements<'a> {
 
     ghost use Rattle.std.specs.Prelude.{[]};
     ghost use Rattle.gx_references.specs.Known.{known};
-    ghost use Rattle.gx_contents.specs.Elements.{type_elements_that_fit};
-    ghost use Rattle.gx_contents.specs.ElementLaws.{type_elements_that_fit_agree};
+    ghost use Rattle.gx_contents.specs.Elements.{type_elements};
+    ghost use Rattle.gx_contents.specs.ElementLaws.{type_elements_agree};
     ghost use Rattle.gx_contents.specs.Sources.{extended_types};
 
     ghost named = { λ body. extended_types body.component.now };
 
-    ghost meant = { λ types body. type_elements_that_fit body.fits (known [] body.groups.now) types body.component.now };
+    ghost meant = { λ types body. type_elements (known [] body.groups.now) types body.component.now };
 
     ghost nothing = { [] };
 
-    ghost same = { λ f g body agree. type_elements_that_fit_agree body.fits (known [] body.groups.now) f g body.component.now agree };
+    ghost same = { λ f g body agree. type_elements_agree (known [] body.groups.now) f g body.component.now agree };
 
     fn references(&self, alloc: Global) -> Result<Vec<usize>, AllocError> {
         extended_types(alloc, self.component)
@@ -99,11 +90,15 @@ impl<'a> Body for TypeElements<'a> {
         alloc: Global,
         table: &[Option<ElementParticles>],
     ) -> Result<ElementParticles, AllocError> {
-        if self.fits {
-            form_elements(alloc, self.groups, table, &self.component.form)
-        } else {
-            Ok(ElementParticles::none(alloc))
-        }
+        let mut elements = ElementParticles::none(alloc);
+        add_form(
+            alloc,
+            self.groups,
+            table,
+            &self.component.form,
+            &mut elements,
+        )?;
+        Ok(elements)
     }
 }
 
@@ -139,11 +134,11 @@ fn element_particle(
     SharedElement::new(alloc, ElementParticle { place, name, kind })
 }
 
-fn add_copies(copied: &[SharedElement], elements: &mut Vec<SharedElement>) -> Result<(), AllocError>
-    ensures { OnOk result (elements.new.items ≡ elements.old.items ++ copied.now) }
+fn add_each(copied: &[SharedElement], elements: &mut ElementParticles) -> Result<(), AllocError>
+    ensures { OnOk result (elements.new ≡ with_particles elements.old copied.now) }
 {
     for element in copied {
-        elements.push(element.clone()?)?;
+        elements.add(element.clone()?)?;
     }
     Ok(())
 }
@@ -153,66 +148,67 @@ fn add_particle(
     alloc: Global,
     groups: &[Option<ElementParticles>],
     particle: &Particle,
-    elements: &mut Vec<SharedElement>,
+    elements: &mut ElementParticles,
 ) -> Result<(), AllocError>
-    ensures { OnOk result (elements.new.items ≡ elements.old.items ++ particle_elements (known [] groups.now) particle.now) }
+    ensures { OnOk result (elements.new ≡ with_particles elements.old (particle_elements (known [] groups.now) particle.now)) }
 {
     if !may_occur(particle.bounds.greatest) {
         return Ok(());
     }
     match &particle.term {
         Term::Element { name, kind } => {
-            elements.push(element_particle(alloc, particle.place, name, kind)?)?;
-            Ok(())
+            elements.add(element_particle(alloc, particle.place, name, kind)?)
         }
-        Term::Group(number) => add_copies(known_elements(groups, *number), elements),
+        Term::Group(number) => add_each(known_elements(groups, *number), elements),
     }
 }
 
-fn particles_elements(
+// Adds those of particles.
+fn add_particles(
     alloc: Global,
     groups: &[Option<ElementParticles>],
     particles: &[Particle],
-) -> Result<ElementParticles, AllocError>
-    ensures { IfOk result (λ elements. elements ≡ particles_elements (known [] groups.now) particles.now) }
+    elements: &mut ElementParticles,
+) -> Result<(), AllocError>
+    ensures { OnOk result (elements.new ≡ with_particles elements.old (particles_elements (known [] groups.now) particles.now)) }
 {
-    let mut elements = Vec::new(alloc);
-    let mut left = particles;
-    while let Some((particle, others)) = left.split_first() {
-        add_particle(alloc, groups, particle, &mut elements)?;
-        left = others;
+    for particle in particles {
+        add_particle(alloc, groups, particle, elements)?;
     }
-    Ok(ElementParticles::from_vec(elements))
+    Ok(())
 }
 
-fn form_elements(
+// Adds those of a type.
+fn add_form(
     alloc: Global,
     groups: &[Option<ElementParticles>],
     types: &[Option<ElementParticles>],
     form: &TypeForm,
-) -> Result<ElementParticles, AllocError>
-    ensures { IfOk result (λ elements. elements ≡ form_elements (known [] groups.now) (known [] types.now) form.now) }
+    elements: &mut ElementParticles,
+) -> Result<(), AllocError>
+    ensures { OnOk result (elements.new ≡ with_particles elements.old (form_elements (known [] groups.now) (known [] types.now) form.now)) }
 {
     match form {
-        TypeForm::Simple(_) => Ok(ElementParticles::none(alloc)),
-        TypeForm::Complex(definition) => complex_elements(alloc, groups, types, definition),
+        TypeForm::Simple(_) => Ok(()),
+        TypeForm::Complex(definition) => add_complex(alloc, groups, types, definition, elements),
     }
 }
 
-fn complex_elements(
+fn add_complex(
     alloc: Global,
     groups: &[Option<ElementParticles>],
     types: &[Option<ElementParticles>],
     definition: &ComplexType,
-) -> Result<ElementParticles, AllocError>
-    ensures { IfOk result (λ elements. elements ≡ complex_elements (known [] groups.now) (known [] types.now) definition.now) }
+    elements: &mut ElementParticles,
+) -> Result<(), AllocError>
+    ensures { OnOk result (elements.new ≡ with_particles elements.old (complex_elements (known [] groups.now) (known [] types.now) definition.now)) }
 {
-    let content = &definition.content;
     match source(definition.derivation) {
-        ContentSource::Simple => Ok(ElementParticles::none(alloc)),
-        ContentSource::Written => elements_behind(alloc, &[], groups, content),
+        ContentSource::Simple => Ok(()),
+        ContentSource::Written => add_written(alloc, groups, &definition.content, elements),
         ContentSource::Behind(base) => {
-            elements_behind(alloc, elements_of_base(types, base), groups, content)
+            add_each(elements_of_base(types, base), elements)?;
+            add_written(alloc, groups, &definition.content, elements)
         }
     }
 }
@@ -226,26 +222,24 @@ fn elements_of_base(types: &[Option<ElementParticles>], base: Base) -> &[SharedE
     }
 }
 
-// The element particles of a written content behind others.
-fn elements_behind(
+// Adds those of a content as it is written.
+fn add_written(
     alloc: Global,
-    others: &[SharedElement],
     groups: &[Option<ElementParticles>],
     content: &Option<Particle>,
-) -> Result<ElementParticles, AllocError>
-    ensures { IfOk result (λ elements. elements ≡ others.now ++ written_elements (known [] groups.now) content.now) }
+    elements: &mut ElementParticles,
+) -> Result<(), AllocError>
+    ensures { OnOk result (elements.new ≡ with_particles elements.old (written_elements (known [] groups.now) content.now)) }
 {
-    let mut elements = Vec::new(alloc);
-    add_copies(others, &mut elements)?;
-    if let Some(particle) = content {
-        add_particle(alloc, groups, particle, &mut elements)?;
+    match content {
+        None => Ok(()),
+        Some(particle) => add_particle(alloc, groups, particle, elements),
     }
-    Ok(ElementParticles::from_vec(elements))
 }
 
-/// The element particles of the contents of all types: those of groups where the groups are referred to, and those of bases before
-/// those that extensions add (XML Schema 1.0 part 1, section 3.4.2). None are seen of types of too many positions, nor where the
-/// references among groups or among types come to no end.
+/// The element particles of the contents of all types, each once: those of groups where the groups are referred to, and those of
+/// bases before those that extensions add (XML Schema 1.0 part 1, section 3.4.2). None are seen where the references among groups
+/// or among types come to no end.
 pub fn element_lists(
     alloc: Global,
     types: &[TypeComponent],
@@ -253,68 +247,52 @@ pub fn element_lists(
 ) -> Result<Vec<Option<ElementParticles>>, AllocError>
     ensures { IfOk result (λ table. (number : ℕ) → known [] table.items number ≡ elements_of_type types.now groups.now number) }
 {
-    let tables = position_tables(alloc, types, groups)?;
-    let groups = lists_of_groups(alloc, groups, tables.groups.as_slice())?;
-    lists_of_types(alloc, types, &tables, groups.as_slice())
+    let groups = lists_of_groups(alloc, groups)?;
+    lists_of_types(alloc, types, groups.as_slice())
 }
 
-// Those of groups, over their positions.
 fn lists_of_groups(
     alloc: Global,
     groups: &[ModelGroup],
-    positions: &[Option<usize>],
 ) -> Result<Vec<Option<ElementParticles>>, AllocError>
-    ensures { IfOk result (λ table. (number : ℕ) → known [] table.items number ≡ meaning_at_ends groups_in (listed_group (known 0 positions.now)) [] groups.now number) }
+    ensures { IfOk result (λ table. (number : ℕ) → known [] table.items number ≡ elements_of_group groups.now number) }
 {
-    let bodies = listed_groups(alloc, groups, positions)?;
+    let bodies = listed_groups(alloc, groups)?;
     known_meanings(alloc, bodies.as_slice())
 }
 
-fn listed_groups<'a>(
-    alloc: Global,
-    groups: &'a [ModelGroup],
-    positions: &[Option<usize>],
-) -> Result<Vec<GroupElements<'a>>, AllocError>
-    ensures { IfOk result (λ bodies. map group_listed bodies.items ≡ map (fitting_by (known 0 positions.now)) groups.now) }
+fn listed_groups(alloc: Global, groups: &[ModelGroup]) -> Result<Vec<GroupElements<'_>>, AllocError>
+    ensures { IfOk result (λ bodies. map group_listed bodies.items ≡ groups.now) }
 {
     let mut bodies = Vec::with_capacity(alloc, groups.len())?;
     for group in groups {
-        let fits = group_fits(positions, group);
-        bodies.push(GroupElements { group, fits })?;
+        bodies.push(GroupElements { group })?;
     }
     Ok(bodies)
 }
 
-// Those of types, over positions and the element particles of groups.
+// Those of types, over the element particles of groups.
 fn lists_of_types(
     alloc: Global,
     types: &[TypeComponent],
-    tables: &PositionTables,
     groups: &[Option<ElementParticles>],
 ) -> Result<Vec<Option<ElementParticles>>, AllocError>
-    ensures { IfOk result (λ table. (number : ℕ) → known [] table.items number ≡
-        meaning_at_ends extended_types (listed_type (known 0 tables.now.groups.items) (known 0 tables.now.types.items) (known [] groups.now)) [] types.now number) }
+    ensures { IfOk result (λ table. (number : ℕ) → known [] table.items number ≡ meaning_at_ends extended_types (type_elements (known [] groups.now)) [] types.now number) }
 {
-    let bodies = listed_types(alloc, types, tables, groups)?;
+    let bodies = listed_types(alloc, types, groups)?;
     known_meanings(alloc, bodies.as_slice())
 }
 
 fn listed_types<'a>(
     alloc: Global,
     types: &'a [TypeComponent],
-    tables: &PositionTables,
     groups: &'a [Option<ElementParticles>],
 ) -> Result<Vec<TypeElements<'a>>, AllocError>
-    ensures { IfOk result (λ bodies. map type_listed bodies.items ≡ map (fitting_over (known 0 tables.now.groups.items) (known 0 tables.now.types.items) (known [] groups.now)) types.now) }
+    ensures { IfOk result (λ bodies. map type_listed bodies.items ≡ map (listed_over (known [] groups.now)) types.now) }
 {
     let mut bodies = Vec::with_capacity(alloc, types.len())?;
     for component in types {
-        let fits = type_fits(tables, component);
-        bodies.push(TypeElements {
-            component,
-            groups,
-            fits,
-        })?;
+        bodies.push(TypeElements { component, groups })?;
     }
     Ok(bodies)
 }

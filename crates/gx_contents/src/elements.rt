@@ -1,10 +1,13 @@
 // Element particles.
 
 ghost use Rattle.std.specs.Prelude.{◌≡◌, IfOk};
+ghost use Rattle.gx_contents.specs.Elements.{same_written_name, same_written_type};
 
 use gx_base::name::Name;
 use gx_base::type_name::TypeName;
+use indexmap::IndexSet;
 use std::alloc::{AllocError, Global};
+use std::hash::{Hash, Hasher};
 use std::marker::Model;
 use std::rc::Rc;
 
@@ -71,10 +74,65 @@ impl Clone for SharedElement {
     }
 }
 
-/// Element particles in their order, which contracts see as a list. Lists share their particles.
+impl PartialEq for SharedElement {
+    ghost use Rattle.std.specs.Cmp.{partial_equiv_from_equiv};
+    ghost use Rattle.gx_contents.specs.Elements.{same_particle};
+    ghost use Rattle.gx_contents.specs.ElementLaws.{particles_are_equivalent};
+
+    ghost eq = { same_particle };
+
+    ghost laws = { partial_equiv_from_equiv particles_are_equivalent };
+
+    fn eq(&self, other: &SharedElement) -> bool {
+        let (one, another) = (self.element(), other.element());
+        one.place == another.place
+            && is_written_as(&one.name, &another.name)
+            && has_type_written_as(&one.kind, &another.kind)
+    }
+}
+
+impl Eq for SharedElement {
+    ghost use Rattle.gx_contents.specs.ElementLaws.{particles_are_equivalent};
+
+    ghost laws = { particles_are_equivalent };
+}
+
+impl Hash for SharedElement {
+    ghost use Rattle.std.specs.Cmp.Rules.{hashing};
+    ghost use Rattle.std.specs.Hash as fed;
+    ghost use Rattle.std.proofs.Common.{rules};
+
+    ghost hash_input = { λ element. fed.u64 element.place };
+
+    ghost respects_eq = { Prim.search (hashing, rules) };
+
+    fn hash<H: Hasher>(&self, state: &mut H) {
+        self.element().place.hash(state);
+    }
+}
+
+// Whether two names are equal and have one prefix.
+fn is_written_as(one: &Name, another: &Name) -> bool
+    ensures { result ≡ same_written_name one.now another.now }
+{
+    one == another && one.prefix == another.prefix
+}
+
+fn has_type_written_as(one: &TypeName, another: &TypeName) -> bool
+    ensures { result ≡ same_written_type one.now another.now }
+{
+    match (one, another) {
+        (TypeName::Named(one), TypeName::Named(another)) => {
+            is_written_as(one.name(), another.name())
+        }
+        _ => one == another,
+    }
+}
+
+/// Element particles in their order, each once, which contracts see as a list. Lists share their particles.
 #[derive(Drop)]
 pub struct ElementParticles {
-    items: Vec<SharedElement>,
+    items: IndexSet<SharedElement>,
 }
 
 impl Model for ElementParticles {
@@ -83,26 +141,28 @@ impl Model for ElementParticles {
 
     ghost Value = { List ElementParticle };
 
-    ghost view = { λ elements. elements.items.items };
+    ghost view = { λ elements. elements.items.keys };
 }
 
 impl ElementParticles {
-    ghost use Rattle.std.specs.Prelude.{◌≡◌, []};
+    ghost use Rattle.std.specs.Prelude.{◌≡◌, [], OnOk};
+    ghost use Rattle.gx_contents.specs.Elements.{with_particle};
 
     /// No particles.
     pub fn none(alloc: Global) -> ElementParticles
         ensures { result ≡ [] }
     {
         ElementParticles {
-            items: Vec::new(alloc),
+            items: IndexSet::new(alloc),
         }
     }
 
-    /// The particles of the vector, in its order.
-    pub fn from_vec(items: Vec<SharedElement>) -> ElementParticles
-        ensures { result ≡ items.items }
+    /// Puts a particle behind the others, where it is none of them.
+    pub fn add(&mut self, element: SharedElement) -> Result<(), AllocError>
+        ensures { OnOk result (self.new ≡ with_particle self.old element) }
     {
-        ElementParticles { items }
+        self.items.insert(element)?;
+        Ok(())
     }
 
     /// The particles in their order.

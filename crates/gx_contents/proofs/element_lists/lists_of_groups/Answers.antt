@@ -8,4 +8,4 @@ use Rattle.gx_contents.proofs.element_lists.lists_of_groups.Goals as goal
 pub returns : goal.returns
 returns c =
     table_means c.known_meanings.result (λ table. known [] table.items) _ _
-    (groups_listed c.as_slice.result.now (known 0 c.args.positions.now) c.args.groups.now (ap (map group_listed) c.as_slice.ensures.value ∙ c.in_ok-bodies.ensures)) c.known_meanings.ensures
+    (groups_listed c.as_slice.result.now c.args.groups.now (ap (map group_listed) c.as_slice.ensures.value ∙ c.in_ok-bodies.ensures)) c.known_meanings.ensures

@@ -8,5 +8,4 @@ use Rattle.gx_contents.proofs.element_lists.lists_of_types.Goals as goal
 pub returns : goal.returns
 returns c =
     table_means c.known_meanings.result (λ table. known [] table.items) _ _
-    (types_listed c.as_slice.result.now (known 0 c.args.tables.now.groups.items) (known 0 c.args.tables.now.types.items) (known [] c.args.groups.now) c.args.types.now
-    (ap (map type_listed) c.as_slice.ensures.value ∙ c.in_ok-bodies.ensures)) c.known_meanings.ensures
+    (types_listed c.as_slice.result.now (known [] c.args.groups.now) c.args.types.now (ap (map type_listed) c.as_slice.ensures.value ∙ c.in_ok-bodies.ensures)) c.known_meanings.ensures
