@@ -7,3 +7,4 @@ pub mod Models
 pub mod TypedAttributes
 pub mod TypedChildren
 pub mod Outcomes
+pub mod TypedRoots

@@ -1,6 +1,6 @@
 // Laws over the definitions.
 
-ghost use Rattle.gx_validate.specs.Laws.{FaultsExcludeTrees, OutcomesAreValid, ValidTreesAreOne};
+ghost use Rattle.gx_validate.specs.Laws.{FaultsExcludeTrees, OutcomesAreValid, ValidTreesAreOne, ValidTreesAreTyped};
 
 /// A document comes to a tree exactly where the tree is valid for it: its root has the name that is asked for; each element has its
 /// declared type, or the one that `xsi:type` names, and keeps to it; and names, texts and attributes are those of the document,
@@ -18,4 +18,10 @@ pub fn valid_trees_are_one()
 /// A rule is broken exactly where no tree is valid.
 pub fn faults_exclude_trees()
     ensures { FaultsExcludeTrees }
+{}
+
+/// The elements of a valid tree keep to their types, no two attributes of one have equal names, and the tree holds elements and texts
+/// alone.
+pub fn valid_trees_are_typed()
+    ensures { ValidTreesAreTyped }
 {}
