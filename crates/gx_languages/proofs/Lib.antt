@@ -1,0 +1,4 @@
+pub mod Tokens
+pub mod Worth
+pub mod Steps
+pub mod Direct
