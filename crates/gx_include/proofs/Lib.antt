@@ -13,7 +13,7 @@ pub mod Decided
 pub mod Stand
 pub mod Alphabets
 pub mod Columns
-pub mod PlaceLists
+pub mod PlaceSets
 pub mod Counts
 pub mod Bound
 pub mod WellFormed
@@ -26,3 +26,4 @@ mod Symbols
 mod Targets
 mod Derived
 pub mod Asked
+pub mod WordSets

@@ -1,5 +1,5 @@
 -- Equal symbols are taken by the same item types.
-use Rattle.std.proofs.Common.{◌≡◌, Bool, true, ◌&&◌, Option, None, Some, refl, sym, ◌∙◌, ap, nat_eq, length, ◌+◌, rules}
+use Rattle.std.proofs.Common.{◌≡◌, true, ◌&&◌, Option, None, Some, refl, sym, ◌∙◌, ap, nat_eq, length, ◌+◌, rules}
 use Rattle.std.specs.Cmp.Rules.{comparing}
 use Rattle.std.proofs.lemmas.Bool.{and_parts, eqb-true}
 use Rattle.gx_base.specs.Name.{same_name}
@@ -15,15 +15,10 @@ use Rattle.gx_types.proofs.EqualNames.{names_are_equivalent}
 use Rattle.gx_include.specs.declared.reading.Reading.{Reading}
 use Rattle.gx_include.specs.declared.reading.Symbol.{Symbol}
 use Rattle.gx_include.specs.declared.reading.Symbol.TheVariants as symbols
-use Rattle.gx_include.specs.contracts.reading.SymbolPartialEq.TheImpl as same_symbols
 use Rattle.gx_include.specs.Derivations.{same_kind}
 use Rattle.gx_include.specs.Test.{is_taken}
-use Rattle.gx_include.specs.Transitions.{same_reading, shape_read}
+use Rattle.gx_include.specs.Transitions.{same_reading, same_symbol, shape_read}
 use Rattle.gx_include.proofs.Stand.{derived_alike}
-
--- what `==` says of two symbols
-abbrev same_symbol : Symbol → Symbol → Bool
-same_symbol = (same_symbols.ghosts).eq
 
 pub same_kind_is : (t u : TypeName) → same_kind t u ≡ same_type_name t u
 same_kind_is t u = search (comparing, rules)
@@ -42,7 +37,7 @@ module _ (s : SchemaSet) where
       let p = and_parts (same_name n m) (same_kind t u) e in
       ap (λ b. b && is_derived s t kind) (fits_alike wanted n m p.0) ∙ ap (λ b. name_fits wanted m && b) (derived_equally t u kind p.1)
 
-  symbols_alike : (r q : Symbol) → same_symbol r q ≡ true → (kind : ItemType) → is_taken s (shape_read r) kind ≡ is_taken s (shape_read q) kind
+  pub symbols_alike : (r q : Symbol) → same_symbol r q ≡ true → (kind : ItemType) → is_taken s (shape_read r) kind ≡ is_taken s (shape_read q) kind
   symbols_alike (symbols.Element n t) (symbols.Element m u) e (items.Element wanted kind) = named_alike wanted n.now m.now t.now u.now kind e
   symbols_alike (symbols.Element n t) (symbols.Element m u) e _ = refl
   symbols_alike (symbols.Attribute n t) (symbols.Attribute m u) e (items.Attribute wanted kind) = named_alike wanted n.now m.now t.now u.now kind e

@@ -1,18 +1,23 @@
 -- Targets that are kept stay those of their readings.
-use Rattle.std.proofs.Common.{◌≡◌, ℕ, zero, suc, ◌<◌, Bool, true, false, cond, List, [], ◌∷◌, ◌&&◌, Option, None, Some, refl, sym, ◌∙◌, ap, subst, get_or, map, length, slice_get, ◌↔◌, arith}
-use Rattle.std.specs.List.{list_any}
+use Rattle.std.proofs.Common.{◌≡◌, ℕ, zero, suc, ◌<◌, Bool, true, false, cond, List, [], ◌∷◌, Option, None, Some, refl, sym, ◌∙◌, ap, subst, get_or, map, length, slice_get, ◌↔◌, arith}
 use Rattle.std.specs.Prelude.{IfSome, Vec}
 use Rattle.std.proofs.lemmas.Option.{slice_get_within}
 use Rattle.indexmap.specs.IndexMap.{IndexMap, get}
 use Rattle.gx_types.specs.declared.item_type.ItemType.{ItemType}
 use Rattle.gx_types.specs.declared.shape.Shape.{Shape}
 use Rattle.gx_types.specs.SchemaSet.{SchemaSet}
+use Rattle.gx_types.specs.SequenceType.{SequenceType}
+use Rattle.gx_include.specs.declared.chunks.Chunk.{Chunk}
 use Rattle.gx_include.specs.declared.reading.Reading.{Reading}
-use Rattle.gx_include.specs.Following.{AreComing, may_follow}
-use Rattle.gx_include.specs.ItemIndex.{IsListed}
+use Rattle.gx_include.specs.declared.reading.Symbol.{Symbol}
+use Rattle.gx_include.specs.Bits.{has_bit}
+use Rattle.gx_include.specs.Following.{AreComing, IsMask, LeadsTo}
+use Rattle.gx_include.specs.ItemIndex.{items_of}
+use Rattle.gx_include.specs.Step.{all_tests}
 use Rattle.gx_include.specs.Test.{is_taken}
-use Rattle.gx_include.specs.Transitions.{same_reading, shape_read, places_of, places_at, IsTransition, AreTransitions, AreNumberedAlike, IsAnew}
-use Rattle.gx_include.proofs.Symbols.{readings_alike}
+use Rattle.gx_include.specs.Transitions.{same_reading, same_symbol, shape_read, places_of, places_at, IsTransition, AreTransitions, AreMasks, AreNumberedAlike, IsAnew}
+use Rattle.gx_include.proofs.Listed.{tests_are}
+use Rattle.gx_include.proofs.Symbols.{readings_alike, symbols_alike}
 
 map_alike : {X Y : Type 0} (one other : X → Y) → ((x : X) → one x ≡ other x) → (xs : List X) → map one xs ≡ map other xs
 map_alike one other f [] = refl
@@ -23,11 +28,14 @@ get_there [] i h = absurd (omega arith)
 get_there (x ∷ xs) zero h = (x, refl)
 get_there (x ∷ xs) (suc i) h = get_there xs i (omega arith)
 
-module _ {A : Type 0} (rows : List (Vec Bool A)) (kinds : List ItemType) where
+tests_alike : (t : SequenceType) (one other : ItemType → Bool) → ((kind : ItemType) → one kind ≡ other kind) → all_tests t one ≡ all_tests t other
+tests_alike t one other f = ap (λ ts. false ∷ ts) (tests_are t one ∙ map_alike one other f (items_of t) ∙ sym (tests_are t other))
+
+module _ {A : Type 0} (t : SequenceType) (rows : List (Vec Chunk A)) where
   -- the same places come next over item types that pass the same tests
-  coming_alike : (one other : ItemType → Bool) → ((kind : ItemType) → one kind ≡ other kind) → (before after : List ℕ) → AreComing rows kinds one before after → AreComing rows kinds other before after
+  coming_alike : (one other : ItemType → Bool) → ((kind : ItemType) → one kind ≡ other kind) → (before after : List ℕ) → AreComing t rows one before after → AreComing t rows other before after
   coming_alike one other f before after coming =
-      subst (λ ts. (place : ℕ) → IsListed place after ↔ ((list_any (λ origin. may_follow rows origin place) before && get_or (false ∷ ts) place false) ≡ true)) (map_alike one other f kinds) coming
+      subst (λ ts. (place : ℕ) → (has_bit after place ≡ true) ↔ (LeadsTo rows before place × (get_or ts place false ≡ true))) (tests_alike t one other f) coming
 
 module _ {B : Type 0} where
   -- a state that keeps its number keeps its places
@@ -37,67 +45,90 @@ module _ {B : Type 0} where
       let there = alike number q.0 q.1 in
       (slice_get_within more number q.0 there, ap places_of (there ∙ sym q.1))
 
-module _ {A B : Type 0} (rows : List (Vec Bool A)) (kinds : List ItemType) where
-  transition_alike : (one other : ItemType → Bool) → ((kind : ItemType) → one kind ≡ other kind) → (states : List (Vec ℕ B)) (origin target : ℕ) → IsTransition rows kinds one states origin target
-      → IsTransition rows kinds other states origin target
+module _ {A B : Type 0} (t : SequenceType) (rows : List (Vec Chunk A)) where
+  transition_alike : (one other : ItemType → Bool) → ((kind : ItemType) → one kind ≡ other kind) → (states : List (Vec ℕ B)) (origin target : ℕ) → IsTransition t rows one states origin target
+      → IsTransition t rows other states origin target
   transition_alike one other f states origin target is = record {
     origin_within = is.origin_within;
     target_within = is.target_within;
-    coming = coming_alike rows kinds one other f (places_at states origin) (places_at states target) is.coming;
+    coming = coming_alike t rows one other f (places_at states origin) (places_at states target) is.coming;
   }
 
-  transition_stays : (test : ItemType → Bool) (states more : List (Vec ℕ B)) (origin target : ℕ) → AreNumberedAlike states more → IsTransition rows kinds test states origin target
-      → IsTransition rows kinds test more origin target
+  transition_stays : (test : ItemType → Bool) (states more : List (Vec ℕ B)) (origin target : ℕ) → AreNumberedAlike states more → IsTransition t rows test states origin target
+      → IsTransition t rows test more origin target
   transition_stays test states more origin target alike is =
       let p = place_stays states more alike origin is.origin_within in
       let q = place_stays states more alike target is.target_within in
       record {
         origin_within = p.0;
         target_within = q.0;
-        coming = subst (λ ps. AreComing rows kinds test ps (places_at more target)) (sym p.1) (subst (AreComing rows kinds test (places_at states origin)) (sym q.1) is.coming);
+        coming = subst (λ ps. AreComing t rows test ps (places_at more target)) (sym p.1) (subst (AreComing t rows test (places_at states origin)) (sym q.1) is.coming);
       }
 
   module _ (s : SchemaSet) where
     abbrev IsKept : List (Vec ℕ B) → Reading → Option ℕ → Type 0
-    IsKept states reading found = IfSome found (λ target. IsTransition rows kinds (is_taken s (shape_read reading.symbol)) states reading.state target)
+    IsKept states reading found = IfSome found (λ target. IsTransition t rows (is_taken s (shape_read reading.symbol)) states reading.state target)
 
     some_stays : (states more : List (Vec ℕ B)) → AreNumberedAlike states more → (reading : Reading) (found : Option ℕ) → IsKept states reading found → IsKept more reading found
     some_stays states more alike reading None h = h
     some_stays states more alike reading (Some target) h = transition_stays (is_taken s (shape_read reading.symbol)) states more reading.state target alike h
 
-module _ {A B S : Type 0} (rows : List (Vec Bool A)) (kinds : List ItemType) (s : SchemaSet) where
+module _ {A B S : Type 0} (t : SequenceType) (rows : List (Vec Chunk A)) (s : SchemaSet) where
   -- what is looked up is the transition of the shape
-  pub next_is : (states : List (Vec ℕ B)) (targets : IndexMap Reading ℕ S) (reading : Reading) (shape : Shape) (target : ℕ) → AreTransitions rows kinds s states targets
-      → get same_reading targets reading ≡ Some target → shape_read reading.symbol ≡ shape → IsTransition rows kinds (is_taken s shape) states reading.state target
+  pub next_is : (states : List (Vec ℕ B)) (targets : IndexMap Reading ℕ S) (reading : Reading) (shape : Shape) (target : ℕ) → AreTransitions t rows s states targets
+      → get same_reading targets reading ≡ Some target → shape_read reading.symbol ≡ shape → IsTransition t rows (is_taken s shape) states reading.state target
   next_is states targets reading shape target kept found e =
-      subst (λ x. IsTransition rows kinds (is_taken s x) states reading.state target) e (subst (IsKept rows kinds s states reading) found (kept reading))
+      subst (λ x. IsTransition t rows (is_taken s x) states reading.state target) e (subst (IsKept t rows s states reading) found (kept reading))
 
   -- nothing is kept that is wrong where nothing is kept
-  pub anew_kept : (places : List ℕ) (states : List (Vec ℕ B)) (targets : IndexMap Reading ℕ S) → IsAnew places states targets → AreTransitions rows kinds s states targets
-  anew_kept places states targets is reading = subst (IsKept rows kinds s states reading) (sym (is.none reading)) tt
+  pub anew_kept : {Z : Type 0} (places : List ℕ) (states : List (Vec ℕ B)) (targets : IndexMap Reading ℕ S) (masks : IndexMap Symbol (Vec ℕ A) Z) → IsAnew places states targets masks
+      → AreTransitions t rows s states targets
+  anew_kept places states targets masks is reading = subst (IsKept t rows s states reading) (sym (is.none reading)) tt
 
   -- one target more
-  pub kept_more : (states more : List (Vec ℕ B)) (old new : IndexMap Reading ℕ S) (key : Reading) (shape : Shape) (target : ℕ) (places : List ℕ) → AreTransitions rows kinds s states old
+  pub kept_more : (states more : List (Vec ℕ B)) (old new : IndexMap Reading ℕ S) (key : Reading) (shape : Shape) (target : ℕ) (places : List ℕ) → AreTransitions t rows s states old
       → AreNumberedAlike states more → key.state < length states → target < length more → shape_read key.symbol ≡ shape → places_at more target ≡ places
-      → AreComing rows kinds (is_taken s shape) (places_at states key.state) places
-      → ((other : Reading) → get same_reading new other ≡ cond (same_reading key other) (Some target) (get same_reading old other)) → AreTransitions rows kinds s more new
+      → AreComing t rows (is_taken s shape) (places_at states key.state) places
+      → ((other : Reading) → get same_reading new other ≡ cond (same_reading key other) (Some target) (get same_reading old other)) → AreTransitions t rows s more new
   kept_more states more old new key shape target places kept alike within target_within e f coming updates other =
-      subst (IsKept rows kinds s more other) (sym (updates other)) (by (same_reading key other) refl)
+      subst (IsKept t rows s more other) (sym (updates other)) (by (same_reading key other) refl)
     where
-      here : IsTransition rows kinds (is_taken s (shape_read key.symbol)) more key.state target
+      here : IsTransition t rows (is_taken s (shape_read key.symbol)) more key.state target
       here =
           let p = place_stays states more alike key.state within in
           record {
             origin_within = p.0;
             target_within = target_within;
             coming =
-                subst (λ x. AreComing rows kinds (is_taken s x) (places_at more key.state) (places_at more target)) (sym e)
-                (subst (λ ps. AreComing rows kinds (is_taken s shape) ps (places_at more target)) (sym p.1) (subst (AreComing rows kinds (is_taken s shape) (places_at states key.state)) (sym f) coming));
+                subst (λ x. AreComing t rows (is_taken s x) (places_at more key.state) (places_at more target)) (sym e)
+                (subst (λ ps. AreComing t rows (is_taken s shape) ps (places_at more target)) (sym p.1) (subst (AreComing t rows (is_taken s shape) (places_at states key.state)) (sym f) coming));
           }
 
-      by : (b : Bool) → same_reading key other ≡ b → IsKept rows kinds s more other (cond b (Some target) (get same_reading old other))
+      by : (b : Bool) → same_reading key other ≡ b → IsKept t rows s more other (cond b (Some target) (get same_reading old other))
       by true g =
           let p = readings_alike s key other g in
-          subst (λ n. IsTransition rows kinds (is_taken s (shape_read other.symbol)) more n target) p.0
-          (transition_alike rows kinds (is_taken s (shape_read key.symbol)) (is_taken s (shape_read other.symbol)) p.1 more key.state target here)
-      by false g = some_stays rows kinds s states more alike other (get same_reading old other) (kept other)
+          subst (λ n. IsTransition t rows (is_taken s (shape_read other.symbol)) more n target) p.0
+          (transition_alike t rows (is_taken s (shape_read key.symbol)) (is_taken s (shape_read other.symbol)) p.1 more key.state target here)
+      by false g = some_stays t rows s states more alike other (get same_reading old other) (kept other)
+
+abbrev IsKeptMask : {A : Type 0} → SequenceType → SchemaSet → Symbol → Option (Vec ℕ A) → Type 0
+IsKeptMask {A} t s symbol found = IfSome found (λ (mask : Vec ℕ A). IsMask t (is_taken s (shape_read symbol)) mask.items)
+
+module _ {A Z : Type 0} (t : SequenceType) (s : SchemaSet) where
+  pub no_masks : {B S : Type 0} (places : List ℕ) (states : List (Vec ℕ B)) (targets : IndexMap Reading ℕ S) (masks : IndexMap Symbol (Vec ℕ A) Z) → IsAnew places states targets masks → AreMasks t s masks
+  no_masks places states targets masks is symbol = subst (IsKeptMask t s symbol) (sym (is.no_mask symbol)) tt
+
+  -- one mask more
+  pub masks_more : (old new : IndexMap Symbol (Vec ℕ A) Z) (key : Symbol) (shape : Shape) (mask : Vec ℕ A) → AreMasks t s old → shape_read key ≡ shape → IsMask t (is_taken s shape) mask.items
+      → ((other : Symbol) → get same_symbol new other ≡ cond (same_symbol key other) (Some mask) (get same_symbol old other)) → AreMasks t s new
+  masks_more old new key shape mask all e is updates other = subst (IsKeptMask t s other) (sym (updates other)) (by (same_symbol key other) refl)
+    where
+      by : (b : Bool) → same_symbol key other ≡ b → IsKeptMask t s other (cond b (Some mask) (get same_symbol old other))
+      by true g = λ place.
+          is place ∙ ap (λ x. get_or (all_tests t (is_taken s x)) place false) (sym e)
+          ∙ ap (λ ts. get_or ts place false) (tests_alike t (is_taken s (shape_read key)) (is_taken s (shape_read other)) (symbols_alike s key other g))
+      by false g = all other
+
+  pub mask_is : (masks : IndexMap Symbol (Vec ℕ A) Z) (symbol : Symbol) (shape : Shape) (mask : Vec ℕ A) → AreMasks t s masks → get same_symbol masks symbol ≡ Some mask → shape_read symbol ≡ shape
+      → IsMask t (is_taken s shape) mask.items
+  mask_is masks symbol shape mask all found e = subst (λ x. IsMask t (is_taken s x) mask.items) e (subst (IsKeptMask t s symbol) found (all symbol))

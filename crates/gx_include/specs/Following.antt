@@ -1,38 +1,47 @@
--- The positions that may come next behind each position of a type, and lists of positions that a list of shapes comes to.
-use Rattle.std.specs.Prelude.{◌≡◌, ℕ, ◌+◌, ◌<◌, ◌&&◌, Bool, true, false, List, length, Option, Some, None, Vec, slice_get, slice_index_or, ◌↔◌}
-use Rattle.std.specs.List.{list_any}
+-- The positions that may come next behind each position of a type, and sets of places that a list of shapes comes to.
+use Rattle.std.specs.Prelude.{◌≡◌, ℕ, ◌+◌, ◌*◌, ◌<◌, Bool, true, false, List, length, Option, Some, None, Vec, slice_get, slice_index_or, ◌↔◌}
+use Rattle.std.specs.Int.{bit_at}
 use Rattle.gx_types.specs.declared.item_type.ItemType.{ItemType}
 use Rattle.gx_types.specs.SequenceType.{SequenceType}
 use Rattle.gx_types.specs.TypeRules.{positions_of}
-use Rattle.gx_include.specs.ItemIndex.{IsListed, tests_at}
-use Rattle.gx_include.specs.Step.{single, all_next, step_over}
+use Rattle.gx_include.specs.declared.chunks.Chunk.{Chunk}
+use Rattle.gx_include.specs.Bits.{has_bit, has_chunked}
+use Rattle.gx_include.specs.Step.{single, all_next, all_tests, step_over}
 
 -- so many rows, for the start and for the positions behind it: the positions that may come next
-pub record AreFollowing {A : Type 0} (t : SequenceType) (count : ℕ) (rows : List (Vec Bool A)) : Type 0 where
+pub record AreFollowing {A : Type 0} (t : SequenceType) (count : ℕ) (rows : List (Vec Chunk A)) : Type 0 where
   pub count_is : length rows ≡ count
-  pub are : (place : ℕ) (row : Vec Bool A) → slice_get rows place ≡ Some row → row.items ≡ all_next t (single place)
+  pub are : (origin : ℕ) (row : Vec Chunk A) → slice_get rows origin ≡ Some row → (place : ℕ) → has_chunked row.items place ≡ slice_index_or (all_next t (single origin)) place false
 
 -- a row has a place, where there is a row
-abbrev pub has_place : {A : Type 0} → Option (Vec Bool A) → ℕ → Bool
+abbrev pub has_place : {A : Type 0} → Option (Vec Chunk A) → ℕ → Bool
 has_place None place = false
-has_place (Some row) place = slice_index_or row.items place false
+has_place (Some row) place = has_chunked row.items place
 
 -- by the rows a place may come next behind another one
-abbrev pub may_follow : {A : Type 0} → List (Vec Bool A) → (origin place : ℕ) → Bool
+abbrev pub may_follow : {A : Type 0} → List (Vec Chunk A) → (origin place : ℕ) → Bool
 may_follow rows origin place = has_place (slice_get rows origin) place
 
--- a place may come next behind one of some places, and its item type passes a test
-abbrev pub may_come : {A : Type 0} → List (Vec Bool A) → List ItemType → (ItemType → Bool) → List ℕ → (place : ℕ) → Bool
-may_come rows items test places place = list_any (λ origin. may_follow rows origin place) places && slice_index_or (tests_at items test) place false
+-- a place may come next behind one of a set
+abbrev pub LeadsTo : {A : Type 0} → List (Vec Chunk A) → (set : List ℕ) → (place : ℕ) → Type 0
+LeadsTo rows set place = (origin : ℕ) × (has_bit set origin ≡ true) × (may_follow rows origin place ≡ true)
 
--- a list has the places that may come next behind some places, and whose item type passes a test
-abbrev pub AreComing : {A : Type 0} → List (Vec Bool A) → List ItemType → (ItemType → Bool) → (before after : List ℕ) → Type 0
-AreComing rows items test before after = (place : ℕ) → IsListed place after ↔ (may_come rows items test before place ≡ true)
+-- a place may come next behind one of those that a word of a set has
+abbrev pub LeadsFrom : {A : Type 0} → List (Vec Chunk A) → (index word place : ℕ) → Type 0
+LeadsFrom rows index word place = (bit : ℕ) × (bit < 64) × (bit_at word bit ≡ 1) × (may_follow rows (index * 64 + bit) place ≡ true)
+
+-- a set has the places whose item type passes a test
+abbrev pub IsMask : SequenceType → (ItemType → Bool) → (mask : List ℕ) → Type 0
+IsMask t test mask = (place : ℕ) → has_bit mask place ≡ slice_index_or (all_tests t test) place false
+
+-- a set has the places that may come next behind those of another one, and whose item type passes a test
+abbrev pub AreComing : {A : Type 0} → SequenceType → List (Vec Chunk A) → (ItemType → Bool) → (before after : List ℕ) → Type 0
+AreComing t rows test before after = (place : ℕ) → (has_bit after place ≡ true) ↔ (LeadsTo rows before place × (slice_index_or (all_tests t test) place false ≡ true))
 
 -- places that are all of a type, or its start
-abbrev pub AreOfType : SequenceType → List ℕ → Type 0
-AreOfType t places = (place : ℕ) → IsListed place places → place < positions_of t + 1
+abbrev pub AreOfType : SequenceType → (set : List ℕ) → Type 0
+AreOfType t set = (place : ℕ) → has_bit set place ≡ true → place < positions_of t + 1
 
 -- the places that a step over an item type that passes a test leads to
 abbrev pub AreBehind : SequenceType → (ItemType → Bool) → (before after : List ℕ) → Type 0
-AreBehind t test before after = (place : ℕ) → IsListed place after ↔ ((origin : ℕ) × IsListed origin before × (slice_index_or (step_over t test (single origin)) place false ≡ true))
+AreBehind t test before after = (place : ℕ) → (has_bit after place ≡ true) ↔ ((origin : ℕ) × (has_bit before origin ≡ true) × (slice_index_or (step_over t test (single origin)) place false ≡ true))

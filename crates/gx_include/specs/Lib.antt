@@ -10,6 +10,7 @@ pub mod Outcome
 pub mod Runs
 pub mod Inclusion
 pub mod ItemIndex
+pub mod Bits
 pub mod Following
 pub mod Transitions
 pub mod Derivations

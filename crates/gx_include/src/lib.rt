@@ -2,6 +2,8 @@
 #![tactic(auto)]
 
 mod alphabet;
+mod bits;
+mod chunks;
 mod decide;
 pub mod decision;
 pub mod derivations;

@@ -1,15 +1,16 @@
 // What a type takes.
 
-ghost use Rattle.std.specs.Prelude.{◌≡◌, ◌+◌, [], ◌∷◌, IfOk, OnOk, IsTrue, ◌↔◌};
+ghost use Rattle.std.specs.Prelude.{◌≡◌, ◌+◌, ℕ, IfOk, OnOk, IsTrue, ◌↔◌, false, slice_index_or};
 ghost use Rattle.gx_types.specs.Takes.{Takes};
 ghost use Rattle.gx_types.specs.TypeRules.{positions_of};
+ghost use Rattle.gx_include.specs.Bits.{has_bit};
 ghost use Rattle.gx_include.specs.Following.{AreFollowing};
-ghost use Rattle.gx_include.specs.ItemIndex.{items_of};
-ghost use Rattle.gx_include.specs.Step.{step_over};
+ghost use Rattle.gx_include.specs.Step.{single, step_over};
 ghost use Rattle.gx_include.specs.Test.{is_taken, IsDecided};
 
+use crate::bits::packed;
+use crate::chunks::Chunk;
 use crate::following::{ends_at_one, following};
-use crate::item_index::ItemIndex;
 use crate::places::meet;
 use crate::step::{ends_at, next_positions, only, taking_positions};
 use crate::transitions::Transitions;
@@ -24,12 +25,13 @@ pub fn takes(alloc: Global, schemas: &Schemas, t: &Ty, list: &[Shape]) -> Result
     ensures { IfOk result (λ answer. IsTrue answer ↔ Takes schemas.now t.now list.now) }
 {
     let start = only(alloc, 0)?;
-    let positions = next_positions(alloc, t, start.as_slice())?.len();
-    if list.len() < positions {
-        takes_by_sets(alloc, schemas, t, list)
-    } else {
-        takes_by_places(alloc, schemas, t, list)
+    let count = next_positions(alloc, t, start.as_slice())?.len();
+    if list.len() < count {
+        return takes_by_sets(alloc, schemas, t, list);
     }
+    let rows = following(alloc, t, count)?;
+    let end = takes_by_rows(alloc, schemas, t, rows.as_slice(), list)?;
+    Ok(end)
 }
 
 // The same for a short list, where a table of the type is not worth its time.
@@ -48,49 +50,32 @@ fn takes_by_sets(
     Ok(ends_at(t, set.as_slice()))
 }
 
-// The same for a long list.
-fn takes_by_places(
-    alloc: Global,
-    schemas: &Schemas,
-    t: &Ty,
-    list: &[Shape],
-) -> Result<bool, AllocError>
-    ensures { IfOk result (λ answer. IsTrue answer ↔ Takes schemas.now t.now list.now) }
-{
-    let items = ItemIndex::new(alloc, t)?;
-    let rows = following(alloc, t, items.count())?;
-    let end = takes_by_rows(alloc, schemas, t, &items, rows.as_slice(), list)?;
-    Ok(end)
-}
-
-// The same with the item types of the type, and with the positions that may come next behind the start and behind each of them.
+// The same for a long list, with the positions that may come next behind the start and behind each position.
 fn takes_by_rows(
     alloc: Global,
     schemas: &Schemas,
     t: &Ty,
-    items: &ItemIndex,
-    rows: &[Vec<bool>],
+    rows: &[Vec<Chunk>],
     list: &[Shape],
 ) -> Result<bool, AllocError>
-    requires items { items.now ≡ items_of t.now }
-    requires rows { AreFollowing t.now (positions_of t.now + 1) rows.now }
+    requires { AreFollowing t.now (positions_of t.now + 1) rows.now }
     ensures { IfOk result (λ answer. IsTrue answer ↔ Takes schemas.now t.now list.now) }
 {
     let _declarations = schemas.types();
     let mut transitions = Transitions::anew(alloc, start_alone(alloc)?)?;
     let mut state = 0;
     for shape in list {
-        state = transitions.next(alloc, schemas, items, rows, state, shape)?;
+        state = transitions.next(alloc, schemas, t, rows, state, shape)?;
     }
-    let end = ends_at_one(alloc, t, transitions.places(state))?;
+    let end = ends_at_one(alloc, t, rows.len(), transitions.places(state))?;
     Ok(end)
 }
 
-fn start_alone(alloc: Global) -> Result<Vec<usize>, AllocError>
-    ensures { IfOk result (λ places. places.items ≡ 0 ∷ []) }
+fn start_alone(alloc: Global) -> Result<Vec<u64>, AllocError>
+    ensures { IfOk result (λ places. (place : ℕ) → has_bit places.items place ≡ slice_index_or (single 0) place false) }
 {
-    let mut places = Vec::new(alloc);
-    places.push(0)?;
+    let start = only(alloc, 0)?;
+    let places = packed(alloc, start.as_slice())?;
     Ok(places)
 }
 

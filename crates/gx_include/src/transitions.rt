@@ -3,46 +3,47 @@
 ghost use Rattle.std.specs.Prelude.{◌≡◌, ◌<◌, ◌⊎◌, length, IfOk, OnOk};
 ghost use Rattle.gx_include.specs.Following.{AreComing};
 ghost use Rattle.gx_include.specs.Test.{is_taken};
-ghost use Rattle.gx_include.specs.Transitions.{shape_read, places_at, AreTransitions, AreNumberedAlike, IsAnew};
+ghost use Rattle.gx_include.specs.Transitions.{shape_read, places_at, AreTransitions, AreMasks, AreNumberedAlike, IsAnew};
 
-use crate::following::places_behind;
-use crate::item_index::ItemIndex;
+use crate::chunks::Chunk;
+use crate::following::{mask_of, places_coming};
 use crate::reading::{Reading, Symbol};
 use gx_types::schemas::Schemas;
+use gx_types::sequence_type::Ty;
 use gx_types::shape::Shape;
 use indexmap::{IndexMap, IndexSet};
 use std::alloc::{AllocError, Global};
 
-// So many targets are kept at most, and states with so many places in all but for the last one.
+// So many targets are kept at most, and states and masks with so many words in all but for the last ones.
 const TARGET_LIMIT: usize = 65_536;
 
-const PLACE_LIMIT: usize = 4_194_304;
+const WORD_LIMIT: usize = 4_194_304;
 
-// The lists of places that were come to, by number, and the number of the next one for each symbol that was read in one of them.
+// The sets of places that were come to, by number, the number of the next one for each symbol that was read in one of them, and
+// for each symbol the positions whose item type takes its shape.
 #[derive(Drop)]
 pub struct Transitions<'a> {
-    pub states: IndexSet<Vec<usize>>,
+    pub states: IndexSet<Vec<u64>>,
     pub targets: IndexMap<Reading<'a>, usize>,
-    pub place_count: usize,
+    pub masks: IndexMap<Symbol<'a>, Vec<u64>>,
 }
 
 impl<'a> Transitions<'a> {
     // One state, of these places, with the number 0.
-    pub(crate) fn anew(alloc: Global, places: Vec<usize>) -> Result<Transitions<'a>, AllocError>
-        ensures { IfOk result (λ t. IsAnew places.items t.states.keys t.targets) }
+    pub(crate) fn anew(alloc: Global, places: Vec<u64>) -> Result<Transitions<'a>, AllocError>
+        ensures { IfOk result (λ t. IsAnew places.items t.states.keys t.targets t.masks) }
     {
-        let place_count = places.len();
         let mut states = IndexSet::new(alloc);
         states.insert(places)?;
         Ok(Transitions {
             states,
             targets: IndexMap::new(alloc),
-            place_count,
+            masks: IndexMap::new(alloc),
         })
     }
 
     // The places of a state.
-    pub(crate) fn places(&self, state: usize) -> &[usize]
+    pub(crate) fn places(&self, state: usize) -> &[u64]
         requires { state < length self.now.states.keys }
         ensures { result.now ≡ places_at self.now.states.keys state }
     {
@@ -54,21 +55,23 @@ impl<'a> Transitions<'a> {
         &mut self,
         alloc: Global,
         schemas: &Schemas,
-        items: &ItemIndex,
-        rows: &[Vec<bool>],
+        t: &Ty,
+        rows: &[Vec<Chunk>],
         state: usize,
         shape: &'a Shape,
     ) -> Result<usize, AllocError>
-        requires kept { AreTransitions rows.now items.now schemas.now self.old.states.keys self.old.targets }
+        requires kept { AreTransitions t.now rows.now schemas.now self.old.states.keys self.old.targets }
+        requires masks { AreMasks t.now schemas.now self.old.masks }
         requires within { state < length self.old.states.keys }
-        ensures kept { OnOk result (AreTransitions rows.now items.now schemas.now self.new.states.keys self.new.targets) }
+        ensures kept { OnOk result (AreTransitions t.now rows.now schemas.now self.new.states.keys self.new.targets) }
+        ensures masks { OnOk result (AreMasks t.now schemas.now self.new.masks) }
         ensures within { IfOk result (λ next. next < length self.new.states.keys) }
-        ensures next { IfOk result (λ next. AreComing rows.now items.now (is_taken schemas.now shape.now) (places_at self.old.states.keys state) (places_at self.new.states.keys next)) }
+        ensures next { IfOk result (λ next. AreComing t.now rows.now (is_taken schemas.now shape.now) (places_at self.old.states.keys state) (places_at self.new.states.keys next)) }
     {
         let symbol = symbol_of(shape);
         match self.targets.get(&Reading { state, symbol }) {
             Some(next) => Ok(*next),
-            None => self.add_next(alloc, schemas, items, rows, state, shape),
+            None => self.add_next(alloc, schemas, t, rows, state, shape),
         }
     }
 
@@ -77,32 +80,63 @@ impl<'a> Transitions<'a> {
         &mut self,
         alloc: Global,
         schemas: &Schemas,
-        items: &ItemIndex,
-        rows: &[Vec<bool>],
+        t: &Ty,
+        rows: &[Vec<Chunk>],
         state: usize,
         shape: &'a Shape,
     ) -> Result<usize, AllocError>
-        requires kept { AreTransitions rows.now items.now schemas.now self.old.states.keys self.old.targets }
+        requires kept { AreTransitions t.now rows.now schemas.now self.old.states.keys self.old.targets }
+        requires masks { AreMasks t.now schemas.now self.old.masks }
         requires within { state < length self.old.states.keys }
-        ensures kept { OnOk result (AreTransitions rows.now items.now schemas.now self.new.states.keys self.new.targets) }
+        ensures kept { OnOk result (AreTransitions t.now rows.now schemas.now self.new.states.keys self.new.targets) }
+        ensures masks { OnOk result (AreMasks t.now schemas.now self.new.masks) }
         ensures within { IfOk result (λ next. next < length self.new.states.keys) }
-        ensures next { IfOk result (λ next. AreComing rows.now items.now (is_taken schemas.now shape.now) (places_at self.old.states.keys state) (places_at self.new.states.keys next)) }
+        ensures next { IfOk result (λ next. AreComing t.now rows.now (is_taken schemas.now shape.now) (places_at self.old.states.keys state) (places_at self.new.states.keys next)) }
     {
         let state = self.make_room(alloc, state)?;
-        let places = places_behind(alloc, schemas, items, rows, self.places(state), shape)?;
-        self.place_count = self.place_count.saturating_add(places.len());
+        add_mask(alloc, schemas, t, shape, &mut self.masks)?;
+        let places = self.places_behind(alloc, schemas, t, rows, state, shape)?;
         let next = number_of(&mut self.states, places)?;
         let symbol = symbol_of(shape);
         self.targets.insert(Reading { state, symbol }, next)?;
         Ok(next)
     }
 
+    // The places that those of a state come to behind a shape.
+    fn places_behind(
+        &self,
+        alloc: Global,
+        schemas: &Schemas,
+        t: &Ty,
+        rows: &[Vec<Chunk>],
+        state: usize,
+        shape: &Shape,
+    ) -> Result<Vec<u64>, AllocError>
+        requires masks { AreMasks t.now schemas.now self.now.masks }
+        requires within { state < length self.now.states.keys }
+        ensures { IfOk result (λ places. AreComing t.now rows.now (is_taken schemas.now shape.now) (places_at self.now.states.keys state) places.items) }
+    {
+        match self.masks.get(&symbol_of(shape)) {
+            Some(mask) => {
+                let after = places_coming(alloc, rows, mask.as_slice(), self.places(state))?;
+                Ok(after)
+            }
+            None => {
+                let mask = mask_of(alloc, schemas, t, shape)?;
+                let after = places_coming(alloc, rows, mask.as_slice(), self.places(state))?;
+                Ok(after)
+            }
+        }
+    }
+
     // The number of a state behind which a target has room: all is given up but that state where there is none.
     fn make_room(&mut self, alloc: Global, state: usize) -> Result<usize, AllocError>
         requires { state < length self.old.states.keys }
-        ensures { IfOk result (λ number. ((number ≡ state) × (self.new ≡ self.old)) ⊎ ((number ≡ 0) × IsAnew (places_at self.old.states.keys state) self.new.states.keys self.new.targets)) }
+        ensures { IfOk result (λ number. ((number ≡ state) × (self.new ≡ self.old)) ⊎ ((number ≡ 0) × IsAnew (places_at self.old.states.keys state) self.new.states.keys self.new.targets self.new.masks)) }
     {
-        if self.targets.len() < TARGET_LIMIT && self.place_count < PLACE_LIMIT {
+        let kept = self.states.len().saturating_add(self.masks.len());
+        let word_count = kept.saturating_mul(self.places(state).len());
+        if self.targets.len() < TARGET_LIMIT && word_count < WORD_LIMIT {
             return Ok(state);
         }
         let places = self.places(state).to_vec(alloc)?;
@@ -111,8 +145,28 @@ impl<'a> Transitions<'a> {
     }
 }
 
+// Puts the mask of a shape among those that are kept, unless it is there.
+fn add_mask<'a>(
+    alloc: Global,
+    schemas: &Schemas,
+    t: &Ty,
+    shape: &'a Shape,
+    masks: &mut IndexMap<Symbol<'a>, Vec<u64>>,
+) -> Result<(), AllocError>
+    requires { AreMasks t.now schemas.now masks.old }
+    ensures { OnOk result (AreMasks t.now schemas.now masks.new) }
+{
+    let symbol = symbol_of(shape);
+    if masks.contains_key(&symbol) {
+        return Ok(());
+    }
+    let mask = mask_of(alloc, schemas, t, shape)?;
+    masks.insert(symbol, mask)?;
+    Ok(())
+}
+
 // The number of a state, which is put behind the others where it is new.
-fn number_of(states: &mut IndexSet<Vec<usize>>, places: Vec<usize>) -> Result<usize, AllocError>
+fn number_of(states: &mut IndexSet<Vec<u64>>, places: Vec<u64>) -> Result<usize, AllocError>
     ensures kept { OnOk result (AreNumberedAlike states.old.keys states.new.keys) }
     ensures within { IfOk result (λ number. number < length states.new.keys) }
     ensures number { IfOk result (λ number. places_at states.new.keys number ≡ places.items) }

@@ -1,0 +1,15 @@
+use Rattle.std.proofs.Common.{◌≡◌, ℕ, ◌+◌, sym, ap, subst, length, List, Vec, Bool, Global, drop, arith}
+use Rattle.gx_types.specs.TypeRules.{positions_of}
+use Rattle.gx_include.specs.declared.chunks.Chunk.{Chunk}
+use Rattle.gx_include.specs.Following.{AreFollowing}
+use Rattle.gx_include.specs.Step.{has_start}
+use Rattle.gx_include.proofs.Bound.{next_length}
+use Rattle.gx_include.proofs.take.takes.Goals as goal
+
+pub takes_by_rows-requires : goal.takes_by_rows-requires
+takes_by_rows-requires c =
+    let t = c.args.t.now in
+    let count : c.len-count.result ≡ positions_of t + 1 =
+    omega (arith, c.len-count.ensures, ap (λ (fs : List Bool). length fs) c.in_ok-next_positions.ensures, next_length t (drop 1 c.as_slice.result.now) (has_start c.as_slice.result.now)) in
+    subst (λ (rows : List (Vec Chunk Global)). AreFollowing t (positions_of t + 1) rows) (sym c.as_slice-2.ensures.value)
+    (subst (λ (n : ℕ). AreFollowing t n c.in_ok-rows.rows.items) count c.in_ok-rows.ensures)
