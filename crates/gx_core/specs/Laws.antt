@@ -1,7 +1,8 @@
 -- What outcomes keep.
 use Rattle.std.specs.Prelude.{◌≡◌, List, [], ◌∷◌}
 use Rattle.gx_types.specs.SequenceType.{SequenceType}
-use Rattle.gx_model.specs.Forest.{Forest, IsHonest}
+use Rattle.gx_model.specs.Forest.{Forest}
+use Rattle.gx_model.specs.Honest.{IsHonest}
 use Rattle.gx_model.specs.Item.{Items}
 use Rattle.gx_model.specs.Belongs.{Belongs}
 use Rattle.gx_model.specs.Growth.{Extends}

@@ -2,7 +2,8 @@
 use Rattle.std.specs.Prelude.{List, [], ◌∷◌, ◌++◌, map, Option, None, Some, option_map}
 use Rattle.gx_types.specs.SchemaSet.{SchemaSet}
 use Rattle.gx_types.specs.SequenceType.{SequenceType}
-use Rattle.gx_model.specs.Forest.{PlainNode, Forest, IsHonest}
+use Rattle.gx_model.specs.Forest.{PlainNode, Forest}
+use Rattle.gx_model.specs.Honest.{IsHonest}
 use Rattle.gx_model.specs.Item.{node, Items}
 use Rattle.gx_model.specs.Belongs.{Belongs}
 use Rattle.gx_core.specs.declared.expression.Binder.{Binder}

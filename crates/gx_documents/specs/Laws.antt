@@ -1,6 +1,7 @@
 -- Laws of documents.
 use Rattle.gx_types.specs.SchemaSet.{SchemaSet}
-use Rattle.gx_model.specs.Forest.{Forest, IsHonest}
+use Rattle.gx_model.specs.Forest.{Forest}
+use Rattle.gx_model.specs.Honest.{IsHonest}
 use Rattle.gx_documents.specs.Documents.{AreDocumentTrees}
 
 -- the trees of documents make an honest forest

@@ -1,7 +1,7 @@
 // The evaluation of queries.
 
 ghost use Rattle.std.specs.Prelude.{◌≡◌, ◌≢◌, IfOk, IfErr};
-ghost use Rattle.gx_model.specs.Forest.{IsHonest};
+ghost use Rattle.gx_model.specs.Honest.{IsHonest};
 ghost use Rattle.gx_model.specs.Belongs.{Belongs};
 ghost use Rattle.gx_core.specs.QueryMeaning.{query_outcome, query_type, plain_query, DocumentsFit, IsSoundQuery};
 ghost use Rattle.gx_core.specs.Outcome.{gives, wrong};

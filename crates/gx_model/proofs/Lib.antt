@@ -7,3 +7,4 @@ pub mod Ordering
 pub mod LocationLemmas
 pub mod AxisLemmas
 pub mod SearchLemmas
+pub mod UntypedTrees

@@ -2,11 +2,8 @@
 use Rattle.std.specs.Prelude.{ℕ, List, [], ◌∷◌, Option, None, Some}
 use Rattle.std.specs.List.{slice_get}
 use Rattle.std.specs.Option.{option_map}
-use Rattle.gx_types.specs.SchemaSet.{SchemaSet}
 use Rattle.gx_tree.specs.declared.attribute.Attribute.{Attribute}
-use Rattle.gx_tree.specs.PlainTree.{PlainTree, document, element, attribute, text, list_of, IsProper}
-use Rattle.gx_tree.specs.Erasure.{IsUntyped}
-use Rattle.gx_tree.specs.OwnNames.{HasOwnNames}
+use Rattle.gx_tree.specs.PlainTree.{PlainTree, document, element, attribute, text, list_of}
 
 abbrev pub Forest : Type 0
 Forest = List PlainTree
@@ -46,12 +43,3 @@ attribute_at (Some position) t = option_map attribute (slice_get (own_attributes
 abbrev pub node_in : Forest → PlainNode → Option PlainTree
 node_in forest node =
     then_found (slice_get forest node.tree) (λ t. then_found (tree_at t node.path) (attribute_at node.attribute))
-
--- a tree is honest where its nodes are of the kinds that stand in a tree, its elements and attributes are untyped, and no two
--- attributes of an element have equal names
-abbrev pub IsHonestTree : SchemaSet → PlainTree → Type 0
-IsHonestTree schemas t = IsProper t × IsUntyped t × HasOwnNames t
-
-abbrev pub IsHonest : SchemaSet → Forest → Type 0
-IsHonest schemas [] = Unit {0}
-IsHonest schemas (t ∷ forest) = IsHonestTree schemas t × IsHonest schemas forest

@@ -15,3 +15,4 @@ pub mod Stepping
 pub mod Search
 pub mod DeclaredContent
 pub mod TypedTree
+pub mod Honest

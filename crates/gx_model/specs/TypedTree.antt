@@ -6,9 +6,9 @@ use Rattle.gx_base.specs.Name.{same_name}
 use Rattle.gx_base.specs.declared.type_name.Builtin.TheVariants.{UntypedAtomic}
 use Rattle.gx_base.specs.declared.type_name.TypeName.{TypeName}
 use Rattle.gx_base.specs.declared.type_name.TypeName.TheVariants.{Builtin}
-use Rattle.gx_tree.specs.PlainTree.{PlainTree, PlainTrees, document, element, attribute, text, no_trees, a_tree, IsProper}
+use Rattle.gx_tree.specs.PlainTree.{PlainTree, PlainTrees, document, element, attribute, text, no_trees, a_tree}
 use Rattle.gx_tree.specs.Erasure.{IsUntyped}
-use Rattle.gx_tree.specs.OwnNames.{HaveOwnNames, HasOwnNames}
+use Rattle.gx_tree.specs.OwnNames.{HaveOwnNames}
 use Rattle.gx_tree.specs.StringValue.{string_values}
 use Rattle.gx_tree.specs.declared.attribute.Attribute.{Attribute}
 use Rattle.gx_types.specs.SchemaSet.{SchemaSet, declaration_of}
@@ -16,7 +16,6 @@ use Rattle.gx_types.specs.SchemaInvariant.{HoldsOfEach, is_named_type}
 use Rattle.gx_types.specs.Takes.{Takes}
 use Rattle.gx_types.specs.declared.declaration.AttributeUse.{AttributeUse}
 use Rattle.gx_types.specs.declared.shape.Shape.{Shape}
-use Rattle.gx_model.specs.Forest.{Forest}
 use Rattle.gx_model.specs.Belongs.{shape_of}
 use Rattle.gx_model.specs.DeclaredContent.{content_model, has_values, uses_allowed, use_named, is_valued}
 
@@ -85,14 +84,3 @@ abbrev mutual
   pub AreTyped : SchemaSet → PlainTrees → Type 0
   AreTyped schemas no_trees = Unit {0}
   AreTyped schemas (a_tree t ts) = IsTyped schemas t × AreTyped schemas ts
-
--- the root of a tree of a forest: its nodes are of the kinds that stand in a tree, its elements keep to their types, and no two attributes of
--- an element have equal names
-pub record IsTypedRoot (schemas : SchemaSet) (t : PlainTree) : Type 0 where
-  pub proper : IsProper t
-  pub typed : IsTyped schemas t
-  pub names : HasOwnNames t
-
-abbrev pub IsTypedForest : SchemaSet → Forest → Type 0
-IsTypedForest schemas [] = Unit {0}
-IsTypedForest schemas (t ∷ forest) = IsTypedRoot schemas t × IsTypedForest schemas forest

@@ -19,7 +19,8 @@ use Rattle.gx_types.specs.Occurrence.{occurrence_of}
 use Rattle.gx_types.specs.SequenceType.{SequenceType}
 use Rattle.gx_types.specs.TypeRules.{times_of}
 use Rattle.gx_types.specs.Laws.{Allows}
-use Rattle.gx_model.specs.Forest.{Forest, IsHonest}
+use Rattle.gx_model.specs.Forest.{Forest}
+use Rattle.gx_model.specs.Honest.{IsHonest}
 use Rattle.gx_model.specs.Item.{Item, atom, Items}
 use Rattle.gx_model.specs.Belongs.{ValueFits, Belongs}
 use Rattle.gx_core.specs.declared.expression.ArithmeticOp.{ArithmeticOp}

@@ -1,5 +1,5 @@
 -- Values of the boolean types.
-use Rattle.std.proofs.Common.{◌≡◌, true, ◌||◌, inl, inr, List, [], ◌∷◌, ◌++◌, refl, sym, ◌∙◌, ap, subst}
+use Rattle.std.proofs.Common.{◌≡◌, true, ◌||◌, inl, inr, List, [], ◌∷◌, ◌++◌, refl, sym, ap, subst}
 use Rattle.gx_base.specs.declared.type_name.Builtin.{Builtin}
 use Rattle.gx_base.specs.declared.type_name.Builtin.TheVariants.{UntypedAtomic, Str, Boolean, Decimal}
 use Rattle.gx_base.specs.declared.type_name.TypeName.TheVariants as names
@@ -17,7 +17,8 @@ use Rattle.gx_types.proofs.PublicLaws.{choice_takes_some}
 use Rattle.gx_include.specs.Decision.{is_included}
 use Rattle.gx_include.proofs.Deciding.{inclusion_is_decided}
 use Rattle.gx_steptype.specs.StepType.{node_type, any_item}
-use Rattle.gx_model.specs.Forest.{Forest, PlainNode, IsHonest}
+use Rattle.gx_model.specs.Forest.{Forest, PlainNode}
+use Rattle.gx_model.specs.Honest.{IsHonest}
 use Rattle.gx_model.specs.Item.{Item, atom, node, Items}
 use Rattle.gx_model.specs.Belongs.{HaveShapes, Belongs}
 use Rattle.gx_static.specs.declared.comparison.Family.TheVariants as families

@@ -22,7 +22,8 @@ use Rattle.gx_atomic.specs.declared.casting.CastError.{CastError}
 use Rattle.gx_atomic.specs.Cast.{cast_of}
 use Rattle.gx_atomic.specs.Fit.{FitsKind}
 use Rattle.gx_atomic.proofs.PublicLaws.{casts_fit_their_target, casts_fail_with_codes}
-use Rattle.gx_model.specs.Forest.{Forest, IsHonest}
+use Rattle.gx_model.specs.Forest.{Forest}
+use Rattle.gx_model.specs.Honest.{IsHonest}
 use Rattle.gx_model.specs.Item.{Item, atom, Items}
 use Rattle.gx_model.specs.Belongs.{ValueFits}
 use Rattle.gx_core.specs.declared.operator.Operator.TheVariants as operators

@@ -26,7 +26,8 @@ use Rattle.gx_atomic.specs.Comparison.{Decision, holds, pairs_of, general_compar
 use Rattle.gx_atomic.specs.Laws.{are_comparable}
 use Rattle.gx_atomic.proofs.PublicLaws.{values_are_comparable_by_families, comparisons_fail_in_one_way}
 use Rattle.gx_funcs.specs.Function.{truth_atom}
-use Rattle.gx_model.specs.Forest.{Forest, IsHonest}
+use Rattle.gx_model.specs.Forest.{Forest}
+use Rattle.gx_model.specs.Honest.{IsHonest}
 use Rattle.gx_model.specs.Item.{Item, atom, Items, atoms}
 use Rattle.gx_model.specs.Belongs.{Belongs}
 use Rattle.gx_core.specs.declared.expression.BinaryClass.TheVariants as classes

@@ -11,7 +11,8 @@ use Rattle.gx_types.specs.Derivation.{DerivesFrom}
 use Rattle.gx_types.specs.SequenceType.{SequenceType}
 use Rattle.gx_types.specs.TypeRules.{choice_of}
 use Rattle.gx_types.proofs.PublicLaws.{choice_takes_members}
-use Rattle.gx_model.specs.Forest.{Forest, IsHonest}
+use Rattle.gx_model.specs.Forest.{Forest}
+use Rattle.gx_model.specs.Honest.{IsHonest}
 use Rattle.gx_model.specs.Item.{Item, Items}
 use Rattle.gx_model.specs.Belongs.{ValueFits, Belongs}
 use Rattle.gx_model.specs.Growth.{Extends}

@@ -1,21 +1,30 @@
--- The items of honest forests: their shapes are well-formed, and their nodes have typed values.
-use Rattle.std.proofs.Common.{◌≡◌, ℕ, zero, suc, Bool, true, false, ◌||◌, List, [], ◌∷◌, map, Option, None, Some, refl, sym, ◌∙◌, ap, subst, if◌then◌else◌}
-use Rattle.std.specs.List.{slice_get, list_any}
+-- The items of honest forests have well-formed shapes.
+use Rattle.std.proofs.Common.{◌≡◌, ℕ, zero, suc, length, Bool, true, false, ◌||◌, List, [], ◌∷◌, Option, None, Some, inl, inr, refl, sym, ◌∙◌, ap, subst, if◌then◌else◌, Result, Ok, Err}
+use Rattle.std.specs.Prelude.{is_some, is_ok}
+use Rattle.std.specs.List.{list_any}
 use Rattle.std.specs.Option.{option_map}
+use Rattle.std.proofs.lemmas.Bool.{true≢false}
+use Rattle.std.proofs.Math.Bool.{or-true}
+use Rattle.gx_base.specs.declared.name.Name.{Name}
 use Rattle.gx_base.specs.declared.type_name.Builtin.{Builtin}
-use Rattle.gx_base.specs.declared.type_name.Builtin.TheVariants.{AnyType, Untyped, AnySimple, AnyAtomic, UntypedAtomic, Str, Boolean, Decimal, Integer}
+use Rattle.gx_base.specs.declared.type_name.Builtin.TheVariants.{AnyType, Untyped, AnySimple, AnyAtomic, Str, Boolean, Decimal, Integer}
 use Rattle.gx_base.specs.declared.type_name.TypeName.{TypeName}
 use Rattle.gx_base.specs.declared.type_name.TypeName.TheVariants as names
-use Rattle.gx_facets.specs.declared.Atomic.{Atomic}
 use Rattle.gx_facets.specs.declared.AtomValue.{AtomValue}
 use Rattle.gx_facets.specs.declared.AtomValue.TheVariants as values
+use Rattle.gx_facets.specs.declared.ValueRead.{ValueRead}
+use Rattle.gx_facets.specs.Value.{value_of}
 use Rattle.gx_num.specs.declared.Number.TheVariants.{Int, Dec}
 use Rattle.gx_types.specs.BuiltinOrder.{same_builtin}
 use Rattle.gx_types.specs.SameItemType.{same_type_name}
 use Rattle.gx_types.specs.declared.declaration.Declared.{Declared}
 use Rattle.gx_types.specs.declared.shape.Shape.{Shape}
 use Rattle.gx_types.specs.declared.shape.Shape.TheVariants as shapes
-use Rattle.gx_types.specs.SchemaSet.{SchemaSet, names_declared}
+use Rattle.gx_types.specs.SchemaSet.{SchemaSet, names_declared, declaration_among}
+use Rattle.gx_types.specs.SchemaInvariant.{is_named_type}
+use Rattle.gx_types.specs.BaseChain.{own_declaration, with_bases, chain_within, end_of_chain}
+use Rattle.gx_types.specs.SimpleType.{AtomicMeaning, all_facets, built_in, single_meaning, meaning_of_content}
+use Rattle.gx_types.specs.SimpleValue.{admitted_value, with_first, admitted_values, values_at}
 use Rattle.gx_types.specs.Derivation.{bases_of, bases_among, declared_base_of, DerivesFrom}
 use Rattle.gx_types.specs.Grounded.{Grounded}
 use Rattle.gx_types.specs.SequenceType.{SequenceType}
@@ -23,19 +32,18 @@ use Rattle.gx_types.specs.Takes.{EachShape}
 use Rattle.gx_types.proofs.PublicLaws.{equality_is_an_equivalence}
 use Rattle.gx_types.proofs.DerivationLemmas.{from_base, baseless}
 use Rattle.gx_include.specs.Decision.{is_included}
-use Rattle.gx_include.specs.Inclusion.{plain_types, IsAmongTypes, IsWellFormedShape}
+use Rattle.gx_include.specs.Inclusion.{plain_types, element_types, IsAmongTypes, IsWellFormedShape}
 use Rattle.gx_include.proofs.Deciding.{inclusion_is_decided}
 use Rattle.gx_tree.specs.declared.attribute.Attribute.{Attribute}
-use Rattle.gx_tree.specs.PlainTree.{PlainTree, document, element, attribute, text}
-use Rattle.gx_tree.specs.Erasure.{IsUntyped}
-use Rattle.gx_tree.specs.StringValue.{string_value}
-use Rattle.gx_model.specs.Forest.{Forest, PlainNode, then_found, own_attributes, tree_at, attribute_at, node_in, IsHonest}
-use Rattle.gx_model.specs.Item.{Item, atom, node, Items, atoms}
+use Rattle.gx_tree.specs.PlainTree.{PlainTree, PlainTrees, document, element, attribute, text, no_trees, a_tree}
+use Rattle.gx_model.specs.Forest.{Forest, PlainNode, node_in}
+use Rattle.gx_model.specs.Item.{Item, atom, node, Items}
 use Rattle.gx_model.specs.Belongs.{shape_of, item_shape, ValueFits, ItemFits, HaveShapes, Belongs}
-use Rattle.gx_model.specs.TypedValue.{untyped_atomic, value_at_type, typed_value_of}
-use Rattle.gx_model.specs.Atomization.{values_of_item, joined_values, atomized}
-use Rattle.gx_steptype.specs.StepLaws.{IsUntypedShape, value_shape}
-use Rattle.gx_steptype.proofs.HonestNodes.{IsNode, tree_is_node, node_at, attribute_is_untyped, shape_is_untyped}
+use Rattle.gx_model.specs.DeclaredContent.{is_valued}
+use Rattle.gx_model.specs.TypedTree.{IsTyped, AreTyped}
+use Rattle.gx_model.specs.Honest.{IsHonest}
+use Rattle.gx_steptype.proofs.CoveredTypes.{declared_is_listed}
+use Rattle.gx_steptype.proofs.HonestPlaces.{PlaceFact, place_fact}
 
 -- ---- types of atomic values
 
@@ -78,99 +86,108 @@ value_is_plain s (values.Truth b) t f = derived_is_plain s Boolean t refl refl r
 value_is_plain s (values.Num (Int i)) t f = derived_is_plain s Integer t refl refl refl refl f
 value_is_plain s (values.Num (Dec d)) t f = derived_is_plain s Decimal t refl refl refl refl f.0
 
+-- ---- types of nodes
+
+-- a type that a declaration may name
+named_is_plain : (s : SchemaSet) (t : TypeName) → is_named_type s t ≡ true → IsAmongTypes t (plain_types s)
+named_is_plain s (names.Builtin AnyType) h = absurd (cc)
+named_is_plain s (names.Builtin Untyped) h = absurd (cc)
+named_is_plain s (names.Builtin AnySimple) h = absurd (cc)
+named_is_plain s (names.Builtin AnyAtomic) h = absurd (cc)
+named_is_plain s (names.Builtin _) h = refl
+named_is_plain s (names.Named n) h = declared_is_listed s.types (names.Named n) h
+named_is_plain s (names.Anonymous n) h = declared_is_listed s.types (names.Anonymous n) h
+
+-- a type that is not declared has no bases
+no_bases : (types : List Declared) (n : ℕ) (t : TypeName) → own_declaration types t ≡ None → chain_within types n t ≡ []
+no_bases types zero t e = refl
+no_bases types (suc n) t e = ap (λ (found : Option Declared). with_bases found (chain_within types n)) e
+
+abbrev ended_meaning : List Declared → TypeName → List Declared → AtomicMeaning
+ended_meaning types t chain = record { kind = t; bottom = built_in (end_of_chain chain t); facets = all_facets types t }
+
+abbrev single_is_valued : AtomicMeaning → List ℕ → Bool
+single_is_valued item written = is_ok (values_at (single_meaning item) written)
+
+one_read : (item : AtomicMeaning) (read : Result AtomValue ValueRead) → is_ok (admitted_values (single_meaning item) (with_first (admitted_value item read) (Ok []))) ≡ true → is_ok read ≡ true
+one_read item (Ok v) h = refl
+one_read item (Err fault) h = h
+
+-- and the values of the built-in type that it is, if it is one
+undeclared_is_read : (s : SchemaSet) (t : TypeName) (written : List ℕ) → own_declaration s.types t ≡ None → is_valued s t written ≡ true → is_ok (value_of (built_in t) written) ≡ true
+undeclared_is_read s t written e h =
+    one_read (ended_meaning s.types t []) (value_of (built_in t) written) (
+    sym (ap (λ (chain : List Declared). single_is_valued (ended_meaning s.types t chain) written) (no_bases s.types (length s.types) t e))
+    ∙ sym (ap (λ (found : Option Declared). is_ok (values_at (meaning_of_content s.types t (option_map (λ (declared : Declared). declared.content) found)) written)) e)
+    ∙ h
+    )
+
+read_is_plain : (s : SchemaSet) (b : Builtin) (written : List ℕ) → is_ok (value_of b written) ≡ true → IsAmongTypes (names.Builtin b) (plain_types s)
+read_is_plain s AnyType written h = absurd (true≢false (sym h))
+read_is_plain s Untyped written h = absurd (true≢false (sym h))
+read_is_plain s AnySimple written h = absurd (true≢false (sym h))
+read_is_plain s AnyAtomic written h = absurd (true≢false (sym h))
+read_is_plain s _ written h = refl
+
+-- a type is declared where a text has values at it
+is_declared_where_valued : (s : SchemaSet) (t : TypeName) (written : List ℕ) (found : Option Declared) → own_declaration s.types t ≡ found → built_in t ≡ AnySimple → is_valued s t written ≡ true → is_some found ≡ true
+is_declared_where_valued s t written (Some d) e b h = refl
+is_declared_where_valued s t written None e b h =
+    absurd (true≢false (sym (subst (λ (c : Builtin). is_ok (value_of c written) ≡ true) b (undeclared_is_read s t written e h))))
+
+-- a type at which a text has values
+valued_is_plain : (s : SchemaSet) (t : TypeName) (written : List ℕ) → is_valued s t written ≡ true → IsAmongTypes t (plain_types s)
+valued_is_plain s (names.Builtin b) written h = read_is_plain s b written (undeclared_is_read s (names.Builtin b) written refl h)
+valued_is_plain s (names.Named n) written h =
+    declared_is_listed s.types (names.Named n) (is_declared_where_valued s (names.Named n) written (declaration_among s.types (names.Named n)) refl refl h)
+valued_is_plain s (names.Anonymous n) written h =
+    declared_is_listed s.types (names.Anonymous n) (is_declared_where_valued s (names.Anonymous n) written (declaration_among s.types (names.Anonymous n)) refl refl h)
+
 -- ---- nodes
 
--- what stands at a place of an honest forest is untyped
+element_is_well_formed : (s : SchemaSet) (n : Name) (k : TypeName) (l : List Attribute) (ts : PlainTrees) → IsTyped s (element n k l ts) → IsAmongTypes k (element_types s)
+element_is_well_formed s n k l ts (inl u) = subst (λ (t : TypeName). IsAmongTypes t (element_types s)) (sym u.0) refl
+element_is_well_formed s n k l ts (inr h) =
+    let keeps = h.0 in
+    ap (λ (b : Bool). same_type_name k (names.Builtin Untyped) || b) (named_is_plain s k keeps.known) ∙ or-true (same_type_name k (names.Builtin Untyped))
 
-attribute_found : (u : PlainTree) (n : ℕ) (o : Option Attribute) (t : PlainTree) → IsNode u → slice_get (own_attributes u) n ≡ o → option_map attribute o ≡ Some t → IsUntyped t
-attribute_found u n None t h e f = absurd (cc)
-attribute_found u n (Some a) t h e f = let same : attribute a ≡ t = cc in subst IsUntyped same (attribute_is_untyped u n a h e)
+document_is_well_formed : (s : SchemaSet) (ts : PlainTrees) → AreTyped s ts → IsWellFormedShape s (shape_of (document ts))
+document_is_well_formed s no_trees h = tt
+document_is_well_formed s (a_tree (document us) no_trees) h = tt
+document_is_well_formed s (a_tree (document us) (a_tree t ts)) h = tt
+document_is_well_formed s (a_tree (element n k l us) no_trees) h = element_is_well_formed s n k l us h.0
+document_is_well_formed s (a_tree (element n k l us) (a_tree t ts)) h = tt
+document_is_well_formed s (a_tree (attribute a) no_trees) h = tt
+document_is_well_formed s (a_tree (attribute a) (a_tree t ts)) h = tt
+document_is_well_formed s (a_tree (text x) no_trees) h = tt
+document_is_well_formed s (a_tree (text x) (a_tree t ts)) h = tt
 
-place_found : (own : Option ℕ) (u t : PlainTree) → IsNode u → attribute_at own u ≡ Some t → IsUntyped t
-place_found None u t h e = let same : u ≡ t = cc in subst IsUntyped same h.untyped
-place_found (Some n) u t h e = attribute_found u n (slice_get (own_attributes u) n) t h refl e
+node_is_well_formed : (s : SchemaSet) (t : PlainTree) → PlaceFact s t → IsWellFormedShape s (shape_of t)
+node_is_well_formed s (document ts) h = document_is_well_formed s ts h
+node_is_well_formed s (element n k l ts) h = element_is_well_formed s n k l ts h
+node_is_well_formed s (attribute a) (inl e) = subst (λ (t : TypeName). IsAmongTypes t (plain_types s)) (sym e) refl
+node_is_well_formed s (attribute a) (inr h) = let allowed = h.allowed in valued_is_plain s a.kind a.value allowed.value
+node_is_well_formed s (text x) h = tt
 
-path_found : (path : List ℕ) (own : Option ℕ) (root : PlainTree) (o : Option PlainTree) (t : PlainTree) → IsNode root → tree_at root path ≡ o → then_found o (attribute_at own) ≡ Some t → IsUntyped t
-path_found path own root None t h e f = absurd (cc)
-path_found path own root (Some u) t h e f = place_found own u t (node_at path root u h e) f
+found_is_well_formed : (s : SchemaSet) (forest : Forest) (place : PlainNode) (shape : Shape) (o : Option PlainTree) → IsHonest s forest → node_in forest place ≡ o → option_map shape_of o ≡ Some shape
+    → IsWellFormedShape s shape
+found_is_well_formed s forest place shape None honest e f = absurd (cc)
+found_is_well_formed s forest place shape (Some t) honest e f =
+    let same : shape_of t ≡ shape = cc in subst (IsWellFormedShape s) same (node_is_well_formed s t (place_fact s forest place t honest e))
 
-tree_found : (s : SchemaSet) (forest : Forest) (n : ℕ) (path : List ℕ) (own : Option ℕ) (o : Option PlainTree) (t : PlainTree) → IsHonest s forest → slice_get forest n ≡ o
-    → then_found o (λ root. then_found (tree_at root path) (attribute_at own)) ≡ Some t → IsUntyped t
-tree_found s forest n path own None t honest e f = absurd (cc)
-tree_found s forest n path own (Some root) t honest e f = path_found path own root (tree_at root path) t (tree_is_node s forest n root honest e) refl f
-
-node_is_untyped : (s : SchemaSet) (forest : Forest) (place : PlainNode) (t : PlainTree) → IsHonest s forest → node_in forest place ≡ Some t → IsUntyped t
-node_is_untyped s forest place t honest e = tree_found s forest place.tree place.path place.attribute (slice_get forest place.tree) t honest refl e
-
-abbrev value_of : PlainTree → Atomic
-value_of t = untyped_atomic (string_value t)
-
-untyped_value_of : (s : SchemaSet) (t : PlainTree) → IsUntyped t → typed_value_of s t ≡ Some (value_of t ∷ [])
-untyped_value_of s (document ts) h = refl
-untyped_value_of s (element name kind attributes ts) h = ap (λ (k : TypeName). value_at_type s k (string_value (element name kind attributes ts))) h.0
-untyped_value_of s (attribute a) h = ap (λ (k : TypeName). value_at_type s k a.value) h
-untyped_value_of s (text t) h = refl
-
--- the shape of an item is untyped, or atomic
-
--- what is known of an item of an honest forest
-pub record IsHonestItem (s : SchemaSet) (forest : Forest) (x : Item) (shape : Shape) : Type 0 where
-  pub untyped : IsUntypedShape shape
-  pub well_formed : IsWellFormedShape s shape
-  pub value : Atomic
-  pub values : values_of_item s forest x ≡ Some (atom value ∷ [])
-  pub value_shaped : shapes.Atom value.kind ≡ value_shape shape
-  pub fits : ValueFits s value.value value.kind
-
-node_value_shape : (t : PlainTree) → shapes.Atom (names.Builtin UntypedAtomic) ≡ value_shape (shape_of t)
-node_value_shape (document ts) = refl
-node_value_shape (element n k l ts) = refl
-node_value_shape (attribute a) = refl
-node_value_shape (text t) = refl
-
-untyped_is_well_formed : (s : SchemaSet) (t : PlainTree) (shape : Shape) → shape_of t ≡ shape → IsUntypedShape shape → IsWellFormedShape s shape
-untyped_is_well_formed s t (shapes.Elem n k) e h = subst (λ (u : TypeName). IsWellFormedShape s (shapes.Elem n u)) (sym h) refl
-untyped_is_well_formed s t (shapes.Attr n k) e h = subst (λ (u : TypeName). IsWellFormedShape s (shapes.Attr n u)) (sym h) refl
-untyped_is_well_formed s t shapes.Text e h = tt
-untyped_is_well_formed s t (shapes.Doc None) e h = tt
-untyped_is_well_formed s t (shapes.Doc (Some child)) e h = subst (λ (u : TypeName). IsWellFormedShape s (shapes.Doc (Some (child.0, u)))) (sym h) refl
-untyped_is_well_formed s (document ts) (shapes.Atom k) e h = absurd (cc)
-untyped_is_well_formed s (element n k l ts) (shapes.Atom m) e h = absurd (cc)
-untyped_is_well_formed s (attribute a) (shapes.Atom m) e h = absurd (cc)
-untyped_is_well_formed s (text x) (shapes.Atom m) e h = absurd (cc)
-
-found_item : (s : SchemaSet) (forest : Forest) (place : PlainNode) (shape : Shape) (o : Option PlainTree) → IsHonest s forest → node_in forest place ≡ o → option_map shape_of o ≡ Some shape → IsHonestItem s forest (node place) shape
-found_item s forest place shape None honest e f = absurd (cc)
-found_item s forest place shape (Some t) honest e f =
-    let same : shape_of t ≡ shape = cc in
-    let u = node_is_untyped s forest place t honest e in
-    let p = subst IsUntypedShape same (shape_is_untyped t u) in
-    record {
-      untyped = p;
-      well_formed = untyped_is_well_formed s t shape same p;
-      value = value_of t;
-      values =
-          ap (λ (found : Option PlainTree). option_map atoms (then_found found (typed_value_of s))) e
-          ∙ ap (option_map atoms) (untyped_value_of s t u);
-      value_shaped = node_value_shape t ∙ ap value_shape same;
-      fits = refl;
-    }
-
-pub honest_item : (s : SchemaSet) (forest : Forest) (x : Item) (shape : Shape) → IsHonest s forest → item_shape forest x ≡ Some shape → ItemFits s x → IsHonestItem s forest x shape
-honest_item s forest (atom a) shape honest e f =
-    let same : shapes.Atom a.kind ≡ shape = cc in
-    subst (IsHonestItem s forest (atom a)) same
-    (record { untyped = tt; well_formed = value_is_plain s a.value a.kind f; value = a; values = refl; value_shaped = refl; fits = f })
-honest_item s forest (node place) shape honest e f = found_item s forest place shape (node_in forest place) honest refl e
+item_is_well_formed : (s : SchemaSet) (forest : Forest) (x : Item) (shape : Shape) → IsHonest s forest → item_shape forest x ≡ Some shape → ItemFits s x → IsWellFormedShape s shape
+item_is_well_formed s forest (atom a) shape honest e f =
+    let same : shapes.Atom a.kind ≡ shape = cc in subst (IsWellFormedShape s) same (value_is_plain s a.value a.kind f)
+item_is_well_formed s forest (node place) shape honest e f = found_is_well_formed s forest place shape (node_in forest place) honest refl e
 
 -- ---- values
 
-pub shapes_are_well_formed : (s : SchemaSet) (forest : Forest) (xs : Items) (ss : List Shape) → IsHonest s forest → HaveShapes s forest xs ss → EachShape (IsWellFormedShape s) ss
+shapes_are_well_formed : (s : SchemaSet) (forest : Forest) (xs : Items) (ss : List Shape) → IsHonest s forest → HaveShapes s forest xs ss → EachShape (IsWellFormedShape s) ss
 shapes_are_well_formed s forest [] [] honest h = tt
 shapes_are_well_formed s forest [] (shape ∷ ss) honest h = absurd h
 shapes_are_well_formed s forest (x ∷ xs) [] honest h = absurd h
 shapes_are_well_formed s forest (x ∷ xs) (shape ∷ ss) honest h =
-    ((honest_item s forest x shape honest h.0 h.1).well_formed, shapes_are_well_formed s forest xs ss honest h.2)
+    (item_is_well_formed s forest x shape honest h.0 h.1, shapes_are_well_formed s forest xs ss honest h.2)
 
 -- a value of a type that is included in another one belongs to that
 pub included_belongs : (s : SchemaSet) (forest : Forest) (xs : Items) (t u : SequenceType) → Grounded (bases_of s) → IsHonest s forest → is_included s t u ≡ true → Belongs s forest xs t → Belongs s forest xs u
@@ -179,28 +196,3 @@ included_belongs s forest xs t u g honest e b = record {
   shaped = b.shaped;
   taken = (inclusion_is_decided s t u g).0 e b.seen (shapes_are_well_formed s forest xs b.seen honest b.shaped) b.taken;
 }
-
-pub shapes_are_untyped : (s : SchemaSet) (forest : Forest) (xs : Items) (ss : List Shape) → IsHonest s forest → HaveShapes s forest xs ss → EachShape IsUntypedShape ss
-shapes_are_untyped s forest [] [] honest h = tt
-shapes_are_untyped s forest [] (shape ∷ ss) honest h = absurd h
-shapes_are_untyped s forest (x ∷ xs) [] honest h = absurd h
-shapes_are_untyped s forest (x ∷ xs) (shape ∷ ss) honest h =
-    ((honest_item s forest x shape honest h.0 h.1).untyped, shapes_are_untyped s forest xs ss honest h.2)
-
--- the typed values of items are as many, with the shapes of typed values
-pub record AreAtomized (s : SchemaSet) (forest : Forest) (xs : Items) (ss : List Shape) : Type 0 where
-  pub values : Items
-  pub atomized_so : atomized s forest xs ≡ Some values
-  pub shaped : HaveShapes s forest values (map value_shape ss)
-
-pub are_atomized : (s : SchemaSet) (forest : Forest) (xs : Items) (ss : List Shape) → IsHonest s forest → HaveShapes s forest xs ss → AreAtomized s forest xs ss
-are_atomized s forest [] [] honest h = record { values = []; atomized_so = refl; shaped = tt }
-are_atomized s forest [] (shape ∷ ss) honest h = absurd h
-are_atomized s forest (x ∷ xs) [] honest h = absurd h
-are_atomized s forest (x ∷ xs) (shape ∷ ss) honest h =
-    let i = honest_item s forest x shape honest h.0 h.1 in
-    let r = are_atomized s forest xs ss honest h.2 in record {
-      values = atom i.value ∷ r.values;
-      atomized_so = ap (λ (o : Option Items). joined_values o (atomized s forest xs)) i.values ∙ ap (joined_values (Some (atom i.value ∷ []))) r.atomized_so;
-      shaped = (ap Some i.value_shaped, i.fits, r.shaped);
-    }

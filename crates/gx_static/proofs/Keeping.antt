@@ -1,5 +1,5 @@
 -- The operators but arithmetic keep their types.
-use Rattle.std.proofs.Common.{◌≡◌, ℕ, Bool, true, false, List, [], ◌∷◌, ◌++◌, map, Option, None, Some, refl, sym, ◌∙◌, subst, if◌then◌else◌}
+use Rattle.std.proofs.Common.{◌≡◌, ℕ, Bool, true, false, List, [], ◌∷◌, ◌++◌, Option, None, Some, refl, sym, ◌∙◌, subst, if◌then◌else◌}
 use Rattle.gx_base.specs.declared.code.Code.{Code}
 use Rattle.gx_base.specs.declared.type_name.TypeName.TheVariants as names
 use Rattle.gx_types.specs.declared.item_type.ItemType.TheVariants as items
@@ -11,11 +11,11 @@ use Rattle.gx_types.specs.SameItemType.{same_type_name}
 use Rattle.gx_types.specs.TypeRules.{sequence_of}
 use Rattle.gx_types.proofs.EqualNames.{type_name_itself}
 use Rattle.gx_types.proofs.PublicLaws.{sequence_takes_parts}
-use Rattle.gx_model.specs.Forest.{Forest, IsHonest}
+use Rattle.gx_model.specs.Forest.{Forest}
+use Rattle.gx_model.specs.Honest.{IsHonest}
 use Rattle.gx_model.specs.Item.{atom, Items}
 use Rattle.gx_model.specs.Belongs.{HaveShapes, Belongs}
 use Rattle.gx_steptype.specs.DataType.{has_data, type_of_data}
-use Rattle.gx_steptype.specs.StepLaws.{value_shape}
 use Rattle.gx_steptype.proofs.DataTypes.{data_keeps_its_type}
 use Rattle.gx_core.specs.declared.expression.BinaryOp.{BinaryOp}
 use Rattle.gx_core.specs.declared.expression.BinaryClass.{BinaryClass}
@@ -32,7 +32,6 @@ use Rattle.gx_core.proofs.KeptFacts.{fact_after, fact_at_once, binding_fits, bin
 use Rattle.gx_static.specs.Rule.{is_as_written, has_type, has_none, type_if, shown_type, data_rule, binary_rule, rule, ruling, variable_ruling}
 use Rattle.gx_static.specs.Laws.{ActsKeepType, PartsKeepTypes, OperatorKeepsType, LiteralKeepsType, VariableKeepsType, EmptyKeepsType, SequenceKeepsType, LetKeepsType, DataKeepsType}
 use Rattle.gx_static.proofs.LiteralLemmas.{literal_fits}
-use Rattle.gx_static.proofs.HonestValues.{shapes_are_untyped, are_atomized}
 
 -- the type that a rule gives
 pub ruled : (t u : SequenceType) → has_type t ≡ has_type u → t ≡ u
@@ -113,20 +112,15 @@ sequence_keeps s (a ∷ b ∷ c ∷ ps) t forest values e honest h = absurd (cc)
 
 pub data_keeps : DataKeepsType
 unfolding data_rule
-data_keeps s (a ∷ []) t forest (xs ∷ []) e honest h =
+data_keeps s is (a ∷ []) t forest (xs ∷ []) e honest h =
     let r = tested (has_data s a) (type_of_data s a) t _ _ e in
-    let b = h.0 in
-    let v = are_atomized s forest xs b.seen honest b.shaped in
-    subst (λ (found : Option Items). Keeps (typed_setting s) forest t (given found (λ ys. gives ys forest))) (sym v.atomized_so)
-    (value_keeps s (type_of_data s a) t forest v.values r.1 honest (record {
-      seen = map value_shape b.seen;
-      shaped = v.shaped;
-      taken = data_keeps_its_type s a b.seen (shapes_are_untyped s forest xs b.seen honest b.shaped) r.0 b.taken;
-    }))
-data_keeps s (a ∷ []) t forest [] e honest h = absurd h
-data_keeps s (a ∷ []) t forest (xs ∷ ys ∷ values) e honest h = absurd h.1
-data_keeps s [] t forest values e honest h = absurd (cc)
-data_keeps s (a ∷ b ∷ ps) t forest values e honest h = absurd (cc)
+    let v = data_keeps_its_type s forest xs a is honest r.0 h.0 in
+    subst (λ (found : Option Items). Keeps (typed_setting s) forest t (given found (λ ys. gives ys forest))) (sym v.are)
+    (value_keeps s (type_of_data s a) t forest v.values r.1 honest v.belong)
+data_keeps s is (a ∷ []) t forest [] e honest h = absurd h
+data_keeps s is (a ∷ []) t forest (xs ∷ ys ∷ values) e honest h = absurd h.1
+data_keeps s is [] t forest values e honest h = absurd (cc)
+data_keeps s is (a ∷ b ∷ ps) t forest values e honest h = absurd (cc)
 
 -- a variable, where it stands
 

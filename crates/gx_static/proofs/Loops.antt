@@ -11,7 +11,8 @@ use Rattle.gx_types.specs.TypeRules.{times_of}
 use Rattle.gx_types.specs.Takes.{Takes, Each, EachShape, SomeItemTakes, all_joined}
 use Rattle.gx_types.specs.Laws.{Allows}
 use Rattle.gx_types.proofs.PublicLaws.{items_take_each_shape, prime_is_a_choice_of_items, times_takes_joined}
-use Rattle.gx_model.specs.Forest.{Forest, IsHonest}
+use Rattle.gx_model.specs.Forest.{Forest}
+use Rattle.gx_model.specs.Honest.{IsHonest}
 use Rattle.gx_model.specs.Item.{Item, Items}
 use Rattle.gx_model.specs.Belongs.{HaveShapes, Belongs}
 use Rattle.gx_model.specs.Growth.{Extends}

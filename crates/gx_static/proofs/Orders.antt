@@ -14,7 +14,8 @@ use Rattle.gx_types.specs.TypeRules.{times_of}
 use Rattle.gx_types.specs.Takes.{Takes, Each, all_joined}
 use Rattle.gx_types.specs.Laws.{Allows}
 use Rattle.gx_tree.specs.PlainTree.{PlainTree}
-use Rattle.gx_model.specs.Forest.{Forest, PlainNode, then_found, IsHonest}
+use Rattle.gx_model.specs.Forest.{Forest, PlainNode, then_found}
+use Rattle.gx_model.specs.Honest.{IsHonest}
 use Rattle.gx_model.specs.Item.{Item, atom, node, Items}
 use Rattle.gx_model.specs.Belongs.{shape_of, item_shape, HaveShapes, Belongs}
 use Rattle.gx_model.specs.Location.{Location, all_locations, located, location_of, node_of_tree}

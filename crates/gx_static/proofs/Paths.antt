@@ -6,11 +6,13 @@ use Rattle.gx_base.specs.declared.code.Code.TheVariants.{XPST0003, XPST0005, XPT
 use Rattle.gx_types.specs.declared.step.Axis.{Axis}
 use Rattle.gx_types.specs.declared.step.Test.{Test}
 use Rattle.gx_types.specs.SchemaSet.{SchemaSet}
+use Rattle.gx_types.specs.SchemaInvariant.{IsSchemaSet}
 use Rattle.gx_types.specs.Derivation.{bases_of}
 use Rattle.gx_types.specs.Grounded.{Grounded}
 use Rattle.gx_types.specs.SequenceType.{SequenceType, never, nothing}
 use Rattle.gx_types.specs.SameType.{same_type}
-use Rattle.gx_model.specs.Forest.{Forest, PlainNode, IsHonest}
+use Rattle.gx_model.specs.Forest.{Forest, PlainNode}
+use Rattle.gx_model.specs.Honest.{IsHonest}
 use Rattle.gx_model.specs.Item.{Item, node, Items}
 use Rattle.gx_model.specs.Belongs.{Belongs}
 use Rattle.gx_model.specs.Axes.{on_axis}
@@ -79,26 +81,26 @@ one_node s forest xs t g honest e b =
     let n = the_item IsNode xs x.0 x.1 (items_are_nodes s forest xs node_type refl c) in
     (n.0, x.1 ∙ ap (λ (y : Item). y ∷ []) n.1)
 
-stepped_keeps : (s : SchemaSet) (forest : Forest) (axis : Axis) (asks : Test) (xs : Items) (context t : SequenceType) → Grounded (bases_of s) → IsHonest s forest → IsStepFrom s axis asks context t → Belongs s forest xs context
+stepped_keeps : (s : SchemaSet) (forest : Forest) (axis : Axis) (asks : Test) (xs : Items) (context t : SequenceType) → IsSchemaSet s → IsHonest s forest → IsStepFrom s axis asks context t → Belongs s forest xs context
     → Keeps (typed_setting s) forest t (stepped s axis asks xs forest)
-stepped_keeps s forest axis asks xs context t g honest r b =
-    let n = one_node s forest xs context g honest r.included b in
+stepped_keeps s forest axis asks xs context t is honest r b =
+    let n = one_node s forest xs context is.grounded honest r.included b in
     subst (λ (ys : Items). Keeps (typed_setting s) forest t (stepped s axis asks ys forest)) (sym n.1)
     (value_keeps s (step_type s axis asks context) t forest (map node (on_axis s forest n.0 axis asks)) r.type honest
-    (steps_keep_their_types s forest n.0 axis asks context g honest r.near (subst (λ (ys : Items). Belongs s forest ys context) n.1 b)))
+    (steps_keep_their_types s forest n.0 axis asks context is honest r.near (subst (λ (ys : Items). Belongs s forest ys context) n.1 b)))
 
-bound_step_keeps : (s : SchemaSet) (axis : Axis) (asks : Test) (number : ℕ) (types : Types) (situation : Situation (typed_setting s) types) (t : SequenceType) (found : Option SequenceType) → Grounded (bases_of s)
+bound_step_keeps : (s : SchemaSet) (axis : Axis) (asks : Test) (number : ℕ) (types : Types) (situation : Situation (typed_setting s) types) (t : SequenceType) (found : Option SequenceType) → IsSchemaSet s
     → look_up types number ≡ found → step_ruling s axis asks number found ≡ has_type t
     → Keeps (typed_setting s) situation.forest t (given (look_up situation.bindings number) (λ value. stepped s axis asks value situation.forest))
-bound_step_keeps s axis asks number types situation t None g found e = absurd (cc)
-bound_step_keeps s axis asks number types situation t (Some u) g found e =
+bound_step_keeps s axis asks number types situation t None is found e = absurd (cc)
+bound_step_keeps s axis asks number types situation t (Some u) is found e =
     let b = situation.fits number u found in
     subst (λ (o : Option Items). Keeps (typed_setting s) situation.forest t (given o (λ value. stepped s axis asks value situation.forest))) (sym b.bound)
-    (stepped_keeps s situation.forest axis asks b.value u t g situation.honest (step_so s axis asks u t (reached u (step_rule s axis asks u) t e)) b.belongs)
+    (stepped_keeps s situation.forest axis asks b.value u t is situation.honest (step_so s axis asks u t (reached u (step_rule s axis asks u) t e)) b.belongs)
 
 pub step_keeps : StepKeepsType
-step_keeps s axis asks number g no_parts types place outer t e h situation = bound_step_keeps s axis asks number types situation t (look_up types number) g refl e
-step_keeps s axis asks number g (a_part first others) types place outer t e h situation = absurd (cc)
+step_keeps s axis asks number is no_parts types place outer t e h situation = bound_step_keeps s axis asks number types situation t (look_up types number) is refl e
+step_keeps s axis asks number is (a_part first others) types place outer t e h situation = absurd (cc)
 
 -- ---- no context
 

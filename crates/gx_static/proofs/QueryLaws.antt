@@ -12,8 +12,6 @@ use Rattle.gx_base.specs.declared.code.Code.{Code}
 use Rattle.gx_base.specs.declared.code.Code.TheVariants.{XPTY0004}
 use Rattle.gx_types.specs.SchemaSet.{SchemaSet}
 use Rattle.gx_types.specs.SchemaInvariant.{IsSchemaSet}
-use Rattle.gx_types.specs.Derivation.{bases_of}
-use Rattle.gx_types.specs.Grounded.{Grounded}
 use Rattle.gx_types.specs.SequenceType.{SequenceType}
 use Rattle.gx_core.specs.declared.expression.Binder.{Binder}
 use Rattle.gx_core.specs.declared.expression.Core.{Core}
@@ -54,27 +52,27 @@ declared_holds s name binder value types t h =
       | false ↦ tt
     ]
 
-declaration_holds : (s : SchemaSet) → Grounded (bases_of s) → (d : CoreDeclaration) (types : Types) → IfTyped (IsDeclaredSoundly s d types) (declaration_judged s d types)
-declaration_holds s g (Global name binder (Some value)) types =
-    made_holds (judged s value types) (declared_as s name binder) (IsTypedSoundly s value types) (IsDeclaredSoundly s (Global name binder (Some value)) types) (judged_holds s g value types)
+declaration_holds : (s : SchemaSet) → IsSchemaSet s → (d : CoreDeclaration) (types : Types) → IfTyped (IsDeclaredSoundly s d types) (declaration_judged s d types)
+declaration_holds s is (Global name binder (Some value)) types =
+    made_holds (judged s value types) (declared_as s name binder) (IsTypedSoundly s value types) (IsDeclaredSoundly s (Global name binder (Some value)) types) (judged_holds s is value types)
     (λ t h. declared_holds s name binder value types t h)
-declaration_holds s g (Global name binder None) types = record { same = refl; sound = tt }
+declaration_holds s is (Global name binder None) types = record { same = refl; sound = tt }
 
-declarations_hold : (s : SchemaSet) → Grounded (bases_of s) → (ds : List CoreDeclaration) (types : Types) → IfTyped (AreDeclaredSoundly s ds types) (declarations_judged s ds types)
-declarations_hold s g [] types = record { same = refl; sound = tt }
-declarations_hold s g (d ∷ ds) types =
+declarations_hold : (s : SchemaSet) → IsSchemaSet s → (ds : List CoreDeclaration) (types : Types) → IfTyped (AreDeclaredSoundly s ds types) (declarations_judged s ds types)
+declarations_hold s is [] types = record { same = refl; sound = tt }
+declarations_hold s is (d ∷ ds) types =
     made_holds (declaration_judged s d types) (λ t. with_typed (declarations_judged s ds (global_types t ++ types)) (λ ts. typed (t ∷ ts)))
-    (IsDeclaredSoundly s d types) (AreDeclaredSoundly s (d ∷ ds) types) (declaration_holds s g d types)
+    (IsDeclaredSoundly s d types) (AreDeclaredSoundly s (d ∷ ds) types) (declaration_holds s is d types)
     (λ t h. made_holds (declarations_judged s ds (global_types t ++ types)) (λ ts. typed (t ∷ ts)) (AreDeclaredSoundly s ds (global_types t ++ types)) (AreDeclaredSoundly s (d ∷ ds) types)
-    (declarations_hold s g ds (global_types t ++ types))
+    (declarations_hold s is ds (global_types t ++ types))
     (λ ts k. record { same = ap (λ (e : CoreDeclaration). e ∷ map plain_declaration ts) h.same ∙ ap (λ (es : List CoreDeclaration). d ∷ es) k.same; sound = (h.sound, k.sound) }))
 
-core_holds : (s : SchemaSet) → Grounded (bases_of s) → (core : Core) → IfTyped (IsQueryTypedSoundly s core) (core_judged s core)
-core_holds s g core =
+core_holds : (s : SchemaSet) → IsSchemaSet s → (core : Core) → IfTyped (IsQueryTypedSoundly s core) (core_judged s core)
+core_holds s is core =
     made_holds (declarations_judged s core.declarations []) (λ ds. with_typed (judged s core.body (types_declared ds [])) (λ t. typed (record { declarations = ds; body = t })))
-    (AreDeclaredSoundly s core.declarations []) (IsQueryTypedSoundly s core) (declarations_hold s g core.declarations [])
+    (AreDeclaredSoundly s core.declarations []) (IsQueryTypedSoundly s core) (declarations_hold s is core.declarations [])
     (λ ds h. made_holds (judged s core.body (types_declared ds [])) (λ t. typed (record { declarations = ds; body = t })) (IsTypedSoundly s core.body (types_declared ds [])) (IsQueryTypedSoundly s core)
-    (judged_holds s g core.body (types_declared ds []))
+    (judged_holds s is core.body (types_declared ds []))
     (λ t k. record {
       same = ap (λ (es : List CoreDeclaration). let c : Core = record { declarations = es; body = plain t } in c) h.same ∙ ap (λ (e : CoreExpression). let c : Core = record { declarations = core.declarations; body = e } in c) k.same;
       sound = (h.sound, k.sound);
@@ -89,7 +87,7 @@ whole_rejected (typed q) place code h = cc
 whole_rejected (rejected own other) place code h = cc
 
 pub query_sound : QueryTypingIsSound
-query_sound s core query i j = subst (IfTyped (IsQueryTypedSoundly s core)) (whole_typed (core_judged s core) query j) (core_holds s i.grounded core)
+query_sound s core query is j = subst (IfTyped (IsQueryTypedSoundly s core)) (whole_typed (core_judged s core) query j) (core_holds s is core)
 
 pub sound_if_typed : (s : SchemaSet) (core : Core) → IsSchemaSet s → (r : Result TypedCore InferError) → IfOk r (λ t. query_judged s core ≡ query_typed t) → IfOk r (λ t. IsSoundQuery s t)
 sound_if_typed s core i (Ok t) h = (query_sound s core t i h).sound

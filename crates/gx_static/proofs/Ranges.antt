@@ -19,7 +19,8 @@ use Rattle.gx_types.specs.Occurrence.{occurs}
 use Rattle.gx_types.specs.SequenceType.{SequenceType, star}
 use Rattle.gx_types.specs.Takes.{Takes, Each, all_joined}
 use Rattle.gx_types.proofs.PublicLaws.{times_takes_joined}
-use Rattle.gx_model.specs.Forest.{Forest, IsHonest}
+use Rattle.gx_model.specs.Forest.{Forest}
+use Rattle.gx_model.specs.Honest.{IsHonest}
 use Rattle.gx_model.specs.Item.{Item, Items, atoms}
 use Rattle.gx_model.specs.Belongs.{ValueFits, HaveShapes, Belongs}
 use Rattle.gx_core.specs.declared.expression.BinaryClass.TheVariants as classes

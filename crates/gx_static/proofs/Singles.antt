@@ -13,7 +13,8 @@ use Rattle.gx_types.specs.SameType.{same_type}
 use Rattle.gx_types.specs.TypeRules.{times_of}
 use Rattle.gx_types.specs.Laws.{Allows}
 use Rattle.gx_types.proofs.PublicLaws.{times_takes_joined, equal_types_take_the_same}
-use Rattle.gx_model.specs.Forest.{Forest, IsHonest}
+use Rattle.gx_model.specs.Forest.{Forest}
+use Rattle.gx_model.specs.Honest.{IsHonest}
 use Rattle.gx_model.specs.Item.{Item, atom, Items}
 use Rattle.gx_model.specs.Belongs.{ValueFits, Belongs}
 use Rattle.gx_core.specs.Outcome.{Outcome}

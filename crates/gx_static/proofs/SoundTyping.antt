@@ -2,8 +2,7 @@
 use Rattle.std.proofs.Common.{◌≡◌, List, [], ◌∷◌, ◌++◌, refl, ◌∙◌, ap, subst}
 use Rattle.gx_base.specs.declared.place.Place.{Place}
 use Rattle.gx_types.specs.SchemaSet.{SchemaSet}
-use Rattle.gx_types.specs.Derivation.{bases_of}
-use Rattle.gx_types.specs.Grounded.{Grounded}
+use Rattle.gx_types.specs.SchemaInvariant.{IsSchemaSet}
 use Rattle.gx_types.specs.SequenceType.{SequenceType}
 use Rattle.gx_core.specs.declared.expression.BinaryOp.{BinaryOp}
 use Rattle.gx_core.specs.declared.expression.BinaryClass.{BinaryClass}
@@ -36,35 +35,35 @@ binary_keeps s operator (classes.General op) e = general_comparison_keeps op s o
 binary_keeps s operator classes.Range e = range_keeps s operator e
 
 -- the laws of all operators
-operator_keeps : (s : SchemaSet) → Grounded (bases_of s) → (operator : Operator) → OperatorKeepsType s operator
-operator_keeps s g (operators.Var number) = variable_keeps s number
-operator_keeps s g (operators.For binder) = for_keeps s binder
-operator_keeps s g (operators.Let binder) = let_keeps s binder
-operator_keeps s g (operators.Step axis asks number) = step_keeps s axis asks number g
-operator_keeps s g operators.Nodes =
-    strict_keeps s operators.Nodes (record { denotes = λ k ps bs f. refl; binds_nothing = λ before. refl; ruled = λ s ps types. refl }) (nodes_keep s g)
-operator_keeps s g operators.Order =
-    strict_keeps s operators.Order (record { denotes = λ k ps bs f. refl; binds_nothing = λ before. refl; ruled = λ s ps types. refl }) (order_keeps s g)
-operator_keeps s g operators.NoContext =
+operator_keeps : (s : SchemaSet) → IsSchemaSet s → (operator : Operator) → OperatorKeepsType s operator
+operator_keeps s is (operators.Var number) = variable_keeps s number
+operator_keeps s is (operators.For binder) = for_keeps s binder
+operator_keeps s is (operators.Let binder) = let_keeps s binder
+operator_keeps s is (operators.Step axis asks number) = step_keeps s axis asks number is
+operator_keeps s is operators.Nodes =
+    strict_keeps s operators.Nodes (record { denotes = λ k ps bs f. refl; binds_nothing = λ before. refl; ruled = λ s ps types. refl }) (nodes_keep s is.grounded)
+operator_keeps s is operators.Order =
+    strict_keeps s operators.Order (record { denotes = λ k ps bs f. refl; binds_nothing = λ before. refl; ruled = λ s ps types. refl }) (order_keeps s is.grounded)
+operator_keeps s is operators.NoContext =
     strict_keeps s operators.NoContext (record { denotes = λ k ps bs f. refl; binds_nothing = λ before. refl; ruled = λ s ps types. refl }) (no_context_keeps s)
-operator_keeps s g (operators.Lit value) =
+operator_keeps s is (operators.Lit value) =
     strict_keeps s (operators.Lit value) (record { denotes = λ k ps bs f. refl; binds_nothing = λ before. refl; ruled = λ s ps types. refl }) (literal_keeps s value)
-operator_keeps s g operators.Empty =
+operator_keeps s is operators.Empty =
     strict_keeps s operators.Empty (record { denotes = λ k ps bs f. refl; binds_nothing = λ before. refl; ruled = λ s ps types. refl }) (empty_keeps s)
-operator_keeps s g operators.Seq =
+operator_keeps s is operators.Seq =
     strict_keeps s operators.Seq (record { denotes = λ k ps bs f. refl; binds_nothing = λ before. refl; ruled = λ s ps types. refl }) (sequence_keeps s)
-operator_keeps s g operators.DataOf =
-    strict_keeps s operators.DataOf (record { denotes = λ k ps bs f. refl; binds_nothing = λ before. refl; ruled = λ s ps types. refl }) (data_keeps s)
-operator_keeps s g operators.If = conditional_keeps s
-operator_keeps s g (operators.Cast kind allows_empty) =
+operator_keeps s is operators.DataOf =
+    strict_keeps s operators.DataOf (record { denotes = λ k ps bs f. refl; binds_nothing = λ before. refl; ruled = λ s ps types. refl }) (data_keeps s is)
+operator_keeps s is operators.If = conditional_keeps s
+operator_keeps s is (operators.Cast kind allows_empty) =
     strict_keeps s (operators.Cast kind allows_empty) (record { denotes = λ k ps bs f. refl; binds_nothing = λ before. refl; ruled = λ s ps types. refl }) (cast_keeps s kind allows_empty)
-operator_keeps s g (operators.Castable kind allows_empty) =
+operator_keeps s is (operators.Castable kind allows_empty) =
     strict_keeps s (operators.Castable kind allows_empty) (record { denotes = λ k ps bs f. refl; binds_nothing = λ before. refl; ruled = λ s ps types. refl }) (castable_keeps s kind allows_empty)
-operator_keeps s g (operators.Call function) =
-    strict_keeps s (operators.Call function) (record { denotes = λ k ps bs f. refl; binds_nothing = λ before. refl; ruled = λ s ps types. refl }) (call_keeps s function g)
-operator_keeps s g operators.Neg =
+operator_keeps s is (operators.Call function) =
+    strict_keeps s (operators.Call function) (record { denotes = λ k ps bs f. refl; binds_nothing = λ before. refl; ruled = λ s ps types. refl }) (call_keeps s function is.grounded)
+operator_keeps s is operators.Neg =
     strict_keeps s operators.Neg (record { denotes = λ k ps bs f. refl; binds_nothing = λ before. refl; ruled = λ s ps types. refl }) (negation_keeps s)
-operator_keeps s g (operators.Binary operator) =
+operator_keeps s is (operators.Binary operator) =
     strict_keeps s (operators.Binary operator) (record { denotes = λ k ps bs f. refl; binds_nothing = λ before. refl; ruled = λ s ps types. refl }) (binary_keeps s operator (class_of operator) refl)
 
 -- what holds of what has types, if there is something
@@ -86,29 +85,29 @@ parts_keep s operator before no_parts types h = tt
 parts_keep s operator before (a_part t ts) types h = (keeps_its_type (typed_setting s) t (types_bound operator before ++ types) h.0, parts_keep s operator (before ++ annotation_of t ∷ []) ts types h.1)
 
 -- an operator whose parts are sound, with the type of its rule
-concluded_holds : (s : SchemaSet) → Grounded (bases_of s) → (place outer : Place) (operator : Operator) (parts : Parts (Unit {0})) (types : Types) (ts : Parts SequenceType) (r : Ruling) → ruling s operator (each_of annotation_of ts) types ≡ r
+concluded_holds : (s : SchemaSet) → IsSchemaSet s → (place outer : Place) (operator : Operator) (parts : Parts (Unit {0})) (types : Types) (ts : Parts SequenceType) (r : Ruling) → ruling s operator (each_of annotation_of ts) types ≡ r
     → AreTypedSoundly s operator [] parts types ts → IfTyped (IsTypedSoundly s (At place outer tt operator parts) types) (concluded place outer operator ts r)
-concluded_holds s g place outer operator parts types ts (has_type t) e h = record {
+concluded_holds s is place outer operator parts types ts (has_type t) e h = record {
   same = ap (At place outer tt operator) h.same;
-  sound = (operator_keeps s g operator ts types place outer t e (parts_keep s operator [] ts types h.sound), h.sound);
+  sound = (operator_keeps s is operator ts types place outer t e (parts_keep s operator [] ts types h.sound), h.sound);
 }
-concluded_holds s g place outer operator parts types ts (has_none code part) e h = tt
+concluded_holds s is place outer operator parts types ts (has_none code part) e h = tt
 
 mutual
-  pub judged_holds : (s : SchemaSet) → Grounded (bases_of s) → (e : CoreExpression) (types : Types) → IfTyped (IsTypedSoundly s e types) (judged s e types)
-  judged_holds s g (At place outer tt operator parts) types =
+  pub judged_holds : (s : SchemaSet) → IsSchemaSet s → (e : CoreExpression) (types : Types) → IfTyped (IsTypedSoundly s e types) (judged s e types)
+  judged_holds s is (At place outer tt operator parts) types =
       made_holds (parts_judged s operator [] parts types) (λ ts. concluded place outer operator ts (ruling s operator (each_of annotation_of ts) types))
-      (AreTypedSoundly s operator [] parts types) (IsTypedSoundly s (At place outer tt operator parts) types) (parts_hold s g operator [] parts types)
-      (λ ts h. concluded_holds s g place outer operator parts types ts (ruling s operator (each_of annotation_of ts) types) refl h)
+      (AreTypedSoundly s operator [] parts types) (IsTypedSoundly s (At place outer tt operator parts) types) (parts_hold s is operator [] parts types)
+      (λ ts h. concluded_holds s is place outer operator parts types ts (ruling s operator (each_of annotation_of ts) types) refl h)
 
-  parts_hold : (s : SchemaSet) → Grounded (bases_of s) → (operator : Operator) (before : List SequenceType) (parts : Parts (Unit {0})) (types : Types) → IfTyped (AreTypedSoundly s operator before parts types) (parts_judged s operator before parts types)
-  parts_hold s g operator before no_parts types = record { same = refl; sound = tt }
-  parts_hold s g operator before (a_part first others) types =
+  parts_hold : (s : SchemaSet) → IsSchemaSet s → (operator : Operator) (before : List SequenceType) (parts : Parts (Unit {0})) (types : Types) → IfTyped (AreTypedSoundly s operator before parts types) (parts_judged s operator before parts types)
+  parts_hold s is operator before no_parts types = record { same = refl; sound = tt }
+  parts_hold s is operator before (a_part first others) types =
       made_holds (judged s first (types_bound operator before ++ types)) (λ t. with_typed (parts_judged s operator (before ++ annotation_of t ∷ []) others types) (λ ts. typed (a_part t ts)))
-      (IsTypedSoundly s first (types_bound operator before ++ types)) (AreTypedSoundly s operator before (a_part first others) types) (judged_holds s g first (types_bound operator before ++ types))
+      (IsTypedSoundly s first (types_bound operator before ++ types)) (AreTypedSoundly s operator before (a_part first others) types) (judged_holds s is first (types_bound operator before ++ types))
       (λ t h. made_holds (parts_judged s operator (before ++ annotation_of t ∷ []) others types) (λ ts. typed (a_part t ts))
-      (AreTypedSoundly s operator (before ++ annotation_of t ∷ []) others types) (AreTypedSoundly s operator before (a_part first others) types) (parts_hold s g operator (before ++ annotation_of t ∷ []) others types)
+      (AreTypedSoundly s operator (before ++ annotation_of t ∷ []) others types) (AreTypedSoundly s operator before (a_part first others) types) (parts_hold s is operator (before ++ annotation_of t ∷ []) others types)
       (λ ts k. record { same = ap (λ e. a_part e (plain_parts ts)) h.same ∙ ap (a_part first) k.same; sound = (h.sound, k.sound) }))
 
 pub sound : TypingIsSound
-sound s e types t i j = subst (IfTyped (IsTypedSoundly s e types)) j (judged_holds s i.grounded e types)
+sound s e types t is j = subst (IfTyped (IsTypedSoundly s e types)) j (judged_holds s is e types)

@@ -11,7 +11,8 @@ use Rattle.gx_types.specs.Derivation.{bases_of}
 use Rattle.gx_types.specs.Grounded.{Grounded}
 use Rattle.gx_types.specs.SchemaInvariant.{IsSchemaSet}
 use Rattle.gx_types.specs.SequenceType.{SequenceType}
-use Rattle.gx_model.specs.Forest.{Forest, IsHonest}
+use Rattle.gx_model.specs.Forest.{Forest}
+use Rattle.gx_model.specs.Honest.{IsHonest}
 use Rattle.gx_model.specs.Item.{Items}
 use Rattle.gx_core.specs.declared.expression.Binder.{Binder}
 use Rattle.gx_base.specs.declared.type_name.TypeName.{TypeName}
@@ -73,7 +74,7 @@ abbrev pub ForKeepsType : Type 0
 ForKeepsType = (schemas : SchemaSet) (binder : Binder) → OperatorKeepsType schemas (operators.For binder)
 
 abbrev pub StepKeepsType : Type 0
-StepKeepsType = (schemas : SchemaSet) (axis : Axis) (asks : Test) (number : ℕ) → Grounded (bases_of schemas) → OperatorKeepsType schemas (operators.Step axis asks number)
+StepKeepsType = (schemas : SchemaSet) (axis : Axis) (asks : Test) (number : ℕ) → IsSchemaSet schemas → OperatorKeepsType schemas (operators.Step axis asks number)
 
 abbrev pub NodesKeepType : Type 0
 NodesKeepType = (schemas : SchemaSet) → Grounded (bases_of schemas) → ActsKeepType schemas operators.Nodes
@@ -85,7 +86,7 @@ abbrev pub NoContextKeepsType : Type 0
 NoContextKeepsType = (schemas : SchemaSet) → ActsKeepType schemas operators.NoContext
 
 abbrev pub DataKeepsType : Type 0
-DataKeepsType = (schemas : SchemaSet) → ActsKeepType schemas operators.DataOf
+DataKeepsType = (schemas : SchemaSet) → IsSchemaSet schemas → ActsKeepType schemas operators.DataOf
 
 -- the operators of two operands that do the same keep the type of their one rule
 abbrev pub ClassKeepsType : BinaryClass → Type 0

@@ -36,7 +36,7 @@ pub fn let_keeps_its_type()
 {}
 
 /// The nodes of a step to a child, an attribute, the node itself or the parent belong to the type of the step where its variable
-/// is bound to one node. The types of the schemas end at built-in ones.
+/// is bound to one node. The declarations of the schemas keep to what each schema set keeps to.
 pub fn step_keeps_its_type()
     ensures { StepKeepsType }
 {}
@@ -57,7 +57,8 @@ pub fn no_context_keeps_its_type()
     ensures { NoContextKeepsType }
 {}
 
-/// An atomized value belongs to its type where that of the operand does.
+/// An atomized value belongs to its type where that of the operand does: each item has a typed value. The declarations of the schemas
+/// keep to what each schema set keeps to.
 pub fn data_keeps_its_type()
     ensures { DataKeepsType }
 {}

@@ -14,7 +14,7 @@ use Rattle.gx_types.specs.declared.shape.Shape.{Shape}
 use Rattle.gx_types.specs.declared.step.NameTest.TheVariants as tests
 use Rattle.gx_types.specs.BuiltinOrder.{same_builtin}
 use Rattle.gx_types.specs.SchemaSet.{SchemaSet}
-use Rattle.gx_types.specs.SchemaInvariant.{is_named_type}
+use Rattle.gx_types.specs.SchemaInvariant.{IsSchemaSet, is_named_type}
 use Rattle.gx_types.specs.Derivation.{bases_of, DerivesFrom}
 use Rattle.gx_types.specs.Grounded.{Grounded}
 use Rattle.gx_types.specs.Indicator.{star_of}
@@ -30,6 +30,7 @@ use Rattle.gx_tree.specs.OwnNames.{has_attribute, HaveOwnNames}
 use Rattle.gx_tree.specs.Erasure.{AreUntypedAtomic}
 use Rattle.gx_model.specs.Forest.{own_attributes}
 use Rattle.gx_model.specs.Belongs.{shape_of}
+use Rattle.gx_model.specs.Honest.{IsHonestTree}
 use Rattle.gx_model.specs.NodeTest.{TypeTest, KindTest, an_attribute, passes_type, meets}
 use Rattle.gx_steptype.specs.declared.tested.Meeting.{Meeting}
 use Rattle.gx_steptype.specs.declared.tested.Meeting.TheVariants.{Never, Always, Possibly}
@@ -47,7 +48,7 @@ use Rattle.gx_steptype.proofs.FormedShapes.{IsFormed}
 use Rattle.gx_steptype.proofs.PassingShapes.{passing, all_tested}
 use Rattle.gx_steptype.proofs.Arrangements.{Rearranged, mapped, passing_rearranged, each_arranged, short_is_arranged, factored_takes_any_order}
 use Rattle.gx_steptype.proofs.OwnAttributes.{attribute_shape, has_name, same_owner, own_in_order, AreDerived, untyped_are_derived, own_are_simple}
-use Rattle.gx_steptype.proofs.SoundNodes.{IsTypedElement, IsSoundElement, IsSoundNode, element_is_sound, attributes_are_formed}
+use Rattle.gx_steptype.proofs.HonestNodes.{IsTypedElement, IsHonestElement, element_is_honest, attributes_are_formed}
 
 -- an item type without a name that takes each attribute of a type which is derived from its own
 pub record TakesAttributes (s : SchemaSet) (kind : TypeName) : Type 0 where
@@ -159,69 +160,69 @@ unordered_takes : (s : SchemaSet) (test : KindTest) (t : SequenceType) (l : List
 unordered_takes s (an_attribute (tests.Name w) k) t l xs o r h = subst (Takes s t) (short_is_arranged xs (all_passing s (with_name w k) l) (at_most_one s w k l o) r) h
 unordered_takes s test t l xs o r h = factored_takes_any_order s t xs (all_passing s test l) r h
 
-behind_takes : (s : SchemaSet) (test : KindTest) → Grounded (bases_of s) → (kind t : TypeName) (l : List Attribute) (ts : PlainTrees) → DerivesFrom s t kind → IsTypedElement s t l ts
+behind_takes : (s : SchemaSet) (test : KindTest) → IsSchemaSet s → (kind t : TypeName) (l : List Attribute) (ts : PlainTrees) → DerivesFrom s t kind → IsTypedElement s t l ts
     → Takes s (attributes_behind s test kind) (all_passing s test l)
-behind_takes s test g kind t l ts d k =
-    let own = own_in_order s t l ts k.schemas k.keeps in
+behind_takes s test is kind t l ts d k =
+    let own = own_in_order s t l ts is k.keeps in
     let shapes : List Shape = map attribute_shape own.list in
     let moved : Rearranged shapes (map attribute_shape l) = mapped attribute_shape own.list l own.rearranged in
-    let formed : EachShape (IsFormed s) (map attribute_shape l) = attributes_are_formed s l (own_are_simple s t l ts k.schemas k.keeps) in
+    let formed : EachShape (IsFormed s) (map attribute_shape l) = attributes_are_formed s l (own_are_simple s t l ts is k.keeps) in
     let declared = over_derived s (attributes_of_type s) kind in
     unordered_takes s test (replaced_items (tested_item s test) declared) l (flat_map (passing s test) shapes) k.keeps.distinct
     (passing_rearranged (meets s test) shapes (map attribute_shape l) moved)
-    (all_tested s g test declared shapes (each_arranged (IsFormed s) shapes (map attribute_shape l) moved formed)
-    (choice_covers s (attributes_of_type s) kind t shapes g (attributes_agree s) (named_is_listed s t k.keeps.known) d own.taken))
+    (all_tested s is.grounded test declared shapes (each_arranged (IsFormed s) shapes (map attribute_shape l) moved formed)
+    (choice_covers s is.grounded kind t d (attributes_of_type s) (attributes_agree s) (named_is_listed s t k.keeps.known) shapes own.taken))
 
 -- by the type of the item
 
 builtin_apart : (b c : Builtin) → same_builtin c c ≡ true → same_builtin b c ≡ false → b ≡ c → ⊥
 builtin_apart b c itself apart e = true≢false (sym itself ∙ ap (λ (d : Builtin). same_builtin d c) (sym e) ∙ apart)
 
-under_builtin : (s : SchemaSet) (test : KindTest) → Grounded (bases_of s) → (b : Builtin) (t : TypeName) (l : List Attribute) (ts : PlainTrees) → DerivesFrom s t (names.Builtin b) → IsTypedElement s t l ts
+under_builtin : (s : SchemaSet) (test : KindTest) → IsSchemaSet s → (b : Builtin) (t : TypeName) (l : List Attribute) (ts : PlainTrees) → DerivesFrom s t (names.Builtin b) → IsTypedElement s t l ts
     → (any untyped : Bool) → same_builtin b builtins.AnyType ≡ any → same_builtin b builtins.Untyped ≡ untyped → Takes s (attribute_content s test (names.Builtin b)) (all_passing s test l)
-under_builtin s test g b t l ts d k true untyped e f =
+under_builtin s test is b t l ts d k true untyped e f =
     subst (λ (c : Builtin). Takes s (attribute_content s test (names.Builtin c)) (all_passing s test l)) (sym (builtins_are_one b builtins.AnyType e))
-    (any_take s test (names.Builtin builtins.AnySimple) (any_simple s g) l (own_are_simple s t l ts k.schemas k.keeps) k.keeps.distinct)
-under_builtin s test g b t l ts d k false true e f =
+    (any_take s test (names.Builtin builtins.AnySimple) (any_simple s is.grounded) l (own_are_simple s t l ts is k.keeps) k.keeps.distinct)
+under_builtin s test is b t l ts d k false true e f =
     let same : t ≡ names.Builtin builtins.Untyped =
-    only_untyped_is_untyped s t k.schemas (subst (λ (c : Builtin). DerivesFrom s t (names.Builtin c)) (builtins_are_one b builtins.Untyped f) d)
+    only_untyped_is_untyped s t is (subst (λ (c : Builtin). DerivesFrom s t (names.Builtin c)) (builtins_are_one b builtins.Untyped f) d)
     in absurd (true≢false (sym (subst (λ (u : TypeName). is_named_type s u ≡ true) same k.keeps.known)))
-under_builtin s test g b t l ts d k false false e f =
+under_builtin s test is b t l ts d k false false e f =
     subst (λ (u : SequenceType). Takes s u (all_passing s test l))
-    (other_attributes s test b (builtin_apart b builtins.AnyType refl e) (builtin_apart b builtins.Untyped refl f)) (behind_takes s test g (names.Builtin b) t l ts d k)
+    (other_attributes s test b (builtin_apart b builtins.AnyType refl e) (builtin_apart b builtins.Untyped refl f)) (behind_takes s test is (names.Builtin b) t l ts d k)
 
-typed_content_takes : (s : SchemaSet) (test : KindTest) → Grounded (bases_of s) → (kind t : TypeName) (l : List Attribute) (ts : PlainTrees) → DerivesFrom s t kind → IsTypedElement s t l ts
+typed_content_takes : (s : SchemaSet) (test : KindTest) → IsSchemaSet s → (kind t : TypeName) (l : List Attribute) (ts : PlainTrees) → DerivesFrom s t kind → IsTypedElement s t l ts
     → Takes s (attribute_content s test kind) (all_passing s test l)
-typed_content_takes s test g (names.Builtin b) t l ts d k = under_builtin s test g b t l ts d k (same_builtin b builtins.AnyType) (same_builtin b builtins.Untyped) refl refl
-typed_content_takes s test g (names.Named n) t l ts d k = behind_takes s test g (names.Named n) t l ts d k
-typed_content_takes s test g (names.Anonymous n) t l ts d k = behind_takes s test g (names.Anonymous n) t l ts d k
+typed_content_takes s test is (names.Builtin b) t l ts d k = under_builtin s test is b t l ts d k (same_builtin b builtins.AnyType) (same_builtin b builtins.Untyped) refl refl
+typed_content_takes s test is (names.Named n) t l ts d k = behind_takes s test is (names.Named n) t l ts d k
+typed_content_takes s test is (names.Anonymous n) t l ts d k = behind_takes s test is (names.Anonymous n) t l ts d k
 
-element_attributes : (s : SchemaSet) (test : KindTest) → Grounded (bases_of s) → (kind t : TypeName) (l : List Attribute) (ts : PlainTrees) → DerivesFrom s t kind → IsSoundElement s t l ts → HaveOwnNames l
+element_attributes : (s : SchemaSet) (test : KindTest) → IsSchemaSet s → (kind t : TypeName) (l : List Attribute) (ts : PlainTrees) → DerivesFrom s t kind → IsHonestElement s t l ts → HaveOwnNames l
     → Takes s (attribute_content s test kind) (all_passing s test l)
-element_attributes s test g kind t l ts d (inl u) o = untyped_content_takes s test kind g (subst (λ (v : TypeName). DerivesFrom s v kind) u.kind_is d) l u.attributes o
-element_attributes s test g kind t l ts d (inr k) o = typed_content_takes s test g kind t l ts d k
+element_attributes s test is kind t l ts d (inl u) o = untyped_content_takes s test kind is.grounded (subst (λ (v : TypeName). DerivesFrom s v kind) u.kind_is d) l u.attributes o
+element_attributes s test is kind t l ts d (inr k) o = typed_content_takes s test is kind t l ts d k
 
-pub attributes_take : (s : SchemaSet) (test : KindTest) → Grounded (bases_of s) → (u : PlainTree) → IsSoundNode s u → (kind : ItemType) → ItemTakes s kind (shape_of u)
+pub attributes_take : (s : SchemaSet) (test : KindTest) → IsSchemaSet s → (u : PlainTree) → IsHonestTree s u → (kind : ItemType) → ItemTakes s kind (shape_of u)
     → Takes s (attribute_type s test kind) (all_passing s test (own_attributes u))
-attributes_take s test g (element n k l ts) h (items.Element w t) i =
-    element_attributes s test g t k l ts i.1 (element_is_sound s n k l ts h.sound) h.names.0
-attributes_take s test g (element n k l ts) h (items.Attribute w t) i = absurd i
-attributes_take s test g (element n k l ts) h items.Text i = absurd i
-attributes_take s test g (element n k l ts) h (items.Document None) i = absurd i
-attributes_take s test g (element n k l ts) h (items.Document (Some e)) i = absurd i
-attributes_take s test g (element n k l ts) h (items.Atom t) i = absurd i
-attributes_take s test g (document ts) h (items.Document e) i = refl
-attributes_take s test g (document ts) h (items.Element w t) i = absurd i
-attributes_take s test g (document ts) h (items.Attribute w t) i = refl
-attributes_take s test g (document ts) h items.Text i = refl
-attributes_take s test g (document ts) h (items.Atom t) i = refl
-attributes_take s test g (attribute a) h (items.Element w t) i = absurd i
-attributes_take s test g (attribute a) h (items.Attribute w t) i = refl
-attributes_take s test g (attribute a) h items.Text i = refl
-attributes_take s test g (attribute a) h (items.Document e) i = refl
-attributes_take s test g (attribute a) h (items.Atom t) i = refl
-attributes_take s test g (text x) h (items.Element w t) i = absurd i
-attributes_take s test g (text x) h (items.Attribute w t) i = refl
-attributes_take s test g (text x) h items.Text i = refl
-attributes_take s test g (text x) h (items.Document e) i = refl
-attributes_take s test g (text x) h (items.Atom t) i = refl
+attributes_take s test is (element n k l ts) h (items.Element w t) i =
+    element_attributes s test is t k l ts i.1 (element_is_honest s n k l ts h.typed) h.names.0
+attributes_take s test is (element n k l ts) h (items.Attribute w t) i = absurd i
+attributes_take s test is (element n k l ts) h items.Text i = absurd i
+attributes_take s test is (element n k l ts) h (items.Document None) i = absurd i
+attributes_take s test is (element n k l ts) h (items.Document (Some e)) i = absurd i
+attributes_take s test is (element n k l ts) h (items.Atom t) i = absurd i
+attributes_take s test is (document ts) h (items.Document e) i = refl
+attributes_take s test is (document ts) h (items.Element w t) i = absurd i
+attributes_take s test is (document ts) h (items.Attribute w t) i = refl
+attributes_take s test is (document ts) h items.Text i = refl
+attributes_take s test is (document ts) h (items.Atom t) i = refl
+attributes_take s test is (attribute a) h (items.Element w t) i = absurd i
+attributes_take s test is (attribute a) h (items.Attribute w t) i = refl
+attributes_take s test is (attribute a) h items.Text i = refl
+attributes_take s test is (attribute a) h (items.Document e) i = refl
+attributes_take s test is (attribute a) h (items.Atom t) i = refl
+attributes_take s test is (text x) h (items.Element w t) i = absurd i
+attributes_take s test is (text x) h (items.Attribute w t) i = refl
+attributes_take s test is (text x) h items.Text i = refl
+attributes_take s test is (text x) h (items.Document e) i = refl
+attributes_take s test is (text x) h (items.Atom t) i = refl

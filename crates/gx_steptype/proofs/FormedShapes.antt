@@ -1,6 +1,6 @@
 -- Shapes whose types are derived from xs:anyType, and an attribute's from xs:anySimpleType.
 use Rattle.std.proofs.Common.{◌≡◌, None, Some, sym, subst}
-use Rattle.gx_base.specs.declared.type_name.Builtin.TheVariants.{AnyType, AnySimple, Untyped, UntypedAtomic}
+use Rattle.gx_base.specs.declared.type_name.Builtin.TheVariants.{AnyType, AnySimple, Untyped}
 use Rattle.gx_base.specs.declared.type_name.TypeName.{TypeName}
 use Rattle.gx_base.specs.declared.type_name.TypeName.TheVariants as names
 use Rattle.gx_types.specs.declared.shape.Shape.{Shape}
@@ -8,8 +8,6 @@ use Rattle.gx_types.specs.declared.shape.Shape.TheVariants as shapes
 use Rattle.gx_types.specs.SchemaSet.{SchemaSet}
 use Rattle.gx_types.specs.Derivation.{DerivesFrom}
 use Rattle.gx_types.proofs.PublicLaws.{all_types_are_derived_from_any_type}
-use Rattle.gx_steptype.specs.StepLaws.{IsUntypedShape}
-use Rattle.gx_steptype.proofs.UntypedKinds.{untyped_atomic_is_simple}
 
 abbrev pub IsFormed : SchemaSet → Shape → Type 0
 IsFormed s (shapes.Elem name t) = DerivesFrom s t (names.Builtin AnyType)
@@ -25,11 +23,3 @@ derives_along s t u kind e h = subst (λ (v : TypeName). DerivesFrom s v kind) (
 
 pub untyped_under_any : (s : SchemaSet) → DerivesFrom s (names.Builtin Untyped) (names.Builtin AnyType)
 untyped_under_any s = all_types_are_derived_from_any_type.builtin s Untyped
-
-pub untyped_is_formed : (s : SchemaSet) (x : Shape) → IsUntypedShape x → IsFormed s x
-untyped_is_formed s (shapes.Elem name t) h = derives_along s t (names.Builtin Untyped) (names.Builtin AnyType) h (untyped_under_any s)
-untyped_is_formed s (shapes.Attr name t) h = derives_along s t (names.Builtin UntypedAtomic) (names.Builtin AnySimple) h (untyped_atomic_is_simple s)
-untyped_is_formed s shapes.Text h = tt
-untyped_is_formed s (shapes.Doc None) h = tt
-untyped_is_formed s (shapes.Doc (Some child)) h = derives_along s child.1 (names.Builtin Untyped) (names.Builtin AnyType) h (untyped_under_any s)
-untyped_is_formed s (shapes.Atom t) h = tt

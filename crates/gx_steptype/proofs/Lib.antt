@@ -1,6 +1,8 @@
 pub mod DerivedLemmas
 pub mod SameNames
 pub mod Replacing
+pub mod Declarations
+pub mod ReadValues
 pub mod UntypedKinds
 pub mod CoveredTypes
 pub mod SimpleKinds
@@ -11,16 +13,13 @@ pub mod PassingShapes
 pub mod OwnContent
 pub mod OwnAttributes
 pub mod HonestNodes
-pub mod SoundNodes
+pub mod HonestPlaces
 pub mod FoundNodes
 pub mod ChildTypes
 pub mod AttributeTypes
 pub mod NearSteps
-pub mod DataTypes
 pub mod GivenLists
-pub mod Declarations
-pub mod ReadValues
 pub mod TypedValues
 pub mod WiderValues
 pub mod TypedNodes
-pub mod TypedData
+pub mod DataTypes

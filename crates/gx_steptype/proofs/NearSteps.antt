@@ -10,6 +10,7 @@ use Rattle.gx_types.specs.declared.step.Axis.{Axis}
 use Rattle.gx_types.specs.declared.step.Axis.TheVariants as axes
 use Rattle.gx_types.specs.declared.step.Test.{Test}
 use Rattle.gx_types.specs.SchemaSet.{SchemaSet}
+use Rattle.gx_types.specs.SchemaInvariant.{IsSchemaSet}
 use Rattle.gx_types.specs.Derivation.{bases_of}
 use Rattle.gx_types.specs.Grounded.{Grounded}
 use Rattle.gx_types.specs.SequenceType.{SequenceType}
@@ -19,6 +20,7 @@ use Rattle.gx_types.proofs.PublicLaws.{limited_takes_type}
 use Rattle.gx_tree.specs.declared.attribute.Attribute.{Attribute}
 use Rattle.gx_tree.specs.PlainTree.{PlainTree, attribute}
 use Rattle.gx_model.specs.Forest.{Forest, PlainNode, then_found, children_of, own_attributes, tree_at, attribute_at}
+use Rattle.gx_model.specs.Honest.{IsHonestTree, IsHonest}
 use Rattle.gx_model.specs.Item.{node}
 use Rattle.gx_model.specs.Belongs.{shape_of, item_shape, HaveShapes, Belongs}
 use Rattle.gx_model.specs.Location.{Location, along, located, location_of}
@@ -28,14 +30,13 @@ use Rattle.gx_model.specs.Stepping.{kept_if, found_at, passing_children, passing
 use Rattle.gx_model.proofs.AxisLemmas.{children_are_found, attributes_are_found, self_is_found, parent_is_found}
 use Rattle.gx_steptype.specs.Replaced.{replaced_items}
 use Rattle.gx_steptype.specs.StepType.{is_near, item_step, child_type, parent_type, step_type}
-use Rattle.gx_steptype.specs.StepLaws.{StepsKeepTheirTypes, TypedStepsKeepTheirTypes}
+use Rattle.gx_steptype.specs.StepLaws.{StepsKeepTheirTypes}
 use Rattle.gx_steptype.proofs.Replacing.{Serves, each_item, replaced_takes, append_nil}
 use Rattle.gx_steptype.proofs.Testing.{tested_takes}
 use Rattle.gx_steptype.proofs.FormedShapes.{IsFormed}
 use Rattle.gx_steptype.proofs.PassingShapes.{passing, all_tested, one_tested}
 use Rattle.gx_steptype.proofs.OwnAttributes.{attribute_shape}
-use Rattle.gx_steptype.proofs.HonestNodes.{tree_is_node}
-use Rattle.gx_steptype.proofs.SoundNodes.{IsSoundNode, untyped_is_sound, typed_tree_is_sound, child_is_sound, sound_node_at, attribute_is_formed, shape_is_formed, all_children_are_formed}
+use Rattle.gx_steptype.proofs.HonestNodes.{child_is_honest, shape_is_formed, all_children_are_formed, attribute_is_formed, tree_is_honest, honest_at}
 use Rattle.gx_steptype.proofs.FoundNodes.{Found, one_kept, found_have_shapes, tree_behind, node_passes, children_have, attributes_have}
 use Rattle.gx_steptype.proofs.ChildTypes.{child_takes, no_parent, parent_takes, owner_takes}
 use Rattle.gx_steptype.proofs.AttributeTypes.{attributes_take}
@@ -51,26 +52,26 @@ pub record StepTakes (s : SchemaSet) (test : KindTest) (axis : Axis) (t : PlainT
 
 -- children
 
-child_step : (s : SchemaSet) → Grounded (bases_of s) → (test : KindTest) (t u : PlainTree) (path : List ℕ) → tree_at t path ≡ Some u → IsSoundNode s u → StepTakes s test axes.Child t (at path None) (shape_of u)
-child_step s g test t u path e h = record {
+child_step : (s : SchemaSet) → IsSchemaSet s → (test : KindTest) (t u : PlainTree) (path : List ℕ) → tree_at t path ≡ Some u → IsHonestTree s u → StepTakes s test axes.Child t (at path None) (shape_of u)
+child_step s is test t u path e h = record {
   out = flat_map (passing s test) (map shape_of (children_of u));
   found =
       subst (λ (ls : List Location). Found t ls (flat_map (passing s test) (map shape_of (children_of u))))
       (sym (ap (λ (o : Option PlainTree). found_at o (λ v. passing_children (node_passes s test) path 0 (children_of v))) e) ∙ children_are_found (node_passes s test) (at path None) t)
       (children_have s test t u path e 0 (children_of u) (λ i. ap (slice_get (children_of u)) (omega arith)));
-  takes = λ kind i. all_tested s g test (child_type s kind) (map shape_of (children_of u)) (all_children_are_formed s g u h.sound) (child_takes s g u h kind i);
+  takes = λ kind i. all_tested s is.grounded test (child_type s kind) (map shape_of (children_of u)) (all_children_are_formed s is.grounded u h.typed) (child_takes s is u h kind i);
 }
 
 -- attributes
 
-attribute_step : (s : SchemaSet) → Grounded (bases_of s) → (test : KindTest) (t u : PlainTree) (path : List ℕ) → tree_at t path ≡ Some u → IsSoundNode s u → StepTakes s test axes.Attribute t (at path None) (shape_of u)
-attribute_step s g test t u path e h = record {
+attribute_step : (s : SchemaSet) → IsSchemaSet s → (test : KindTest) (t u : PlainTree) (path : List ℕ) → tree_at t path ≡ Some u → IsHonestTree s u → StepTakes s test axes.Attribute t (at path None) (shape_of u)
+attribute_step s is test t u path e h = record {
   out = flat_map (passing s test) (map attribute_shape (own_attributes u));
   found =
       subst (λ (ls : List Location). Found t ls (flat_map (passing s test) (map attribute_shape (own_attributes u))))
       (sym (ap (λ (o : Option PlainTree). found_at o (λ v. passing_attributes (node_passes s test) path 0 (own_attributes v))) e) ∙ attributes_are_found (node_passes s test) (at path None) t)
       (attributes_have s test t u path e 0 (own_attributes u) (λ i. ap (slice_get (own_attributes u)) (omega arith)));
-  takes = λ kind i. attributes_take s test g u h kind i;
+  takes = λ kind i. attributes_take s test is u h kind i;
 }
 
 -- an attribute has no children and no attributes
@@ -170,71 +171,71 @@ below t w u up n e f = through (slice_get (children_of w) n) refl
 nothing_there : {A : Type 0} (x : A) → None ≡ Some x → ⊥
 nothing_there x e = absurd (cc)
 
-parent_in_tree : (s : SchemaSet) → Grounded (bases_of s) → (test : KindTest) (t u : PlainTree) (path up : List ℕ) → IsSoundNode s t → tree_at t path ≡ Some u → path_up path ≡ Some up → EndsIn path up
+parent_in_tree : (s : SchemaSet) → IsSchemaSet s → (test : KindTest) (t u : PlainTree) (path up : List ℕ) → IsHonestTree s t → tree_at t path ≡ Some u → path_up path ≡ Some up → EndsIn path up
     → (o : Option PlainTree) → tree_at t up ≡ o → StepTakes s test axes.Parent t (at path None) (shape_of u)
-parent_in_tree s g test t u path up h e f r None k =
+parent_in_tree s is test t u path up h e f r None k =
     absurd (nothing_there u (sym (ap (λ (o : Option PlainTree). then_found o (λ v. tree_at v (r.position ∷ []))) k) ∙ sym (tree_behind up (r.position ∷ []) t) ∙ ap (tree_at t) (sym r.is) ∙ e))
-parent_in_tree s g test t u path up h e f r (Some w) k =
-    let i = sound_node_at s up t w h k in
+parent_in_tree s is test t u path up h e f r (Some w) k =
+    let i = honest_at s up t w h k in
     let there : slice_get (children_of w) r.position ≡ Some u = below t w u up r.position k (ap (tree_at t) (sym r.is) ∙ e) in
-    let c = child_is_sound s w r.position u i there in
-    parent_is s g test t w (at path None) up (shape_of u) f k (shape_is_formed s g w i.sound) (λ kind j. parent_takes s g w u r.position i there c.content kind j)
+    let c = child_is_honest s w r.position u i there in
+    parent_is s is.grounded test t w (at path None) up (shape_of u) f k (shape_is_formed s is.grounded w i.typed) (λ kind j. parent_takes s is.grounded w u r.position i there c.content kind j)
 
-parent_by_path : (s : SchemaSet) → Grounded (bases_of s) → (test : KindTest) (t u : PlainTree) (path : List ℕ) → IsSoundNode s t → tree_at t path ≡ Some u → (o : Option (List ℕ)) → path_up path ≡ o
+parent_by_path : (s : SchemaSet) → IsSchemaSet s → (test : KindTest) (t u : PlainTree) (path : List ℕ) → IsHonestTree s t → tree_at t path ≡ Some u → (o : Option (List ℕ)) → path_up path ≡ o
     → StepTakes s test axes.Parent t (at path None) (shape_of u)
-parent_by_path s g test t u path h e None f = no_parent_step s g test t (at path None) (shape_of u) f
-parent_by_path s g test t u path h e (Some up) f = parent_in_tree s g test t u path up h e f (up_is path up f) (tree_at t up) refl
+parent_by_path s is test t u path h e None f = no_parent_step s is.grounded test t (at path None) (shape_of u) f
+parent_by_path s is test t u path h e (Some up) f = parent_in_tree s is test t u path up h e f (up_is path up f) (tree_at t up) refl
 
-parent_step : (s : SchemaSet) → Grounded (bases_of s) → (test : KindTest) (t u : PlainTree) (path : List ℕ) → IsSoundNode s t → tree_at t path ≡ Some u → StepTakes s test axes.Parent t (at path None) (shape_of u)
-parent_step s g test t u path h e = parent_by_path s g test t u path h e (path_up path) refl
+parent_step : (s : SchemaSet) → IsSchemaSet s → (test : KindTest) (t u : PlainTree) (path : List ℕ) → IsHonestTree s t → tree_at t path ≡ Some u → StepTakes s test axes.Parent t (at path None) (shape_of u)
+parent_step s is test t u path h e = parent_by_path s is test t u path h e (path_up path) refl
 
 -- from each node on each near axis
 
-from_node : (s : SchemaSet) → Grounded (bases_of s) → (test : KindTest) (axis : Axis) (t u : PlainTree) (path : List ℕ) → is_near axis ≡ true → IsSoundNode s t → tree_at t path ≡ Some u
+from_node : (s : SchemaSet) → IsSchemaSet s → (test : KindTest) (axis : Axis) (t u : PlainTree) (path : List ℕ) → is_near axis ≡ true → IsHonestTree s t → tree_at t path ≡ Some u
     → StepTakes s test axis t (at path None) (shape_of u)
-from_node s g test axes.Child t u path near h e = child_step s g test t u path e (sound_node_at s path t u h e)
-from_node s g test axes.Attribute t u path near h e = attribute_step s g test t u path e (sound_node_at s path t u h e)
-from_node s g test axes.SelfAxis t u path near h e =
-    self_step s g test t u path None (ap (λ (o : Option PlainTree). then_found o (attribute_at None)) e) (shape_is_formed s g u (sound_node_at s path t u h e).sound)
-from_node s g test axes.Parent t u path near h e = parent_step s g test t u path h e
-from_node s g test axes.Descendant t u path near h e = absurd (true≢false (sym near))
-from_node s g test axes.DescendantOrSelf t u path near h e = absurd (true≢false (sym near))
-from_node s g test axes.Ancestor t u path near h e = absurd (true≢false (sym near))
-from_node s g test axes.AncestorOrSelf t u path near h e = absurd (true≢false (sym near))
+from_node s is test axes.Child t u path near h e = child_step s is test t u path e (honest_at s path t u h e)
+from_node s is test axes.Attribute t u path near h e = attribute_step s is test t u path e (honest_at s path t u h e)
+from_node s is test axes.SelfAxis t u path near h e =
+    self_step s is.grounded test t u path None (ap (λ (o : Option PlainTree). then_found o (attribute_at None)) e) (shape_is_formed s is.grounded u (honest_at s path t u h e).typed)
+from_node s is test axes.Parent t u path near h e = parent_step s is test t u path h e
+from_node s is test axes.Descendant t u path near h e = absurd (true≢false (sym near))
+from_node s is test axes.DescendantOrSelf t u path near h e = absurd (true≢false (sym near))
+from_node s is test axes.Ancestor t u path near h e = absurd (true≢false (sym near))
+from_node s is test axes.AncestorOrSelf t u path near h e = absurd (true≢false (sym near))
 
-from_attribute : (s : SchemaSet) → Grounded (bases_of s) → (test : KindTest) (axis : Axis) (t u : PlainTree) (path : List ℕ) (n : ℕ) (a : Attribute) → is_near axis ≡ true → IsSoundNode s t → tree_at t path ≡ Some u
+from_attribute : (s : SchemaSet) → IsSchemaSet s → (test : KindTest) (axis : Axis) (t u : PlainTree) (path : List ℕ) (n : ℕ) (a : Attribute) → is_near axis ≡ true → IsHonestTree s t → tree_at t path ≡ Some u
     → slice_get (own_attributes u) n ≡ Some a → StepTakes s test axis t (at path (Some n)) (attribute_shape a)
-from_attribute s g test axes.Child t u path n a near h e f = child_step_from_attribute s test t path n a
-from_attribute s g test axes.Attribute t u path n a near h e f = attribute_step_from_attribute s test t path n a
-from_attribute s g test axes.SelfAxis t u path n a near h e f =
-    self_step s g test t (attribute a) path (Some n)
-    (ap (λ (o : Option PlainTree). then_found o (attribute_at (Some n))) e ∙ ap (option_map attribute) f) (attribute_is_formed s u n a (sound_node_at s path t u h e) f)
-from_attribute s g test axes.Parent t u path n a near h e f =
-    let i = sound_node_at s path t u h e in
-    parent_is s g test t u (at path (Some n)) path (attribute_shape a) refl e (shape_is_formed s g u i.sound) (λ kind j. owner_takes s g u a n i f kind j)
-from_attribute s g test axes.Descendant t u path n a near h e f = absurd (true≢false (sym near))
-from_attribute s g test axes.DescendantOrSelf t u path n a near h e f = absurd (true≢false (sym near))
-from_attribute s g test axes.Ancestor t u path n a near h e f = absurd (true≢false (sym near))
-from_attribute s g test axes.AncestorOrSelf t u path n a near h e f = absurd (true≢false (sym near))
+from_attribute s is test axes.Child t u path n a near h e f = child_step_from_attribute s test t path n a
+from_attribute s is test axes.Attribute t u path n a near h e f = attribute_step_from_attribute s test t path n a
+from_attribute s is test axes.SelfAxis t u path n a near h e f =
+    self_step s is.grounded test t (attribute a) path (Some n)
+    (ap (λ (o : Option PlainTree). then_found o (attribute_at (Some n))) e ∙ ap (option_map attribute) f) (attribute_is_formed s is u n a (honest_at s path t u h e).typed f)
+from_attribute s is test axes.Parent t u path n a near h e f =
+    let i = honest_at s path t u h e in
+    parent_is s is.grounded test t u (at path (Some n)) path (attribute_shape a) refl e (shape_is_formed s is.grounded u i.typed) (λ kind j. owner_takes s is.grounded u a n i f kind j)
+from_attribute s is test axes.Descendant t u path n a near h e f = absurd (true≢false (sym near))
+from_attribute s is test axes.DescendantOrSelf t u path n a near h e f = absurd (true≢false (sym near))
+from_attribute s is test axes.Ancestor t u path n a near h e f = absurd (true≢false (sym near))
+from_attribute s is test axes.AncestorOrSelf t u path n a near h e f = absurd (true≢false (sym near))
 
-attribute_place : (s : SchemaSet) → Grounded (bases_of s) → (test : KindTest) (axis : Axis) (t u v : PlainTree) (path : List ℕ) (n : ℕ) → is_near axis ≡ true → IsSoundNode s t → tree_at t path ≡ Some u
+attribute_place : (s : SchemaSet) → IsSchemaSet s → (test : KindTest) (axis : Axis) (t u v : PlainTree) (path : List ℕ) (n : ℕ) → is_near axis ≡ true → IsHonestTree s t → tree_at t path ≡ Some u
     → (o : Option Attribute) → slice_get (own_attributes u) n ≡ o → option_map attribute o ≡ Some v → StepTakes s test axis t (at path (Some n)) (shape_of v)
-attribute_place s g test axis t u v path n near h f None k l = absurd (cc)
-attribute_place s g test axis t u v path n near h f (Some a) k l =
+attribute_place s is test axis t u v path n near h f None k l = absurd (cc)
+attribute_place s is test axis t u v path n near h f (Some a) k l =
     let same : attribute a ≡ v = cc in
-    subst (λ (w : PlainTree). StepTakes s test axis t (at path (Some n)) (shape_of w)) same (from_attribute s g test axis t u path n a near h f k)
+    subst (λ (w : PlainTree). StepTakes s test axis t (at path (Some n)) (shape_of w)) same (from_attribute s is test axis t u path n a near h f k)
 
-place_in_tree : (s : SchemaSet) → Grounded (bases_of s) → (test : KindTest) (axis : Axis) (t v : PlainTree) (path : List ℕ) → is_near axis ≡ true → IsSoundNode s t
+place_in_tree : (s : SchemaSet) → IsSchemaSet s → (test : KindTest) (axis : Axis) (t v : PlainTree) (path : List ℕ) → is_near axis ≡ true → IsHonestTree s t
     → (o : Option PlainTree) → tree_at t path ≡ o → (own : Option ℕ) → then_found o (attribute_at own) ≡ Some v → StepTakes s test axis t (at path own) (shape_of v)
-place_in_tree s g test axis t v path near h None f own k = absurd (cc)
-place_in_tree s g test axis t v path near h (Some u) f None k =
+place_in_tree s is test axis t v path near h None f own k = absurd (cc)
+place_in_tree s is test axis t v path near h (Some u) f None k =
     let same : u ≡ v = cc in
-    subst (λ (w : PlainTree). StepTakes s test axis t (at path None) (shape_of w)) same (from_node s g test axis t u path near h f)
-place_in_tree s g test axis t v path near h (Some u) f (Some n) k = attribute_place s g test axis t u v path n near h f (slice_get (own_attributes u) n) refl k
+    subst (λ (w : PlainTree). StepTakes s test axis t (at path None) (shape_of w)) same (from_node s is test axis t u path near h f)
+place_in_tree s is test axis t v path near h (Some u) f (Some n) k = attribute_place s is test axis t u v path n near h f (slice_get (own_attributes u) n) refl k
 
-from_place : (s : SchemaSet) → Grounded (bases_of s) → (test : KindTest) (axis : Axis) (t v : PlainTree) (path : List ℕ) (own : Option ℕ) → is_near axis ≡ true → IsSoundNode s t → located t (at path own) ≡ Some v
+from_place : (s : SchemaSet) → IsSchemaSet s → (test : KindTest) (axis : Axis) (t v : PlainTree) (path : List ℕ) (own : Option ℕ) → is_near axis ≡ true → IsHonestTree s t → located t (at path own) ≡ Some v
     → StepTakes s test axis t (at path own) (shape_of v)
-from_place s g test axis t v path own near h e = place_in_tree s g test axis t v path near h (tree_at t path) refl own e
+from_place s is test axis t v path own near h e = place_in_tree s is test axis t v path near h (tree_at t path) refl own e
 
 -- in a forest
 
@@ -280,22 +281,18 @@ there_in_forest forest from x (Some t) f k = there_in_tree forest from x t (loca
 stands_there : (forest : Forest) (from : PlainNode) (x : Shape) → item_shape forest (node from) ≡ Some x → StandsThere forest from x
 stands_there forest from x e = there_in_forest forest from x (slice_get forest from.tree) refl e
 
-step_of_shapes : (s : SchemaSet) (forest : Forest) (from : PlainNode) (axis : Axis) (test : Test) (context : SequenceType) → Grounded (bases_of s)
-    → ((t : PlainTree) → slice_get forest from.tree ≡ Some t → IsSoundNode s t) → is_near axis ≡ true
+step_of_shapes : (s : SchemaSet) (forest : Forest) (from : PlainNode) (axis : Axis) (test : Test) (context : SequenceType) → IsSchemaSet s → IsHonest s forest → is_near axis ≡ true
     → (seen : List Shape) → HaveShapes s forest (node from ∷ []) seen → Takes s context seen → Belongs s forest (map node (on_axis s forest from axis test)) (step_type s axis test context)
-step_of_shapes s forest from axis asks context g honest near [] h k = absurd h
-step_of_shapes s forest from axis asks context g honest near (x ∷ []) h k =
+step_of_shapes s forest from axis asks context is honest near [] h k = absurd h
+step_of_shapes s forest from axis asks context is honest near (x ∷ []) h k =
     let there = stands_there forest from x h.0 in
+    let root = tree_is_honest s forest from.tree there.root honest there.in_forest in
     step_in_tree s forest from axis asks context x there.root there.in_forest
     (subst (StepTakes s (asked s (is_attribute_axis axis) asks) axis there.root (location_of from)) there.shape
-    (from_place s g (asked s (is_attribute_axis axis) asks) axis there.root there.there from.path from.attribute near (honest there.root there.in_forest) there.found))
+    (from_place s is (asked s (is_attribute_axis axis) asks) axis there.root there.there from.path from.attribute near root there.found))
     k
-step_of_shapes s forest from axis asks context g honest near (x ∷ y ∷ seen) h k = absurd h.2
+step_of_shapes s forest from axis asks context is honest near (x ∷ y ∷ seen) h k = absurd h.2
 
 pub steps_keep_their_types : StepsKeepTheirTypes
-steps_keep_their_types s forest from axis asks context g honest near belongs =
-    step_of_shapes s forest from axis asks context g (λ t e. untyped_is_sound s t (tree_is_node s forest from.tree t honest e)) near belongs.seen belongs.shaped belongs.taken
-
-pub typed_steps_keep_their_types : TypedStepsKeepTheirTypes
-typed_steps_keep_their_types s forest from axis asks context is typed near belongs =
-    step_of_shapes s forest from axis asks context is.grounded (λ t e. typed_tree_is_sound s forest from.tree t is typed e) near belongs.seen belongs.shaped belongs.taken
+steps_keep_their_types s forest from axis asks context is honest near belongs =
+    step_of_shapes s forest from axis asks context is honest near belongs.seen belongs.shaped belongs.taken

@@ -30,7 +30,8 @@ use Rattle.gx_steptype.specs.StepType.{use_type, uses_type, declared_attributes,
 use Rattle.gx_steptype.proofs.Arrangements.{Rearranged}
 use Rattle.gx_steptype.proofs.FormedShapes.{derives_along}
 use Rattle.gx_steptype.proofs.Replacing.{append_nil}
-use Rattle.gx_steptype.proofs.SimpleKinds.{own_declaration, builtin_has_no_declaration, simple_is_derived}
+use Rattle.gx_steptype.proofs.Declarations.{declared_is, builtin_is_undeclared}
+use Rattle.gx_steptype.proofs.SimpleKinds.{simple_is_derived}
 
 abbrev pub attribute_shape : Attribute → Shape
 attribute_shape a = shapes.Attr a.name a.kind
@@ -219,7 +220,7 @@ pub record UsesFit (s : SchemaSet) (uses : List AttributeUse) : Type 0 where
 
 fits : (s : SchemaSet) (t : TypeName) → IsSchemaSet s → (o : Option Declared) → declaration_of s t ≡ o → UsesFit s (uses_allowed o)
 fits s t is None e = record { simple = tt; distinct = tt }
-fits s t is (Some d) e = let own = own_declaration s t d is e in record { simple = own.0.attributes; distinct = own.0.distinct }
+fits s t is (Some d) e = let own = declared_is s t d is e in record { simple = own.attributes; distinct = own.distinct }
 
 uses_fit : (s : SchemaSet) (t : TypeName) → IsSchemaSet s → UsesFit s (uses_allowed (declaration_of s t))
 uses_fit s t is = fits s t is (declaration_of s t) refl
@@ -229,7 +230,7 @@ uses_declared None = refl
 uses_declared (Some d) = refl
 
 uses_of_type : (s : SchemaSet) (t : TypeName) → IsSchemaSet s → uses_type (uses_allowed (declaration_of s t)) ≡ attributes_of_type s t
-uses_of_type s (names.Builtin b) is = ap (λ (o : Option Declared). uses_type (uses_allowed o)) (builtin_has_no_declaration s b is)
+uses_of_type s (names.Builtin b) is = ap (λ (o : Option Declared). uses_type (uses_allowed o)) (builtin_is_undeclared s b is)
 uses_of_type s (names.Named n) is = uses_declared (declaration_of s (names.Named n))
 uses_of_type s (names.Anonymous n) is = uses_declared (declaration_of s (names.Anonymous n))
 

@@ -19,7 +19,7 @@ use Rattle.gx_model.specs.Belongs.{shape_of}
 use Rattle.gx_model.specs.DeclaredContent.{text_model, model_in, content_model}
 use Rattle.gx_model.specs.TypedTree.{shapes_of_trees, KeepsToType}
 use Rattle.gx_steptype.specs.StepType.{content_type, declared_content, content_of}
-use Rattle.gx_steptype.proofs.SimpleKinds.{builtin_has_no_declaration}
+use Rattle.gx_steptype.proofs.Declarations.{builtin_is_undeclared}
 
 model_is_content : (c : Content) → unwrap_or (model_in c) text_model ≡ content_type c
 model_is_content (contents.Atomic facets) = refl
@@ -37,7 +37,7 @@ builtin_model s builtins.Untyped h = absurd (true≢false (sym h))
 builtin_model s _ h = refl
 
 model_of_type : (s : SchemaSet) (t : TypeName) → IsSchemaSet s → is_named_type s t ≡ true → content_model (declaration_of s t) ≡ content_of s t
-model_of_type s (names.Builtin b) is h = ap content_model (builtin_has_no_declaration s b is) ∙ builtin_model s b h
+model_of_type s (names.Builtin b) is h = ap content_model (builtin_is_undeclared s b is) ∙ builtin_model s b h
 model_of_type s (names.Named n) is h = declared_model (declaration_of s (names.Named n)) h
 model_of_type s (names.Anonymous n) is h = declared_model (declaration_of s (names.Anonymous n)) h
 

@@ -57,6 +57,10 @@ pub append_nil : (xs : List Shape) → xs ++ [] ≡ xs
 append_nil [] = refl
 append_nil (x ∷ xs) = ap (λ ys. x ∷ ys) (append_nil xs)
 
+-- one member more
+pub star_next : (s : SchemaSet) (t : SequenceType) (x : Shape) (xs : List Shape) → Takes s t (x ∷ []) → Takes s (star t) xs → Takes s (star t) (x ∷ xs)
+star_next s t x xs h (parts, is, each) = ((x ∷ []) ∷ parts, ap (λ ys. x ∷ ys) is, (h, each))
+
 made_of_joined : (g : Shape → List Shape) (parts : List (List Shape)) → flat_map g (all_joined parts) ≡ all_joined (map (flat_map g) parts)
 made_of_joined g [] = refl
 made_of_joined g (part ∷ parts) = flat_map-append g part (all_joined parts) ∙ ap (λ xs. flat_map g part ++ xs) (made_of_joined g parts)

@@ -1,9 +1,9 @@
 -- Simple types are derived from xs:anySimpleType, and no type but xs:untyped is derived from xs:untyped.
-use Rattle.std.proofs.Common.{◌≡◌, ℕ, zero, suc, Bool, true, false, List, [], ◌∷◌, Option, None, Some, is_some, length, inl, inr, refl, sym, ◌∙◌, ap, subst, if◌then◌else◌}
+use Rattle.std.proofs.Common.{◌≡◌, ℕ, zero, suc, true, false, List, Option, None, Some, is_some, length, inl, inr, refl, sym, ◌∙◌, ap, subst}
 use Rattle.std.specs.Option.{option_map}
 use Rattle.std.proofs.lemmas.Bool.{true≢false}
 use Rattle.gx_base.specs.declared.type_name.Builtin.{Builtin}
-use Rattle.gx_base.specs.declared.type_name.Builtin.TheVariants.{AnyType, Untyped, AnySimple, AnyAtomic, UntypedAtomic, Str, NormalizedStr, Token, Boolean, Decimal, Integer, NonPositive, Negative, Long, Int, Short, Byte, NonNegative, UnsignedLong, UnsignedInt, UnsignedShort, UnsignedByte, Positive}
+use Rattle.gx_base.specs.declared.type_name.Builtin.TheVariants.{AnyType, Untyped, AnySimple, AnyAtomic, UntypedAtomic}
 use Rattle.gx_base.specs.declared.type_name.TypeName.{TypeName}
 use Rattle.gx_base.specs.declared.type_name.TypeName.TheVariants as names
 use Rattle.gx_types.specs.declared.declaration.Content.{Content}
@@ -11,49 +11,20 @@ use Rattle.gx_types.specs.declared.declaration.Content.TheVariants as contents
 use Rattle.gx_types.specs.declared.declaration.Declared.{Declared}
 use Rattle.gx_types.specs.BuiltinBase.{builtin_base_of}
 use Rattle.gx_types.specs.SameItemType.{same_type_name}
-use Rattle.gx_types.specs.SchemaSet.{SchemaSet, declaration_among, declaration_of}
-use Rattle.gx_types.specs.SchemaInvariant.{is_nameable, is_atomic_content, item_of_list, is_simple_content, content_is, is_atomic_type, is_simple_type, is_named_type, IsListOver, HoldsOfEach, is_built_in, BaseFits, IsDeclarationOf, IsSchemaSet}
-use Rattle.gx_types.specs.Derivation.{Bases, bases_of, declared_base_of, base_of, is_declared, Leads, LeadsTo, DerivesFrom}
+use Rattle.gx_types.specs.SchemaSet.{SchemaSet, declaration_of}
+use Rattle.gx_types.specs.SchemaInvariant.{is_nameable, is_atomic_content, item_of_list, is_simple_content, content_is, is_atomic_type, is_simple_type, is_named_type, IsListOver, BaseFits, IsSchemaSet}
+use Rattle.gx_types.specs.Derivation.{bases_of, declared_base_of, base_of, is_declared, Leads, DerivesFrom}
 use Rattle.gx_types.specs.Grounded.{Grounded, EndsWithin}
 use Rattle.gx_types.proofs.PublicLaws.{all_types_are_derived_from_any_type, derivation_is_a_preorder}
 use Rattle.gx_types.proofs.EqualNames.{builtins_are_one}
 use Rattle.gx_types.proofs.DerivationLemmas.{to_base}
 use Rattle.gx_types.proofs.SchemaLemmas.{base_is, base_of_declaration}
+use Rattle.gx_steptype.proofs.Declarations.{declared_is, builtin_is_undeclared}
+use Rattle.gx_steptype.proofs.ReadValues.{builtin_chain}
 
--- the declaration of a type is one of the schemas, and has an equal name
-
-abbrev pub IsOwnDeclaration : SchemaSet → TypeName → Declared → Type 0
-IsOwnDeclaration s t d = IsDeclarationOf s d × (same_type_name d.name t ≡ true)
-
-own_here : (s : SchemaSet) (t : TypeName) (c d : Declared) (o : Option Declared) (here : Bool) → same_type_name c.name t ≡ here → (if here then Some c else o) ≡ Some d → IsDeclarationOf s c
-    → (o ≡ Some d → IsOwnDeclaration s t d) → IsOwnDeclaration s t d
-own_here s t c d o true e f fits next = let same : c ≡ d = cc in subst (IsOwnDeclaration s t) same (fits, e)
-own_here s t c d o false e f fits next = next f
-
-own_among : (s : SchemaSet) (types : List Declared) (t : TypeName) (d : Declared) → HoldsOfEach (IsDeclarationOf s) types → declaration_among types t ≡ Some d → IsOwnDeclaration s t d
-own_among s [] t d h e = absurd (cc)
-own_among s (c ∷ types) t d h e = own_here s t c d (declaration_among types t) (same_type_name c.name t) refl e h.0 (λ f. own_among s types t d h.1 f)
-
-pub own_declaration : (s : SchemaSet) (t : TypeName) (d : Declared) → IsSchemaSet s → declaration_of s t ≡ Some d → IsOwnDeclaration s t d
-own_declaration s t d is e = own_among s s.types t d is.types e
-
--- a built-in type has none
-
-built_in_alike : (t : TypeName) (b : Builtin) → same_type_name t (names.Builtin b) ≡ true → is_built_in t ≡ true
-built_in_alike (names.Builtin c) b e = refl
-built_in_alike (names.Named n) b e = absurd (true≢false (sym e))
-built_in_alike (names.Anonymous n) b e = absurd (true≢false (sym e))
-
-pub no_builtin_is_declared : (s : SchemaSet) (b : Builtin) (d : Declared) → IsSchemaSet s → declaration_of s (names.Builtin b) ≡ Some d → ⊥
-no_builtin_is_declared s b d is e =
-    let own = own_declaration s (names.Builtin b) d is e in true≢false (sym (built_in_alike d.name b own.1) ∙ own.0.named)
-
-not_declared : (s : SchemaSet) (b : Builtin) → IsSchemaSet s → (o : Option Declared) → declaration_of s (names.Builtin b) ≡ o → o ≡ None
-not_declared s b is None e = refl
-not_declared s b is (Some d) e = absurd (no_builtin_is_declared s b d is e)
-
-pub builtin_has_no_declaration : (s : SchemaSet) (b : Builtin) → IsSchemaSet s → declaration_of s (names.Builtin b) ≡ None
-builtin_has_no_declaration s b is = not_declared s b is (declaration_of s (names.Builtin b)) refl
+-- a built-in type has no declaration
+no_builtin_is_declared : (s : SchemaSet) (b : Builtin) (d : Declared) → IsSchemaSet s → declaration_of s (names.Builtin b) ≡ Some d → ⊥
+no_builtin_is_declared s b d is e = let none = builtin_is_undeclared s b is in cc
 
 -- types that declarations may name are derived from xs:anyType
 
@@ -70,81 +41,17 @@ pub simple_is_any : (s : SchemaSet) (t : TypeName) → DerivesFrom s t (names.Bu
 simple_is_any s t d = derivation_is_a_preorder.transitive s t (names.Builtin AnySimple) (names.Builtin AnyType) d (all_types_are_derived_from_any_type.builtin s AnySimple)
 
 -- built-in types from xs:string on are derived from xs:anySimpleType
-
-module _ (bases : Bases) where
-  abbrev IsSimple : Builtin → Type 0
-  IsSimple b = LeadsTo bases (names.Builtin b) (names.Builtin AnySimple)
-
-  above : (b c : Builtin) → builtin_base_of b ≡ Some c → IsSimple c → IsSimple b
-  above b c e h = to_base bases (names.Builtin b) (names.Builtin AnySimple) (names.Builtin c) (ap (option_map names.Builtin) e) h
-
-  atomic : IsSimple AnyAtomic
-  atomic = above AnyAtomic AnySimple refl (0, refl)
-
-  string : IsSimple Str
-  string = above Str AnyAtomic refl atomic
-
-  normalized : IsSimple NormalizedStr
-  normalized = above NormalizedStr Str refl string
-
-  decimal : IsSimple Decimal
-  decimal = above Decimal AnyAtomic refl atomic
-
-  integer : IsSimple Integer
-  integer = above Integer Decimal refl decimal
-
-  non_positive : IsSimple NonPositive
-  non_positive = above NonPositive Integer refl integer
-
-  long : IsSimple Long
-  long = above Long Integer refl integer
-
-  int : IsSimple Int
-  int = above Int Long refl long
-
-  short : IsSimple Short
-  short = above Short Int refl int
-
-  non_negative : IsSimple NonNegative
-  non_negative = above NonNegative Integer refl integer
-
-  unsigned_long : IsSimple UnsignedLong
-  unsigned_long = above UnsignedLong NonNegative refl non_negative
-
-  unsigned_int : IsSimple UnsignedInt
-  unsigned_int = above UnsignedInt UnsignedLong refl unsigned_long
-
-  unsigned_short : IsSimple UnsignedShort
-  unsigned_short = above UnsignedShort UnsignedInt refl unsigned_int
-
-  nameable_is_simple : (b : Builtin) → is_nameable b ≡ true → IsSimple b
-  nameable_is_simple AnyType h = absurd (true≢false (sym h))
-  nameable_is_simple Untyped h = absurd (true≢false (sym h))
-  nameable_is_simple AnySimple h = absurd (true≢false (sym h))
-  nameable_is_simple AnyAtomic h = absurd (true≢false (sym h))
-  nameable_is_simple UntypedAtomic h = absurd (true≢false (sym h))
-  nameable_is_simple Str h = string
-  nameable_is_simple NormalizedStr h = normalized
-  nameable_is_simple Token h = above Token NormalizedStr refl normalized
-  nameable_is_simple Boolean h = above Boolean AnyAtomic refl atomic
-  nameable_is_simple Decimal h = decimal
-  nameable_is_simple Integer h = integer
-  nameable_is_simple NonPositive h = non_positive
-  nameable_is_simple Negative h = above Negative NonPositive refl non_positive
-  nameable_is_simple Long h = long
-  nameable_is_simple Int h = int
-  nameable_is_simple Short h = short
-  nameable_is_simple Byte h = above Byte Short refl short
-  nameable_is_simple NonNegative h = non_negative
-  nameable_is_simple UnsignedLong h = unsigned_long
-  nameable_is_simple UnsignedInt h = unsigned_int
-  nameable_is_simple UnsignedShort h = unsigned_short
-  nameable_is_simple UnsignedByte h = above UnsignedByte UnsignedShort refl unsigned_short
-  nameable_is_simple Positive h = above Positive NonNegative refl non_negative
+nameable_is_simple : (s : SchemaSet) (b : Builtin) → is_nameable b ≡ true → DerivesFrom s (names.Builtin b) (names.Builtin AnySimple)
+nameable_is_simple s AnyType h = absurd (cc)
+nameable_is_simple s Untyped h = absurd (cc)
+nameable_is_simple s AnySimple h = absurd (cc)
+nameable_is_simple s AnyAtomic h = absurd (cc)
+nameable_is_simple s UntypedAtomic h = absurd (cc)
+nameable_is_simple s b h = builtin_chain s b AnySimple refl
 
 -- so are declared simple types
 
-atomic_content_is_simple : (c : Content) → is_atomic_content c ≡ true → is_simple_content c ≡ true
+pub atomic_content_is_simple : (c : Content) → is_atomic_content c ≡ true → is_simple_content c ≡ true
 atomic_content_is_simple (contents.Atomic facets) h = refl
 atomic_content_is_simple (contents.List item facets) h = refl
 atomic_content_is_simple (contents.Simple kind facets) h = absurd (true≢false (sym h))
@@ -188,10 +95,10 @@ record SimpleBase (s : SchemaSet) (t : TypeName) : Type 0 where
 simple_base : (s : SchemaSet) (t : TypeName) → IsSchemaSet s → (o : Option Declared) → declaration_of s t ≡ o → content_is o is_simple_content ≡ true → SimpleBase s t
 simple_base s t is None e h = absurd (true≢false (sym h))
 simple_base s t is (Some d) e h =
-    record { base = d.base; is = base_is s.types t d e; goes_on = base_is_simple s d.base is d.content h (own_declaration s t d is e).0.base }
+    record { base = d.base; is = base_is s.types t d e; goes_on = base_is_simple s d.base is d.content h (declared_is s t d is e).base }
 
 simple_within : (s : SchemaSet) → IsSchemaSet s → (n : ℕ) (t : TypeName) → EndsWithin (bases_of s) n t → is_simple_type s t ≡ true → DerivesFrom s t (names.Builtin AnySimple)
-simple_within s is n (names.Builtin b) ends h = nameable_is_simple (bases_of s) b h
+simple_within s is n (names.Builtin b) ends h = nameable_is_simple s b h
 simple_within s is zero (names.Named m) ends h =
     let b = simple_base s (names.Named m) is (declaration_of s (names.Named m)) refl h in absurd (cc)
 simple_within s is zero (names.Anonymous m) ends h =
@@ -221,7 +128,7 @@ untyped_is_no_declared_base : (s : SchemaSet) (t : TypeName) → IsSchemaSet s �
 untyped_is_no_declared_base s t is None e f = absurd (cc)
 untyped_is_no_declared_base s t is (Some d) e f =
     let base : d.base ≡ names.Builtin Untyped = cc in
-    untyped_fits_no_content s d.content is (subst (BaseFits s d.content) base (own_declaration s t d is e).0.base)
+    untyped_fits_no_content s d.content is (subst (BaseFits s d.content) base (declared_is s t d is e).base)
 
 untyped_is_no_builtin_base : (b : Builtin) → builtin_base_of b ≡ Some Untyped → ⊥
 untyped_is_no_builtin_base AnyType e = absurd (cc)

@@ -16,7 +16,7 @@ use Rattle.gx_types.specs.SchemaSet.{SchemaSet, declaration_of}
 use Rattle.gx_types.specs.SchemaInvariant.{IsSchemaSet, HoldsOfEach, ContentFits, is_nameable, is_atomic_type, is_simple_type, is_named_type, is_simple_content, is_atomic_content, content_is}
 use Rattle.gx_types.specs.SimpleType.{AtomicMeaning, SimpleMeaning, simple_meaning, meaning_of_content, meaning_of}
 use Rattle.gx_types.specs.SimpleValue.{atomic_value, with_first, each_value, item_texts, value_texts, admits_values, admitted_values, values_at}
-use Rattle.gx_types.specs.SequenceType.{SequenceType, nothing, star}
+use Rattle.gx_types.specs.SequenceType.{SequenceType, nothing}
 use Rattle.gx_types.specs.Derivation.{DerivesFrom}
 use Rattle.gx_types.specs.Takes.{Takes}
 use Rattle.gx_types.specs.declared.declaration.Content.{Content}
@@ -33,6 +33,7 @@ use Rattle.gx_model.specs.DeclaredContent as declarations
 use Rattle.gx_model.specs.TypedValue.{untyped_atomic, untyped_value, simple_value, value_by_content, declared_value, value_at_type}
 use Rattle.gx_steptype.specs.DataType.{atomic_item, list_of_items, untyped_atomic as untyped_item, simple_values, values_by_content, declared_values, content_values, values_declared, values_of_type, has_value, value_type, value_type_of}
 use Rattle.gx_steptype.proofs.Declarations.{declared_is, builtin_is_undeclared}
+use Rattle.gx_steptype.proofs.Replacing.{star_next}
 use Rattle.gx_steptype.proofs.ReadValues.{ReadsFit, atomic_type_reads}
 
 -- ---- the values that a text is read as
@@ -56,9 +57,6 @@ variety_type varieties.List kind = list_of_items kind
 takes_its_kind : (s : SchemaSet) (kind : TypeName) (a : Atomic) → a.kind ≡ kind → Takes s (atomic_item kind) (atom_shape a ∷ [])
 takes_its_kind s kind a e =
     (atom_shape a, refl, subst (λ (k : TypeName). DerivesFrom s a.kind k) e (derivation_is_a_preorder.reflexive s a.kind))
-
-star_next : (s : SchemaSet) (t : SequenceType) (x : Shape) (xs : List Shape) → Takes s t (x ∷ []) → Takes s (star t) xs → Takes s (star t) (x ∷ xs)
-star_next s t x xs h (parts, is, each) = ((x ∷ []) ∷ parts, ap (λ ys. x ∷ ys) is, (h, each))
 
 with_first_is : (first : Result Atomic ValueRead) (others : Result (List Atomic) ValueRead) (values : List Atomic) → with_first first others ≡ Ok values
     → (a : Atomic) × (rest : List Atomic) × (first ≡ Ok a) × (others ≡ Ok rest) × (values ≡ a ∷ rest)

@@ -1,5 +1,5 @@
 -- The types that xs:untyped and xs:untypedAtomic are derived from.
-use Rattle.std.proofs.Common.{◌≡◌, ℕ, zero, suc, true, ◌||◌, ◌⊎◌, inl, inr, Some, refl, sym, ap, subst}
+use Rattle.std.proofs.Common.{◌≡◌, ℕ, zero, suc, true, ◌⊎◌, inl, inr, Some, refl, sym, ap, subst}
 use Rattle.std.proofs.lemmas.Bool.{true≢false}
 use Rattle.gx_base.specs.declared.type_name.Builtin.{Builtin}
 use Rattle.gx_base.specs.declared.type_name.Builtin.TheVariants.{AnyType, Untyped, AnySimple, AnyAtomic, UntypedAtomic}
@@ -7,7 +7,7 @@ use Rattle.gx_base.specs.declared.type_name.TypeName.{TypeName}
 use Rattle.gx_base.specs.declared.type_name.TypeName.TheVariants as names
 use Rattle.gx_types.specs.SameItemType.{same_type_name}
 use Rattle.gx_types.specs.SchemaSet.{SchemaSet}
-use Rattle.gx_types.specs.Derivation.{Bases, bases_of, base_of, of_base, Leads, leads_within, DerivesFrom}
+use Rattle.gx_types.specs.Derivation.{Bases, bases_of, Leads, DerivesFrom}
 use Rattle.gx_types.proofs.PublicLaws.{equality_is_an_equivalence}
 
 same_is_one : (b : Builtin) (kind : TypeName) → same_type_name (names.Builtin b) kind ≡ true → kind ≡ names.Builtin b
@@ -23,9 +23,6 @@ above_any : (bases : Bases) (n : ℕ) (kind : TypeName) → Leads bases n (names
 above_any bases zero kind h = same_is_one AnyType kind h
 above_any bases (suc n) kind (base, e, h) = absurd (cc)
 
-abbrev OneOf : TypeName → TypeName → TypeName → Type 0
-OneOf kind a b = (kind ≡ a) ⊎ (kind ≡ b)
-
 above_untyped : (bases : Bases) (n : ℕ) (kind : TypeName) → Leads bases n (names.Builtin Untyped) kind → (kind ≡ names.Builtin Untyped) ⊎ (kind ≡ names.Builtin AnyType)
 above_untyped bases zero kind h = inl (same_is_one Untyped kind h)
 above_untyped bases (suc n) kind (base, e, h) =
@@ -34,40 +31,7 @@ above_untyped bases (suc n) kind (base, e, h) =
 pub untyped_kinds : (s : SchemaSet) (kind : TypeName) → DerivesFrom s (names.Builtin Untyped) kind → (kind ≡ names.Builtin Untyped) ⊎ (kind ≡ names.Builtin AnyType)
 untyped_kinds s kind h = above_untyped (bases_of s) h.0 kind h.1
 
--- of a simple value without a type
-pub data AtomicKind : TypeName → Type 0 where
-  is_untyped_atomic : AtomicKind (names.Builtin UntypedAtomic)
-  is_any_atomic : AtomicKind (names.Builtin AnyAtomic)
-  is_any_simple : AtomicKind (names.Builtin AnySimple)
-  is_any_type : AtomicKind (names.Builtin AnyType)
-
-above_simple : (bases : Bases) (n : ℕ) (kind : TypeName) → Leads bases n (names.Builtin AnySimple) kind → AtomicKind kind
-above_simple bases zero kind h = subst AtomicKind (sym (same_is_one AnySimple kind h)) is_any_simple
-above_simple bases (suc n) kind (base, e, h) =
-    subst AtomicKind (sym (above_any bases n kind (subst (λ (b : TypeName). Leads bases n b kind) (inside (names.Builtin AnyType) base e) h))) is_any_type
-
-above_atomic : (bases : Bases) (n : ℕ) (kind : TypeName) → Leads bases n (names.Builtin AnyAtomic) kind → AtomicKind kind
-above_atomic bases zero kind h = subst AtomicKind (sym (same_is_one AnyAtomic kind h)) is_any_atomic
-above_atomic bases (suc n) kind (base, e, h) = above_simple bases n kind (subst (λ (b : TypeName). Leads bases n b kind) (inside (names.Builtin AnySimple) base e) h)
-
-above_untyped_atomic : (bases : Bases) (n : ℕ) (kind : TypeName) → Leads bases n (names.Builtin UntypedAtomic) kind → AtomicKind kind
-above_untyped_atomic bases zero kind h = subst AtomicKind (sym (same_is_one UntypedAtomic kind h)) is_untyped_atomic
-above_untyped_atomic bases (suc n) kind (base, e, h) = above_atomic bases n kind (subst (λ (b : TypeName). Leads bases n b kind) (inside (names.Builtin AnyAtomic) base e) h)
-
-pub untyped_atomic_kinds : (s : SchemaSet) (kind : TypeName) → DerivesFrom s (names.Builtin UntypedAtomic) kind → AtomicKind kind
-untyped_atomic_kinds s kind h = above_untyped_atomic (bases_of s) h.0 kind h.1
-
 -- chains that are there
-
-pub untyped_atomic_is_atomic : (s : SchemaSet) → DerivesFrom s (names.Builtin UntypedAtomic) (names.Builtin AnyAtomic)
-untyped_atomic_is_atomic s = (1, (names.Builtin AnyAtomic, refl, refl))
 
 pub untyped_atomic_is_simple : (s : SchemaSet) → DerivesFrom s (names.Builtin UntypedAtomic) (names.Builtin AnySimple)
 untyped_atomic_is_simple s = (2, (names.Builtin AnyAtomic, refl, (names.Builtin AnySimple, refl, refl)))
-
-found_itself : (bases : Bases) (n : ℕ) (b : Builtin) → same_type_name (names.Builtin b) (names.Builtin b) ≡ true → leads_within bases n (names.Builtin b) (names.Builtin b) ≡ true
-found_itself bases zero b e = e
-found_itself bases (suc n) b e = ap (λ a. a || of_base (base_of bases (names.Builtin b)) (λ base. leads_within bases n base (names.Builtin b))) e
-
-pub untyped_is_derived : (s : SchemaSet) → (n : ℕ) → leads_within (bases_of s) n (names.Builtin Untyped) (names.Builtin Untyped) ≡ true
-untyped_is_derived s n = found_itself (bases_of s) n Untyped refl

@@ -1,8 +1,8 @@
 -- Types of typed values, of types that are equal and of types that are derived from others.
-use Rattle.std.proofs.Common.{◌≡◌, ℕ, zero, suc, Bool, true, false, cond, ◌&&◌, ◌||◌, List, [], ◌∷◌, map, ◌⊎◌, inl, inr, refl, sym, ◌∙◌, ap, subst, Option, Some, None, length, if◌then◌else◌}
+use Rattle.std.proofs.Common.{◌≡◌, ℕ, zero, suc, Bool, true, false, List, [], ◌∷◌, ◌⊎◌, inl, inr, refl, sym, ◌∙◌, ap, subst, Option, Some, None, length}
 use Rattle.std.proofs.lemmas.Bool.{true≢false}
-use Rattle.std.specs.Prelude.{is_some, unwrap_or}
-use Rattle.std.specs.List.{list_all, list_any}
+use Rattle.std.specs.Prelude.{unwrap_or}
+use Rattle.std.specs.List.{list_all}
 use Rattle.std.specs.Option.{option_map}
 use Rattle.gx_base.specs.declared.type_name.Builtin.{Builtin}
 use Rattle.gx_base.specs.declared.type_name.Builtin.TheVariants as types
@@ -10,13 +10,13 @@ use Rattle.gx_base.specs.declared.type_name.TypeName.{TypeName}
 use Rattle.gx_base.specs.declared.type_name.TypeName.TheVariants as names
 use Rattle.gx_types.specs.BuiltinBase.{builtin_base_of}
 use Rattle.gx_types.specs.SameItemType.{same_type_name}
-use Rattle.gx_types.specs.SchemaSet.{SchemaSet, declaration_among, declaration_of, names_declared}
-use Rattle.gx_types.specs.SchemaInvariant.{IsSchemaSet, BaseFits, ContentFits, is_nameable, is_atomic_type, is_atomic_content, is_simple_type, is_simple_content, is_named_type, item_of_list, content_is}
-use Rattle.gx_types.specs.Derivation.{bases_of, base_of, Leads, is_derived, DerivesFrom}
+use Rattle.gx_types.specs.SchemaSet.{SchemaSet, declaration_of}
+use Rattle.gx_types.specs.SchemaInvariant.{IsSchemaSet, BaseFits, ContentFits, is_nameable, is_atomic_type, is_atomic_content, is_simple_type, is_simple_content, item_of_list, content_is}
+use Rattle.gx_types.specs.Derivation.{bases_of, base_of, Leads, DerivesFrom}
 use Rattle.gx_types.specs.Grounded.{Grounded}
 use Rattle.gx_types.specs.ItemTakes.{ItemTakes}
 use Rattle.gx_types.specs.SequenceType.{SequenceType}
-use Rattle.gx_types.specs.Takes.{Takes, Each, SomeTakes}
+use Rattle.gx_types.specs.Takes.{Takes, Each}
 use Rattle.gx_types.specs.declared.declaration.Content.{Content}
 use Rattle.gx_types.specs.declared.declaration.Content.TheVariants as contents
 use Rattle.gx_types.specs.declared.declaration.Declared.{Declared}
@@ -25,13 +25,14 @@ use Rattle.gx_types.specs.declared.shape.Shape.{Shape}
 use Rattle.gx_types.specs.declared.shape.Shape.TheVariants as shapes
 use Rattle.gx_types.proofs.SchemaLemmas.{base_of_declaration}
 use Rattle.gx_types.proofs.DerivationLemmas.{to_base}
-use Rattle.gx_types.proofs.DerivationTest.{tested_when_derives}
 use Rattle.gx_types.proofs.BaseChains.{along_chain}
-use Rattle.gx_types.proofs.PublicLaws.{choice_takes_some, derivation_is_a_preorder, derivation_looks_at_no_prefix, equality_is_an_equivalence}
+use Rattle.gx_types.proofs.PublicLaws.{derivation_is_a_preorder, derivation_looks_at_no_prefix, equality_is_an_equivalence}
 use Rattle.gx_steptype.specs.DataType.{NodeValues, atomic_item, list_of_items, content_values, values_declared, values_of_type, has_value, value_type, value_type_of}
-use Rattle.gx_steptype.specs.DerivedTypes.{listed_types, derived_among, over_derived}
+use Rattle.gx_steptype.specs.DerivedTypes.{listed_types, derived_among}
 use Rattle.gx_steptype.proofs.Replacing.{append_nil}
+use Rattle.gx_steptype.proofs.CoveredTypes.{LooksAtNoPrefix, IsListed, one_of_them_has}
 use Rattle.gx_steptype.proofs.Declarations.{declaration_agrees, declared_is, builtin_is_undeclared}
+use Rattle.gx_steptype.proofs.SimpleKinds.{atomic_content_is_simple}
 use Rattle.gx_steptype.proofs.ReadValues.{builtin_chain, atomic_bottom}
 
 -- ---- wider item types
@@ -93,81 +94,16 @@ types_agree s (names.Anonymous m) (names.Anonymous n) e =
     (declared_agrees s (names.Anonymous m) (names.Anonymous n) e (declaration_of s (names.Anonymous m)))
 types_agree s _ _ e = absurd (cc)
 
--- ---- an equal type is listed
-
-abbrev pub IsListed : SchemaSet → TypeName → Type 0
-IsListed s t = list_any (same_type_name t) (listed_types s) ≡ true
-
-declared_is_listed : (types : List Declared) (t : TypeName) → is_some (declaration_among types t) ≡ true → list_any (same_type_name t) (names_declared types) ≡ true
-declared_is_listed [] t h = absurd (cc)
-declared_is_listed (d ∷ ds) t h =
-    elim (same_type_name d.name t) as (λ (b : Bool). same_type_name d.name t ≡ b → is_some (if b then Some d else declaration_among ds t) ≡ true
-    → (same_type_name t d.name || list_any (same_type_name t) (names_declared ds)) ≡ true) [
-      | true ↦ λ e k. ap (λ (b : Bool). b || list_any (same_type_name t) (names_declared ds)) (equality_is_an_equivalence.type_names.symm t d.name ∙ e)
-      | false ↦ λ e k. ap (λ (b : Bool). b || list_any (same_type_name t) (names_declared ds)) (equality_is_an_equivalence.type_names.symm t d.name ∙ e) ∙ declared_is_listed ds t k
-    ] refl h
-
-pub named_is_listed : (s : SchemaSet) (t : TypeName) → is_named_type s t ≡ true → IsListed s t
-named_is_listed s (names.Builtin types.AnyType) h = absurd (cc)
-named_is_listed s (names.Builtin _) h = refl
-named_is_listed s (names.Named n) h = declared_is_listed s.types (names.Named n) h
-named_is_listed s (names.Anonymous n) h = declared_is_listed s.types (names.Anonymous n) h
-
-pub first_of : (a b : Bool) → (a && b) ≡ true → a ≡ true
-first_of true b h = refl
-first_of false b h = h
-
-pub second_of : (a b : Bool) → (a && b) ≡ true → b ≡ true
-second_of true b h = h
-second_of false b h = absurd (true≢false (sym h))
+-- ---- typed values of the types that are derived from a type
 
 abbrev gives : SchemaSet → TypeName → Bool
 gives s t = has_value (values_of_type s t)
 
-tail_gives : (s : SchemaSet) (b : Bool) (u : TypeName) (rest : List TypeName) → list_all (gives s) (cond b (u ∷ rest) rest) ≡ true → list_all (gives s) rest ≡ true
-tail_gives s true u rest h = second_of (gives s u) (list_all (gives s) rest) h
-tail_gives s false u rest h = h
+pub values_agree : (s : SchemaSet) → LooksAtNoPrefix s (value_type_of s)
+values_agree s t u e = let agreed = types_agree s t u e in agreed.takes
 
-head_gives : (s : SchemaSet) (b : Bool) (u : TypeName) (rest : List TypeName) → b ≡ true → list_all (gives s) (cond b (u ∷ rest) rest) ≡ true → gives s u ≡ true
-head_gives s true u rest e h = first_of (gives s u) (list_all (gives s) rest) h
-head_gives s false u rest e h = absurd (cc)
-
-tail_takes : (s : SchemaSet) (f : TypeName → SequenceType) (b : Bool) (u : TypeName) (rest : List TypeName) (ss : List Shape) → SomeTakes s (map f rest) ss → SomeTakes s (map f (cond b (u ∷ rest) rest)) ss
-tail_takes s f true u rest ss h = inr h
-tail_takes s f false u rest ss h = h
-
-head_takes : (s : SchemaSet) (f : TypeName → SequenceType) (b : Bool) (u : TypeName) (rest : List TypeName) (ss : List Shape) → b ≡ true → Takes s (f u) ss → SomeTakes s (map f (cond b (u ∷ rest) rest)) ss
-head_takes s f true u rest ss e h = inl h
-head_takes s f false u rest ss e h = absurd (cc)
-
-module _ (s : SchemaSet) (grounded : Grounded (bases_of s)) (kind t : TypeName) (derived : DerivesFrom s t kind) where
-  equal_is_derived : (u : TypeName) → same_type_name t u ≡ true → is_derived s u kind ≡ true
-  equal_is_derived u e =
-      tested_when_derives s u kind grounded (derivation_looks_at_no_prefix s t u kind kind e (equality_is_an_equivalence.type_names.refl kind) derived)
-
-  listed_gives : (us : List TypeName) → list_any (same_type_name t) us ≡ true → list_all (gives s) (derived_among s kind us) ≡ true → gives s t ≡ true
-  listed_gives [] e h = absurd (cc)
-  listed_gives (u ∷ us) e h =
-      elim (same_type_name t u) as (λ (b : Bool). same_type_name t u ≡ b → (b || list_any (same_type_name t) us) ≡ true → gives s t ≡ true) [
-        | true ↦ λ same _. let agreed = types_agree s t u same in agreed.has (head_gives s (is_derived s u kind) u (derived_among s kind us) (equal_is_derived u same) h)
-        | false ↦ λ _ k. listed_gives us k (tail_gives s (is_derived s u kind) u (derived_among s kind us) h)
-      ] refl e
-
-  listed_takes : (ss : List Shape) → Takes s (value_type_of s t) ss → (us : List TypeName) → list_any (same_type_name t) us ≡ true → SomeTakes s (map (value_type_of s) (derived_among s kind us)) ss
-  listed_takes ss h [] e = absurd (cc)
-  listed_takes ss h (u ∷ us) e =
-      elim (same_type_name t u) as (λ (b : Bool). same_type_name t u ≡ b → (b || list_any (same_type_name t) us) ≡ true → SomeTakes s (map (value_type_of s) (derived_among s kind (u ∷ us))) ss) [
-        | true ↦ λ same _. let agreed = types_agree s t u same in
-            head_takes s (value_type_of s) (is_derived s u kind) u (derived_among s kind us) ss (equal_is_derived u same) (agreed.takes ss h)
-        | false ↦ λ _ k. tail_takes s (value_type_of s) (is_derived s u kind) u (derived_among s kind us) ss (listed_takes ss h us k)
-      ] refl e
-
-  -- the choice over a type and the types that are derived from it takes the values of each of them
-  pub choice_takes_values : (ss : List Shape) → IsListed s t → Takes s (value_type_of s t) ss → Takes s (over_derived s (value_type_of s) kind) ss
-  choice_takes_values ss l h = (choice_takes_some s (map (value_type_of s) (derived_among s kind (listed_types s))) ss).0 (listed_takes ss h (listed_types s) l)
-
-  pub each_gives : IsListed s t → list_all (gives s) (derived_among s kind (listed_types s)) ≡ true → gives s t ≡ true
-  each_gives l h = listed_gives (listed_types s) l h
+pub each_gives : (s : SchemaSet) → Grounded (bases_of s) → (kind t : TypeName) → DerivesFrom s t kind → IsListed s t → list_all (gives s) (derived_among s kind (listed_types s)) ≡ true → gives s t ≡ true
+each_gives s g kind t d listed h = one_of_them_has s g kind t d (gives s) (λ u e k. let agreed = types_agree s t u e in agreed.has k) listed h
 
 -- ---- the values of a simple type are among those of the types that it is derived from
 
@@ -220,12 +156,6 @@ nameable_is_one s types.AnyAtomic h = absurd (cc)
 nameable_is_one s types.UntypedAtomic h = absurd (cc)
 nameable_is_one s _ h = (refl, refl)
 
-atomic_is_simple : (content : Content) → is_atomic_content content ≡ true → is_simple_content content ≡ true
-atomic_is_simple (contents.Atomic facets) h = refl
-atomic_is_simple (contents.List item facets) h = refl
-atomic_is_simple (contents.Simple kind facets) h = absurd (cc)
-atomic_is_simple (contents.Complex mixed model) h = absurd (cc)
-
 atomic_gives_one : (s : SchemaSet) (t : TypeName) (content : Content) → is_atomic_content content ≡ true → value_type (content_values s t content) ≡ atomic_item t
 atomic_gives_one s t (contents.Atomic facets) h = refl
 atomic_gives_one s t (contents.List item facets) h = absurd (cc)
@@ -234,7 +164,7 @@ atomic_gives_one s t (contents.Complex mixed model) h = absurd (cc)
 
 declared_is_one : (s : SchemaSet) (t : TypeName) (o : Option Declared) → content_is o is_atomic_content ≡ true → (content_is o is_simple_content ≡ true) × (value_type (values_declared s t o) ≡ atomic_item t)
 declared_is_one s t None h = absurd (cc)
-declared_is_one s t (Some d) h = (atomic_is_simple d.content h, atomic_gives_one s t d.content h)
+declared_is_one s t (Some d) h = (atomic_content_is_simple d.content h, atomic_gives_one s t d.content h)
 
 atomic_is_one : (s : SchemaSet) (t : TypeName) → is_atomic_type s t ≡ true → IsOneValue s t
 atomic_is_one s (names.Builtin b) h = nameable_is_one s b h

@@ -6,4 +6,3 @@ pub mod StepType
 pub mod DataType
 pub mod StepAnswer
 pub mod StepLaws
-pub mod TypedLaws

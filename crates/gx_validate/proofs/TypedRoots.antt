@@ -1,18 +1,17 @@
 -- Valid trees hold elements and texts, and their elements keep to their types.
-use Rattle.std.proofs.Common.{◌≡◌, ◌++◌, List, inl, inr, subst, sym, Option}
-use Rattle.gx_base.specs.Name.{same_name}
-use Rattle.gx_base.specs.declared.name.Name.{Name}
+use Rattle.std.proofs.Common.{◌++◌, List, inl, inr, subst, sym, Option}
 use Rattle.gx_base.specs.declared.type_name.TypeName.{TypeName}
 use Rattle.gx_tree.specs.PlainTree.{PlainTree, PlainTrees, document, element, attribute, text, no_trees, a_tree, IsContent, AreContent}
 use Rattle.gx_tree.specs.OwnNames.{HasOwnNames, AllHaveOwnNames}
 use Rattle.gx_types.specs.SchemaSet.{SchemaSet, declaration_of}
 use Rattle.gx_types.specs.declared.declaration.Declared.{Declared}
-use Rattle.gx_model.specs.TypedTree.{IsWellTyped, AreWellTyped, IsTyped, AreTyped, IsTypedRoot}
+use Rattle.gx_model.specs.TypedTree.{IsWellTyped, AreWellTyped, IsTyped, AreTyped}
+use Rattle.gx_model.specs.Honest.{IsHonestTree}
 use Rattle.gx_xml.specs.SourceTree.{SourceTree, SourceContents, source, no_content, a_child, a_text}
 use Rattle.gx_xml.specs.declared.source.Declaration.{Declaration}
 use Rattle.gx_profile.specs.Contents.{tree_name}
 use Rattle.gx_validate.specs.ElementContent.{type_of_child}
-use Rattle.gx_validate.specs.Valid.{IsTypedTree, AreTypedTrees, IsValidTree}
+use Rattle.gx_validate.specs.Valid.{IsTypedTree, AreTypedTrees}
 use Rattle.gx_validate.specs.Laws.{ValidTreesAreTyped}
 
 -- a tree of an element is an element over elements and texts
@@ -56,7 +55,7 @@ mutual
 pub valid_trees_are_typed : ValidTreesAreTyped
 valid_trees_are_typed schemas root u v valid =
     let content = tree_is_content schemas _ _ u valid.top valid.of_root in
-    subst (IsTypedRoot schemas) (sym valid.whole) (record {
+    subst (IsHonestTree schemas) (sym valid.whole) (record {
       proper = (content, tt);
       typed = (typed schemas valid.top content valid.well_typed, tt);
       names = (own_names schemas valid.top content valid.well_typed, tt);

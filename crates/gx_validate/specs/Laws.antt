@@ -4,7 +4,7 @@ use Rattle.gx_base.specs.declared.name.Name.{Name}
 use Rattle.gx_tree.specs.PlainTree.{PlainTree}
 use Rattle.gx_types.specs.SchemaSet.{SchemaSet, global_type}
 use Rattle.gx_types.specs.SchemaInvariant.{IsSchemaSet}
-use Rattle.gx_model.specs.TypedTree.{IsTypedRoot}
+use Rattle.gx_model.specs.Honest.{IsHonestTree}
 use Rattle.gx_xml.specs.SourceTree.{SourceTree}
 use Rattle.gx_xml.specs.Sound.{IsSoundSource}
 use Rattle.gx_validate.specs.Outcome.{Fault, validated}
@@ -28,6 +28,6 @@ FaultsExcludeTrees =
     (schemas : SchemaSet) (root : Name) (u : SourceTree) → IsSchemaSet schemas → IsSome (global_type schemas root) → IsSoundSource u
     → ((fault : Fault) × (validated schemas root u ≡ Err fault)) ↔ ((v : PlainTree) → IsValidTree schemas root u v → ⊥)
 
--- a valid tree can stand in a forest: it holds elements and texts, and its elements keep to their types
+-- a valid tree is honest
 abbrev pub ValidTreesAreTyped : Type 0
-ValidTreesAreTyped = (schemas : SchemaSet) (root : Name) (u : SourceTree) (v : PlainTree) → IsValidTree schemas root u v → IsTypedRoot schemas v
+ValidTreesAreTyped = (schemas : SchemaSet) (root : Name) (u : SourceTree) (v : PlainTree) → IsValidTree schemas root u v → IsHonestTree schemas v

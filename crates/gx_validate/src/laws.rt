@@ -20,8 +20,8 @@ pub fn faults_exclude_trees()
     ensures { FaultsExcludeTrees }
 {}
 
-/// The elements of a valid tree keep to their types, no two attributes of one have equal names, and the tree holds elements and texts
-/// alone.
+/// A valid tree is honest: it holds elements and texts alone, its elements keep to their types, and no two attributes of one have equal
+/// names.
 pub fn valid_trees_are_typed()
     ensures { ValidTreesAreTyped }
 {}
