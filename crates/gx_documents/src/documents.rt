@@ -1,43 +1,70 @@
 // The documents in the files of a library.
 
-ghost use Rattle.std.specs.Prelude.{◌≡◌, ◌≤◌, ◌++◌, ◌∷◌, [], Ok, Err, length, IfOk, IfErr, MatchResult, OnOk};
+ghost use Rattle.std.specs.Prelude.{◌≡◌, ◌≤◌, ◌++◌, ◌∷◌, [], Ok, Err, length, map, IfOk, IfErr, IsSome, MatchResult, OnOk};
 ghost use Rattle.gx_io.specs.Faults.{Rose};
+ghost use Rattle.gx_types.specs.SchemaInvariant.{HoldsOfEach};
+ghost use Rattle.gx_types.specs.SchemaSet.{global_type};
+ghost use Rattle.gx_validate.specs.Outcome.{validated};
 ghost use Rattle.gx_xml.specs.Reading.{IsDocumentOf};
 ghost use Rattle.gx_xml.specs.SourceTree.{SourceTree};
-ghost use Rattle.gx_documents.specs.Documents.{document_nodes};
+ghost use Rattle.gx_documents.specs.Documents.{AreGlobal, document_nodes};
 ghost use Rattle.gx_documents.specs.BindingView.{word_bytes};
-ghost use Rattle.gx_documents.specs.Reading.{EndsAt, HasReason, IsRefusedSo, ReadDocuments, ReadSources, ReadsFrom, TreeReason, WasRead};
+ghost use Rattle.gx_documents.specs.Reading.{EndsAt, HasReason, IsInvalidSo, IsRefusedSo, ReadDocuments, ReadSources, ReadsFrom, TreeReason, WasRead};
+ghost use Rattle.gx_documents.specs.Requests.{all_asked};
 ghost use Rattle.gx_io.specs.LibraryUse.{library_use};
 
 use gx_base::limits::FILE_BYTES;
+use gx_base::name::Name;
 use gx_base::place::Place;
+use gx_base::text::Text;
 use gx_io::{Library, LoadError};
 use gx_model::forest::Forest;
 use gx_model::node::Node;
 use gx_tree::tree::Tree;
+use gx_types::schemas::Schemas;
+use gx_validate::invalid::{Invalid, InvalidRule};
+use gx_validate::validate::validate;
 use gx_xml::document::read_document;
 use gx_xml::refusal::{XmlRefusal, XmlRule};
 use gx_xml::source::Source;
 use gx_xml::untyped::untyped;
 use std::alloc::{AllocError, Global};
 
-/// Why a file holds no document: it cannot be read, it is longer than 16,777,216 bytes, or a rule refuses it at a place.
-#[derive(Clone, Copy, Debug, PartialEq, Eq)]
+/// The form in which the tree of a document is kept.
+#[derive(Clone, Copy)]
+pub enum DocumentForm<'a> {
+    /// Without types, whatever its root.
+    Untyped,
+    /// With the types of a document that is valid as the global element of this name.
+    Valid(&'a Name),
+}
+
+/// A file, and the form in which the tree of its document is kept.
+#[derive(Clone, Copy)]
+pub struct DocumentRequest<'a> {
+    pub file: &'a str,
+    pub form: DocumentForm<'a>,
+}
+
+/// Why nothing is kept of a file: it cannot be read; it is longer than 16,777,216 bytes; a rule refuses it at a place; or its
+/// document breaks a rule of validity, at the element of a path.
+#[derive(Debug, Drop)]
 pub enum DocumentFault {
     Unread,
     TooLong,
     Refused(XmlRule, Place),
+    Invalid(InvalidRule, Text),
 }
 
-/// Why there are no documents: the file of this name holds none, or memory is wanting.
+/// Why there are no documents: nothing is kept of the file of this name, or memory is wanting.
 #[derive(Debug, Drop)]
 pub enum DocumentsError {
     Failed(String, DocumentFault),
     Memory,
 }
 
-// Why there is no tree.
-#[derive(Clone, Copy)]
+// Why nothing is kept.
+#[derive(Drop)]
 pub(crate) enum TreeError {
     Fault(DocumentFault),
     Memory,
@@ -54,18 +81,21 @@ impl From<AllocError> for TreeError {
     }
 }
 
-/// Reads the documents in files, in order, up to the first that holds none (XQuery 1.0, section 2.2.1), each to its tree without
-/// types. Each file is loaded once, and none after one that holds no document.
-pub fn read_documents<L: Library>(
+/// Reads the documents in files, in order, up to the first that holds none or is not valid (XQuery 1.0, section 2.2.1; XML Schema 1.0
+/// part 1, section 3.3.4), each to its tree in the form that is asked for. Each file is loaded once, and none after one of which nothing
+/// is kept.
+pub fn read_documents<'a, L: Library>(
     alloc: Global,
-    files: &[String],
+    schemas: &Schemas,
+    requests: &[DocumentRequest<'a>],
     library: &mut L,
 ) -> Result<Forest, DocumentsError>
-    ensures reads { ReadDocuments (library_use L.files L.faults L.was_loaded library.old library.new) (word_bytes files.now) result }
+    requires { AreGlobal schemas.now (all_asked requests.now) }
+    ensures reads { ReadDocuments (library_use L.files L.faults L.was_loaded library.old library.new) schemas.entry.now (all_asked requests.entry.now) result }
     ensures told { L.files library.new ≡ L.files library.old }
     ensures counted { L.faults library.old ≤ L.faults library.new }
 {
-    match read_all(alloc, &Trees, files, library) {
+    match read_all(alloc, &Trees { schemas }, requests, library) {
         Ok(trees) => Ok(Forest { trees }),
         Err(error) => Err(error),
     }
@@ -87,64 +117,129 @@ pub fn read_sources<L: Library>(
     read_all(alloc, &Sources, files, library)
 }
 
-// What is kept of the document in a file.
+// What is kept of the documents in files.
 pub(crate) trait Kept {
+    // A file, and what is asked of it.
+    type Wanted;
+
     type Form: Drop;
 
-    ghost use Rattle.gx_xml.specs.SourceTree.{SourceTree};
+    ghost use Rattle.std.specs.Prelude.{◌≡◌};
+    ghost use Rattle.gx_documents.specs.Documents.{Request};
+    ghost use Rattle.gx_documents.specs.Reading.{IsInvalidSo};
 
-    ghost keeps: { SourceTree → Self.Form → Type 0 };
+    ghost asks: { Self → Self.Wanted → Request Self.Form };
 
-    fn kept(&self, alloc: Global, source: Source) -> Result<Self::Form, AllocError>
-        ensures { IfOk result (λ form. keeps source.root form) };
+    ghost can_ask: { Self → Self.Wanted → Type 0 };
+
+    fn file<'r>(&self, request: &'r Self::Wanted) -> &'r str
+        ensures { result.now ≡ (asks self.now request.entry.now).file };
+
+    fn kept(
+        &self,
+        alloc: Global,
+        request: &Self::Wanted,
+        source: Source,
+    ) -> Result<Self::Form, TreeError>
+        requires { can_ask self.now request.now }
+        ensures { MatchResult result (λ form. (asks self.now request.now).outcome source.root ≡ Ok form) (IsInvalidSo ((asks self.now request.now).outcome source.root)) };
 }
 
-// Its tree, which has no types.
-struct Trees;
+// Their trees.
+#[derive(Drop)]
+struct Trees<'s> {
+    schemas: &'s Schemas,
+}
 
-impl Kept for Trees {
+impl<'s> Kept for Trees<'s> {
+    type Wanted = DocumentRequest<'s>;
+
     type Form = Tree;
 
-    ghost use Rattle.gx_documents.specs.Documents.{KeepsTree};
+    ghost use Rattle.gx_documents.specs.Documents.{IsGlobal, tree_request};
+    ghost use Rattle.gx_documents.specs.Requests.{asked};
 
-    ghost keeps = { KeepsTree };
+    ghost asks = { λ trees request. tree_request trees.schemas.now (asked request) };
 
-    fn kept(&self, alloc: Global, source: Source) -> Result<Tree, AllocError> {
-        untyped(alloc, &source)
+    ghost can_ask = { λ trees request. IsGlobal trees.schemas.now (asked request) };
+
+    fn file<'r>(&self, request: &'r DocumentRequest<'s>) -> &'r str {
+        request.file
+    }
+
+    fn kept(
+        &self,
+        alloc: Global,
+        request: &DocumentRequest<'s>,
+        source: Source,
+    ) -> Result<Tree, TreeError> {
+        match request.form {
+            DocumentForm::Untyped => Ok(untyped(alloc, &source)?),
+            DocumentForm::Valid(root) => valid_tree(alloc, self.schemas, root, &source),
+        }
     }
 }
 
-// The document as it is written.
+// The documents as they are written.
 struct Sources;
 
 impl Kept for Sources {
+    type Wanted = String;
+
     type Form = Source;
 
-    ghost use Rattle.gx_documents.specs.Documents.{KeepsSource};
+    ghost use Rattle.std.specs.String.{string_bytes};
+    ghost use Rattle.gx_documents.specs.Documents.{source_request};
 
-    ghost keeps = { KeepsSource };
+    ghost asks = { λ _ file. source_request (string_bytes file) };
 
-    fn kept(&self, _alloc: Global, source: Source) -> Result<Source, AllocError> {
+    ghost can_ask = { λ _ _. Unit {0} };
+
+    fn file<'r>(&self, request: &'r String) -> &'r str {
+        request.as_str()
+    }
+
+    fn kept(&self, _alloc: Global, _request: &String, source: Source) -> Result<Source, TreeError> {
         Ok(source)
+    }
+}
+
+// The tree of a document that is valid as the global element of a name.
+fn valid_tree(
+    alloc: Global,
+    schemas: &Schemas,
+    root: &Name,
+    source: &Source,
+) -> Result<Tree, TreeError>
+    requires { IsSome (global_type schemas.now root.now) }
+    ensures { MatchResult result (λ t. validated schemas.now root.now source.now.root ≡ Ok t) (IsInvalidSo (validated schemas.now root.now source.now.root)) }
+{
+    match validate(alloc, schemas, root, source) {
+        Ok(tree) => Ok(tree),
+        Err(Invalid::Refused { rule, path }) => {
+            Err(TreeError::Fault(DocumentFault::Invalid(rule, path)))
+        }
+        Err(Invalid::Memory) => Err(TreeError::Memory),
     }
 }
 
 fn read_all<K: Kept, L: Library>(
     alloc: Global,
     form: &K,
-    files: &[String],
+    requests: &[K::Wanted],
     library: &mut L,
 ) -> Result<Vec<K::Form>, DocumentsError>
+    requires { HoldsOfEach (K.can_ask form.now) requests.now }
     ensures reads { MatchResult result
-        (λ all. ReadsFrom K.keeps (L.files library.old) L.was_loaded L.faults (word_bytes files.now) [] (Ok all.items) library.old library.new)
-        (λ error. ReadsFrom K.keeps (L.files library.old) L.was_loaded L.faults (word_bytes files.now) [] (Err error) library.old library.new) }
+        (λ all. ReadsFrom (L.files library.old) L.was_loaded L.faults (map (K.asks form.now) requests.now) [] (Ok all.items) library.old library.new)
+        (λ error. ReadsFrom (L.files library.old) L.was_loaded L.faults (map (K.asks form.now) requests.now) [] (Err error) library.old library.new) }
     ensures told { L.files library.new ≡ L.files library.old }
     ensures counted { L.faults library.old ≤ L.faults library.new }
 {
     let mut all = Vec::new(alloc);
-    let mut left = files;
-    while let Some((file, others)) = left.split_first() {
-        read_next(alloc, form, file.as_str(), &mut all, library)?;
+    let mut left = requests;
+    while let Some((request, others)) = left.split_first() {
+        read_next(alloc, form, request, &mut all, library)?;
         left = others;
     }
     Ok(all)
@@ -169,22 +264,23 @@ pub fn document_nodes(alloc: Global, forest: &Forest) -> Result<Vec<Node>, Alloc
 fn read_next<K: Kept, L: Library>(
     alloc: Global,
     form: &K,
-    file: &str,
+    request: &K::Wanted,
     all: &mut Vec<K::Form>,
     library: &mut L,
 ) -> Result<(), DocumentsError>
-    ensures loaded { L.was_loaded library.old file.now library.new }
+    requires { K.can_ask form.now request.now }
+    ensures loaded { L.was_loaded library.old (K.asks form.now request.now).file library.new }
     ensures told { L.files library.new ≡ L.files library.old }
     ensures counted { L.faults library.old ≤ L.faults library.new }
-    ensures next { OnOk result ((next : K.Form) × WasRead K.keeps (L.files library.old) file.now next × (all.new.items ≡ all.old.items ++ next ∷ [])) }
-    ensures ends { IfErr result (EndsAt (L.files library.old) file.now (Rose (L.faults library.old) (L.faults library.new))) }
+    ensures next { OnOk result ((next : K.Form) × WasRead (L.files library.old) (K.asks form.now request.now) next × (all.new.items ≡ all.old.items ++ next ∷ [])) }
+    ensures ends { IfErr result (EndsAt (L.files library.old) (K.asks form.now request.now) (Rose (L.faults library.old) (L.faults library.new))) }
 {
-    match document(alloc, form, file, library) {
+    match document(alloc, form, request, library) {
         Ok(kept) => match all.push(kept) {
             Ok(()) => Ok(()),
             Err(_) => Err(DocumentsError::Memory),
         },
-        Err(TreeError::Fault(fault)) => Err(failed(alloc, file, fault)),
+        Err(TreeError::Fault(fault)) => Err(failed(alloc, form.file(request), fault)),
         Err(TreeError::Memory) => Err(DocumentsError::Memory),
     }
 }
@@ -203,17 +299,18 @@ fn failed(alloc: Global, file: &str, fault: DocumentFault) -> DocumentsError
 fn document<K: Kept, L: Library>(
     alloc: Global,
     form: &K,
-    file: &str,
+    request: &K::Wanted,
     library: &mut L,
 ) -> Result<K::Form, TreeError>
-    ensures loaded { L.was_loaded library.old file.now library.new }
+    requires { K.can_ask form.now request.now }
+    ensures loaded { L.was_loaded library.old (K.asks form.now request.now).file library.new }
     ensures told { L.files library.new ≡ L.files library.old }
     ensures counted { L.faults library.old ≤ L.faults library.new }
-    ensures held { MatchResult result (WasRead K.keeps (L.files library.old) file.now)
-        (λ e. TreeReason (L.files library.old) file.now (Rose (L.faults library.old) (L.faults library.new)) e) }
+    ensures held { MatchResult result (WasRead (L.files library.old) (K.asks form.now request.now))
+        (λ e. TreeReason (L.files library.old) (K.asks form.now request.now) (Rose (L.faults library.old) (L.faults library.new)) e) }
 {
-    match library.load(alloc, file, FILE_BYTES) {
-        Ok(bytes) => kept_of(alloc, form, bytes.as_slice()),
+    match library.load(alloc, form.file(request), FILE_BYTES) {
+        Ok(bytes) => kept_of(alloc, form, request, bytes.as_slice()),
         Err(LoadError::TooLong { .. }) => Err(TreeError::Fault(DocumentFault::TooLong)),
         Err(LoadError::Failed) => Err(TreeError::Fault(DocumentFault::Unread)),
         Err(LoadError::Memory) => Err(TreeError::Memory),
@@ -221,12 +318,18 @@ fn document<K: Kept, L: Library>(
 }
 
 // What is kept of the bytes of a document.
-fn kept_of<K: Kept>(alloc: Global, form: &K, bytes: &[u8]) -> Result<K::Form, TreeError>
-    requires { length bytes.now ≤ FILE_BYTES }
-    ensures { MatchResult result (λ kept. (root : SourceTree) × IsDocumentOf bytes.now root × K.keeps root kept) (λ e. IsRefusedSo bytes.now e) }
+fn kept_of<K: Kept>(
+    alloc: Global,
+    form: &K,
+    request: &K::Wanted,
+    bytes: &[u8],
+) -> Result<K::Form, TreeError>
+    requires asked { K.can_ask form.now request.now }
+    requires within { length bytes.now ≤ FILE_BYTES }
+    ensures { MatchResult result (λ kept. (root : SourceTree) × IsDocumentOf bytes.now root × ((K.asks form.now request.now).outcome root ≡ Ok kept)) (IsRefusedSo (K.asks form.now request.now) bytes.now) }
 {
     match read_document(alloc, bytes) {
-        Ok(source) => Ok(form.kept(alloc, source)?),
+        Ok(source) => form.kept(alloc, request, source),
         Err(XmlRefusal::Refused { place, rule }) => {
             Err(TreeError::Fault(DocumentFault::Refused(rule, place)))
         }

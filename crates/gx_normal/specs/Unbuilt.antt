@@ -1,5 +1,5 @@
 -- The productions of the grammar that the program does not evaluate yet. The first of them in the text is where a query is refused.
-use Rattle.std.specs.Prelude.{Bool, true, false, List, [], ◌∷◌, Option, None, Some, is_some}
+use Rattle.std.specs.Prelude.{Bool, true, false, List, [], ◌∷◌, Option, None, Some}
 use Rattle.gx_base.specs.declared.place.Place.{Place}
 use Rattle.gx_ast.specs.declared.expression.BinaryOperator.{BinaryOperator}
 use Rattle.gx_ast.specs.declared.expression.BinaryOperator.TheVariants.{Is, Before, After, Union, Intersect, Except}
@@ -10,11 +10,6 @@ use Rattle.gx_ast.specs.declared.query.DefinitionNode.{DefinitionNode}
 use Rattle.gx_ast.specs.declared.query.DefinitionNode.TheVariants as definitions
 use Rattle.gx_ast.specs.declared.query.Initialiser.TheVariants as initial
 use Rattle.gx_ast.specs.declared.query.Query.{Query}
-use Rattle.gx_ast.specs.declared.sequence_type.ItemType.TheVariants as written
-use Rattle.gx_ast.specs.declared.sequence_type.KindTest.TheVariants as kinds
-use Rattle.gx_ast.specs.declared.sequence_type.SequenceType.{SequenceType}
-use Rattle.gx_ast.specs.declared.sequence_type.SequenceType.TheVariants as sequences
-use Rattle.gx_ast.specs.declared.sequence_type.TestedName.{TestedName}
 use Rattle.gx_ast.specs.SyntaxTree.{SyntaxTree, SyntaxForm, SyntaxTrees, Bindings, Clauses, Keys, at, number, string, variable, parenthesised, empty_sequence, call, comma, flwor, conditional, binary, instance_of, treat_as, castable_as, cast_as, signed, context_item, path, axis_step, parent_step, filtered, no_tree, a_tree, no_binding, a_binding, no_clause, for_clause, let_clause, where_clause, no_key, a_key}
 
 -- the first of two places in the order of the text, where there is one
@@ -98,23 +93,10 @@ abbrev mutual
   unbuilt_clauses (let_clause place bindings others) = earlier_place (unbuilt_bindings bindings) (unbuilt_clauses others)
   unbuilt_clauses (where_clause place condition others) = Some place
 
--- whether the test of an element has a name
-abbrev pub has_name : Option TestedName → Bool
-has_name None = false
-has_name (Some tested) = is_some tested.name
-
--- whether a type tests elements of one name, which schemas declare
-abbrev pub names_element : Option SequenceType → Bool
-names_element (Some (sequences.Items (written.Kind (kinds.DocumentOf place inner tested)) indicator)) = has_name tested
-names_element (Some (sequences.Items (written.Kind (kinds.DocumentOfDeclared place inner name)) indicator)) = true
-names_element (Some (sequences.Items (written.Kind (kinds.Element place tested)) indicator)) = has_name tested
-names_element (Some (sequences.Items (written.Kind (kinds.Declared place name)) indicator)) = true
-names_element _ = false
-
--- a function, and an external variable of a type that names an element, at `declare`; a variable with a value is built where the value is
+-- a function, at `declare`; a variable with a value is built where the value is
 abbrev pub unbuilt_definition : Place → DefinitionNode → Option Place
 unbuilt_definition place (definitions.Variable binder kind (initial.Value value)) = first_unbuilt value
-unbuilt_definition place (definitions.Variable binder kind initial.External) = unbuilt_if (names_element kind) place
+unbuilt_definition place (definitions.Variable binder kind initial.External) = None
 unbuilt_definition place _ = Some place
 
 abbrev pub unbuilt_definitions : List Definition → Option Place

@@ -4,12 +4,11 @@ ghost use Rattle.std.specs.Prelude.{◌≡◌, ◌∷◌, IfOk, OnOk};
 ghost use Rattle.gx_ast.specs.SyntaxView.{keys_of, trees_of};
 ghost use Rattle.gx_normal.specs.declared.unbuilt.Pending.TheVariants as pendings;
 ghost use Rattle.gx_normal.specs.Searching.{first_of_all};
-ghost use Rattle.gx_normal.specs.Unbuilt.{first_unbuilt, earlier_place, unbuilt_definition, unbuilt_definitions, unbuilt_keys, unbuilt_operator, unbuilt_predicates, unbuilt_query, unbuilt_if, is_far_axis, has_name, names_element};
+ghost use Rattle.gx_normal.specs.Unbuilt.{first_unbuilt, earlier_place, unbuilt_definition, unbuilt_definitions, unbuilt_keys, unbuilt_operator, unbuilt_predicates, unbuilt_query, unbuilt_if, is_far_axis};
 
 use gx_ast::expression::{BinaryOperator, Binding, Clause, Expr, ExprNode, Key};
 use gx_ast::name::Axis;
 use gx_ast::query::{Definition, DefinitionNode, Initialiser, Query};
-use gx_ast::sequence_type::{ItemType, KindTest, SequenceType, TestedName};
 use gx_base::place::Place;
 use gx_core::stack::Stack;
 use std::alloc::{AllocError, Global};
@@ -51,7 +50,7 @@ fn unbuilt_definitions(
     Ok(None)
 }
 
-// Functions are not built, nor external variables of types that name an element; a variable with a value is where the value is.
+// Functions are not built; a variable with a value is where the value is.
 fn unbuilt_definition(
     alloc: Global,
     place: Place,
@@ -61,35 +60,8 @@ fn unbuilt_definition(
 {
     match definition {
         DefinitionNode::Variable(_, _, Initialiser::Value(value)) => first_unbuilt(alloc, value),
-        DefinitionNode::Variable(_, kind, Initialiser::External) => {
-            Ok(unbuilt_if(names_element(kind), place))
-        }
+        DefinitionNode::Variable(_, _, Initialiser::External) => Ok(None),
         _ => Ok(Some(place)),
-    }
-}
-
-// Whether a type tests elements of one name, which schemas declare.
-fn names_element(kind: &Option<SequenceType>) -> bool
-    ensures { result ≡ names_element kind.now }
-{
-    let Some(SequenceType::Items(ItemType::Kind(test), _)) = kind else {
-        return false;
-    };
-    match test {
-        KindTest::DocumentOf(_, _, tested) | KindTest::Element(_, tested) => has_name(tested),
-        KindTest::DocumentOfDeclared(..) | KindTest::Declared(..) => true,
-        KindTest::Node(_) | KindTest::Text(_) | KindTest::Document(_) | KindTest::Attribute(..) => {
-            false
-        }
-    }
-}
-
-fn has_name(tested: &Option<TestedName>) -> bool
-    ensures { result ≡ has_name tested.now }
-{
-    match tested {
-        Some(tested) => tested.name.is_some(),
-        None => false,
     }
 }
 

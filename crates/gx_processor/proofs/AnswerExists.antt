@@ -1,6 +1,7 @@
 -- The words and the files have an answer.
-use Rattle.std.proofs.Common.{◌≡◌, ℕ, Bool, true, false, List, [], ◌∷◌, ◌++◌, ◌+◌, suc, map, length, Option, Some, None, refl, ap, ◌∙◌, arith, nat_le, inl, inr}
+use Rattle.std.proofs.Common.{◌≡◌, ℕ, Bool, true, false, List, [], ◌∷◌, ◌++◌, append_assoc, length, Option, Some, None, Result, Ok, Err, refl, sym, subst, nat_le, inl, inr}
 use Rattle.std.specs.Bool.{MatchBool}
+use Rattle.std.proofs.lemmas.List.{append-nil}
 use Rattle.std.specs.Str.{chars}
 use Rattle.gx_base.specs.declared.code.Code.TheVariants.{XPST0003, GLXS0001, SENR0001}
 use Rattle.gx_base.specs.declared.limits.TheConstants.{FILE_BYTES}
@@ -19,16 +20,19 @@ use Rattle.gx_core.proofs.SoundQueries.{sound_queries_keep}
 use Rattle.gx_model.specs.Forest.{Forest}
 use Rattle.gx_xml.specs.Reading.{IsDocumentOf}
 use Rattle.gx_xml.specs.SourceTree.{SourceTree}
-use Rattle.gx_xml.specs.Untyped.{untyped_document}
+use Rattle.gx_xml.specs.declared.source.Source.{Source}
 use Rattle.gx_xml.proofs.SomeReading.{a_reading_exists}
 use Rattle.gx_documents.specs.Bindings.{Misbound, misbound, files_bound}
-use Rattle.gx_documents.specs.Documents.{Files, AreDocumentTrees, document_nodes}
-use Rattle.gx_documents.proofs.DocumentTrees.{documents_are_honest}
-use Rattle.gx_processor.specs.UntypedDocuments.{ExternalsAreUntyped}
-use Rattle.gx_processor.proofs.WholeQueries.{named_queries_have_untyped_documents}
-use Rattle.gx_processor.specs.Externals.{external_words}
-use Rattle.gx_processor.specs.SchemaFiles.{schema_files, sources_of, file_name_at}
-use Rattle.gx_processor.proofs.HeadlineLemmas.{types_are_kept, length_bound}
+use Rattle.gx_validate.specs.Outcome.{Fault}
+use Rattle.gx_documents.specs.Documents.{Files, Request, AreKept, document_nodes, tree_requests}
+use Rattle.gx_documents.proofs.DocumentTrees.{documents_are_as_asked, documents_are_honest}
+use Rattle.gx_processor.specs.ExternalDocuments.{AreDocumentsOf, ExternalsAreDocuments}
+use Rattle.gx_processor.proofs.WholeQueries.{named_queries_have_documents}
+use Rattle.gx_processor.specs.Externals.{external_words, documents_bound}
+use Rattle.gx_processor.specs.SchemaFiles.{schema_files, schema_requests, file_name_at}
+use Rattle.gx_processor.proofs.AskedDocuments.{length_bound}
+use Rattle.gx_processor.proofs.HeadlineLemmas.{types_are_kept}
+use Rattle.gx_processor.proofs.LoadLemmas.{OfDocument}
 use Rattle.gx_static.specs.QueryJudgement.{QueryJudgement, query_typed, query_rejected, query_judged}
 use Rattle.gx_static.proofs.QueryLaws.{query_sound}
 use Rattle.gx_types.specs.SequenceType.{SequenceType}
@@ -44,10 +48,10 @@ use Rattle.gx_processor.specs.declared.status.Status.{Status}
 use Rattle.gx_processor.specs.declared.status.Status.TheVariants as status
 use Rattle.gx_processor.specs.NamedQuery.{NamedQuery, named_query, unknown_name, query_named}
 use Rattle.gx_processor.specs.Command.{Command, run_file, check_file, query_file, command_of, texts_to_compare}
-use Rattle.gx_processor.specs.FaultLines.{line, usage_line, left_type_line, right_type_line, read_fault_line, code_line, placed_line, binding_line, long_document_line, document_line, import_line, shown_with}
+use Rattle.gx_processor.specs.FaultLines.{line, usage_line, left_type_line, right_type_line, read_fault_line, code_line, placed_line, binding_line, long_document_line, document_line, invalid_line, import_line, shown_with}
 use Rattle.gx_processor.specs.Serialisation.{serialised}
 use Rattle.gx_processor.specs.TypeBytes.{type_bytes}
-use Rattle.gx_processor.specs.Answer.{Answer, writes, refuses, can_be_written, AnswersTexts, AnswersOutcome, AnswersEvaluated, AnswersRead, AnswersLoaded, AnswersFiles, AnswersOver, AnswersBound, AnswersTyped, AnswersJudged, AnswersNamed, AnswersImported, AnswersSources, AnswersBuilt, AnswersParsed, AnswersBytes, AnswersFile, AnswersCommand, AnswersWords, AnAnswerExists}
+use Rattle.gx_processor.specs.Answer.{Answer, writes, refuses, can_be_written, AnswersTexts, AnswersOutcome, AnswersEvaluated, AnswersRead, AnswersKept, AnswersLoaded, AnswersFiles, AnswersBound, AnswersTyped, AnswersJudged, AnswersNamed, AnswersImported, AnswersSources, AnswersBuilt, AnswersParsed, AnswersBytes, AnswersFile, AnswersCommand, AnswersWords, AnAnswerExists}
 
 outcome_answers : (schemas : SchemaSet) (t : SequenceType) (before : Forest) (o : Outcome Items) → Keeps (typed_setting schemas) before t o → (a : Answer) × AnswersOutcome o a
 outcome_answers schemas t before (gives items forest) h = (writes (serialised forest items), refl)
@@ -55,35 +59,17 @@ outcome_answers schemas t before (raises code) h = (refuses status.Dynamic (code
 outcome_answers schemas t before wrong h = absurd h
 
 -- the outcome of a query that has a type is no type error, whatever its documents are
-evaluated_answers : (schemas : SchemaSet) (core : Core) (t : TypedCore) (documents : Forest) → IsSchemaSet schemas → AreDocumentTrees documents → length documents ≡ length (external_words core.declarations) → ExternalsAreUntyped core.declarations
+evaluated_answers : (schemas : SchemaSet) (core : Core) (t : TypedCore) (documents : Forest) → IsSchemaSet schemas → AreDocumentsOf schemas core.declarations documents → ExternalsAreDocuments schemas core.declarations
     → query_judged schemas core ≡ query_typed t → (a : Answer) × AnswersEvaluated schemas core documents a
-evaluated_answers schemas core t documents invariant trees each untyped e =
+evaluated_answers schemas core t documents invariant trees externals e =
     outcome_answers schemas (query_type t) documents (query_outcome schemas core (document_nodes documents) documents)
-    (types_are_kept query_sound sound_queries_keep documents_are_honest schemas core t documents invariant trees each untyped e)
+    (types_are_kept query_sound sound_queries_keep documents_are_honest documents_are_as_asked schemas core t documents invariant trees externals e)
 
 -- ---- documents, one behind another
 
 -- the roots of documents
 abbrev IsRoot : SourceTree → Type 0
 IsRoot root = (bytes : List ℕ) × IsDocumentOf bytes root
-
-abbrev AreRoots : List SourceTree → Type 0
-AreRoots [] = Unit {0}
-AreRoots (root ∷ roots) = IsRoot root × AreRoots roots
-
-roots_before : (before : List SourceTree) (root : SourceTree) → AreRoots before → IsRoot root → AreRoots (before ++ root ∷ [])
-roots_before [] root h k = (k, tt)
-roots_before (u ∷ before) root h k = (h.0, roots_before before root h.1 k)
-
-length_before : (before : List SourceTree) (root : SourceTree) (n : ℕ) → length (before ++ root ∷ []) + n ≡ length before + suc n
-length_before [] root n = omega arith
-length_before (u ∷ before) root n = let rest = length_before before root n in omega (arith, rest)
-
--- their trees
-trees_of_roots : (roots : List SourceTree) → AreRoots roots → AreDocumentTrees (map untyped_document roots) × (length (map untyped_document roots) ≡ length roots)
-trees_of_roots [] h = (tt, refl)
-trees_of_roots (root ∷ roots) h =
-    let others = trees_of_roots roots h.1 in (((h.0.0, root, h.0.1, refl), others.0), ap suc others.1)
 
 module _ (told : Status) where
   read_answers : (file bytes : List ℕ) (Next : SourceTree → Answer → Type 0) → ((t : SourceTree) → IsRoot t → (a : Answer) × Next t a) → (a : Answer) × AnswersRead told file bytes Next a
@@ -102,64 +88,66 @@ module _ (told : Status) where
   document_answers file None Next next = (refuses status.ReadFault (read_fault_line file), refl)
   document_answers file (Some bytes) Next next = short_document file bytes (nat_le (length bytes) 16777216) Next next
 
-  files_answers : (files : Files) (names : List (List ℕ)) (before : List SourceTree) (count : ℕ) (Next : List SourceTree → Answer → Type 0) → AreRoots before → length before + length names ≡ count
-      → ((roots : List SourceTree) → AreRoots roots → length roots ≡ count → (a : Answer) × Next roots a) → (a : Answer) × AnswersFiles told files names before Next a
-  files_answers files [] before count Next are each next = next before are (omega (arith, each))
-  files_answers files (name ∷ names) before count Next are each next =
-      document_answers name (file_of files name) (λ u n. AnswersFiles told files names (before ++ u ∷ []) Next n)
-      (λ u k. files_answers files names (before ++ u ∷ []) count Next (roots_before before u are k) (length_before before u (length names) ∙ each) next)
+  kept_answers : {T : Type 0} (file : List ℕ) (outcome : Result T Fault) (Next : T → Answer → Type 0) → ((kept : T) → outcome ≡ Ok kept → (a : Answer) × Next kept a) → (a : Answer) × AnswersKept told file outcome Next a
+  kept_answers file (Ok kept) Next next = next kept refl
+  kept_answers file (Err fault) Next next = (refuses told (invalid_line fault.rule file fault.path), refl)
+
+  files_answers : {T : Type 0} (files : Files) (requests : List (Request T)) (before : List T) (Next : List T → Answer → Type 0) → ((kept : List T) → AreKept requests kept → (a : Answer) × Next (before ++ kept) a)
+      → (a : Answer) × AnswersFiles told files requests before Next a
+  files_answers {T} files [] before Next next =
+      let answer = next [] tt in (answer.0, subst (λ (ts : List T). Next ts answer.0) (append-nil before) answer.1)
+  files_answers {T} files (request ∷ requests) before Next next =
+      document_answers request.file (file_of files request.file) (OfDocument told request (λ t n. AnswersFiles told files requests (before ++ t ∷ []) Next n))
+      (λ root is. kept_answers request.file (request.outcome root) (λ t n. AnswersFiles told files requests (before ++ t ∷ []) Next n)
+      (λ t e. files_answers files requests (before ++ t ∷ []) Next
+      (λ kept k. let answer = next (t ∷ kept) ((is.0, root, is.1, e), k) in (answer.0, subst (λ (ts : List T). Next ts answer.0) (sym (append_assoc before (t ∷ []) kept)) answer.1))))
 
 -- ---- a query
 
 module _ (files : Files) (schemas : SchemaSet) (invariant : IsSchemaSet schemas) where
-  over_answers : (core : Core) (t : TypedCore) (roots : List SourceTree) → AreRoots roots → length roots ≡ length (external_words core.declarations) → ExternalsAreUntyped core.declarations → query_judged schemas core ≡ query_typed t
-      → (a : Answer) × AnswersOver schemas core roots a
-  over_answers core t roots are each untyped e =
-      let trees = trees_of_roots roots are in evaluated_answers schemas core t (map untyped_document roots) invariant trees.0 (trees.1 ∙ each) untyped e
+  bound_answers : (core : Core) (t : TypedCore) (bindings : List (List ℕ)) (fault : Option Misbound) → ExternalsAreDocuments schemas core.declarations → query_judged schemas core ≡ query_typed t → (a : Answer) × AnswersBound files schemas core bindings fault a
+  bound_answers core t bindings (Some fault) externals e = (refuses status.Usage (binding_line fault), refl)
+  bound_answers core t bindings None externals e =
+      files_answers status.Document files (tree_requests schemas (documents_bound core.declarations bindings)) [] (AnswersEvaluated schemas core)
+      (λ forest trees. evaluated_answers schemas core t forest invariant
+      (record { names = files_bound (external_words core.declarations) bindings; each = length_bound (external_words core.declarations) bindings; trees = trees }) externals e)
 
-  bound_answers : (core : Core) (t : TypedCore) (bindings : List (List ℕ)) (fault : Option Misbound) → ExternalsAreUntyped core.declarations → query_judged schemas core ≡ query_typed t → (a : Answer) × AnswersBound files schemas core bindings fault a
-  bound_answers core t bindings (Some fault) untyped e = (refuses status.Usage (binding_line fault), refl)
-  bound_answers core t bindings None untyped e =
-      files_answers status.Document files (files_bound (external_words core.declarations) bindings) [] (length (external_words core.declarations)) (AnswersOver schemas core) tt
-      (omega (arith, length_bound (external_words core.declarations) bindings)) (λ roots are each. over_answers core t roots are each untyped e)
-
-  writable_answers : (core : Core) (t : TypedCore) (bindings : List (List ℕ)) (writable : Bool) → ExternalsAreUntyped core.declarations → query_judged schemas core ≡ query_typed t
+  writable_answers : (core : Core) (t : TypedCore) (bindings : List (List ℕ)) (writable : Bool) → ExternalsAreDocuments schemas core.declarations → query_judged schemas core ≡ query_typed t
       → (a : Answer) × MatchBool writable (AnswersBound files schemas core bindings (misbound (external_words core.declarations) bindings) a) (a ≡ refuses status.Query (placed_line SENR0001 (outer_of core.body)))
-  writable_answers core t bindings true untyped e = bound_answers core t bindings (misbound (external_words core.declarations) bindings) untyped e
-  writable_answers core t bindings false untyped e = (refuses status.Query (placed_line SENR0001 (outer_of core.body)), refl)
+  writable_answers core t bindings true externals e = bound_answers core t bindings (misbound (external_words core.declarations) bindings) externals e
+  writable_answers core t bindings false externals e = (refuses status.Query (placed_line SENR0001 (outer_of core.body)), refl)
 
-  typed_answers : (command : Command) (core : Core) (t : TypedCore) → ExternalsAreUntyped core.declarations → query_judged schemas core ≡ query_typed t → (a : Answer) × AnswersTyped files command schemas core t a
-  typed_answers (run_file name bindings) core t untyped e = writable_answers core t bindings (can_be_written schemas t) untyped e
-  typed_answers (check_file name) core t untyped e = (writes (type_bytes (query_type t)), refl)
+  typed_answers : (command : Command) (core : Core) (t : TypedCore) → ExternalsAreDocuments schemas core.declarations → query_judged schemas core ≡ query_typed t → (a : Answer) × AnswersTyped files command schemas core t a
+  typed_answers (run_file name bindings) core t externals e = writable_answers core t bindings (can_be_written schemas t) externals e
+  typed_answers (check_file name) core t externals e = (writes (type_bytes (query_type t)), refl)
 
-  judged_answers : (command : Command) (core : Core) (j : QueryJudgement) → ExternalsAreUntyped core.declarations → query_judged schemas core ≡ j → (a : Answer) × AnswersJudged files command schemas core j a
-  judged_answers command core (query_typed t) untyped e = typed_answers command core t untyped e
-  judged_answers command core (query_rejected place code) untyped e = (refuses status.Query (placed_line code place), refl)
+  judged_answers : (command : Command) (core : Core) (j : QueryJudgement) → ExternalsAreDocuments schemas core.declarations → query_judged schemas core ≡ j → (a : Answer) × AnswersJudged files command schemas core j a
+  judged_answers command core (query_typed t) externals e = typed_answers command core t externals e
+  judged_answers command core (query_rejected place code) externals e = (refuses status.Query (placed_line code place), refl)
 
-  named_answers : (command : Command) (n : NamedQuery) → ((core : Core) → n ≡ named_query core → ExternalsAreUntyped core.declarations) → (a : Answer) × AnswersNamed files command schemas n a
-  named_answers command (named_query core) untyped = judged_answers command core (query_judged schemas core) (untyped core refl) refl
-  named_answers command (unknown_name place code) untyped = (refuses status.Query (placed_line code place), refl)
+  named_answers : (command : Command) (n : NamedQuery) → ((core : Core) → n ≡ named_query core → ExternalsAreDocuments schemas core.declarations) → (a : Answer) × AnswersNamed files command schemas n a
+  named_answers command (named_query core) externals = judged_answers command core (query_judged schemas core) (externals core refl) refl
+  named_answers command (unknown_name place code) externals = (refuses status.Query (placed_line code place), refl)
 
-imported_answers : ImportsAreSchemaSets → (files : Files) (command : Command) (tree : SyntaxQuery) (roots : List SourceTree) (told : Imported) → unbuilt_query tree ≡ None → IsImported (sources_of roots) told → (a : Answer) × AnswersImported files command tree (schema_files tree) told a
-imported_answers imports files command tree roots (declares schemas) built e =
-    named_answers files schemas (imports (sources_of roots) schemas e) command (query_named schemas tree) (λ core named. named_queries_have_untyped_documents schemas tree core built named)
-imported_answers imports files command tree roots (breaks rule file name list) built e =
+imported_answers : ImportsAreSchemaSets → (files : Files) (command : Command) (tree : SyntaxQuery) (sources : List Source) (told : Imported) → IsImported sources told → (a : Answer) × AnswersImported files command tree (schema_files tree) told a
+imported_answers imports files command tree sources (declares schemas) e =
+    named_answers files schemas (imports sources schemas e) command (query_named schemas tree) (λ core named. named_queries_have_documents schemas tree core named)
+imported_answers imports files command tree sources (breaks rule file name list) e =
     (refuses status.Schema (import_line rule (file_name_at (schema_files tree) file) (shown_with rule name list)), refl)
 
-sources_answers : AnImportExists → ImportsAreSchemaSets → (files : Files) (command : Command) (tree : SyntaxQuery) (roots : List SourceTree) → unbuilt_query tree ≡ None → (a : Answer) × AnswersSources files command tree roots a
-sources_answers exists imports files command tree roots built =
-    let told = exists (sources_of roots) in
-    let answer = imported_answers imports files command tree roots told.0 built told.1 in
+sources_answers : AnImportExists → ImportsAreSchemaSets → (files : Files) (command : Command) (tree : SyntaxQuery) (sources : List Source) → (a : Answer) × AnswersSources files command tree sources a
+sources_answers exists imports files command tree sources =
+    let told = exists sources in
+    let answer = imported_answers imports files command tree sources told.0 told.1 in
     (answer.0, (told.0, told.1, answer.1))
 
-built_answers : AnImportExists → ImportsAreSchemaSets → (files : Files) (command : Command) (tree : SyntaxQuery) (unbuilt : Option Place) → unbuilt_query tree ≡ unbuilt → (a : Answer) × AnswersBuilt files command tree unbuilt a
-built_answers exists imports files command tree None built =
-    files_answers status.Schema files (schema_files tree) [] (length (schema_files tree)) (AnswersSources files command tree) tt (omega arith)
-    (λ roots are each. sources_answers exists imports files command tree roots built)
-built_answers exists imports files command tree (Some place) built = (refuses status.Query (placed_line XPST0003 place), refl)
+built_answers : AnImportExists → ImportsAreSchemaSets → (files : Files) (command : Command) (tree : SyntaxQuery) (unbuilt : Option Place) → (a : Answer) × AnswersBuilt files command tree unbuilt a
+built_answers exists imports files command tree None =
+    files_answers status.Schema files (schema_requests tree) [] (AnswersSources files command tree) (λ sources kept. sources_answers exists imports files command tree sources)
+built_answers exists imports files command tree (Some place) = (refuses status.Query (placed_line XPST0003 place), refl)
 
 parsed_answers : AnImportExists → ImportsAreSchemaSets → (files : Files) (command : Command) (p : Parsing) → (a : Answer) × AnswersParsed files command p a
-parsed_answers exists imports files command (parsed tree) = built_answers exists imports files command tree (unbuilt_query tree) refl
+parsed_answers exists imports files command (parsed tree) = built_answers exists imports files command tree (unbuilt_query tree)
 parsed_answers exists imports files command (refused rule place) = (refuses status.Query (placed_line (rule_code rule) place), refl)
 
 file_answers : AnImportExists → ImportsAreSchemaSets → (files : Files) (command : Command) (bytes : List ℕ) (short : Bool) → (a : Answer) × MatchBool short (AnswersBytes files command bytes a) (a ≡ refuses status.Query (code_line GLXS0001))

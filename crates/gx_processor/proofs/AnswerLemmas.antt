@@ -1,5 +1,5 @@
 -- The words and the files have one answer.
-use Rattle.std.proofs.Common.{◌≡◌, ℕ, arith, Bool, true, false, ◌&&◌, List, [], ◌∷◌, ◌++◌, map, inl, inr, length, Option, Some, None, refl, sym, ◌∙◌, ap, subst, nat_le, if◌then◌else◌}
+use Rattle.std.proofs.Common.{◌≡◌, ℕ, arith, Bool, true, false, ◌&&◌, List, [], ◌∷◌, ◌++◌, inl, inr, length, Option, Some, None, Result, Ok, Err, refl, sym, ◌∙◌, ap, subst, nat_le, if◌then◌else◌}
 use Rattle.std.specs.Prelude.{unwrap_or, codes, bytes_eq}
 use Rattle.std.specs.Bool.{MatchBool}
 use Rattle.std.specs.Str.{chars}
@@ -18,11 +18,12 @@ use Rattle.gx_core.specs.Outcome.{Outcome, gives, raises, wrong}
 use Rattle.gx_core.specs.QueryMeaning.{query_outcome}
 use Rattle.gx_static.specs.QueryJudgement.{QueryJudgement, query_typed, query_rejected, query_judged}
 use Rattle.gx_io.specs.Load.{file_of}
-use Rattle.gx_documents.specs.Bindings.{Misbound, misbound, files_bound}
-use Rattle.gx_documents.specs.Documents.{Files, document_nodes}
+use Rattle.gx_documents.specs.Bindings.{Misbound, misbound}
+use Rattle.gx_documents.specs.Documents.{Files, Request, document_nodes, tree_requests}
+use Rattle.gx_validate.specs.Outcome.{Fault}
+use Rattle.gx_xml.specs.declared.source.Source.{Source}
 use Rattle.gx_xml.specs.declared.refusal.XmlRule.{XmlRule}
 use Rattle.gx_xml.specs.SourceTree.{SourceTree}
-use Rattle.gx_xml.specs.Untyped.{untyped_document}
 use Rattle.gx_xml.proofs.OneReading.{one_document, not_refused, one_refusal}
 use Rattle.gx_processor.specs.declared.status.Status.{Status}
 use Rattle.gx_processor.specs.declared.status.Status.TheVariants as status
@@ -33,10 +34,11 @@ use Rattle.gx_syntax.proofs.OneParsing.{one_parsing}
 use Rattle.gx_normal.specs.Unbuilt.{unbuilt_query}
 use Rattle.gx_processor.specs.NamedQuery.{NamedQuery, named_query, unknown_name, query_named}
 use Rattle.gx_processor.specs.Command.{Command, run_file, check_file, query_file, command_of, command_named, is_operand, texts_to_compare}
-use Rattle.gx_processor.specs.Externals.{external_words}
-use Rattle.gx_processor.specs.SchemaFiles.{schema_files, sources_of}
+use Rattle.gx_processor.specs.Externals.{external_words, documents_bound}
+use Rattle.gx_processor.specs.SchemaFiles.{schema_files, schema_requests}
 use Rattle.gx_processor.specs.FaultLines.{line, code_line, placed_line, long_document_line, document_line}
-use Rattle.gx_processor.specs.Answer.{Answer, writes, refuses, can_be_written, AnswersOutcome, AnswersEvaluated, AnswersRead, AnswersLoaded, AnswersFiles, AnswersOver, AnswersBound, AnswersTyped, AnswersJudged, AnswersNamed, AnswersImported, AnswersSources, AnswersBuilt, AnswersParsed, AnswersBytes, AnswersFile, AnswersCommand, AnswersTexts, AnswersWords, Answers, ChecksRefuseForRuns}
+use Rattle.gx_processor.proofs.LoadLemmas.{OfDocument}
+use Rattle.gx_processor.specs.Answer.{Answer, writes, refuses, can_be_written, AnswersOutcome, AnswersEvaluated, AnswersRead, AnswersKept, AnswersLoaded, AnswersFiles, AnswersBound, AnswersTyped, AnswersJudged, AnswersNamed, AnswersImported, AnswersSources, AnswersBuilt, AnswersParsed, AnswersBytes, AnswersFile, AnswersCommand, AnswersTexts, AnswersWords, Answers, ChecksRefuseForRuns}
 
 outcome_unique : (o : Outcome Items) (a b : Answer) → AnswersOutcome o a → AnswersOutcome o b → a ≡ b
 outcome_unique (gives items forest) a b h k = h ∙ sym k
@@ -66,16 +68,21 @@ module _ (told : Status) where
   loaded_unique file None Next a b next h k = h ∙ sym k
   loaded_unique file (Some bytes) Next a b next h k = held_unique file bytes (nat_le (length bytes) 16777216) Next (refuses told (long_document_line file)) a b next h k
 
-  files_unique : (files : Files) (names : List (List ℕ)) (before : List SourceTree) (Next : List SourceTree → Answer → Type 0) (a b : Answer) → ((roots : List SourceTree) → Next roots a → Next roots b → a ≡ b)
-      → AnswersFiles told files names before Next a → AnswersFiles told files names before Next b → a ≡ b
+  kept_unique : {T : Type 0} (file : List ℕ) (outcome : Result T Fault) (Next : T → Answer → Type 0) (a b : Answer) → ((kept : T) → Next kept a → Next kept b → a ≡ b) → AnswersKept told file outcome Next a → AnswersKept told file outcome Next b → a ≡ b
+  kept_unique file (Ok kept) Next a b next h k = next kept h k
+  kept_unique file (Err fault) Next a b next h k = h ∙ sym k
+
+  files_unique : {T : Type 0} (files : Files) (requests : List (Request T)) (before : List T) (Next : List T → Answer → Type 0) (a b : Answer) → ((kept : List T) → Next kept a → Next kept b → a ≡ b)
+      → AnswersFiles told files requests before Next a → AnswersFiles told files requests before Next b → a ≡ b
   files_unique files [] before Next a b next h k = next before h k
-  files_unique files (name ∷ names) before Next a b next h k =
-      loaded_unique name (file_of files name) (λ t n. AnswersFiles told files names (before ++ t ∷ []) Next n) a b (λ t f g. files_unique files names (before ++ t ∷ []) Next a b next f g) h k
+  files_unique files (request ∷ requests) before Next a b next h k =
+      loaded_unique request.file (file_of files request.file) (OfDocument told request (λ t n. AnswersFiles told files requests (before ++ t ∷ []) Next n)) a b
+      (λ root f g. kept_unique request.file (request.outcome root) (λ t n. AnswersFiles told files requests (before ++ t ∷ []) Next n) a b (λ t f' g'. files_unique files requests (before ++ t ∷ []) Next a b next f' g') f g) h k
 
 bound_unique : (files : Files) (schemas : SchemaSet) (core : Core) (bindings : List (List ℕ)) (fault : Option Misbound) (a b : Answer) → AnswersBound files schemas core bindings fault a → AnswersBound files schemas core bindings fault b → a ≡ b
 bound_unique files schemas core bindings (Some fault) a b h k = h ∙ sym k
 bound_unique files schemas core bindings None a b h k =
-    files_unique status.Document files (files_bound (external_words core.declarations) bindings) [] (AnswersOver schemas core) a b (λ roots f g. evaluated_unique schemas core (map untyped_document roots) a b f g) h k
+    files_unique status.Document files (tree_requests schemas (documents_bound core.declarations bindings)) [] (AnswersEvaluated schemas core) a b (λ forest f g. evaluated_unique schemas core forest a b f g) h k
 
 run_unique : (files : Files) (schemas : SchemaSet) (core : Core) (bindings : List (List ℕ)) (fault : Option Misbound) (writable : Bool) (c a b : Answer)
     → MatchBool writable (AnswersBound files schemas core bindings fault a) (a ≡ c) → MatchBool writable (AnswersBound files schemas core bindings fault b) (b ≡ c) → a ≡ b
@@ -99,14 +106,14 @@ imported_unique : (files : Files) (command : Command) (tree : SyntaxQuery) (name
 imported_unique files command tree names (declares schemas) a b h k = named_unique files command schemas (query_named schemas tree) a b h k
 imported_unique files command tree names (breaks rule file name list) a b h k = h ∙ sym k
 
-sources_unique : ImportsAreOne → (files : Files) (command : Command) (tree : SyntaxQuery) (roots : List SourceTree) (a b : Answer) → AnswersSources files command tree roots a → AnswersSources files command tree roots b → a ≡ b
-sources_unique single files command tree roots a b h k =
+sources_unique : ImportsAreOne → (files : Files) (command : Command) (tree : SyntaxQuery) (sources : List Source) (a b : Answer) → AnswersSources files command tree sources a → AnswersSources files command tree sources b → a ≡ b
+sources_unique single files command tree sources a b h k =
     imported_unique files command tree (schema_files tree) h.0 a b h.2
-    (subst (λ (told : Imported). AnswersImported files command tree (schema_files tree) told b) (single (sources_of roots) k.0 h.0 k.1 h.1) k.2)
+    (subst (λ (told : Imported). AnswersImported files command tree (schema_files tree) told b) (single sources k.0 h.0 k.1 h.1) k.2)
 
 built_unique : ImportsAreOne → (files : Files) (command : Command) (tree : SyntaxQuery) (unbuilt : Option Place) (a b : Answer) → AnswersBuilt files command tree unbuilt a → AnswersBuilt files command tree unbuilt b → a ≡ b
 built_unique single files command tree None a b h k =
-    files_unique status.Schema files (schema_files tree) [] (AnswersSources files command tree) a b (λ roots f g. sources_unique single files command tree roots a b f g) h k
+    files_unique status.Schema files (schema_requests tree) [] (AnswersSources files command tree) a b (λ sources f g. sources_unique single files command tree sources a b f g) h k
 built_unique single files command tree (Some place) a b h k = h ∙ sym k
 
 parsed_unique : ImportsAreOne → (files : Files) (command : Command) (p : Parsing) (a b : Answer) → AnswersParsed files command p a → AnswersParsed files command p b → a ≡ b
@@ -200,11 +207,11 @@ imported_refused : (files : Files) (name : List ℕ) (bindings : List (List ℕ)
 imported_refused files name bindings tree names (declares schemas) status line h = named_refused files name bindings schemas (query_named schemas tree) status line h
 imported_refused files name bindings tree names (breaks rule file construct list) status line h = h
 
-sources_refused : (files : Files) (name : List ℕ) (bindings : List (List ℕ)) (tree : SyntaxQuery) (roots : List SourceTree) (status : Status) (line : List ℕ) → AnswersSources files (check_file name) tree roots (refuses status line)
-    → AnswersSources files (run_file name bindings) tree roots (refuses status line)
-sources_refused files name bindings tree roots status line h = (h.0, h.1, imported_refused files name bindings tree (schema_files tree) h.0 status line h.2)
+sources_refused : (files : Files) (name : List ℕ) (bindings : List (List ℕ)) (tree : SyntaxQuery) (sources : List Source) (status : Status) (line : List ℕ) → AnswersSources files (check_file name) tree sources (refuses status line)
+    → AnswersSources files (run_file name bindings) tree sources (refuses status line)
+sources_refused files name bindings tree sources status line h = (h.0, h.1, imported_refused files name bindings tree (schema_files tree) h.0 status line h.2)
 
--- what follows from the roots of files that hold documents follows from the files
+-- what follows from the documents in files follows from the files
 read_through : (told : Status) (file bytes : List ℕ) (Next Other : SourceTree → Answer → Type 0) (a : Answer) → ((t : SourceTree) → Next t a → Other t a) → AnswersRead told file bytes Next a → AnswersRead told file bytes Other a
 read_through told file bytes Next Other a f (inl h) = inl (h.0, h.1, f h.0 h.2)
 read_through told file bytes Next Other a f (inr h) = inr h
@@ -218,18 +225,24 @@ loaded_through : (told : Status) (file : List ℕ) (held : Option (List ℕ)) (N
 loaded_through told file None Next Other a f h = h
 loaded_through told file (Some bytes) Next Other a f h = held_through told file bytes (nat_le (length bytes) 16777216) Next Other (refuses told (long_document_line file)) a f h
 
-pub files_through : (told : Status) (files : Files) (names : List (List ℕ)) (before : List SourceTree) (Next Other : List SourceTree → Answer → Type 0) (a : Answer) → ((roots : List SourceTree) → Next roots a → Other roots a)
-    → AnswersFiles told files names before Next a → AnswersFiles told files names before Other a
+kept_through : {T : Type 0} (told : Status) (file : List ℕ) (outcome : Result T Fault) (Next Other : T → Answer → Type 0) (a : Answer) → ((kept : T) → Next kept a → Other kept a) → AnswersKept told file outcome Next a → AnswersKept told file outcome Other a
+kept_through told file (Ok kept) Next Other a f h = f kept h
+kept_through told file (Err fault) Next Other a f h = h
+
+pub files_through : {T : Type 0} (told : Status) (files : Files) (requests : List (Request T)) (before : List T) (Next Other : List T → Answer → Type 0) (a : Answer) → ((kept : List T) → Next kept a → Other kept a)
+    → AnswersFiles told files requests before Next a → AnswersFiles told files requests before Other a
 files_through told files [] before Next Other a f h = f before h
-files_through told files (name ∷ names) before Next Other a f h =
-    loaded_through told name (file_of files name) (λ t n. AnswersFiles told files names (before ++ t ∷ []) Next n) (λ t n. AnswersFiles told files names (before ++ t ∷ []) Other n) a
-    (λ t k. files_through told files names (before ++ t ∷ []) Next Other a f k) h
+files_through told files (request ∷ requests) before Next Other a f h =
+    loaded_through told request.file (file_of files request.file) (OfDocument told request (λ t n. AnswersFiles told files requests (before ++ t ∷ []) Next n))
+    (OfDocument told request (λ t n. AnswersFiles told files requests (before ++ t ∷ []) Other n)) a
+    (λ root k. kept_through told request.file (request.outcome root) (λ t n. AnswersFiles told files requests (before ++ t ∷ []) Next n) (λ t n. AnswersFiles told files requests (before ++ t ∷ []) Other n) a
+    (λ t k'. files_through told files requests (before ++ t ∷ []) Next Other a f k') k) h
 
 built_refused : (files : Files) (name : List ℕ) (bindings : List (List ℕ)) (tree : SyntaxQuery) (unbuilt : Option Place) (told : Status) (line : List ℕ) → AnswersBuilt files (check_file name) tree unbuilt (refuses told line)
     → AnswersBuilt files (run_file name bindings) tree unbuilt (refuses told line)
 built_refused files name bindings tree None told line h =
-    files_through status.Schema files (schema_files tree) [] (AnswersSources files (check_file name) tree) (AnswersSources files (run_file name bindings) tree) (refuses told line)
-    (λ roots k. sources_refused files name bindings tree roots told line k) h
+    files_through status.Schema files (schema_requests tree) [] (AnswersSources files (check_file name) tree) (AnswersSources files (run_file name bindings) tree) (refuses told line)
+    (λ sources k. sources_refused files name bindings tree sources told line k) h
 built_refused files name bindings tree (Some place) told line h = h
 
 parsed_refused : (files : Files) (name : List ℕ) (bindings : List (List ℕ)) (p : Parsing) (status : Status) (line : List ℕ) → AnswersParsed files (check_file name) p (refuses status line) → AnswersParsed files (run_file name bindings) p (refuses status line)

@@ -17,7 +17,8 @@ use Rattle.gx_xml.proofs.OneReading.{one_document}
 use Rattle.gx_schema.specs.Import.{Imported, declares, breaks, IsImported}
 use Rattle.gx_schema.specs.Laws.{ImportsAreOne}
 use Rattle.gx_documents.specs.declared.documents.DocumentFault.TheVariants as faults
-use Rattle.gx_documents.specs.Documents.{Files, HoldsKept, HoldKept, DocumentsLoaded}
+use Rattle.gx_xml.specs.declared.source.Source.{Source}
+use Rattle.gx_documents.specs.Documents.{Files, Request, HoldsKept, HoldKept, DocumentsLoaded}
 use Rattle.gx_documents.proofs.ReadLemmas.{rose_since}
 use Rattle.gx_processor.specs.declared.query.TypedQuery.{TypedQuery}
 use Rattle.gx_processor.specs.declared.status.Status.{Status}
@@ -30,7 +31,7 @@ use Rattle.gx_processor.specs.Loading.{RunLoads, QueryLoads, HoldsTypedQuery, Be
 use Rattle.gx_processor.specs.NamedQuery.{NamedQuery, named_query, unknown_name, query_named}
 use Rattle.gx_processor.specs.Query.{HoldsSyntax, ImportsSchemas, HoldsQuery}
 use Rattle.gx_processor.specs.QueryReplies.{QuerySo}
-use Rattle.gx_processor.specs.SchemaFiles.{schema_files, sources_of, KeepsRoot}
+use Rattle.gx_processor.specs.SchemaFiles.{schema_requests}
 use Rattle.gx_processor.specs.Replies.{RefusesSo, IsOfQuery, HasCause, AreFirst, RefusalLoads, LoadFailed, OutcomeLoads, OutcomeFailed, OutputLoads}
 use Rattle.gx_processor.specs.RunReplies.{IsOfRun, FailsAtDocument, IsWrittenOrStarved, RunsSo}
 use Rattle.gx_processor.specs.TypeBytes.{type_bytes}
@@ -46,19 +47,23 @@ one_tree files name a b =
     let bytes : a.bytes ≡ b.bytes = cc in
     same_tree a.bytes a.tree b.tree a.query.parses (subst (λ (x : List ℕ). Parses x (parsed b.tree)) (sym bytes) b.query.parses)
 
--- files hold one list of roots
-same_root : (files : Files) (name : List ℕ) (a b : SourceTree) → HoldsKept KeepsRoot files name a → HoldsKept KeepsRoot files name b → a ≡ b
-same_root files name a b h k =
-    let bytes : h.1.bytes ≡ k.1.bytes = cc in
-    h.2 ∙ one_document h.1.bytes h.0 k.0 h.1.reads (subst (λ (x : List ℕ). IsDocumentOf x k.0) (sym bytes) k.1.reads) ∙ sym k.2
+-- of the documents in files one list is kept
+one_outcome : {A E : Type 0} (outcome : Result A E) (a b : A) → outcome ≡ Ok a → outcome ≡ Ok b → a ≡ b
+one_outcome outcome a b e f = cc
 
-same_roots : (files : Files) (names : List (List ℕ)) (a b : List SourceTree) → HoldKept KeepsRoot files names a → HoldKept KeepsRoot files names b → a ≡ b
-same_roots files [] [] [] h k = refl
-same_roots files [] [] (y ∷ b) h k = absurd k
-same_roots files [] (x ∷ a) b h k = absurd h
-same_roots files (name ∷ names) [] b h k = absurd h
-same_roots files (name ∷ names) (x ∷ a) [] h k = absurd k
-same_roots files (name ∷ names) (x ∷ a) (y ∷ b) h k = ap₂ (λ (root : SourceTree) roots. root ∷ roots) (same_root files name x y h.0 k.0) (same_roots files names a b h.1 k.1)
+same_kept : {T : Type 0} (files : Files) (request : Request T) (a b : T) → HoldsKept files request a → HoldsKept files request b → a ≡ b
+same_kept files request a b h k =
+    let bytes : h.1.bytes ≡ k.1.bytes = cc in
+    let roots = one_document h.1.bytes h.0 k.0 h.1.reads (subst (λ (x : List ℕ). IsDocumentOf x k.0) (sym bytes) k.1.reads) in
+    one_outcome (request.outcome k.0) a b (subst (λ (root : SourceTree). request.outcome root ≡ Ok a) roots h.2) k.2
+
+all_kept : {T : Type 0} (files : Files) (requests : List (Request T)) (a b : List T) → HoldKept files requests a → HoldKept files requests b → a ≡ b
+all_kept files [] [] [] h k = refl
+all_kept files [] [] (y ∷ b) h k = absurd k
+all_kept files [] (x ∷ a) b h k = absurd h
+all_kept files (request ∷ requests) [] b h k = absurd h
+all_kept files (request ∷ requests) (x ∷ a) [] h k = absurd k
+all_kept {T} files (request ∷ requests) (x ∷ a) (y ∷ b) h k = ap₂ (λ (one : T) (others : List T). one ∷ others) (same_kept files request x y h.0 k.0) (all_kept files requests a b h.1 k.1)
 
 abbrev schemas_told : Imported → SchemaSet → SchemaSet
 schemas_told (declares schemas) other = schemas
@@ -67,9 +72,9 @@ schemas_told (breaks rule file name list) other = other
 -- under which a query imports one set of schemas
 one_import : ImportsAreOne → (files : Files) (tree other : SyntaxQuery) (a b : SchemaSet) → tree ≡ other → ImportsSchemas files tree a → ImportsSchemas files other b → a ≡ b
 one_import single files tree other a b same h k =
-    let roots = same_roots files (schema_files tree) h.roots k.roots h.held (subst (λ (t : SyntaxQuery). HoldKept KeepsRoot files (schema_files t) k.roots) (sym same) k.held) in
+    let sources = all_kept files (schema_requests tree) h.sources k.sources h.held (subst (λ (t : SyntaxQuery). HoldKept files (schema_requests t) k.sources) (sym same) k.held) in
     ap (λ (told : Imported). schemas_told told a)
-    (single (sources_of k.roots) (declares a) (declares b) (subst (λ (rs : List SourceTree). IsImported (sources_of rs) (declares a)) roots h.imports) k.imports)
+    (single k.sources (declares a) (declares b) (subst (λ (ss : List Source). IsImported ss (declares a)) sources h.imports) k.imports)
 
 abbrev core_named : NamedQuery → Core → Core
 core_named (named_query core) other = core
@@ -92,7 +97,7 @@ one_typing schemas others core other t u same e h k = ap (λ (j : QueryJudgement
 
 pub one_query_load : (files : Files) (name : List ℕ) (a b : List (List ℕ)) → QueryLoads files name a → QueryLoads files name b → a ≡ b
 one_query_load files name a b (inl h) (inl k) =
-    let rest = one_load files (schema_files h.0.tree) h.1.0 k.1.0 h.1.1 (subst (λ (tree : SyntaxQuery). DocumentsLoaded files (schema_files tree) k.1.0) (sym (one_tree files name h.0 k.0)) k.1.1) in
+    let rest = one_load files (schema_requests h.0.tree) h.1.0 k.1.0 h.1.1 (subst (λ (tree : SyntaxQuery). DocumentsLoaded files (schema_requests tree) k.1.0) (sym (one_tree files name h.0 k.0)) k.1.1) in
     h.1.2 ∙ ap (λ (ns : List (List ℕ)). name ∷ ns) rest ∙ sym k.1.2
 one_query_load files name a b (inl h) (inr k) = absurd (k.0 h.0)
 one_query_load files name a b (inr h) (inl k) = absurd (h.0 k.0)
@@ -139,6 +144,7 @@ query_loads single files command loads (refusal.Query code place) own h l = quer
 query_loads single files command loads (refusal.SchemaFile file faults.Unread) own h l = begins files command loads l
 query_loads single files command loads (refusal.SchemaFile file faults.TooLong) own h l = query_alone files command loads (refused_has_none single files (query_file command) _ _ (h (check_file (query_file command)))) l
 query_loads single files command loads (refusal.SchemaFile file (faults.Refused rule place)) own h l = query_alone files command loads (refused_has_none single files (query_file command) _ _ (h (check_file (query_file command)))) l
+query_loads single files command loads (refusal.SchemaFile file (faults.Invalid rule path)) own h l = absurd own
 query_loads single files command loads (refusal.Schema rule file name) own h l = query_alone files command loads (refused_has_none single files (query_file command) _ _ (h (check_file (query_file command)))) l
 query_loads single files command loads (refusal.Binding fault) own h l = absurd own
 query_loads single files command loads (refusal.Document file fault) own h l = absurd own
@@ -167,7 +173,7 @@ query_cause Runs refusal.ReadFault own = tt
 query_cause Runs refusal.Memory own = tt
 query_cause Runs refusal.TooLong own = tt
 query_cause Runs (refusal.Query code place) own = tt
-query_cause Runs (refusal.SchemaFile file fault) own = tt
+query_cause Runs (refusal.SchemaFile file fault) own = own
 query_cause Runs (refusal.Schema rule file name) own = tt
 query_cause Runs (refusal.Binding fault) own = absurd own
 query_cause Runs (refusal.Document file fault) own = absurd own
@@ -238,6 +244,7 @@ module _ (single : ImportsAreOne) (files : Files) (name : List ℕ) (bindings : 
   outcome_loads loads (Err (refusal.Document file faults.Unread)) own h = run_first loads h
   outcome_loads loads (Err (refusal.Document file faults.TooLong)) own h = run_loads_so loads h
   outcome_loads loads (Err (refusal.Document file (faults.Refused rule place))) own h = run_loads_so loads h
+  outcome_loads loads (Err (refusal.Document file (faults.Invalid rule path))) own h = run_loads_so loads h
   outcome_loads loads (Err (refusal.Dynamic code)) own h = run_loads_so loads h
 
 -- the library in front of a time and behind it
@@ -291,6 +298,7 @@ run_fails library between file front loads (Err (refusal.Binding fault)) l count
 run_fails library between file front loads (Err (refusal.Document name faults.Unread)) l counted own f = failed_behind library between front loads (read_fault_line (string_bytes name)) l counted f
 run_fails library between file front loads (Err (refusal.Document name faults.TooLong)) l counted own f = tt
 run_fails library between file front loads (Err (refusal.Document name (faults.Refused rule place))) l counted own f = tt
+run_fails library between file front loads (Err (refusal.Document name (faults.Invalid rule path))) l counted own f = tt
 run_fails library between file front loads (Err (refusal.Dynamic code)) l counted own f = tt
 
 -- both facts about the files
@@ -312,14 +320,14 @@ run_loads single library between name bindings query result same counted q j r =
   failed = run_fails library between name q.loads r.names result q.loaded counted r.own r.failed;
 }
 
-pub run_cause : {Z : Type 0} (name : List ℕ) (bindings : List (List ℕ)) (result : Result (String Z) Refusal) → IfErr result (HasCause (IsRun (run_file name bindings)))
-run_cause name bindings (Ok text) = tt
-run_cause name bindings (Err refusal.ReadFault) = tt
-run_cause name bindings (Err refusal.TooLong) = tt
-run_cause name bindings (Err refusal.Memory) = tt
-run_cause name bindings (Err (refusal.Query code place)) = tt
-run_cause name bindings (Err (refusal.SchemaFile file fault)) = tt
-run_cause name bindings (Err (refusal.Schema rule file construct)) = tt
-run_cause name bindings (Err (refusal.Binding fault)) = (name, bindings, refl)
-run_cause name bindings (Err (refusal.Document file fault)) = (name, bindings, refl)
-run_cause name bindings (Err (refusal.Dynamic code)) = (name, bindings, refl)
+pub run_cause : {Z : Type 0} (name : List ℕ) (bindings : List (List ℕ)) (result : Result (String Z) Refusal) → IsOfRun result → IfErr result (HasCause (IsRun (run_file name bindings)))
+run_cause name bindings (Ok text) own = tt
+run_cause name bindings (Err refusal.ReadFault) own = tt
+run_cause name bindings (Err refusal.TooLong) own = tt
+run_cause name bindings (Err refusal.Memory) own = tt
+run_cause name bindings (Err (refusal.Query code place)) own = tt
+run_cause name bindings (Err (refusal.SchemaFile file fault)) own = absurd own
+run_cause name bindings (Err (refusal.Schema rule file construct)) own = tt
+run_cause name bindings (Err (refusal.Binding fault)) own = (name, bindings, refl)
+run_cause name bindings (Err (refusal.Document file fault)) own = (name, bindings, refl)
+run_cause name bindings (Err (refusal.Dynamic code)) own = (name, bindings, refl)

@@ -1,5 +1,5 @@
 -- The headline, from the answer that a run ends with.
-use Rattle.std.proofs.Common.{◌≡◌, ℕ, ◌≤◌, Bool, true, false, List, [], ◌∷◌, ◌++◌, suc, inl, inr, length, append_assoc, Option, Some, None, refl, sym, ◌∙◌, ap, subst, nat_le}
+use Rattle.std.proofs.Common.{◌≡◌, ℕ, ◌≤◌, Bool, true, false, List, [], ◌∷◌, ◌++◌, suc, inl, inr, length, append_assoc, Option, Some, None, Result, Ok, Err, refl, sym, ◌∙◌, ap, subst, nat_le}
 use Rattle.std.specs.Bool.{MatchBool}
 use Rattle.std.proofs.lemmas.Bool.{leb-true, le-leb}
 use Rattle.std.proofs.lemmas.List.{append-nil}
@@ -19,10 +19,13 @@ use Rattle.gx_xml.specs.Reading.{IsDocumentOf}
 use Rattle.gx_xml.specs.SourceTree.{SourceTree}
 use Rattle.gx_xml.proofs.OneReading.{one_document, not_refused}
 use Rattle.gx_documents.specs.Bindings.{Misbound, misbound, files_bound}
-use Rattle.gx_documents.specs.Documents.{Files, HoldsKept, HoldKept, HoldTrees, AreDocumentTrees, document_nodes}
-use Rattle.gx_documents.specs.Laws.{DocumentsAreHonest}
-use Rattle.gx_processor.specs.UntypedDocuments.{ExternalsAreUntyped, NamedQueriesHaveUntypedDocuments}
-use Rattle.gx_processor.specs.Externals.{external_words}
+use Rattle.gx_xml.specs.declared.source.Source.{Source}
+use Rattle.gx_validate.specs.Outcome.{Fault}
+use Rattle.gx_documents.specs.Documents.{Files, Request, HoldsKept, HoldKept, AreKept, document_nodes, tree_requests}
+use Rattle.gx_documents.specs.Laws.{DocumentsAreAsAsked, DocumentsAreHonest, HeldTreesAreKept}
+use Rattle.gx_processor.specs.ExternalDocuments.{AreDocumentsOf, ExternalsAreDocuments, NamedQueriesHaveDocuments}
+use Rattle.gx_processor.specs.Externals.{external_words, documents_asked, documents_bound}
+use Rattle.gx_processor.proofs.AskedDocuments.{asked_are_global, length_bound}
 use Rattle.gx_processor.proofs.DocumentFit.{documents_fit}
 use Rattle.gx_core.specs.Soundness.{typed_setting, Keeps}
 use Rattle.gx_static.specs.QueryJudgement.{QueryJudgement, query_typed, query_rejected, query_judged, QueryTypingIsSound, QueryRejectionNamesFailure}
@@ -36,16 +39,16 @@ use Rattle.gx_syntax.proofs.OneParsing.{one_parsing}
 use Rattle.gx_normal.specs.Unbuilt.{unbuilt_query}
 use Rattle.gx_processor.specs.Command.{Command, run_file, check_file, query_file, command_of}
 use Rattle.gx_processor.specs.Query.{HoldsSyntax, ImportsSchemas, HoldsQuery}
-use Rattle.gx_processor.specs.SchemaFiles.{schema_files, sources_of, KeepsRoot}
+use Rattle.gx_processor.specs.SchemaFiles.{schema_files, schema_requests}
 use Rattle.gx_processor.specs.NamedQuery.{NamedQuery, named_query, unknown_name, query_named}
 use Rattle.gx_processor.specs.TypeBytes.{type_bytes}
 use Rattle.gx_processor.specs.FaultLines.{code_line, placed_line, long_document_line}
-use Rattle.gx_processor.specs.Answer.{Answer, writes, refuses, status_of, output_of, can_be_written, AnswersOutcome, AnswersEvaluated, AnswersRead, AnswersLoaded, AnswersFiles, AnswersOver, AnswersBound, AnswersRun, AnswersTyped, AnswersJudged, AnswersNamed, AnswersImported, AnswersSources, AnswersSchemas, AnswersBuilt, AnswersParsed, AnswersBytes, AnswersFile, Answers}
+use Rattle.gx_processor.specs.Answer.{Answer, writes, refuses, status_of, output_of, can_be_written, AnswersOutcome, AnswersEvaluated, AnswersRead, AnswersKept, AnswersLoaded, AnswersFiles, AnswersBound, AnswersRun, AnswersTyped, AnswersJudged, AnswersNamed, AnswersImported, AnswersSources, AnswersSchemas, AnswersBuilt, AnswersParsed, AnswersBytes, AnswersFile, Answers}
 use Rattle.gx_processor.specs.Run.{Run}
 use Rattle.gx_processor.specs.Promises.{LeavesAnswer}
 use Rattle.gx_processor.specs.Headline.{BindDocuments, RunEnds, RunsTyped, ChecksTyped, HoldsTyped, RunsAsChecked, RejectsUntyped}
 use Rattle.gx_processor.proofs.AnswerLemmas.{answer_at, answer_asked}
-use Rattle.gx_processor.proofs.LoadLemmas.{hold_trees}
+use Rattle.gx_processor.proofs.LoadLemmas.{OfDocument}
 use Rattle.gx_processor.proofs.PromiseLemmas.{AnsweredOrStarved}
 
 -- what an answer at a file that is held comes to
@@ -62,25 +65,26 @@ read_answer : (told : Status) (file bytes : List ℕ) (root : SourceTree) (Next 
 read_answer told file bytes root Next a reads (inl h) = subst (λ (r : SourceTree). Next r a) (one_document bytes h.0 root h.1 reads) h.2
 read_answer told file bytes root Next a reads (inr h) = absurd (not_refused bytes root h.0 h.1 reads h.2)
 
-held_answer : (told : Status) (files : Files) (file : List ℕ) (root : SourceTree) (Next : SourceTree → Answer → Type 0) (a : Answer) → HoldsKept KeepsRoot files file root → AnswersLoaded told file (file_of files file) Next a → Next root a
-held_answer told files file root Next a h k =
-    let of_bytes = subst (λ (o : Option (List ℕ)). AnswersLoaded told file o Next a) h.1.held k in
-    let of_read = short_document told file h.1.bytes (nat_le (length h.1.bytes) 16777216) Next (refuses told (long_document_line file)) a (le-leb (length h.1.bytes) 16777216 h.1.within) of_bytes in
-    subst (λ (u : SourceTree). Next u a) (sym h.2) (read_answer told file h.1.bytes h.0 Next a h.1.reads of_read)
+held_answer : {T : Type 0} (told : Status) (files : Files) (request : Request T) (kept : T) (Next : T → Answer → Type 0) (a : Answer) → HoldsKept files request kept → AnswersLoaded told request.file (file_of files request.file) (OfDocument told request Next) a → Next kept a
+held_answer {T} told files request kept Next a h k =
+    let of_bytes = subst (λ (o : Option (List ℕ)). AnswersLoaded told request.file o (OfDocument told request Next) a) h.1.held k in
+    let of_read = short_document told request.file h.1.bytes (nat_le (length h.1.bytes) 16777216) (OfDocument told request Next) (refuses told (long_document_line request.file)) a (le-leb (length h.1.bytes) 16777216 h.1.within) of_bytes in
+    let of_root = read_answer told request.file h.1.bytes h.0 (OfDocument told request Next) a h.1.reads of_read in
+    subst (λ (o : Result T Fault). AnswersKept told request.file o Next a) h.2 of_root
 
-pub files_answer : (told : Status) (files : Files) (names : List (List ℕ)) (roots before : List SourceTree) (Next : List SourceTree → Answer → Type 0) (a : Answer) → HoldKept KeepsRoot files names roots → AnswersFiles told files names before Next a → Next (before ++ roots) a
-files_answer told files [] [] before Next a h k = subst (λ (f : List SourceTree). Next f a) (sym (append-nil before)) k
-files_answer told files [] (t ∷ roots) before Next a h k = absurd h
-files_answer told files (name ∷ names) [] before Next a h k = absurd h
-files_answer told files (name ∷ names) (t ∷ roots) before Next a h k =
-    let next = held_answer told files name t (λ u n. AnswersFiles told files names (before ++ u ∷ []) Next n) a h.0 k in
-    subst (λ (f : List SourceTree). Next f a) (append_assoc before (t ∷ []) roots) (files_answer told files names roots (before ++ t ∷ []) Next a h.1 next)
+pub files_answer : {T : Type 0} (told : Status) (files : Files) (requests : List (Request T)) (kept before : List T) (Next : List T → Answer → Type 0) (a : Answer) → HoldKept files requests kept → AnswersFiles told files requests before Next a → Next (before ++ kept) a
+files_answer {T} told files [] [] before Next a h k = subst (λ (ts : List T). Next ts a) (sym (append-nil before)) k
+files_answer told files [] (t ∷ kept) before Next a h k = absurd h
+files_answer told files (request ∷ requests) [] before Next a h k = absurd h
+files_answer {T} told files (request ∷ requests) (t ∷ kept) before Next a h k =
+    let next = held_answer told files request t (λ u n. AnswersFiles told files requests (before ++ u ∷ []) Next n) a h.0 k in
+    subst (λ (ts : List T). Next ts a) (append_assoc before (t ∷ []) kept) (files_answer told files requests kept (before ++ t ∷ []) Next a h.1 next)
 
 -- the answer to words that name a command over a file with a query of this Core
 schemas_answer : ImportsAreOne → (files : Files) (command : Command) (tree : SyntaxQuery) (schemas : SchemaSet) (a : Answer) → ImportsSchemas files tree schemas → AnswersSchemas files command tree a → AnswersNamed files command schemas (query_named schemas tree) a
 schemas_answer single files command tree schemas a i h =
-    let of_roots = files_answer Schema files (schema_files tree) i.roots [] (AnswersSources files command tree) a i.held h in
-    subst (λ (told : Imported). AnswersImported files command tree (schema_files tree) told a) (single (sources_of i.roots) of_roots.0 (declares schemas) of_roots.1 i.imports) of_roots.2
+    let of_sources = files_answer Schema files (schema_requests tree) i.sources [] (AnswersSources files command tree) a i.held h in
+    subst (λ (told : Imported). AnswersImported files command tree (schema_files tree) told a) (single i.sources of_sources.0 (declares schemas) of_sources.1 i.imports) of_sources.2
 
 judged_answer : ImportsAreOne → (words : List (List ℕ)) (files : Files) (command : Command) (schemas : SchemaSet) (core : Core) (a : Answer) → command_of words ≡ Some command → HoldsQuery files (query_file command) schemas core → Answers words files a
     → AnswersJudged files command schemas core (query_judged schemas core) a
@@ -97,30 +101,25 @@ typed_answer : ImportsAreOne → (words : List (List ℕ)) (files : Files) (comm
     → query_judged schemas core ≡ query_typed t → Answers words files a → AnswersTyped files command schemas core t a
 typed_answer single words files command schemas core t a e q j h = subst (λ (k : QueryJudgement). AnswersJudged files command schemas core k a) j (judged_answer single words files command schemas core a e q h)
 
--- the documents that the words bind
-trees_of_documents : (files : Files) (names : List (List ℕ)) (trees : Forest) → HoldTrees files names trees → AreDocumentTrees trees × (length trees ≡ length names)
-trees_of_documents files [] [] h = (tt, refl)
-trees_of_documents files [] (t ∷ trees) h = absurd h
-trees_of_documents files (name ∷ names) [] h = absurd h
-trees_of_documents files (name ∷ names) (t ∷ trees) h =
-    let rest = trees_of_documents files names trees h.1 in
-    (((h.0.1.bytes, h.0.0, h.0.1.reads, h.0.2), rest.0), ap suc rest.1)
-
-pub length_bound : (externals words : List (List ℕ)) → length (files_bound externals words) ≡ length externals
-length_bound [] words = refl
-length_bound (name ∷ names) words = ap suc (length_bound names words)
+-- documents that are held are documents
+kept_of_held : {T : Type 0} (files : Files) (requests : List (Request T)) (kept : List T) → HoldKept files requests kept → AreKept requests kept
+kept_of_held files [] [] h = tt
+kept_of_held files [] (t ∷ kept) h = absurd h
+kept_of_held files (request ∷ requests) [] h = absurd h
+kept_of_held files (request ∷ requests) (t ∷ kept) h = ((h.0.1.bytes, h.0.0, h.0.1.reads, h.0.2), kept_of_held files requests kept h.1)
 
 -- the meaning of a query that has a type keeps the type, on all documents
 abbrev pub TypesAreKept : Type 0
-TypesAreKept = (schemas : SchemaSet) (core : Core) (t : TypedCore) (documents : Forest) → IsSchemaSet schemas → AreDocumentTrees documents → length documents ≡ length (external_words core.declarations) → ExternalsAreUntyped core.declarations → query_judged schemas core ≡ query_typed t
+TypesAreKept = (schemas : SchemaSet) (core : Core) (t : TypedCore) (documents : Forest) → IsSchemaSet schemas → AreDocumentsOf schemas core.declarations documents → ExternalsAreDocuments schemas core.declarations → query_judged schemas core ≡ query_typed t
     → Keeps (typed_setting schemas) documents (query_type t) (query_outcome schemas core (document_nodes documents) documents)
 
-pub types_are_kept : QueryTypingIsSound → SoundQueriesKeepTheirTypes → DocumentsAreHonest → TypesAreKept
-types_are_kept sound keep honest schemas core t documents invariant trees each untyped j =
+pub types_are_kept : QueryTypingIsSound → SoundQueriesKeepTheirTypes → DocumentsAreHonest → DocumentsAreAsAsked → TypesAreKept
+types_are_kept sound keep honest fits schemas core t documents invariant trees externals j =
     let s = sound schemas core t invariant j in
-    let fit = documents_fit schemas core.declarations documents untyped trees each in
+    let fit = documents_fit fits schemas invariant core.declarations documents externals trees in
+    let global = asked_are_global schemas core.declarations trees.names externals in
     subst (λ (c : Core). Keeps (typed_setting schemas) documents (query_type t) (query_outcome schemas c (document_nodes documents) documents)) s.same
-    (keep schemas t (document_nodes documents) documents (honest schemas documents trees)
+    (keep schemas t (document_nodes documents) documents (honest schemas (documents_asked core.declarations trees.names) documents invariant global trees.trees)
     (subst (λ (c : Core). DocumentsFit schemas documents c.declarations (document_nodes documents)) (sym s.same) fit) s.sound)
 
 outcome_runs : (run : Run) (schemas : SchemaSet) (core : Core) (t : TypedCore) (documents : Forest) (o : Outcome Items) (a : Answer) → query_outcome schemas core (document_nodes documents) documents ≡ o → Keeps (typed_setting schemas) documents (query_type t) o
@@ -134,24 +133,25 @@ outcome_runs run schemas core t documents (raises code) a m k is s l =
 outcome_runs run schemas core t documents wrong a m k is s l = absurd k
 
 -- the answer to a run whose value can be written, on documents that the words bind
-run_answer : (files : Files) (bindings : List (List ℕ)) (schemas : SchemaSet) (core : Core) (t : TypedCore) (documents : Forest) (a : Answer) → can_be_written schemas t ≡ true → BindDocuments files core bindings documents
-    → AnswersRun files bindings schemas core t a → AnswersEvaluated schemas core documents a
-run_answer files bindings schemas core t documents a yes' b h =
-    let bound = subst (λ (writable : Bool). MatchBool writable (AnswersBound files schemas core bindings (misbound (external_words core.declarations) bindings) a) (a ≡ refuses Query (placed_line SENR0001 (outer_of core.body)))) yes' h in
-    let read = subst (λ (o : Option Misbound). AnswersBound files schemas core bindings o a) b.bound bound in
-    let held = hold_trees files (files_bound (external_words core.declarations) bindings) documents b.held in
-    subst (λ (f : Forest). AnswersEvaluated schemas core f a) (sym held.2)
-    (files_answer Document files (files_bound (external_words core.declarations) bindings) held.0 [] (AnswersOver schemas core) a held.1 read)
+run_answer : (files : Files) (bindings : List (List ℕ)) (schemas : SchemaSet) (core : Core) (t : TypedCore) (documents : Forest) (a : Answer) → can_be_written schemas t ≡ true → misbound (external_words core.declarations) bindings ≡ None
+    → HoldKept files (tree_requests schemas (documents_bound core.declarations bindings)) documents → AnswersRun files bindings schemas core t a → AnswersEvaluated schemas core documents a
+run_answer files bindings schemas core t documents a yes' bound held h =
+    let written = subst (λ (writable : Bool). MatchBool writable (AnswersBound files schemas core bindings (misbound (external_words core.declarations) bindings) a) (a ≡ refuses Query (placed_line SENR0001 (outer_of core.body)))) yes' h in
+    let read = subst (λ (o : Option Misbound). AnswersBound files schemas core bindings o a) bound written in
+    files_answer Document files (tree_requests schemas (documents_bound core.declarations bindings)) documents [] (AnswersEvaluated schemas core) a held read
 
-pub typed_run : ImportsAreOne → (run : Run) (files : Files) → TypesAreKept → ImportsAreSchemaSets → NamedQueriesHaveUntypedDocuments → AnsweredOrStarved run files → RunsTyped run files
-typed_run single run files kept sound untyped (inr m) name bindings schemas core t documents e q j yes' b = inr (inr m)
-typed_run single run files kept sound untyped (inl answered) name bindings schemas core t documents e q j yes' b =
+pub typed_run : ImportsAreOne → (run : Run) (files : Files) → TypesAreKept → ImportsAreSchemaSets → NamedQueriesHaveDocuments → HeldTreesAreKept → AnsweredOrStarved run files → RunsTyped run files
+typed_run single run files kept sound named trees (inr m) name bindings schemas core t documents e q j yes' b = inr (inr m)
+typed_run single run files kept sound named trees (inl answered) name bindings schemas core t documents e q j yes' b =
+    let invariant = sound q.imports.sources schemas q.imports.imports in
+    let externals = named schemas q.read.tree core q.named in
+    let names = files_bound (external_words core.declarations) bindings in
+    let held = (trees schemas files (documents_bound core.declarations bindings) documents invariant (asked_are_global schemas core.declarations names externals)).0 b.held in
     let of_run = typed_answer single run.words files (run_file name bindings) schemas core t answered.answer e q j answered.answers in
-    let of_outcome = run_answer files bindings schemas core t documents answered.answer yes' b of_run in
-    let trees = trees_of_documents files (files_bound (external_words core.declarations) bindings) documents b.held in
-    let each = trees.1 ∙ length_bound (external_words core.declarations) bindings in
-    let invariant = sound (sources_of q.imports.roots) schemas q.imports.imports in
-    let keeps = kept schemas core t documents invariant trees.0 each (untyped schemas q.read.tree core q.read.query.built q.named) j in
+    let of_outcome = run_answer files bindings schemas core t documents answered.answer yes' b.bound held of_run in
+    let all : AreDocumentsOf schemas core.declarations documents =
+    record { names = names; each = length_bound (external_words core.declarations) bindings; trees = kept_of_held files (tree_requests schemas (documents_bound core.declarations bindings)) documents held } in
+    let keeps = kept schemas core t documents invariant all externals j in
     outcome_runs run schemas core t documents (query_outcome schemas core (document_nodes documents) documents) answered.answer refl keeps of_outcome answered.status answered.sinks
 
 pub typed_check : ImportsAreOne → (run : Run) (files : Files) → AnsweredOrStarved run files → ChecksTyped run files
@@ -171,19 +171,19 @@ named_printed : (files : Files) (name : List ℕ) (schemas : SchemaSet) (n : Nam
 named_printed files name schemas (named_query core) printed h = let j = judged_printed files name schemas core (query_judged schemas core) printed h in (core, j.0, refl, j.1, j.2)
 named_printed files name schemas (unknown_name place code) printed h = cc
 
-imported_printed : (files : Files) (name : List ℕ) (read : HoldsSyntax files name) (told : Imported) (roots : List SourceTree) (printed : List ℕ) → HoldKept KeepsRoot files (schema_files read.tree) roots → IsImported (sources_of roots) told
+imported_printed : (files : Files) (name : List ℕ) (read : HoldsSyntax files name) (told : Imported) (sources : List Source) (printed : List ℕ) → HoldKept files (schema_requests read.tree) sources → IsImported sources told
     → AnswersImported files (check_file name) read.tree (schema_files read.tree) told (writes printed) → HoldsTyped files name printed
-imported_printed files name read (declares schemas) roots printed held e h =
+imported_printed files name read (declares schemas) sources printed held e h =
     let n = named_printed files name schemas (query_named schemas read.tree) printed h in
     record {
       schemas = schemas;
       core = n.0;
       typing = n.1;
-      query = record { read = read; imports = record { roots = roots; held = held; imports = e }; named = n.2 };
+      query = record { read = read; imports = record { sources = sources; held = held; imports = e }; named = n.2 };
       judgement = n.3;
       text = n.4;
     }
-imported_printed files name read (breaks rule file construct list) roots printed held e h = cc
+imported_printed files name read (breaks rule file construct list) sources printed held e h = cc
 
 -- an output comes only where all files hold documents
 read_printed : (told : Status) (file bytes : List ℕ) (Next : SourceTree → Answer → Type 0) (printed : List ℕ) → AnswersRead told file bytes Next (writes printed) → (root : SourceTree) × IsDocumentOf bytes root × Next root (writes printed)
@@ -195,24 +195,29 @@ short_read_printed : (told : Status) (file bytes : List ℕ) (short : Bool) (Nex
 short_read_printed told file bytes true Next printed e h = (leb-true (length bytes) 16777216 e, read_printed told file bytes Next printed h)
 short_read_printed told file bytes false Next printed e h = cc
 
-loaded_printed : (told : Status) (files : Files) (file : List ℕ) (held : Option (List ℕ)) (Next : SourceTree → Answer → Type 0) (printed : List ℕ) → file_of files file ≡ held → AnswersLoaded told file held Next (writes printed)
-    → (root : SourceTree) × HoldsKept KeepsRoot files file root × Next root (writes printed)
-loaded_printed told files file None Next printed e h = cc
-loaded_printed told files file (Some bytes) Next printed e h =
-    let r = short_read_printed told file bytes (nat_le (length bytes) 16777216) Next printed refl h in
-    (r.1.0, (r.1.0, record { bytes = bytes; held = e; within = r.0; reads = r.1.1 }, refl), r.1.2)
+kept_printed : {T : Type 0} (told : Status) (file : List ℕ) (outcome : Result T Fault) (Next : T → Answer → Type 0) (printed : List ℕ) → AnswersKept told file outcome Next (writes printed) → (kept : T) × (outcome ≡ Ok kept) × Next kept (writes printed)
+kept_printed told file (Ok kept) Next printed h = (kept, refl, h)
+kept_printed told file (Err fault) Next printed h = cc h
 
-files_printed : (told : Status) (files : Files) (names : List (List ℕ)) (before : List SourceTree) (Next : List SourceTree → Answer → Type 0) (printed : List ℕ) → AnswersFiles told files names before Next (writes printed)
-    → (roots : List SourceTree) × HoldKept KeepsRoot files names roots × Next (before ++ roots) (writes printed)
-files_printed told files [] before Next printed h = ([], tt, subst (λ (f : List SourceTree). Next f (writes printed)) (sym (append-nil before)) h)
-files_printed told files (name ∷ names) before Next printed h =
-    let one = loaded_printed told files name (file_of files name) (λ u next. AnswersFiles told files names (before ++ u ∷ []) Next next) printed refl h in
-    let others = files_printed told files names (before ++ one.0 ∷ []) Next printed one.2 in
-    (one.0 ∷ others.0, (one.1, others.1), subst (λ (f : List SourceTree). Next f (writes printed)) (append_assoc before (one.0 ∷ []) others.0) others.2)
+loaded_printed : {T : Type 0} (told : Status) (files : Files) (request : Request T) (held : Option (List ℕ)) (Next : T → Answer → Type 0) (printed : List ℕ) → file_of files request.file ≡ held → AnswersLoaded told request.file held (OfDocument told request Next) (writes printed)
+    → (kept : T) × HoldsKept files request kept × Next kept (writes printed)
+loaded_printed told files request None Next printed e h = cc h
+loaded_printed told files request (Some bytes) Next printed e h =
+    let r = short_read_printed told request.file bytes (nat_le (length bytes) 16777216) (OfDocument told request Next) printed refl h in
+    let k = kept_printed told request.file (request.outcome r.1.0) Next printed r.1.2 in
+    (k.0, (r.1.0, record { bytes = bytes; held = e; within = r.0; reads = r.1.1 }, k.1), k.2)
+
+files_printed : {T : Type 0} (told : Status) (files : Files) (requests : List (Request T)) (before : List T) (Next : List T → Answer → Type 0) (printed : List ℕ) → AnswersFiles told files requests before Next (writes printed)
+    → (kept : List T) × HoldKept files requests kept × Next (before ++ kept) (writes printed)
+files_printed {T} told files [] before Next printed h = ([], tt, subst (λ (ts : List T). Next ts (writes printed)) (sym (append-nil before)) h)
+files_printed {T} told files (request ∷ requests) before Next printed h =
+    let one = loaded_printed told files request (file_of files request.file) (λ u next. AnswersFiles told files requests (before ++ u ∷ []) Next next) printed refl h in
+    let others = files_printed told files requests (before ++ one.0 ∷ []) Next printed one.2 in
+    (one.0 ∷ others.0, (one.1, others.1), subst (λ (ts : List T). Next ts (writes printed)) (append_assoc before (one.0 ∷ []) others.0) others.2)
 
 schemas_printed : (files : Files) (name : List ℕ) (read : HoldsSyntax files name) (printed : List ℕ) → AnswersSchemas files (check_file name) read.tree (writes printed) → HoldsTyped files name printed
 schemas_printed files name read printed h =
-    let all = files_printed Schema files (schema_files read.tree) [] (AnswersSources files (check_file name) read.tree) printed h in
+    let all = files_printed Schema files (schema_requests read.tree) [] (AnswersSources files (check_file name) read.tree) printed h in
     imported_printed files name read all.2.0 all.0 printed all.1 all.2.1 all.2.2
 
 built_printed : (files : Files) (name bytes : List ℕ) (tree : SyntaxQuery) (unbuilt : Option Place) (printed : List ℕ) → file_of files name ≡ Some bytes → length bytes ≤ 16777216 → Parses bytes (parsed tree) → unbuilt_query tree ≡ unbuilt

@@ -1,16 +1,16 @@
 -- What the schemas that a query imports say, from the reading of their files.
-use Rattle.std.proofs.Common.{◌≡◌, ℕ, List, [], Result, Ok, Err, string_bytes, IfErr, MatchResult, inl, inr, refl, sym, ap₂, subst}
+use Rattle.std.proofs.Common.{◌≡◌, ℕ, List, [], ◌∷◌, map, Result, Ok, Err, string_bytes, IfErr, MatchResult, inl, inr, refl, sym, ap₂, subst}
 use Rattle.gx_types.specs.SchemaSet.{SchemaSet}
 use Rattle.gx_io.specs.LibraryUse.{LibraryUse}
 use Rattle.gx_ast.specs.declared.query.Query.{Query as SyntaxQuery}
 use Rattle.gx_xml.specs.declared.source.Source.{Source}
-use Rattle.gx_xml.specs.SourceTree.{SourceTree}
+use Rattle.gx_validate.specs.declared.invalid.InvalidRule.{InvalidRule}
 use Rattle.gx_schema.specs.Import.{declares, breaks, IsImported}
 use Rattle.gx_documents.specs.declared.documents.DocumentFault.TheVariants as faults
 use Rattle.gx_documents.specs.declared.documents.DocumentsError.{DocumentsError}
 use Rattle.gx_documents.specs.declared.documents.DocumentsError.TheVariants.{Failed, Memory as NoMemory}
-use Rattle.gx_documents.specs.Documents.{Files, KeepsSource, DocumentsLoaded}
-use Rattle.gx_documents.specs.Reading.{EndsWith, HasReadFault, ReadSources}
+use Rattle.gx_documents.specs.Documents.{Files, Request, DocumentsLoaded, source_request}
+use Rattle.gx_documents.specs.Reading.{EndsWith, HasReadFault, OneBreaks, ReadSources}
 use Rattle.gx_processor.specs.declared.refusal.Refusal.{Refusal}
 use Rattle.gx_processor.specs.declared.refusal.Refusal.TheVariants as refusal
 use Rattle.gx_processor.specs.declared.status.Status.TheVariants as status
@@ -19,18 +19,42 @@ use Rattle.gx_processor.specs.Command.{Command}
 use Rattle.gx_processor.specs.FaultLines.{import_line}
 use Rattle.gx_processor.specs.ImportReplies.{unread_schema, BreaksRule, DeclaresIn, DeclaresSo, DeclaredSo, IsOfImport, FailsAtSchema, ImportsSo}
 use Rattle.gx_processor.specs.Query.{ImportsSchemas}
-use Rattle.gx_processor.specs.SchemaFiles.{schema_files}
+use Rattle.gx_processor.specs.SchemaFiles.{schema_files, schema_requests}
 use Rattle.gx_processor.specs.Loading.{AreFirstOf}
-use Rattle.gx_processor.specs.Replies.{RefusesSo, OutcomeLoads}
-use Rattle.gx_processor.proofs.LoadLemmas.{hold_sources, roots_answer, stopped_answers, all_loaded, stopped_loaded, stopped_first, one_load, whole_is_front}
+use Rattle.gx_processor.specs.Replies.{RefusesSo, IsOfReader, OutcomeLoads}
+use Rattle.gx_processor.proofs.LoadLemmas.{kept_answer, stopped_answers, all_loaded, stopped_loaded, stopped_first, one_load, whole_is_front}
 use Rattle.gx_processor.proofs.Told.{told_so, told_always}
+
+-- nothing is said of validity
+abbrev IsOfReading : DocumentsError → Type 0
+IsOfReading (Failed file fault) = IsOfReader fault
+IsOfReading NoMemory = Unit {0}
+
+not_broken : {A E : Type 0} {x : A} {e : E} → Ok x ≡ Err e → ⊥
+not_broken h = absurd (cc h)
 
 module _ (tree : SyntaxQuery) where
   abbrev names : List (List ℕ)
   names = schema_files tree
 
-  abbrev Followed : Files → Command → List SourceTree → Answer → Type 0
-  Followed files command roots next = AnswersSources files command tree roots next
+  abbrev requests : List (Request Source)
+  requests = schema_requests tree
+
+  abbrev Followed : Files → Command → List Source → Answer → Type 0
+  Followed files command sources next = AnswersSources files command tree sources next
+
+  -- no rule of validity is asked for
+  none_breaks : (files : List (List ℕ)) (rule : InvalidRule) (path : List ℕ) → OneBreaks (map source_request files) rule path → ⊥
+  none_breaks [] rule path h = h
+  none_breaks (file ∷ files) rule path (inl h) = not_broken h.1
+  none_breaks (file ∷ files) rule path (inr h) = none_breaks files rule path h
+
+  reads_alone : (library : LibraryUse) (error : DocumentsError) → ReadSources library names (Err error) → IsOfReading error
+  reads_alone library (Failed file faults.Unread) read = tt
+  reads_alone library (Failed file faults.TooLong) read = tt
+  reads_alone library (Failed file (faults.Refused rule place)) read = tt
+  reads_alone library (Failed file (faults.Invalid rule path)) read = none_breaks names rule path read.asked_for
+  reads_alone library NoMemory read = tt
 
   abbrev Refused : Files → Refusal → Type 0
   Refused files e = (command : Command) → RefusesSo e (AnswersSchemas files command tree)
@@ -39,53 +63,55 @@ module _ (tree : SyntaxQuery) where
   Answered files result = MatchResult result (ImportsSchemas files tree) (Refused files)
 
   -- files that cannot be read
-  unread_answers : (files : Files) (loads : List (List ℕ)) (error : DocumentsError) → EndsWith KeepsSource files names loads (Err error) → Refused files (unread_schema error)
-  unread_answers files loads (Failed file faults.Unread) ends command = tt
-  unread_answers files loads (Failed file faults.TooLong) ends command =
-      stopped_answers status.Schema KeepsSource files names loads (string_bytes file) faults.TooLong (Followed files command) _ ends.0 ends.1 refl
-  unread_answers files loads (Failed file (faults.Refused rule place)) ends command =
-      stopped_answers status.Schema KeepsSource files names loads (string_bytes file) (faults.Refused rule place) (Followed files command) _ ends.0 ends.1 refl
-  unread_answers files loads NoMemory ends command = tt
+  unread_answers : (files : Files) (loads : List (List ℕ)) (error : DocumentsError) → IsOfReading error → EndsWith files requests loads (Err error) → Refused files (unread_schema error)
+  unread_answers files loads (Failed file faults.Unread) own ends command = tt
+  unread_answers files loads (Failed file faults.TooLong) own ends command =
+      stopped_answers status.Schema files requests loads (string_bytes file) faults.TooLong (Followed files command) _ ends refl
+  unread_answers files loads (Failed file (faults.Refused rule place)) own ends command =
+      stopped_answers status.Schema files requests loads (string_bytes file) (faults.Refused rule place) (Followed files command) _ ends refl
+  unread_answers files loads (Failed file (faults.Invalid rule path)) own ends command = absurd own
+  unread_answers files loads NoMemory own ends command = tt
 
-  memory_first : (files : Files) (loads whole : List (List ℕ)) → EndsWith KeepsSource files names loads (Err NoMemory) → DocumentsLoaded files names whole → AreFirstOf loads whole
-  memory_first files loads whole (inl e) h = stopped_first KeepsSource files names loads whole e.0 e.1 h
+  memory_first : (files : Files) (loads whole : List (List ℕ)) → EndsWith files requests loads (Err NoMemory) → DocumentsLoaded files requests whole → AreFirstOf loads whole
+  memory_first files loads whole (inl e) h = stopped_first files requests loads whole e.0 e.1 h
   memory_first files loads whole (inr e) h =
-      whole_is_front loads whole (one_load files names loads whole (subst (λ (ns : List (List ℕ)). DocumentsLoaded files names ns) (sym e.2) (all_loaded KeepsSource files names e.0 e.1)) h)
+      whole_is_front loads whole (one_load files requests loads whole (subst (λ (ns : List (List ℕ)). DocumentsLoaded files requests ns) (sym e.2) (all_loaded files requests e.0 e.1)) h)
 
-  unread_loads : (files : Files) (loads : List (List ℕ)) (error : DocumentsError) → EndsWith KeepsSource files names loads (Err error) → OutcomeLoads {V = SchemaSet} (DocumentsLoaded files names) loads (Err (unread_schema error))
-  unread_loads files loads (Failed file faults.Unread) ends = λ whole h. stopped_first KeepsSource files names loads whole (string_bytes file) ends.0 h
-  unread_loads files loads (Failed file faults.TooLong) ends = stopped_loaded KeepsSource files names loads (string_bytes file) faults.TooLong ends.0 ends.1 (λ e. cc)
-  unread_loads files loads (Failed file (faults.Refused rule place)) ends = stopped_loaded KeepsSource files names loads (string_bytes file) (faults.Refused rule place) ends.0 ends.1 (λ e. cc)
+  unread_loads : (files : Files) (loads : List (List ℕ)) (error : DocumentsError) → EndsWith files requests loads (Err error) → OutcomeLoads {V = SchemaSet} (DocumentsLoaded files requests) loads (Err (unread_schema error))
+  unread_loads files loads (Failed file faults.Unread) ends = λ whole h. stopped_first files requests loads whole ends.request ends.stops h
+  unread_loads files loads (Failed file faults.TooLong) ends = stopped_loaded files requests loads (string_bytes file) faults.TooLong ends (λ e. cc)
+  unread_loads files loads (Failed file (faults.Refused rule place)) ends = stopped_loaded files requests loads (string_bytes file) (faults.Refused rule place) ends (λ e. cc)
+  unread_loads files loads (Failed file (faults.Invalid rule path)) ends = stopped_loaded files requests loads (string_bytes file) (faults.Invalid rule path) ends (λ e. cc)
   unread_loads files loads NoMemory ends = λ whole h. memory_first files loads whole ends h
 
   unread_fails : (library : LibraryUse) (loads : List (List ℕ)) (error : DocumentsError) → HasReadFault {T = Source} library loads (Err error) → FailsAtSchema {V = SchemaSet} library loads (Err (unread_schema error))
   unread_fails library loads (Failed file faults.Unread) f = record { earlier = f.earlier; file = string_bytes file; in_order = f.in_order; failed = f.failed; rose = f.rose; line_is = refl }
   unread_fails library loads (Failed file faults.TooLong) f = tt
   unread_fails library loads (Failed file (faults.Refused rule place)) f = tt
+  unread_fails library loads (Failed file (faults.Invalid rule path)) f = tt
   unread_fails library loads NoMemory f = tt
 
-  unread_own : (error : DocumentsError) → IsOfImport (unread_schema error)
-  unread_own (Failed file fault) = tt
-  unread_own NoMemory = tt
+  unread_own : (error : DocumentsError) → IsOfReading error → IsOfImport (unread_schema error)
+  unread_own (Failed file fault) own = own
+  unread_own NoMemory own = tt
 
   unread_imports : (library : LibraryUse) (error : DocumentsError) → ReadSources library names (Err error) → ImportsSo library tree (Err (unread_schema error))
   unread_imports library error read = record {
     loads = read.loads;
     loaded = read.loaded;
-    answers = told_so (library.files library.before) (λ files. EndsWith KeepsSource files names read.loads (Err error)) (λ files. Answered files (Err (unread_schema error))) (λ files ends. unread_answers files read.loads error ends) read.told;
-    told = told_so (library.files library.before) (λ files. EndsWith KeepsSource files names read.loads (Err error)) (λ files. OutcomeLoads {V = SchemaSet} (DocumentsLoaded files names) read.loads (Err (unread_schema error)))
+    answers = told_so (library.files library.before) (λ files. EndsWith files requests read.loads (Err error)) (λ files. Answered files (Err (unread_schema error))) (λ files ends. unread_answers files read.loads error (reads_alone library error read) ends) read.told;
+    told = told_so (library.files library.before) (λ files. EndsWith files requests read.loads (Err error)) (λ files. OutcomeLoads {V = SchemaSet} (DocumentsLoaded files requests) read.loads (Err (unread_schema error)))
         (λ files ends. unread_loads files read.loads error ends) read.told;
     failed = unread_fails library read.loads error read.failed;
-    own = unread_own error;
+    own = unread_own error (reads_alone library error read);
   }
 
   -- files that are read
-  broken_answers : (files : Files) (sources : List Source) (loads : List (List ℕ)) (e : Refusal) → EndsWith KeepsSource files names loads (Ok sources) → BreaksRule names sources e → Refused files e
+  broken_answers : (files : Files) (sources : List Source) (loads : List (List ℕ)) (e : Refusal) → EndsWith files requests loads (Ok sources) → BreaksRule names sources e → Refused files e
   broken_answers files sources loads (refusal.Schema rule file construct) ends b command =
-      let held = hold_sources files names sources ends.0 in
-      roots_answer status.Schema files names held.0 [] (Followed files command) _ held.1 (
+      kept_answer status.Schema files requests sources [] (Followed files command) _ ends.0 (
         breaks rule b.0 b.1 b.2,
-        subst (λ (ss : List Source). IsImported ss (breaks rule b.0 b.1 b.2)) held.2 b.3,
+        b.3,
         ap₂ (λ (name shown : List ℕ). refuses status.Schema (import_line rule name shown)) b.4 b.5,
       )
   broken_answers files sources loads refusal.Memory ends b command = tt
@@ -97,21 +123,20 @@ module _ (tree : SyntaxQuery) where
   broken_answers files sources loads (refusal.Document file fault) ends b command = absurd b
   broken_answers files sources loads (refusal.Dynamic code) ends b command = absurd b
 
-  declared_answers : (files : Files) (sources : List Source) (loads : List (List ℕ)) (result : Result SchemaSet Refusal) → EndsWith KeepsSource files names loads (Ok sources)
+  declared_answers : (files : Files) (sources : List Source) (loads : List (List ℕ)) (result : Result SchemaSet Refusal) → EndsWith files requests loads (Ok sources)
       → DeclaresIn names sources result → Answered files result
   declared_answers files sources loads (Ok schemas) ends h =
-      let held = hold_sources files names sources ends.0 in
-      record { roots = held.0; held = held.1; imports = subst (λ (ss : List Source). IsImported ss (declares schemas)) held.2 h }
+      record { sources = sources; held = ends.0; imports = h }
   declared_answers files sources loads (Err e) ends h = broken_answers files sources loads e ends h
 
-  sources_loaded : (files : Files) (sources : List Source) (loads : List (List ℕ)) → EndsWith KeepsSource files names loads (Ok sources) → DocumentsLoaded files names loads
-  sources_loaded files sources loads ends = subst (λ (ns : List (List ℕ)). DocumentsLoaded files names ns) (sym ends.1) (all_loaded KeepsSource files names sources ends.0)
+  sources_loaded : (files : Files) (sources : List Source) (loads : List (List ℕ)) → EndsWith files requests loads (Ok sources) → DocumentsLoaded files requests loads
+  sources_loaded files sources loads ends = subst (λ (ns : List (List ℕ)). DocumentsLoaded files requests ns) (sym ends.1) (all_loaded files requests sources ends.0)
 
-  declared_loads : (files : Files) (sources : List Source) (loads : List (List ℕ)) (result : Result SchemaSet Refusal) → EndsWith KeepsSource files names loads (Ok sources)
-      → DeclaresIn names sources result → OutcomeLoads (DocumentsLoaded files names) loads result
+  declared_loads : (files : Files) (sources : List Source) (loads : List (List ℕ)) (result : Result SchemaSet Refusal) → EndsWith files requests loads (Ok sources)
+      → DeclaresIn names sources result → OutcomeLoads (DocumentsLoaded files requests) loads result
   declared_loads files sources loads (Ok schemas) ends h = sources_loaded files sources loads ends
   declared_loads files sources loads (Err (refusal.Schema rule file construct)) ends h = sources_loaded files sources loads ends
-  declared_loads files sources loads (Err refusal.Memory) ends h = λ whole k. whole_is_front loads whole (one_load files names loads whole (sources_loaded files sources loads ends) k)
+  declared_loads files sources loads (Err refusal.Memory) ends h = λ whole k. whole_is_front loads whole (one_load files requests loads whole (sources_loaded files sources loads ends) k)
   declared_loads files sources loads (Err refusal.ReadFault) ends h = absurd h
   declared_loads files sources loads (Err refusal.TooLong) ends h = absurd h
   declared_loads files sources loads (Err (refusal.Query code place)) ends h = absurd h
@@ -139,8 +164,8 @@ module _ (tree : SyntaxQuery) where
       record {
         loads = read.loads;
         loaded = read.loaded;
-        answers = told_so (library.files library.before) (λ files. EndsWith KeepsSource files names read.loads (Ok sources)) (λ files. Answered files result) (λ files ends. declared_answers files sources read.loads result ends h) read.told;
-        told = told_so (library.files library.before) (λ files. EndsWith KeepsSource files names read.loads (Ok sources)) (λ files. OutcomeLoads (DocumentsLoaded files names) read.loads result)
+        answers = told_so (library.files library.before) (λ files. EndsWith files requests read.loads (Ok sources)) (λ files. Answered files result) (λ files ends. declared_answers files sources read.loads result ends h) read.told;
+        told = told_so (library.files library.before) (λ files. EndsWith files requests read.loads (Ok sources)) (λ files. OutcomeLoads (DocumentsLoaded files requests) read.loads result)
             (λ files ends. declared_loads files sources read.loads result ends h) read.told;
         failed = rest.0;
         own = rest.1;
@@ -157,7 +182,7 @@ module _ (tree : SyntaxQuery) where
     loads = [];
     loaded = untouched;
     answers = told_always (library.files library.before) (λ files. Answered files (Err refusal.Memory)) (λ files command. tt);
-    told = told_always (library.files library.before) (λ files. OutcomeLoads {V = SchemaSet} (DocumentsLoaded files names) [] (Err refusal.Memory)) (λ files whole k. (whole, refl));
+    told = told_always (library.files library.before) (λ files. OutcomeLoads {V = SchemaSet} (DocumentsLoaded files requests) [] (Err refusal.Memory)) (λ files whole k. (whole, refl));
     failed = tt;
     own = tt;
   }

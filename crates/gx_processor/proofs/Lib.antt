@@ -1,5 +1,6 @@
 pub mod Told
 pub mod LoadLemmas
+pub mod AskedDocuments
 pub mod QueryLemmas
 pub mod AnswerLemmas
 pub mod DocumentFit

@@ -1,5 +1,5 @@
 -- An answer looks at no other files than those that its steps load.
-use Rattle.std.proofs.Common.{◌≡◌, ℕ, ◌≤◌, Bool, true, false, List, [], ◌∷◌, ◌++◌, length, Option, Some, None, inl, inr, refl, sym, subst, nat_le, append_assoc}
+use Rattle.std.proofs.Common.{◌≡◌, ℕ, ◌≤◌, Bool, true, false, List, [], ◌∷◌, ◌++◌, length, Option, Some, None, Result, Ok, Err, inl, inr, refl, sym, subst, nat_le, append_assoc}
 use Rattle.std.specs.Bool.{MatchBool}
 use Rattle.std.proofs.lemmas.Bool.{leb-true}
 use Rattle.std.proofs.lemmas.List.{append-nil}
@@ -19,17 +19,20 @@ use Rattle.gx_normal.specs.Unbuilt.{unbuilt_query}
 use Rattle.gx_processor.specs.NamedQuery.{NamedQuery, named_query, unknown_name, query_named}
 use Rattle.gx_xml.specs.Reading.{IsDocumentOf}
 use Rattle.gx_xml.specs.SourceTree.{SourceTree}
-use Rattle.gx_documents.specs.Bindings.{Misbound, misbound, files_bound}
-use Rattle.gx_documents.specs.Documents.{Files, HoldKept, DocumentsLoaded}
+use Rattle.gx_xml.specs.declared.source.Source.{Source}
+use Rattle.gx_validate.specs.Outcome.{Fault}
+use Rattle.gx_documents.specs.Bindings.{Misbound, misbound}
+use Rattle.gx_documents.specs.Documents.{Files, Request, HoldKept, DocumentsLoaded, tree_requests}
 use Rattle.gx_processor.specs.declared.status.Status.{Status}
 use Rattle.gx_processor.specs.declared.status.Status.TheVariants as status
-use Rattle.gx_processor.specs.Answer.{Answer, refuses, can_be_written, AnswersRead, AnswersLoaded, AnswersFiles, AnswersOver, AnswersBound, AnswersRun, AnswersTyped, AnswersJudged, AnswersNamed, AnswersImported, AnswersSources, AnswersSchemas, AnswersBuilt, AnswersParsed, AnswersBytes, AnswersFile, AnswersCommand, AnswersWords}
+use Rattle.gx_processor.specs.Answer.{Answer, refuses, can_be_written, AnswersEvaluated, AnswersRead, AnswersKept, AnswersLoaded, AnswersFiles, AnswersBound, AnswersRun, AnswersTyped, AnswersJudged, AnswersNamed, AnswersImported, AnswersSources, AnswersSchemas, AnswersBuilt, AnswersParsed, AnswersBytes, AnswersFile, AnswersCommand, AnswersWords}
 use Rattle.gx_processor.specs.Command.{Command, run_file, check_file, query_file, command_of, texts_to_compare}
-use Rattle.gx_processor.specs.Externals.{external_words}
+use Rattle.gx_processor.specs.Externals.{external_words, documents_bound}
 use Rattle.gx_processor.specs.FaultLines.{code_line, placed_line, long_document_line}
 use Rattle.gx_processor.specs.Loading.{BoundLoads, RunLoads, QueryLoads, BehindQuery, CommandLoads, LoadsAsked, AgreeOn, AnswersLookAtTheirLoads}
 use Rattle.gx_processor.specs.Query.{HoldsSyntax, HoldsQuery}
-use Rattle.gx_processor.specs.SchemaFiles.{schema_files, sources_of, KeepsRoot}
+use Rattle.gx_processor.specs.SchemaFiles.{schema_files, schema_requests}
+use Rattle.gx_processor.proofs.LoadLemmas.{OfDocument}
 use Rattle.gx_processor.proofs.CommandLoads.{one_tree, one_query, one_typing}
 
 module _ (single : ImportsAreOne) (files others : Files) where
@@ -56,32 +59,40 @@ module _ (single : ImportsAreOne) (files others : Files) where
       → AnswersLoaded told file (file_of others file) Other a
   file_moves told file Next Other a same f h = subst (λ (o : Option (List ℕ)). AnswersLoaded told file o Other a) same (loaded_moves told file (file_of files file) Next Other a f h)
 
-  -- files, up to the first that holds no document; behind them all, what follows from their roots
-  files_move : (told : Status) (names loads : List (List ℕ)) (before : List SourceTree) (Next Other : List SourceTree → Answer → Type 0) (a : Answer) → DocumentsLoaded files names loads → AgreeOn loads files others
-      → ((roots : List SourceTree) → HoldKept KeepsRoot files names roots → Next (before ++ roots) a → Other (before ++ roots) a) → AnswersFiles told files names before Next a → AnswersFiles told others names before Other a
-  files_move told [] loads before Next Other a l agree f h =
-      subst (λ (rs : List SourceTree). Other rs a) (append-nil before) (f [] tt (subst (λ (rs : List SourceTree). Next rs a) (sym (append-nil before)) h))
-  files_move told (name ∷ names) loads before Next Other a (inl l) agree f h =
+  -- what is kept of a document
+  kept_moves : {T : Type 0} (told : Status) (file : List ℕ) (outcome : Result T Fault) (Next Other : T → Answer → Type 0) (a : Answer) → ((kept : T) → outcome ≡ Ok kept → Next kept a → Other kept a)
+      → AnswersKept told file outcome Next a → AnswersKept told file outcome Other a
+  kept_moves told file (Ok kept) Next Other a f h = f kept refl h
+  kept_moves told file (Err fault) Next Other a f h = h
+
+  -- files, up to the first of which nothing is kept; behind them all, what follows from what is kept
+  files_move : {T : Type 0} (told : Status) (requests : List (Request T)) (loads : List (List ℕ)) (before : List T) (Next Other : List T → Answer → Type 0) (a : Answer) → DocumentsLoaded files requests loads → AgreeOn loads files others
+      → ((kept : List T) → HoldKept files requests kept → Next (before ++ kept) a → Other (before ++ kept) a) → AnswersFiles told files requests before Next a → AnswersFiles told others requests before Other a
+  files_move {T} told [] loads before Next Other a l agree f h =
+      subst (λ (ts : List T). Other ts a) (append-nil before) (f [] tt (subst (λ (ts : List T). Next ts a) (sym (append-nil before)) h))
+  files_move {T} told (request ∷ requests) loads before Next Other a (inl l) agree f h =
       let same = subst (λ (ns : List (List ℕ)). AgreeOn ns files others) l.1.2 agree in
-      file_moves told name (λ t next. AnswersFiles told files names (before ++ t ∷ []) Next next) (λ t next. AnswersFiles told others names (before ++ t ∷ []) Other next) a same.0
-      (λ bytes root held within reads k. files_move told names l.1.0 (before ++ root ∷ []) Next Other a l.1.1 same.1
-      (λ roots all n. subst (λ (rs : List SourceTree). Other rs a) (sym (append_assoc before (root ∷ []) roots))
-      (f (root ∷ roots) ((root, record { bytes = bytes; held = held; within = within; reads = reads }, refl), all) (subst (λ (rs : List SourceTree). Next rs a) (append_assoc before (root ∷ []) roots) n))) k) h
-  files_move told (name ∷ names) loads before Next Other a (inr l) agree f h =
+      file_moves told request.file (OfDocument told request (λ t next. AnswersFiles told files requests (before ++ t ∷ []) Next next)) (OfDocument told request (λ t next. AnswersFiles told others requests (before ++ t ∷ []) Other next)) a same.0
+      (λ bytes root held within reads k. kept_moves told request.file (request.outcome root) (λ t next. AnswersFiles told files requests (before ++ t ∷ []) Next next) (λ t next. AnswersFiles told others requests (before ++ t ∷ []) Other next) a
+      (λ t e m. files_move told requests l.1.0 (before ++ t ∷ []) Next Other a l.1.1 same.1
+      (λ kept all n. subst (λ (ts : List T). Other ts a) (sym (append_assoc before (t ∷ []) kept))
+      (f (t ∷ kept) ((root, record { bytes = bytes; held = held; within = within; reads = reads }, e), all) (subst (λ (ts : List T). Next ts a) (append_assoc before (t ∷ []) kept) n))) m) k) h
+  files_move told (request ∷ requests) loads before Next Other a (inr l) agree f h =
       let same = subst (λ (ns : List (List ℕ)). AgreeOn ns files others) l.1 agree in
-      file_moves told name (λ t next. AnswersFiles told files names (before ++ t ∷ []) Next next) (λ t next. AnswersFiles told others names (before ++ t ∷ []) Other next) a same.0
-      (λ bytes root held within reads k. absurd (l.0 (root, record { bytes = bytes; held = held; within = within; reads = reads }))) h
+      file_moves told request.file (OfDocument told request (λ t next. AnswersFiles told files requests (before ++ t ∷ []) Next next)) (OfDocument told request (λ t next. AnswersFiles told others requests (before ++ t ∷ []) Other next)) a same.0
+      (λ bytes root held within reads k. kept_moves told request.file (request.outcome root) (λ t next. AnswersFiles told files requests (before ++ t ∷ []) Next next) (λ t next. AnswersFiles told others requests (before ++ t ∷ []) Other next) a
+      (λ t e m. absurd (l.0 (t, (root, record { bytes = bytes; held = held; within = within; reads = reads }, e)))) k) h
 
   -- ---- a run
 
-  bound_moves : (schemas : SchemaSet) (core : Core) (bindings : List (List ℕ)) (fault : Option Misbound) (loads : List (List ℕ)) (a : Answer) → BoundLoads files fault (files_bound (external_words core.declarations) bindings) loads → AgreeOn loads files others
+  bound_moves : (schemas : SchemaSet) (core : Core) (bindings : List (List ℕ)) (fault : Option Misbound) (loads : List (List ℕ)) (a : Answer) → BoundLoads files fault (tree_requests schemas (documents_bound core.declarations bindings)) loads → AgreeOn loads files others
       → AnswersBound files schemas core bindings fault a → AnswersBound others schemas core bindings fault a
   bound_moves schemas core bindings (Some fault) loads a l agree h = h
   bound_moves schemas core bindings None loads a l agree h =
-      files_move status.Document (files_bound (external_words core.declarations) bindings) loads [] (AnswersOver schemas core) (AnswersOver schemas core) a l agree (λ roots held k. k) h
+      files_move status.Document (tree_requests schemas (documents_bound core.declarations bindings)) loads [] (AnswersEvaluated schemas core) (AnswersEvaluated schemas core) a l agree (λ kept held k. k) h
 
   match_moves : (schemas : SchemaSet) (core : Core) (bindings : List (List ℕ)) (writable : Bool) (loads : List (List ℕ)) (a c : Answer)
-      → MatchBool writable (BoundLoads files (misbound (external_words core.declarations) bindings) (files_bound (external_words core.declarations) bindings) loads) (loads ≡ []) → AgreeOn loads files others
+      → MatchBool writable (BoundLoads files (misbound (external_words core.declarations) bindings) (tree_requests schemas (documents_bound core.declarations bindings)) loads) (loads ≡ []) → AgreeOn loads files others
       → MatchBool writable (AnswersBound files schemas core bindings (misbound (external_words core.declarations) bindings) a) (a ≡ c) → MatchBool writable (AnswersBound others schemas core bindings (misbound (external_words core.declarations) bindings) a) (a ≡ c)
   match_moves schemas core bindings true loads a c l agree h = bound_moves schemas core bindings (misbound (external_words core.declarations) bindings) loads a l agree h
   match_moves schemas core bindings false loads a c l agree h = h
@@ -106,25 +117,25 @@ module _ (single : ImportsAreOne) (files others : Files) where
   abbrev Queries : Command → List ℕ → Answer → Type 0
   Queries command name a = (schemas : SchemaSet) (core : Core) → HoldsQuery files name schemas core → Types' command schemas core (query_judged schemas core) a
 
-  imported_moves : (command : Command) (name : List ℕ) (read : HoldsSyntax files name) (roots : List SourceTree) (told : Imported) (a : Answer) → HoldKept KeepsRoot files (schema_files read.tree) roots → IsImported (sources_of roots) told → Queries command name a
+  imported_moves : (command : Command) (name : List ℕ) (read : HoldsSyntax files name) (sources : List Source) (told : Imported) (a : Answer) → HoldKept files (schema_requests read.tree) sources → IsImported sources told → Queries command name a
       → AnswersImported files command read.tree (schema_files read.tree) told a → AnswersImported others command read.tree (schema_files read.tree) told a
-  imported_moves command name read roots (declares schemas) a held e f h =
-      named_moves command schemas (query_named schemas read.tree) a (λ core n. f schemas core (record { read = read; imports = record { roots = roots; held = held; imports = e }; named = n })) h
-  imported_moves command name read roots (breaks rule file construct list) a held e f h = h
+  imported_moves command name read sources (declares schemas) a held e f h =
+      named_moves command schemas (query_named schemas read.tree) a (λ core n. f schemas core (record { read = read; imports = record { sources = sources; held = held; imports = e }; named = n })) h
+  imported_moves command name read sources (breaks rule file construct list) a held e f h = h
 
-  sources_move : (command : Command) (name : List ℕ) (read : HoldsSyntax files name) (roots : List SourceTree) (a : Answer) → HoldKept KeepsRoot files (schema_files read.tree) roots → Queries command name a
-      → AnswersSources files command read.tree roots a → AnswersSources others command read.tree roots a
-  sources_move command name read roots a held f h = (h.0, h.1, imported_moves command name read roots h.0 a held h.1 f h.2)
+  sources_move : (command : Command) (name : List ℕ) (read : HoldsSyntax files name) (sources : List Source) (a : Answer) → HoldKept files (schema_requests read.tree) sources → Queries command name a
+      → AnswersSources files command read.tree sources a → AnswersSources others command read.tree sources a
+  sources_move command name read sources a held f h = (h.0, h.1, imported_moves command name read sources h.0 a held h.1 f h.2)
 
   -- what the schema files of a tree are loaded for
   abbrev Trees : List ℕ → Type 0
-  Trees name = (read : HoldsSyntax files name) → (loads : List (List ℕ)) × DocumentsLoaded files (schema_files read.tree) loads × AgreeOn loads files others
+  Trees name = (read : HoldsSyntax files name) → (loads : List (List ℕ)) × DocumentsLoaded files (schema_requests read.tree) loads × AgreeOn loads files others
 
   schemas_move : (command : Command) (name : List ℕ) (read : HoldsSyntax files name) (a : Answer) → Trees name → Queries command name a → AnswersSchemas files command read.tree a → AnswersSchemas others command read.tree a
   schemas_move command name read a trees f h =
       let l = trees read in
-      files_move status.Schema (schema_files read.tree) l.0 [] (AnswersSources files command read.tree) (AnswersSources others command read.tree) a l.1 l.2
-      (λ roots held k. sources_move command name read roots a held f k) h
+      files_move status.Schema (schema_requests read.tree) l.0 [] (AnswersSources files command read.tree) (AnswersSources others command read.tree) a l.1 l.2
+      (λ sources held k. sources_move command name read sources a held f k) h
 
   built_moves : (command : Command) (name bytes : List ℕ) (tree : SyntaxQuery) (unbuilt : Option Place) (a : Answer) → file_of files name ≡ Some bytes → length bytes ≤ 16777216 → Parses bytes (parsed tree) → unbuilt_query tree ≡ unbuilt → Trees name → Queries command name a
       → AnswersBuilt files command tree unbuilt a → AnswersBuilt others command tree unbuilt a
@@ -167,7 +178,7 @@ module _ (single : ImportsAreOne) (files others : Files) where
   trees_loaded : (name : List ℕ) (loads : List (List ℕ)) → QueryLoads files name loads → AgreeOn loads files others → Trees name
   trees_loaded name loads (inl l) agree read = (
     l.1.0,
-    subst (λ (tree : SyntaxQuery). DocumentsLoaded files (schema_files tree) l.1.0) (one_tree files name l.0 read) l.1.1,
+    subst (λ (tree : SyntaxQuery). DocumentsLoaded files (schema_requests tree) l.1.0) (one_tree files name l.0 read) l.1.1,
     (subst (λ (ns : List (List ℕ)). AgreeOn ns files others) l.1.2 agree).1,
   )
   trees_loaded name loads (inr l) agree read = absurd (l.0 read)

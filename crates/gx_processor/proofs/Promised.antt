@@ -1,8 +1,8 @@
 -- All promises of a run, from what the parts of the public call show of it.
 use Rattle.std.proofs.Common.{ℕ, List, subst}
-use Rattle.gx_documents.specs.Laws.{DocumentsAreHonest}
+use Rattle.gx_documents.specs.Laws.{DocumentsAreAsAsked, DocumentsAreHonest, HeldTreesAreKept}
 use Rattle.gx_schema.specs.Laws.{ImportsAreOne, ImportsAreSchemaSets}
-use Rattle.gx_processor.specs.UntypedDocuments.{NamedQueriesHaveUntypedDocuments}
+use Rattle.gx_processor.specs.ExternalDocuments.{NamedQueriesHaveDocuments}
 use Rattle.gx_processor.specs.Command.{command_of}
 use Rattle.gx_processor.specs.Loading.{LoadsAsked, LoadsOf, AreFirstOf}
 use Rattle.gx_processor.specs.Replies.{ReplyLoads}
@@ -23,7 +23,9 @@ pub record Laws : Type 0 where
   pub keep : SoundQueriesKeepTheirTypes
   pub names : QueryRejectionNamesFailure
   pub honest : DocumentsAreHonest
-  pub untyped : NamedQueriesHaveUntypedDocuments
+  pub fits : DocumentsAreAsAsked
+  pub trees : HeldTreesAreKept
+  pub documents : NamedQueriesHaveDocuments
   pub imports : ImportsAreSchemaSets
   pub single : ImportsAreOne
 
@@ -45,7 +47,7 @@ pub promised : (run : Run) (reply : Reply) → Laws → Shows run reply → Prom
 promised run reply laws v =
     let course = course_of run reply v in
     let answer = answer_promised run course in
-    let kept = types_are_kept laws.sound laws.keep laws.honest in
+    let kept = types_are_kept laws.sound laws.keep laws.honest laws.fits in
     let told = run.library.files run.library.before in
     let faultless : WhereTold run (λ files. IsFaultless run → AnsweredOrStarved run files) =
     told_so told (λ files. IsCertain run.status → IsAnswered run files) _ (λ files a f. faultless_answered run course files a f) answer in
@@ -66,8 +68,8 @@ promised run reply laws v =
       too_long = told_so told (λ files. IsCertain run.status → IsAnswered run files) _ (λ files a long certain. too_long_refused run files (a certain) long) answer;
       complete = told_so told (λ files. IsFaultless run → AnsweredOrStarved run files) _ (λ files a bytes h f. complete_at laws.single run files bytes h (a f)) faultless;
       compared = compared_promised run course;
-      headline = told_so told (λ files. IsFaultless run → AnsweredOrStarved run files) _ (λ files a f. typed_run laws.single run files kept laws.imports laws.untyped (a f)) faultless;
+      headline = told_so told (λ files. IsFaultless run → AnsweredOrStarved run files) _ (λ files a f. typed_run laws.single run files kept laws.imports laws.documents laws.trees (a f)) faultless;
       checked = told_so told (λ files. IsFaultless run → AnsweredOrStarved run files) _ (λ files a f. typed_check laws.single run files (a f)) faultless;
-      as_checked = told_so told (λ files. IsFaultless run → AnsweredOrStarved run files) _ (λ files a f. run_as_checked run files (typed_run laws.single run files kept laws.imports laws.untyped (a f))) faultless;
+      as_checked = told_so told (λ files. IsFaultless run → AnsweredOrStarved run files) _ (λ files a f. run_as_checked run files (typed_run laws.single run files kept laws.imports laws.documents laws.trees (a f))) faultless;
       rejected = told_so told (λ files. IsFaultless run → AnsweredOrStarved run files) _ (λ files a f. rejected_query laws.single run files laws.names (a f)) faultless;
     }

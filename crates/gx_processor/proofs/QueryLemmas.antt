@@ -31,11 +31,11 @@ use Rattle.gx_normal.specs.Normalisation.{query_core}
 use Rattle.gx_processor.specs.NamedQuery.{NamedQuery, named_query, unknown_name, unless_refused, query_named}
 use Rattle.gx_processor.specs.Query.{IsTreeOf, HoldsSyntax, ImportsSchemas, HoldsQuery}
 use Rattle.gx_processor.specs.QueryReplies.{AreOfNone, IsNotBuilt, HoldsThisTree}
-use Rattle.gx_processor.specs.SchemaFiles.{schema_files}
+use Rattle.gx_processor.specs.SchemaFiles.{schema_requests}
 use Rattle.gx_processor.specs.Answer.{Answer, writes, refuses, AnswersTyped, AnswersJudged, AnswersNamed, AnswersSources, AnswersSchemas, AnswersBuilt, AnswersBytes, AnswersFile, AnswersCommand}
 use Rattle.gx_processor.specs.Replies.{RefusesSo}
 use Rattle.gx_processor.specs.RunReplies.{AnswersSo}
-use Rattle.gx_processor.proofs.LoadLemmas.{roots_answer}
+use Rattle.gx_processor.proofs.LoadLemmas.{kept_answer}
 
 -- what follows from an answer follows from a refusal that says it
 pub refuses_through : (r : Refusal) (P Q : Answer → Type 0) → ((a : Answer) → P a → Q a) → RefusesSo r P → RefusesSo r Q
@@ -45,11 +45,13 @@ refuses_through (Query code place) P Q f h = f _ h
 refuses_through (SchemaFile file faults.Unread) P Q f h = tt
 refuses_through (SchemaFile file faults.TooLong) P Q f h = f _ h
 refuses_through (SchemaFile file (faults.Refused rule place)) P Q f h = f _ h
+refuses_through (SchemaFile file (faults.Invalid rule path)) P Q f h = h
 refuses_through (Schema rule file name) P Q f h = f _ h
 refuses_through (Binding fault) P Q f h = f _ h
 refuses_through (Document file faults.Unread) P Q f h = tt
 refuses_through (Document file faults.TooLong) P Q f h = f _ h
 refuses_through (Document file (faults.Refused rule place)) P Q f h = f _ h
+refuses_through (Document file (faults.Invalid rule path)) P Q f h = f _ h
 refuses_through (Dynamic code) P Q f h = f _ h
 refuses_through Memory P Q f h = tt
 
@@ -64,7 +66,7 @@ named_answers files command schemas n core a e h = subst (λ (m : NamedQuery). A
 -- the schema files of a tree hold documents, which declare these schemas
 pub schemas_answer : (files : Files) (command : Command) (tree : SyntaxQuery) (schemas : SchemaSet) (a : Answer) → ImportsSchemas files tree schemas → AnswersNamed files command schemas (query_named schemas tree) a → AnswersSchemas files command tree a
 schemas_answer files command tree schemas a i h =
-    roots_answer status.Schema files (schema_files tree) i.roots [] (AnswersSources files command tree) a i.held (declares schemas, i.imports, h)
+    kept_answer status.Schema files (schema_requests tree) i.sources [] (AnswersSources files command tree) a i.held (declares schemas, i.imports, h)
 
 built_answers : (files : Files) (command : Command) (tree : SyntaxQuery) (unbuilt : Option Place) (a : Answer) → unbuilt ≡ None → AnswersSchemas files command tree a → AnswersBuilt files command tree unbuilt a
 built_answers files command tree unbuilt a e h = subst (λ (o : Option Place). AnswersBuilt files command tree o a) (sym e) h

@@ -19,7 +19,7 @@ use Rattle.gx_processor.specs.Loading.{QueryLoads, AreFirstOf}
 use Rattle.gx_processor.specs.NamedQuery.{named_query, query_named}
 use Rattle.gx_processor.specs.Query.{ImportsSchemas, HoldsQuery}
 use Rattle.gx_processor.specs.QueryReplies.{HoldsNone, HoldsThisTree, IsOfTree, TreeSo, QuerySo}
-use Rattle.gx_processor.specs.SchemaFiles.{schema_files}
+use Rattle.gx_processor.specs.SchemaFiles.{schema_requests}
 use Rattle.gx_processor.specs.Replies.{RefusesSo, IsOfRules, IsOfText, IsOfQuery, AreFirst, RefusalLoads, OutcomeFailed}
 use Rattle.gx_processor.proofs.CommandLoads.{before, behind, loads_append, failed_behind, one_tree, first_behind, query_begins, RefusedAlways}
 use Rattle.gx_processor.proofs.LoadLemmas.{one_load, whole_is_front}
@@ -30,7 +30,7 @@ use Rattle.gx_processor.proofs.Told.{told_so, told_always, both_told}
 
 module _ (library : LibraryUse) (tree : SyntaxQuery) where
   abbrev Loaded : Files → List (List ℕ) → Type 0
-  Loaded files loads = DocumentsLoaded files (schema_files tree) loads
+  Loaded files loads = DocumentsLoaded files (schema_requests tree) loads
 
   abbrev Refused : Files → Refusal → Type 0
   Refused files e = (command : Command) → RefusesSo e (AnswersSchemas files command tree)
@@ -47,7 +47,7 @@ module _ (library : LibraryUse) (tree : SyntaxQuery) where
   under_loads files loads refusal.ReadFault own h = absurd own
   under_loads files loads refusal.TooLong own h = absurd own
   under_loads files loads (refusal.Query code place) own h = h
-  under_loads files loads refusal.Memory own h = λ whole k. whole_is_front loads whole (one_load files (schema_files tree) loads whole h k)
+  under_loads files loads refusal.Memory own h = λ whole k. whole_is_front loads whole (one_load files (schema_requests tree) loads whole h k)
   under_loads files loads (refusal.SchemaFile file fault) own h = absurd own
   under_loads files loads (refusal.Schema rule file name) own h = absurd own
   under_loads files loads (refusal.Binding fault) own h = absurd own
@@ -97,6 +97,7 @@ module _ (library : LibraryUse) (tree : SyntaxQuery) where
   import_rest loads (refusal.SchemaFile file faults.Unread) f own = (f, tt)
   import_rest loads (refusal.SchemaFile file faults.TooLong) f own = (tt, tt)
   import_rest loads (refusal.SchemaFile file (faults.Refused rule place)) f own = (tt, tt)
+  import_rest loads (refusal.SchemaFile file (faults.Invalid rule path)) f own = absurd own
   import_rest loads (refusal.Schema rule file name) f own = (tt, tt)
   import_rest loads (refusal.Binding fault) f own = absurd own
   import_rest loads (refusal.Document file fault) f own = absurd own
@@ -174,20 +175,20 @@ module _ (library : LibraryUse) (between : library.Library) (name : List ℕ) (t
   abbrev Rest : LibraryUse
   Rest = behind library between
 
-  this_tree : (files : Files) (loads : List (List ℕ)) → HoldsThisTree files name tree → DocumentsLoaded files (schema_files tree) loads → QueryLoads files name (name ∷ loads)
-  this_tree files loads h l = inl (h.0, (loads, subst (λ (t : SyntaxQuery). DocumentsLoaded files (schema_files t) loads) (sym h.1) l, refl))
+  this_tree : (files : Files) (loads : List (List ℕ)) → HoldsThisTree files name tree → DocumentsLoaded files (schema_requests tree) loads → QueryLoads files name (name ∷ loads)
+  this_tree files loads h l = inl (h.0, (loads, subst (λ (t : SyntaxQuery). DocumentsLoaded files (schema_requests t) loads) (sym h.1) l, refl))
 
   -- the loads of a query with this tree
-  loads_of_tree : (files : Files) (whole : List (List ℕ)) → HoldsThisTree files name tree → QueryLoads files name whole → (rest : List (List ℕ)) × DocumentsLoaded files (schema_files tree) rest × (whole ≡ name ∷ rest)
-  loads_of_tree files whole h (inl l) = (l.1.0, subst (λ (t : SyntaxQuery). DocumentsLoaded files (schema_files t) l.1.0) (one_tree files name l.0 h.0 ∙ h.1) l.1.1, l.1.2)
+  loads_of_tree : (files : Files) (whole : List (List ℕ)) → HoldsThisTree files name tree → QueryLoads files name whole → (rest : List (List ℕ)) × DocumentsLoaded files (schema_requests tree) rest × (whole ≡ name ∷ rest)
+  loads_of_tree files whole h (inl l) = (l.1.0, subst (λ (t : SyntaxQuery). DocumentsLoaded files (schema_requests t) l.1.0) (one_tree files name l.0 h.0 ∙ h.1) l.1.1, l.1.2)
   loads_of_tree files whole h (inr l) = absurd (l.0 h.0)
 
-  tree_first : (files : Files) (loads : List (List ℕ)) → HoldsThisTree files name tree → AreFirst (DocumentsLoaded files (schema_files tree)) loads → AreFirst (QueryLoads files name) (name ∷ loads)
+  tree_first : (files : Files) (loads : List (List ℕ)) → HoldsThisTree files name tree → AreFirst (DocumentsLoaded files (schema_requests tree)) loads → AreFirst (QueryLoads files name) (name ∷ loads)
   tree_first files loads h f whole k =
       let l = loads_of_tree files whole h k in
       subst (λ (ns : List (List ℕ)). AreFirstOf (name ∷ loads) ns) (sym l.2) (first_behind name loads l.0 (f l.0 l.1))
 
-  tree_loads : (files : Files) (loads : List (List ℕ)) (e : Refusal) → IsOfTree e → HoldsThisTree files name tree → RefusalLoads (DocumentsLoaded files (schema_files tree)) loads e → RefusalLoads (QueryLoads files name) (name ∷ loads) e
+  tree_loads : (files : Files) (loads : List (List ℕ)) (e : Refusal) → IsOfTree e → HoldsThisTree files name tree → RefusalLoads (DocumentsLoaded files (schema_requests tree)) loads e → RefusalLoads (QueryLoads files name) (name ∷ loads) e
   tree_loads files loads refusal.ReadFault own h l = absurd own
   tree_loads files loads refusal.TooLong own h l = absurd own
   tree_loads files loads refusal.Memory own h l = tree_first files loads h l
@@ -195,6 +196,7 @@ module _ (library : LibraryUse) (between : library.Library) (name : List ℕ) (t
   tree_loads files loads (refusal.SchemaFile file faults.Unread) own h l = tree_first files loads h l
   tree_loads files loads (refusal.SchemaFile file faults.TooLong) own h l = this_tree files loads h l
   tree_loads files loads (refusal.SchemaFile file (faults.Refused rule place)) own h l = this_tree files loads h l
+  tree_loads files loads (refusal.SchemaFile file (faults.Invalid rule path)) own h l = absurd own
   tree_loads files loads (refusal.Schema rule file construct) own h l = this_tree files loads h l
   tree_loads files loads (refusal.Binding fault) own h l = absurd own
   tree_loads files loads (refusal.Document file fault) own h l = absurd own
@@ -205,7 +207,7 @@ module _ (library : LibraryUse) (between : library.Library) (name : List ℕ) (t
   tree_own refusal.TooLong own = tt
   tree_own refusal.Memory own = tt
   tree_own (refusal.Query code place) own = tt
-  tree_own (refusal.SchemaFile file fault) own = tt
+  tree_own (refusal.SchemaFile file fault) own = own
   tree_own (refusal.Schema rule file construct) own = tt
   tree_own (refusal.Binding fault) own = absurd own
   tree_own (refusal.Document file fault) own = absurd own
@@ -220,6 +222,7 @@ module _ (library : LibraryUse) (between : library.Library) (name : List ℕ) (t
   tree_fails loads (refusal.SchemaFile file faults.Unread) l counted own f = failed_behind library between (name ∷ []) loads (read_fault_line (string_bytes file)) l counted f
   tree_fails loads (refusal.SchemaFile file faults.TooLong) l counted own f = tt
   tree_fails loads (refusal.SchemaFile file (faults.Refused rule place)) l counted own f = tt
+  tree_fails loads (refusal.SchemaFile file (faults.Invalid rule path)) l counted own f = absurd own
   tree_fails loads (refusal.Schema rule file construct) l counted own f = tt
   tree_fails loads (refusal.Binding fault) l counted own f = absurd own
   tree_fails loads (refusal.Document file fault) l counted own f = absurd own
@@ -250,8 +253,8 @@ module _ (library : LibraryUse) (between : library.Library) (name : List ℕ) (t
       held = both_told (library.files library.before) (λ files. HoldsThisTree files name tree) (λ files. ImportsSchemas files tree query.schemas) (λ files. HoldsQuery files name query.schemas (plain_query query.core))
           (λ files h i. tree_held files query h i t.named) held (told_there (λ files. ImportsSchemas files tree query.schemas) t.answers);
       refused = told_always (library.files library.before) (λ files. Unit {0}) (λ files. tt);
-      told = both_told (library.files library.before) (λ files. HoldsThisTree files name tree) (λ files. DocumentsLoaded files (schema_files tree) t.loads) (λ files. QueryLoads files name (name ∷ t.loads))
-          (λ files h k. this_tree files t.loads h k) held (told_there (λ files. DocumentsLoaded files (schema_files tree) t.loads) t.told);
+      told = both_told (library.files library.before) (λ files. HoldsThisTree files name tree) (λ files. DocumentsLoaded files (schema_requests tree) t.loads) (λ files. QueryLoads files name (name ∷ t.loads))
+          (λ files h k. this_tree files t.loads h k) held (told_there (λ files. DocumentsLoaded files (schema_requests tree) t.loads) t.told);
       failed = tt;
       own = tt;
     }
@@ -262,8 +265,8 @@ module _ (library : LibraryUse) (between : library.Library) (name : List ℕ) (t
       held = told_always (library.files library.before) (λ files. Unit {0}) (λ files. tt);
       refused = both_told (library.files library.before) (λ files. HoldsThisTree files name tree) (λ files. (command : Command) → RefusesSo e (AnswersSchemas files command tree)) (λ files. RefusedAlways files name e)
           (λ files h r. tree_refused files e h r) held (told_there (λ files. (command : Command) → RefusesSo e (AnswersSchemas files command tree)) t.answers);
-      told = both_told (library.files library.before) (λ files. HoldsThisTree files name tree) (λ files. RefusalLoads (DocumentsLoaded files (schema_files tree)) t.loads e) (λ files. RefusalLoads (QueryLoads files name) (name ∷ t.loads) e)
-          (λ files h k. tree_loads files t.loads e t.own h k) held (told_there (λ files. RefusalLoads (DocumentsLoaded files (schema_files tree)) t.loads e) t.told);
+      told = both_told (library.files library.before) (λ files. HoldsThisTree files name tree) (λ files. RefusalLoads (DocumentsLoaded files (schema_requests tree)) t.loads e) (λ files. RefusalLoads (QueryLoads files name) (name ∷ t.loads) e)
+          (λ files h k. tree_loads files t.loads e t.own h k) held (told_there (λ files. RefusalLoads (DocumentsLoaded files (schema_requests tree)) t.loads e) t.told);
       failed = tree_fails t.loads e l counted t.own t.failed;
       own = tree_own e t.own;
     }

@@ -14,7 +14,7 @@ use Rattle.gx_processor.specs.declared.refusal.Refusal.{Refusal}
 use Rattle.gx_processor.specs.declared.refusal.Refusal.TheVariants as refusal
 use Rattle.gx_processor.specs.Command.{Command, query_file, command_of, texts_to_compare, IsRun}
 use Rattle.gx_processor.specs.Replies.{RefusesSo, HasCause, RepliesSo, IsMisuse, IsWellFormed, IsUsageOrStarved, IsFaultOrStarved, IsReplyOf, IsQueryForm, IsQueryReply, IsComparison}
-use Rattle.gx_processor.specs.FaultLines.{read_fault_line, code_line, placed_line, binding_line, long_document_line, document_line, import_line}
+use Rattle.gx_processor.specs.FaultLines.{read_fault_line, code_line, placed_line, binding_line, long_document_line, document_line, invalid_line, import_line}
 use Rattle.gx_processor.proofs.AnswerLemmas.{no_texts, asked_answer, same_parts}
 
 -- what follows from an answer follows from a reply that says it
@@ -154,11 +154,13 @@ refusal_replies file (refusal.Query code place) r P h k = fault_replies status.Q
 refusal_replies file (refusal.SchemaFile name faults.Unread) r P h k = unread_replies (read_fault_line (string_bytes name)) r P h
 refusal_replies file (refusal.SchemaFile name faults.TooLong) r P h k = fault_replies status.Schema (long_document_line (string_bytes name)) r P h k
 refusal_replies file (refusal.SchemaFile name (faults.Refused rule place)) r P h k = fault_replies status.Schema (document_line rule (string_bytes name) place) r P h k
+refusal_replies file (refusal.SchemaFile name (faults.Invalid rule path)) r P h k = absurd k
 refusal_replies file (refusal.Schema rule name construct) r P h k = fault_replies status.Schema (import_line rule (string_bytes name) construct) r P h k
 refusal_replies file (refusal.Binding fault) r P h k = fault_replies status.Usage (binding_line (plain_fault fault)) r P h k
 refusal_replies file (refusal.Document name faults.Unread) r P h k = unread_replies (read_fault_line (string_bytes name)) r P h
 refusal_replies file (refusal.Document name faults.TooLong) r P h k = fault_replies status.Document (long_document_line (string_bytes name)) r P h k
 refusal_replies file (refusal.Document name (faults.Refused rule place)) r P h k = fault_replies status.Document (document_line rule (string_bytes name) place) r P h k
+refusal_replies file (refusal.Document name (faults.Invalid rule path)) r P h k = fault_replies status.Document (invalid_line rule (string_bytes name) path) r P h k
 refusal_replies file (refusal.Dynamic code) r P h k = fault_replies status.Dynamic (code_line code) r P h k
 refusal_replies file refusal.Memory r P h k = subst (λ (z : Reply). RepliesSo z P) (sym h) tt
 
@@ -181,12 +183,15 @@ refusal_formed command (refusal.SchemaFile name faults.Unread) r h k = fault_for
 refusal_formed command (refusal.SchemaFile name faults.TooLong) r h k = fault_formed command status.Schema (long_document_line (string_bytes name)) r h (inl (inl (string_bytes name, refl)))
 refusal_formed command (refusal.SchemaFile name (faults.Refused rule place)) r h k =
     fault_formed command status.Schema (document_line rule (string_bytes name) place) r h (inl (inr (rule, string_bytes name, place, refl)))
+refusal_formed command (refusal.SchemaFile name (faults.Invalid rule path)) r h k = absurd k
 refusal_formed command (refusal.Schema rule name construct) r h k =
     fault_formed command status.Schema (import_line rule (string_bytes name) construct) r h (inr (rule, string_bytes name, construct, refl))
 refusal_formed command (refusal.Binding fault) r h k = fault_formed command status.Usage (binding_line (plain_fault fault)) r h (k, (plain_fault fault, refl))
 refusal_formed command (refusal.Document name faults.Unread) r h k = fault_formed command status.ReadFault (read_fault_line (string_bytes name)) r h tt
-refusal_formed command (refusal.Document name faults.TooLong) r h k = fault_formed command status.Document (long_document_line (string_bytes name)) r h (k, inl (string_bytes name, refl))
+refusal_formed command (refusal.Document name faults.TooLong) r h k = fault_formed command status.Document (long_document_line (string_bytes name)) r h (k, inl (inl (string_bytes name, refl)))
 refusal_formed command (refusal.Document name (faults.Refused rule place)) r h k =
-    fault_formed command status.Document (document_line rule (string_bytes name) place) r h (k, inr (rule, string_bytes name, place, refl))
+    fault_formed command status.Document (document_line rule (string_bytes name) place) r h (k, inl (inr (rule, string_bytes name, place, refl)))
+refusal_formed command (refusal.Document name (faults.Invalid rule path)) r h k =
+    fault_formed command status.Document (invalid_line rule (string_bytes name) path) r h (k, inr (rule, string_bytes name, path, refl))
 refusal_formed command (refusal.Dynamic code) r h k = fault_formed command status.Dynamic (code_line code) r h (k, (code, refl))
 refusal_formed command refusal.Memory r h k = subst (λ (z : Reply). IsQueryReply command z) (sym h) tt

@@ -1,5 +1,5 @@
 -- What a run of a query that has a type says, from the reading of its documents.
-use Rattle.std.proofs.Common.{◌≡◌, ℕ, Bool, true, false, ◌||◌, List, [], ◌∷◌, ◌++◌, map, Option, Some, None, Result, Ok, Err, String, inl, inr, refl, sym, ap, subst, string_bytes, if◌then◌else◌}
+use Rattle.std.proofs.Common.{◌≡◌, ℕ, Bool, true, false, ◌||◌, List, [], ◌∷◌, ◌++◌, map, Option, Some, None, Result, Ok, Err, String, inl, inr, refl, sym, ◌∙◌, ap, subst, string_bytes, if◌then◌else◌}
 use Rattle.std.specs.Prelude.{bytes_eq}
 use Rattle.std.specs.Bool.{MatchBool}
 use Rattle.gx_base.specs.declared.code.Code.TheVariants.{SENR0001}
@@ -17,20 +17,21 @@ use Rattle.gx_documents.specs.declared.documents.DocumentsError.{DocumentsError}
 use Rattle.gx_documents.specs.declared.documents.DocumentsError.TheVariants.{Failed, Memory as NoMemory}
 use Rattle.gx_documents.specs.Bindings.{Misbound, misbound, first_wrong, first_missing, first_fault, bound_name, bound_file, file_bound, files_bound, is_one_of, missing}
 use Rattle.gx_documents.specs.BindingView.{plain_fault}
-use Rattle.gx_documents.specs.Documents.{Files, KeepsTree, DocumentsLoaded}
+use Rattle.gx_documents.specs.Documents.{Files, Asked, Request, DocumentsLoaded, tree_requests}
 use Rattle.gx_documents.specs.Reading.{EndsWith, HasReadFault, ReadDocuments}
 use Rattle.gx_processor.specs.declared.refusal.Refusal.{Refusal}
 use Rattle.gx_processor.specs.declared.refusal.Refusal.TheVariants as refusal
 use Rattle.gx_processor.specs.declared.status.Status.TheVariants as status
-use Rattle.gx_processor.specs.Answer.{Answer, refuses, can_be_written, AnswersEvaluated, AnswersOver, AnswersBound, AnswersRun}
-use Rattle.gx_processor.specs.Externals.{external_words}
+use Rattle.gx_processor.specs.Answer.{Answer, refuses, can_be_written, AnswersEvaluated, AnswersBound, AnswersRun}
+use Rattle.gx_processor.specs.Externals.{external_words, documents_asked, documents_bound}
 use Rattle.gx_processor.specs.FaultLines.{placed_line}
 use Rattle.gx_processor.specs.Loading.{BoundLoads, RunLoads, AreBoundFiles, AreFirstOf}
 use Rattle.gx_processor.specs.Replies.{RefusesSo, OutcomeLoads, AreFirst}
-use Rattle.gx_processor.specs.RunReplies.{AnswersSo, IsOfRun, FailsAtDocument, IsMisboundSo, IsEvaluated, unread, Follows, ReadSo, RunsSo}
+use Rattle.gx_processor.specs.RunReplies.{AnswersSo, IsOfRun, FailsAtDocument, IsMisboundSo, IsEvaluated, unread, BindFiles, Follows, ReadSo, RunsSo}
 use Rattle.std.proofs.lemmas.Slice.Eq.{bytes_eq-Decides}
+use Rattle.gx_processor.proofs.AskedDocuments.{files_of_bound}
 use Rattle.gx_processor.proofs.QueryLemmas.{refuses_through}
-use Rattle.gx_processor.proofs.LoadLemmas.{hold_trees, roots_answer, stopped_answers, all_loaded, stopped_loaded, stopped_first, one_load, whole_is_front}
+use Rattle.gx_processor.proofs.LoadLemmas.{kept_answer, stopped_answers, all_loaded, stopped_loaded, stopped_first, one_load, whole_is_front}
 use Rattle.gx_processor.proofs.Told.{told_so, told_always}
 
 -- ---- the files that words bind
@@ -82,6 +83,9 @@ module _ (library : LibraryUse) (bindings : List (List ℕ)) (schemas : SchemaSe
   abbrev externals : List (List ℕ)
   externals = external_words (plain_query core).declarations
 
+  abbrev requests : List (Request PlainTree)
+  requests = tree_requests schemas (documents_bound (plain_query core).declarations bindings)
+
   abbrev Answered : Files → Answer → Type 0
   Answered files answer = AnswersRun files bindings schemas (plain_query core) core answer
 
@@ -99,7 +103,7 @@ module _ (library : LibraryUse) (bindings : List (List ℕ)) (schemas : SchemaSe
         (λ files. subst (λ (writable : Bool). MatchBool writable (AnswersBound files schemas (plain_query core) bindings (misbound externals bindings) (refuses status.Query (placed_line SENR0001 place)))
         (refuses status.Query (placed_line SENR0001 place) ≡ refuses status.Query (placed_line SENR0001 (outer_of (plain_query core).body)))) (sym unwritable) (ap (λ (p : Place). refuses status.Query (placed_line SENR0001 p)) there));
     told = told_always (library.files library.before) (λ files. Loaded files [])
-        (λ files. subst (λ (writable : Bool). MatchBool writable (BoundLoads files (misbound externals bindings) (files_bound externals bindings) []) (◌≡◌ {A = List (List ℕ)} [] [])) (sym unwritable) refl);
+        (λ files. subst (λ (writable : Bool). MatchBool writable (BoundLoads files (misbound externals bindings) requests []) (◌≡◌ {A = List (List ℕ)} [] [])) (sym unwritable) refl);
     failed = tt;
     own = tt;
   }
@@ -121,15 +125,15 @@ module _ (library : LibraryUse) (bindings : List (List ℕ)) (schemas : SchemaSe
       subst (λ (writable : Bool). MatchBool writable (AnswersBound files schemas (plain_query core) bindings (misbound externals bindings) a) (a ≡ refuses status.Query (placed_line SENR0001 (outer_of (plain_query core).body)))) (sym yes')
       (subst (λ (o : Option Misbound). AnswersBound files schemas (plain_query core) bindings o a) (sym found) h)
 
-  writable_loads : (files : Files) (fault : Option Misbound) (loads : List (List ℕ)) → can_be_written schemas core ≡ true → misbound externals bindings ≡ fault → BoundLoads files fault (files_bound externals bindings) loads → Loaded files loads
+  writable_loads : (files : Files) (fault : Option Misbound) (loads : List (List ℕ)) → can_be_written schemas core ≡ true → misbound externals bindings ≡ fault → BoundLoads files fault requests loads → Loaded files loads
   writable_loads files fault loads yes' found h =
-      subst (λ (writable : Bool). MatchBool writable (BoundLoads files (misbound externals bindings) (files_bound externals bindings) loads) (loads ≡ [])) (sym yes')
-      (subst (λ (o : Option Misbound). BoundLoads files o (files_bound externals bindings) loads) (sym found) h)
+      subst (λ (writable : Bool). MatchBool writable (BoundLoads files (misbound externals bindings) requests loads) (loads ≡ [])) (sym yes')
+      (subst (λ (o : Option Misbound). BoundLoads files o requests loads) (sym found) h)
 
-  loads_writable : (files : Files) (loads : List (List ℕ)) → can_be_written schemas core ≡ true → misbound externals bindings ≡ None → Loaded files loads → DocumentsLoaded files (files_bound externals bindings) loads
+  loads_writable : (files : Files) (loads : List (List ℕ)) → can_be_written schemas core ≡ true → misbound externals bindings ≡ None → Loaded files loads → DocumentsLoaded files requests loads
   loads_writable files loads yes' found h =
-      subst (λ (o : Option Misbound). BoundLoads files o (files_bound externals bindings) loads) found
-      (subst (λ (writable : Bool). MatchBool writable (BoundLoads files (misbound externals bindings) (files_bound externals bindings) loads) (loads ≡ [])) yes' h)
+      subst (λ (o : Option Misbound). BoundLoads files o requests loads) found
+      (subst (λ (writable : Bool). MatchBool writable (BoundLoads files (misbound externals bindings) requests loads) (loads ≡ [])) yes' h)
 
   pub run_misbound : {Z : Type 0} (fault : BindingFault) → library.after ≡ library.before → can_be_written schemas core ≡ true → misbound externals bindings ≡ Some (plain_fault fault) → RunsSo {Z = Z} library bindings schemas core (Err (refusal.Binding fault))
   run_misbound fault untouched yes' found = record {
@@ -142,22 +146,20 @@ module _ (library : LibraryUse) (bindings : List (List ℕ)) (schemas : SchemaSe
     own = tt;
   }
 
-  held_answers : (files : Files) (forest : Forest) (loads : List (List ℕ)) (a : Answer) → can_be_written schemas core ≡ true → misbound externals bindings ≡ None → EndsWith KeepsTree files (files_bound externals bindings) loads (Ok forest)
+  held_answers : (files : Files) (forest : Forest) (loads : List (List ℕ)) (a : Answer) → can_be_written schemas core ≡ true → misbound externals bindings ≡ None → EndsWith files requests loads (Ok forest)
       → AnswersEvaluated schemas (plain_query core) forest a → Answered files a
   held_answers files forest loads a yes' found ends h =
-      let held = hold_trees files (files_bound externals bindings) forest ends.0 in
-      writable_answers files None a yes' found
-      (roots_answer status.Document files (files_bound externals bindings) held.0 [] (AnswersOver schemas (plain_query core)) a held.1 (subst (λ (f : Forest). AnswersEvaluated schemas (plain_query core) f a) held.2 h))
+      writable_answers files None a yes' found (kept_answer status.Document files requests forest [] (AnswersEvaluated schemas (plain_query core)) a ends.0 h)
 
-  documents_loaded : (files : Files) (forest : Forest) (loads : List (List ℕ)) → EndsWith KeepsTree files (files_bound externals bindings) loads (Ok forest) → DocumentsLoaded files (files_bound externals bindings) loads
-  documents_loaded files forest loads ends = subst (λ (ns : List (List ℕ)). DocumentsLoaded files (files_bound externals bindings) ns) (sym ends.1) (all_loaded KeepsTree files (files_bound externals bindings) forest ends.0)
+  documents_loaded : (files : Files) (forest : Forest) (loads : List (List ℕ)) → EndsWith files requests loads (Ok forest) → DocumentsLoaded files requests loads
+  documents_loaded files forest loads ends = subst (λ (ns : List (List ℕ)). DocumentsLoaded files requests ns) (sym ends.1) (all_loaded files requests forest ends.0)
 
   evaluated_loads : {Z : Type 0} (files : Files) (forest : Forest) (loads : List (List ℕ)) (result : Result (String Z) Refusal) → can_be_written schemas core ≡ true → misbound externals bindings ≡ None → IsEvaluated result
-      → EndsWith KeepsTree files (files_bound externals bindings) loads (Ok forest) → OutcomeLoads (Loaded files) loads result
+      → EndsWith files requests loads (Ok forest) → OutcomeLoads (Loaded files) loads result
   evaluated_loads files forest loads (Ok text) yes' found own ends = writable_loads files None loads yes' found (documents_loaded files forest loads ends)
   evaluated_loads files forest loads (Err (refusal.Dynamic code)) yes' found own ends = writable_loads files None loads yes' found (documents_loaded files forest loads ends)
   evaluated_loads files forest loads (Err refusal.Memory) yes' found own ends =
-      λ whole h. whole_is_front loads whole (one_load files (files_bound externals bindings) loads whole (documents_loaded files forest loads ends) (loads_writable files whole yes' found h))
+      λ whole h. whole_is_front loads whole (one_load files requests loads whole (documents_loaded files forest loads ends) (loads_writable files whole yes' found h))
   evaluated_loads files forest loads (Err (refusal.Query code place)) yes' found own ends = absurd own
   evaluated_loads files forest loads (Err (refusal.SchemaFile file fault)) yes' found own ends = absurd own
   evaluated_loads files forest loads (Err (refusal.Schema rule file name)) yes' found own ends = absurd own
@@ -191,33 +193,38 @@ module _ (library : LibraryUse) (bindings : List (List ℕ)) (schemas : SchemaSe
   evaluated_own (Err refusal.TooLong) own = absurd own
 
   refusal_answers : (files : Files) (loads : List (List ℕ)) (error : DocumentsError) → can_be_written schemas core ≡ true → misbound externals bindings ≡ None
-      → EndsWith KeepsTree files (files_bound externals bindings) loads (Err error) → RefusesSo (unread error) (Answered files)
+      → EndsWith files requests loads (Err error) → RefusesSo (unread error) (Answered files)
   refusal_answers files loads (Failed file faults.Unread) yes' found ends = tt
   refusal_answers files loads (Failed file faults.TooLong) yes' found ends =
-      writable_answers files None _ yes' found (stopped_answers status.Document KeepsTree files (files_bound externals bindings) loads (string_bytes file) faults.TooLong (AnswersOver schemas (plain_query core)) _ ends.0 ends.1 refl)
+      writable_answers files None _ yes' found (stopped_answers status.Document files requests loads (string_bytes file) faults.TooLong (AnswersEvaluated schemas (plain_query core)) _ ends refl)
   refusal_answers files loads (Failed file (faults.Refused rule place)) yes' found ends =
-      writable_answers files None _ yes' found (stopped_answers status.Document KeepsTree files (files_bound externals bindings) loads (string_bytes file) (faults.Refused rule place) (AnswersOver schemas (plain_query core)) _ ends.0 ends.1 refl)
+      writable_answers files None _ yes' found (stopped_answers status.Document files requests loads (string_bytes file) (faults.Refused rule place) (AnswersEvaluated schemas (plain_query core)) _ ends refl)
+  refusal_answers files loads (Failed file (faults.Invalid rule path)) yes' found ends =
+      writable_answers files None _ yes' found (stopped_answers status.Document files requests loads (string_bytes file) (faults.Invalid rule path) (AnswersEvaluated schemas (plain_query core)) _ ends refl)
   refusal_answers files loads NoMemory yes' found ends = tt
 
-  memory_first : (files : Files) (loads whole : List (List ℕ)) → EndsWith KeepsTree files (files_bound externals bindings) loads (Err NoMemory) → DocumentsLoaded files (files_bound externals bindings) whole → AreFirstOf loads whole
-  memory_first files loads whole (inl e) h = stopped_first KeepsTree files (files_bound externals bindings) loads whole e.0 e.1 h
+  memory_first : (files : Files) (loads whole : List (List ℕ)) → EndsWith files requests loads (Err NoMemory) → DocumentsLoaded files requests whole → AreFirstOf loads whole
+  memory_first files loads whole (inl e) h = stopped_first files requests loads whole e.0 e.1 h
   memory_first files loads whole (inr e) h =
-      whole_is_front loads whole (one_load files (files_bound externals bindings) loads whole (subst (λ (ns : List (List ℕ)). DocumentsLoaded files (files_bound externals bindings) ns) (sym e.2) (all_loaded KeepsTree files (files_bound externals bindings) e.0 e.1)) h)
+      whole_is_front loads whole (one_load files requests loads whole (subst (λ (ns : List (List ℕ)). DocumentsLoaded files requests ns) (sym e.2) (all_loaded files requests e.0 e.1)) h)
 
   refusal_loads : (Z : Type 0) (files : Files) (loads : List (List ℕ)) (error : DocumentsError) → can_be_written schemas core ≡ true → misbound externals bindings ≡ None
-      → EndsWith KeepsTree files (files_bound externals bindings) loads (Err error) → OutcomeLoads {V = String Z} (Loaded files) loads (Err (unread error))
+      → EndsWith files requests loads (Err error) → OutcomeLoads {V = String Z} (Loaded files) loads (Err (unread error))
   refusal_loads Z files loads (Failed file faults.Unread) yes' found ends =
-      λ whole h. stopped_first KeepsTree files (files_bound externals bindings) loads whole (string_bytes file) ends.0 (loads_writable files whole yes' found h)
+      λ whole h. stopped_first files requests loads whole ends.request ends.stops (loads_writable files whole yes' found h)
   refusal_loads Z files loads (Failed file faults.TooLong) yes' found ends =
-      writable_loads files None loads yes' found (stopped_loaded KeepsTree files (files_bound externals bindings) loads (string_bytes file) faults.TooLong ends.0 ends.1 (λ e. cc))
+      writable_loads files None loads yes' found (stopped_loaded files requests loads (string_bytes file) faults.TooLong ends (λ e. cc))
   refusal_loads Z files loads (Failed file (faults.Refused rule place)) yes' found ends =
-      writable_loads files None loads yes' found (stopped_loaded KeepsTree files (files_bound externals bindings) loads (string_bytes file) (faults.Refused rule place) ends.0 ends.1 (λ e. cc))
+      writable_loads files None loads yes' found (stopped_loaded files requests loads (string_bytes file) (faults.Refused rule place) ends (λ e. cc))
+  refusal_loads Z files loads (Failed file (faults.Invalid rule path)) yes' found ends =
+      writable_loads files None loads yes' found (stopped_loaded files requests loads (string_bytes file) (faults.Invalid rule path) ends (λ e. cc))
   refusal_loads Z files loads NoMemory yes' found ends = λ whole h. memory_first files loads whole ends (loads_writable files whole yes' found h)
 
   refusal_fails : (Z : Type 0) (loads : List (List ℕ)) (error : DocumentsError) → HasReadFault {T = PlainTree} library loads (Err error) → FailsAtDocument {V = String Z} library loads (Err (unread error))
   refusal_fails Z loads (Failed file faults.Unread) f = record { earlier = f.earlier; file = string_bytes file; in_order = f.in_order; failed = f.failed; rose = f.rose; line_is = refl }
   refusal_fails Z loads (Failed file faults.TooLong) f = tt
   refusal_fails Z loads (Failed file (faults.Refused rule place)) f = tt
+  refusal_fails Z loads (Failed file (faults.Invalid rule path)) f = tt
   refusal_fails Z loads NoMemory f = tt
 
   refusal_own : (Z : Type 0) (error : DocumentsError) → IsOfRun {V = String Z} (Err (unread error))
@@ -225,42 +232,44 @@ module _ (library : LibraryUse) (bindings : List (List ℕ)) (schemas : SchemaSe
   refusal_own Z NoMemory = tt
 
   -- the run, from the reading of its documents
-  run_refused : {Z : Type 0} (error : DocumentsError) → can_be_written schemas core ≡ true → misbound externals bindings ≡ None → ReadDocuments library (files_bound externals bindings) (Err error)
+  run_refused : {Z : Type 0} (error : DocumentsError) → can_be_written schemas core ≡ true → misbound externals bindings ≡ None → ReadDocuments library schemas (documents_bound (plain_query core).declarations bindings) (Err error)
       → RunsSo {Z = Z} library bindings schemas core (Err (unread error))
   run_refused {Z} error yes' found read = record {
     names = read.loads;
     loaded = read.loaded;
-    bound = front_is_bound bindings read.loads read.first.0 (subst (λ (ns : List (List ℕ)). AreBoundFiles bindings ns) read.first.1 (files_are_bound externals bindings found));
-    answers = told_so (library.files library.before) (λ files. EndsWith KeepsTree files (files_bound externals bindings) read.loads (Err error)) (λ files. RefusesSo (unread error) (Answered files))
+    bound = front_is_bound bindings read.loads read.first.0 (subst (λ (ns : List (List ℕ)). AreBoundFiles bindings ns) (sym (files_of_bound schemas (plain_query core).declarations bindings) ∙ read.first.1) (files_are_bound externals bindings found));
+    answers = told_so (library.files library.before) (λ files. EndsWith files requests read.loads (Err error)) (λ files. RefusesSo (unread error) (Answered files))
         (λ files ends. refusal_answers files read.loads error yes' found ends) read.told;
-    told = told_so (library.files library.before) (λ files. EndsWith KeepsTree files (files_bound externals bindings) read.loads (Err error)) (λ files. OutcomeLoads {V = String Z} (Loaded files) read.loads (Err (unread error)))
+    told = told_so (library.files library.before) (λ files. EndsWith files requests read.loads (Err error)) (λ files. OutcomeLoads {V = String Z} (Loaded files) read.loads (Err (unread error)))
         (λ files ends. refusal_loads Z files read.loads error yes' found ends) read.told;
     failed = refusal_fails Z read.loads error read.failed;
     own = refusal_own Z error;
   }
 
-  run_evaluated : {Z : Type 0} (forest : Forest) (result : Result (String Z) Refusal) → can_be_written schemas core ≡ true → misbound externals bindings ≡ None → ReadDocuments library (files_bound externals bindings) (Ok forest)
+  run_evaluated : {Z : Type 0} (forest : Forest) (result : Result (String Z) Refusal) → can_be_written schemas core ≡ true → misbound externals bindings ≡ None → ReadDocuments library schemas (documents_bound (plain_query core).declarations bindings) (Ok forest)
       → AnswersSo (AnswersEvaluated schemas (plain_query core) forest) result → IsEvaluated result → RunsSo library bindings schemas core result
   run_evaluated forest result yes' found read h own = record {
     names = read.loads;
     loaded = read.loaded;
-    bound = front_is_bound bindings read.loads read.first.0 (subst (λ (ns : List (List ℕ)). AreBoundFiles bindings ns) read.first.1 (files_are_bound externals bindings found));
-    answers = told_so (library.files library.before) (λ files. EndsWith KeepsTree files (files_bound externals bindings) read.loads (Ok forest)) (λ files. AnswersSo (Answered files) result)
+    bound = front_is_bound bindings read.loads read.first.0 (subst (λ (ns : List (List ℕ)). AreBoundFiles bindings ns) (sym (files_of_bound schemas (plain_query core).declarations bindings) ∙ read.first.1) (files_are_bound externals bindings found));
+    answers = told_so (library.files library.before) (λ files. EndsWith files requests read.loads (Ok forest)) (λ files. AnswersSo (Answered files) result)
         (λ files ends. answers_through result (AnswersEvaluated schemas (plain_query core) forest) (Answered files) (λ a k. held_answers files forest read.loads a yes' found ends k) h) read.told;
-    told = told_so (library.files library.before) (λ files. EndsWith KeepsTree files (files_bound externals bindings) read.loads (Ok forest)) (λ files. OutcomeLoads (Loaded files) read.loads result)
+    told = told_so (library.files library.before) (λ files. EndsWith files requests read.loads (Ok forest)) (λ files. OutcomeLoads (Loaded files) read.loads result)
         (λ files ends. evaluated_loads files forest read.loads result yes' found own ends) read.told;
     failed = evaluated_fails read.loads result own;
     own = evaluated_own result own;
   }
 
-  run_follows : {Z : Type 0} (read : Result Forest DocumentsError) (result : Result (String Z) Refusal) → can_be_written schemas core ≡ true → misbound externals bindings ≡ None → ReadDocuments library (files_bound externals bindings) read
+  run_follows : {Z : Type 0} (read : Result Forest DocumentsError) (result : Result (String Z) Refusal) → can_be_written schemas core ≡ true → misbound externals bindings ≡ None → ReadDocuments library schemas (documents_bound (plain_query core).declarations bindings) read
       → Follows schemas (plain_query core) read result → RunsSo library bindings schemas core result
   run_follows (Ok forest) result yes' found h k = run_evaluated forest result yes' found h k.0 k.1
   run_follows (Err error) result yes' found h k = subst (λ r. RunsSo library bindings schemas core r) (sym k) (run_refused error yes' found h)
 
-  pub run_over_files : {Z : Type 0} (names : List (List ℕ)) (result : Result (String Z) Refusal) → can_be_written schemas core ≡ true → misbound externals bindings ≡ None → names ≡ files_bound externals bindings
-      → ReadSo library names schemas (plain_query core) result → RunsSo library bindings schemas core result
-  run_over_files names result yes' found same h = run_follows h.read result yes' found (subst (λ (ns : List (List ℕ)). ReadDocuments library ns h.read) same h.reads) h.follows
+  pub run_over_documents : {Z : Type 0} (asked : List Asked) (names : List (List ℕ)) (result : Result (String Z) Refusal) → can_be_written schemas core ≡ true → BindFiles (plain_query core).declarations bindings names
+      → asked ≡ documents_asked (plain_query core).declarations names → ReadSo library asked schemas (plain_query core) result → RunsSo library bindings schemas core result
+  run_over_documents asked names result yes' b same h =
+      let all = same ∙ ap (documents_asked (plain_query core).declarations) b.named in
+      run_follows h.read result yes' b.bound (subst (λ (some : List Asked). ReadDocuments library schemas some h.read) all h.reads) h.follows
 
   -- the words bind wrongly, or memory is wanting
   pub misbound_so : {Z : Type 0} (e : Refusal) → library.after ≡ library.before → can_be_written schemas core ≡ true → IsMisboundSo (misbound externals bindings) e → RunsSo {Z = Z} library bindings schemas core (Err e)

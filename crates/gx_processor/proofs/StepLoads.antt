@@ -7,9 +7,10 @@ use Rattle.gx_core.specs.declared.typed.TypedCore.{TypedCore}
 use Rattle.gx_io.specs.LibraryUse.{LibraryUse}
 use Rattle.gx_io.specs.SinkUse.{SinkUse}
 use Rattle.gx_documents.specs.declared.documents.DocumentFault.TheVariants as faults
-use Rattle.gx_documents.specs.Bindings.{Misbound, misbound, files_bound}
+use Rattle.gx_documents.specs.Bindings.{Misbound, misbound}
 use Rattle.gx_documents.specs.BindingView.{plain_fault}
-use Rattle.gx_documents.specs.Documents.{Files}
+use Rattle.gx_tree.specs.PlainTree.{PlainTree}
+use Rattle.gx_documents.specs.Documents.{Files, Request, tree_requests}
 use Rattle.gx_base.specs.declared.code.Code.TheVariants.{GLXS0001}
 use Rattle.gx_schema.specs.Laws.{ImportsAreOne}
 use Rattle.gx_processor.specs.declared.status.Status.{Status}
@@ -21,8 +22,8 @@ use Rattle.gx_processor.specs.declared.refusal.Refusal.TheVariants as refusal
 use Rattle.gx_processor.specs.Answer.{can_be_written}
 use Rattle.gx_processor.specs.Command.{Command, run_file, check_file, query_file}
 use Rattle.gx_processor.specs.Ending.{Ends}
-use Rattle.gx_processor.specs.Externals.{external_words}
-use Rattle.gx_processor.specs.FaultLines.{read_fault_line, code_line, placed_line, binding_line, long_document_line, document_line, import_line}
+use Rattle.gx_processor.specs.Externals.{external_words, documents_bound}
+use Rattle.gx_processor.specs.FaultLines.{read_fault_line, code_line, placed_line, binding_line, long_document_line, document_line, invalid_line, import_line}
 use Rattle.gx_processor.specs.Loading.{BoundLoads, RunLoads, BehindQuery, CommandLoads, LoadsAsked}
 use Rattle.gx_processor.specs.Promises.{IsCertain}
 use Rattle.gx_processor.specs.Replies.{IsFaultOrStarved, IsComparison, IsReplyOf, AreFirst, ReplyLoads, ReplyFailed, LoadFailed, LoadsSo, RefusalLoads, RefusalFailed, OutputLoads}
@@ -33,17 +34,17 @@ use Rattle.gx_processor.proofs.Told.{told_so, told_always}
 
 -- ---- one list
 
-bound_once : (files : Files) (fault : Option Misbound) (documents a b : List (List ℕ)) → BoundLoads files fault documents a → BoundLoads files fault documents b → a ≡ b
+bound_once : (files : Files) (fault : Option Misbound) (documents : List (Request PlainTree)) (a b : List (List ℕ)) → BoundLoads files fault documents a → BoundLoads files fault documents b → a ≡ b
 bound_once files (Some fault) documents a b h k = h ∙ sym k
 bound_once files None documents a b h k = one_load files documents a b h k
 
-match_once : (files : Files) (writable : Bool) (fault : Option Misbound) (documents a b : List (List ℕ)) → MatchBool writable (BoundLoads files fault documents a) (a ≡ []) → MatchBool writable (BoundLoads files fault documents b) (b ≡ []) → a ≡ b
+match_once : (files : Files) (writable : Bool) (fault : Option Misbound) (documents : List (Request PlainTree)) (a b : List (List ℕ)) → MatchBool writable (BoundLoads files fault documents a) (a ≡ []) → MatchBool writable (BoundLoads files fault documents b) (b ≡ []) → a ≡ b
 match_once files true fault documents a b h k = bound_once files fault documents a b h k
 match_once files false fault documents a b h k = h ∙ sym k
 
 run_once : (files : Files) (bindings : List (List ℕ)) (schemas : SchemaSet) (core : Core) (t : TypedCore) (a b : List (List ℕ)) → RunLoads files bindings schemas core t a → RunLoads files bindings schemas core t b → a ≡ b
 run_once files bindings schemas core t a b h k =
-    match_once files (can_be_written schemas t) (misbound (external_words core.declarations) bindings) (files_bound (external_words core.declarations) bindings) a b h k
+    match_once files (can_be_written schemas t) (misbound (external_words core.declarations) bindings) (tree_requests schemas (documents_bound core.declarations bindings)) a b h k
 
 behind_once : ImportsAreOne → (files : Files) (name : List ℕ) (bindings a b : List (List ℕ)) → BehindQuery files name bindings a → BehindQuery files name bindings b → a ≡ b
 behind_once single files name bindings a b (inl h) (inl k) =
@@ -191,11 +192,13 @@ refusal_told single files command names (refusal.Query code place) r h k = fault
 refusal_told single files command names (refusal.SchemaFile file faults.Unread) r h k = unread_told (CommandLoads files command) names (read_fault_line (string_bytes file)) r h k
 refusal_told single files command names (refusal.SchemaFile file faults.TooLong) r h k = fault_told single files command names status.Schema (long_document_line (string_bytes file)) r (λ e. cc) h k
 refusal_told single files command names (refusal.SchemaFile file (faults.Refused rule place)) r h k = fault_told single files command names status.Schema (document_line rule (string_bytes file) place) r (λ e. cc) h k
+refusal_told single files command names (refusal.SchemaFile file (faults.Invalid rule path)) r h k = fault_told single files command names status.Schema (invalid_line rule (string_bytes file) path) r (λ e. cc) h k
 refusal_told single files command names (refusal.Schema rule file construct) r h k = fault_told single files command names status.Schema (import_line rule (string_bytes file) construct) r (λ e. cc) h k
 refusal_told single files command names (refusal.Binding fault) r h k = fault_told single files command names status.Usage (binding_line (plain_fault fault)) r (λ e. cc) h k
 refusal_told single files command names (refusal.Document file faults.Unread) r h k = unread_told (CommandLoads files command) names (read_fault_line (string_bytes file)) r h k
 refusal_told single files command names (refusal.Document file faults.TooLong) r h k = fault_told single files command names status.Document (long_document_line (string_bytes file)) r (λ e. cc) h k
 refusal_told single files command names (refusal.Document file (faults.Refused rule place)) r h k = fault_told single files command names status.Document (document_line rule (string_bytes file) place) r (λ e. cc) h k
+refusal_told single files command names (refusal.Document file (faults.Invalid rule path)) r h k = fault_told single files command names status.Document (invalid_line rule (string_bytes file) path) r (λ e. cc) h k
 refusal_told single files command names (refusal.Dynamic code) r h k = fault_told single files command names status.Dynamic (code_line code) r (λ e. cc) h k
 refusal_told single files command names refusal.Memory r h k = subst (λ (z : Reply). ReplyLoads (LoadsAsked files (Some command)) names z) (sym h) k
 
@@ -206,11 +209,13 @@ refusal_failed library command names (refusal.Query code place) r h k = fault_un
 refusal_failed library command names (refusal.SchemaFile file faults.Unread) r h k = unread_failed library names (read_fault_line (string_bytes file)) r h k
 refusal_failed library command names (refusal.SchemaFile file faults.TooLong) r h k = fault_unfailed library names status.Schema (long_document_line (string_bytes file)) r (λ e. cc) h
 refusal_failed library command names (refusal.SchemaFile file (faults.Refused rule place)) r h k = fault_unfailed library names status.Schema (document_line rule (string_bytes file) place) r (λ e. cc) h
+refusal_failed library command names (refusal.SchemaFile file (faults.Invalid rule path)) r h k = fault_unfailed library names status.Schema (invalid_line rule (string_bytes file) path) r (λ e. cc) h
 refusal_failed library command names (refusal.Schema rule file construct) r h k = fault_unfailed library names status.Schema (import_line rule (string_bytes file) construct) r (λ e. cc) h
 refusal_failed library command names (refusal.Binding fault) r h k = fault_unfailed library names status.Usage (binding_line (plain_fault fault)) r (λ e. cc) h
 refusal_failed library command names (refusal.Document file faults.Unread) r h k = unread_failed library names (read_fault_line (string_bytes file)) r h k
 refusal_failed library command names (refusal.Document file faults.TooLong) r h k = fault_unfailed library names status.Document (long_document_line (string_bytes file)) r (λ e. cc) h
 refusal_failed library command names (refusal.Document file (faults.Refused rule place)) r h k = fault_unfailed library names status.Document (document_line rule (string_bytes file) place) r (λ e. cc) h
+refusal_failed library command names (refusal.Document file (faults.Invalid rule path)) r h k = fault_unfailed library names status.Document (invalid_line rule (string_bytes file) path) r (λ e. cc) h
 refusal_failed library command names (refusal.Dynamic code) r h k = fault_unfailed library names status.Dynamic (code_line code) r (λ e. cc) h
 refusal_failed library command names refusal.Memory r h k = subst (λ (z : Reply). ReplyFailed library names z) (sym h) tt
 

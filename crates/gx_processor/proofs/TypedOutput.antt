@@ -74,5 +74,5 @@ typed_answers_so library between (check_file name) schemas t result same h =
     told_always (library.files library.before) (λ files. AnswersSo (AnswersTyped files (check_file name) schemas (plain_query t) t) result) (λ files. check_answers files name schemas t result h.0)
 
 pub typed_cause : {Z : Type 0} (library : LibraryUse) (between : library.Library) (command : Command) (schemas : SchemaSet) (t : TypedCore) (result : Result (String Z) Refusal) → TypedSo (behind library between) command schemas t result → IfErr result (HasCause (IsRun command))
-typed_cause library between (run_file name bindings) schemas t result h = run_cause name bindings result
+typed_cause library between (run_file name bindings) schemas t result h = run_cause name bindings result h.own
 typed_cause library between (check_file name) schemas t result h = check_cause (IsRun (check_file name)) t result h.0

@@ -1,5 +1,5 @@
 -- What the program answers to its words, over the files that its library holds.
-use Rattle.std.specs.Prelude.{◌≡◌, ℕ, nat_le, Bool, List, [], ◌∷◌, ◌++◌, length, map, Option, None, Some, MatchBool, ◌⊎◌}
+use Rattle.std.specs.Prelude.{◌≡◌, ℕ, nat_le, Bool, List, [], ◌∷◌, ◌++◌, length, Option, None, Some, Result, Ok, Err, MatchBool, ◌⊎◌}
 use Rattle.std.specs.Str.{chars}
 use Rattle.gx_base.specs.declared.place.Place.{Place}
 use Rattle.gx_base.specs.declared.code.Code.TheVariants.{GLXS0001, XPST0003, SENR0001}
@@ -14,7 +14,8 @@ use Rattle.gx_xml.specs.declared.refusal.XmlRule.{XmlRule}
 use Rattle.gx_xml.specs.declared.refusal.XmlRefusal.TheVariants.{Refused}
 use Rattle.gx_xml.specs.Reading.{IsDocumentOf, IsDocumentRefusal}
 use Rattle.gx_xml.specs.SourceTree.{SourceTree}
-use Rattle.gx_xml.specs.Untyped.{untyped_document}
+use Rattle.gx_xml.specs.declared.source.Source.{Source}
+use Rattle.gx_validate.specs.Outcome.{Fault}
 use Rattle.gx_typetext.specs.TypeReading.{IsTypeText}
 use Rattle.gx_subtype.specs.Comparison.{IsNoType, IsAnswerText}
 use Rattle.gx_core.specs.declared.expression.Core.{Core}
@@ -35,13 +36,13 @@ use Rattle.gx_normal.specs.Unbuilt.{unbuilt_query}
 use Rattle.gx_processor.specs.NamedQuery.{NamedQuery, named_query, unknown_name, query_named}
 use Rattle.gx_processor.specs.Serialisation.{serialised}
 use Rattle.gx_processor.specs.TypeBytes.{type_bytes}
-use Rattle.gx_documents.specs.Bindings.{Misbound, misbound, files_bound}
-use Rattle.gx_documents.specs.Documents.{Files, document_nodes}
-use Rattle.gx_processor.specs.Externals.{external_words}
-use Rattle.gx_processor.specs.SchemaFiles.{schema_files, sources_of, file_name_at}
+use Rattle.gx_documents.specs.Bindings.{Misbound, misbound}
+use Rattle.gx_documents.specs.Documents.{Files, Request, tree_requests, document_nodes}
+use Rattle.gx_processor.specs.Externals.{external_words, documents_bound}
+use Rattle.gx_processor.specs.SchemaFiles.{schema_files, schema_requests, file_name_at}
 use Rattle.gx_schema.specs.Import.{Imported, declares, breaks, IsImported}
 use Rattle.gx_processor.specs.Command.{Command, run_file, check_file, query_file, command_of, texts_to_compare}
-use Rattle.gx_processor.specs.FaultLines.{line, usage_line, left_type_line, right_type_line, read_fault_line, code_line, placed_line, binding_line, long_document_line, document_line, import_line, shown_with}
+use Rattle.gx_processor.specs.FaultLines.{line, usage_line, left_type_line, right_type_line, read_fault_line, code_line, placed_line, binding_line, long_document_line, document_line, invalid_line, import_line, shown_with}
 use Rattle.gx_base.specs.declared.limits.TheConstants.{FILE_BYTES}
 
 -- bytes for standard output, or a refusal with its fault line
@@ -77,27 +78,29 @@ AnswersRead told file bytes Next answer =
     ((root : SourceTree) × IsDocumentOf bytes root × Next root answer)
     ⊎ ((rule : XmlRule) × (place : Place) × IsDocumentRefusal bytes (Refused place rule) × (answer ≡ refuses told (document_line rule file place)))
 
+-- what is kept of a document, or the rule of validity that it breaks
+abbrev pub AnswersKept : {T : Type 0} → (told : Status) (file : List ℕ) → Result T Fault → (T → Answer → Type 0) → Answer → Type 0
+AnswersKept told file (Ok kept) Next answer = Next kept answer
+AnswersKept told file (Err fault) Next answer = answer ≡ refuses told (invalid_line fault.rule file fault.path)
+
 -- its loading, within the limit on the bytes of a file
 abbrev pub AnswersLoaded : (told : Status) (file : List ℕ) → Option (List ℕ) → (SourceTree → Answer → Type 0) → Answer → Type 0
 AnswersLoaded told file None Next answer = answer ≡ refuses status.ReadFault (read_fault_line file)
 AnswersLoaded told file (Some bytes) Next answer =
     MatchBool (nat_le (length bytes) FILE_BYTES) (AnswersRead told file bytes Next answer) (answer ≡ refuses told (long_document_line file))
 
--- documents in files, one behind another: what follows has the roots of all
-abbrev pub AnswersFiles : (told : Status) → Files → (names : List (List ℕ)) (roots : List SourceTree) → (List SourceTree → Answer → Type 0) → Answer → Type 0
-AnswersFiles told files [] roots Next answer = Next roots answer
-AnswersFiles told files (name ∷ names) roots Next answer =
-    AnswersLoaded told name (file_of files name) (λ root next. AnswersFiles told files names (roots ++ root ∷ []) Next next) answer
-
--- evaluation over the trees of documents with these roots
-abbrev pub AnswersOver : SchemaSet → Core → List SourceTree → Answer → Type 0
-AnswersOver schemas core roots answer = AnswersEvaluated schemas core (map untyped_document roots) answer
+-- documents in files, one behind another: what follows has what is kept of all
+abbrev pub AnswersFiles : {T : Type 0} → (told : Status) → Files → (requests : List (Request T)) (kept : List T) → (List T → Answer → Type 0) → Answer → Type 0
+AnswersFiles told files [] kept Next answer = Next kept answer
+AnswersFiles told files (request ∷ requests) kept Next answer =
+    AnswersLoaded told request.file (file_of files request.file)
+    (λ root read. AnswersKept told request.file (request.outcome root) (λ one next. AnswersFiles told files requests (kept ++ one ∷ []) Next next) read) answer
 
 -- the words that bind the external variables
 abbrev pub AnswersBound : Files → SchemaSet → Core → (bindings : List (List ℕ)) → Option Misbound → Answer → Type 0
 AnswersBound files schemas core bindings (Some fault) answer = answer ≡ refuses status.Usage (binding_line fault)
 AnswersBound files schemas core bindings None answer =
-    AnswersFiles status.Document files (files_bound (external_words core.declarations) bindings) [] (AnswersOver schemas core) answer
+    AnswersFiles status.Document files (tree_requests schemas (documents_bound core.declarations bindings)) [] (AnswersEvaluated schemas core) answer
 
 -- `(document-node() | element() | text() | xs:anyAtomicType)*`, the type of what can be written
 abbrev pub writable_type : SequenceType
@@ -132,14 +135,14 @@ AnswersImported files command tree names (declares schemas) answer = AnswersName
 AnswersImported files command tree names (breaks rule file name list) answer =
     answer ≡ refuses status.Schema (import_line rule (file_name_at names file) (shown_with rule name list))
 
--- what documents with these roots declare
-abbrev pub AnswersSources : Files → Command → Query → (roots : List SourceTree) → Answer → Type 0
-AnswersSources files command tree roots answer = (told : Imported) × IsImported (sources_of roots) told × AnswersImported files command tree (schema_files tree) told answer
+-- what these documents declare
+abbrev pub AnswersSources : Files → Command → Query → List Source → Answer → Type 0
+AnswersSources files command tree sources answer = (told : Imported) × IsImported sources told × AnswersImported files command tree (schema_files tree) told answer
 
 -- the documents in its schema files
 abbrev pub AnswersSchemas : Files → Command → Query → Answer → Type 0
 AnswersSchemas files command tree answer =
-    AnswersFiles status.Schema files (schema_files tree) [] (AnswersSources files command tree) answer
+    AnswersFiles status.Schema files (schema_requests tree) [] (AnswersSources files command tree) answer
 
 -- a production that is not built yet
 abbrev pub AnswersBuilt : Files → Command → Query → (unbuilt : Option Place) → Answer → Type 0

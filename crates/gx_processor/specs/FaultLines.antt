@@ -6,6 +6,8 @@ use Rattle.gx_base.specs.declared.place.Place.{Place}
 use Rattle.gx_base.specs.Code.{spelling}
 use Rattle.gx_xml.specs.declared.refusal.XmlRule.{XmlRule}
 use Rattle.gx_xml.specs.declared.refusal.XmlRule.TheVariants as rules
+use Rattle.gx_validate.specs.declared.invalid.InvalidRule.{InvalidRule}
+use Rattle.gx_validate.specs.declared.invalid.InvalidRule.TheVariants as invalid_rules
 use Rattle.gx_documents.specs.Bindings.{Misbound, unknown, doubled, missing}
 use Rattle.std.specs.Str.{encode_utf8_all}
 use Rattle.gx_schema.specs.declared.refusal.SchemaRule.{SchemaRule}
@@ -69,10 +71,29 @@ long_document_line file = line (codes "TooLong in " ++ file)
 abbrev pub document_line : XmlRule → List ℕ → Place → List ℕ
 document_line rule file place = line (xml_rule_name rule ++ codes " in " ++ file ++ codes " at " ++ decimal place.line ++ codes ":" ++ decimal place.column)
 
+-- the line of a file that holds no document
+abbrev pub IsReaderLine : List ℕ → Type 0
+IsReaderLine told =
+    ((file : List ℕ) × (told ≡ long_document_line file)) ⊎ ((rule : XmlRule) × (file : List ℕ) × (place : Place) × (told ≡ document_line rule file place))
+
+-- the rules of validity
+abbrev pub invalid_rule_name : InvalidRule → List ℕ
+invalid_rule_name invalid_rules.WrongRoot = codes "WrongRoot"
+invalid_rule_name invalid_rules.WrongContent = codes "WrongContent"
+invalid_rule_name invalid_rules.MissingAttribute = codes "MissingAttribute"
+invalid_rule_name invalid_rules.ExtraAttribute = codes "ExtraAttribute"
+invalid_rule_name invalid_rules.BadSimpleValue = codes "BadSimpleValue"
+invalid_rule_name invalid_rules.BadXsiType = codes "BadXsiType"
+invalid_rule_name invalid_rules.TextInElementContent = codes "TextInElementContent"
+invalid_rule_name invalid_rules.Nil = codes "Nil"
+
+-- a rule of validity, and the file and the path of the element that breaks it there
+abbrev pub invalid_line : InvalidRule → (file path : List ℕ) → List ℕ
+invalid_line rule file path = line (invalid_rule_name rule ++ codes " in " ++ file ++ codes " at " ++ encode_utf8_all path)
+
 -- the line of a refused document
 abbrev pub IsDocumentLine : List ℕ → Type 0
-IsDocumentLine told =
-    ((file : List ℕ) × (told ≡ long_document_line file)) ⊎ ((rule : XmlRule) × (file : List ℕ) × (place : Place) × (told ≡ document_line rule file place))
+IsDocumentLine told = IsReaderLine told ⊎ ((rule : InvalidRule) × (file : List ℕ) × (path : List ℕ) × (told ≡ invalid_line rule file path))
 
 -- the rules that refuse schema files
 abbrev pub schema_rule_name : SchemaRule → List ℕ
@@ -100,7 +121,7 @@ import_line rule file shown = line (schema_rule_name rule ++ codes " in " ++ fil
 
 -- the line of refused schema files
 abbrev pub IsSchemaLine : List ℕ → Type 0
-IsSchemaLine told = IsDocumentLine told ⊎ ((rule : SchemaRule) × (file : List ℕ) × (shown : List ℕ) × (told ≡ import_line rule file shown))
+IsSchemaLine told = IsReaderLine told ⊎ ((rule : SchemaRule) × (file : List ℕ) × (shown : List ℕ) × (told ≡ import_line rule file shown))
 
 abbrev pub write_fault_line : List ℕ
 write_fault_line = line (codes "WriteFault")

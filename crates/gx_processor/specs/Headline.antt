@@ -1,5 +1,5 @@
--- The headline. Where a query has a type, a check writes exactly the text of the type and a line feed, and a run on any documents
--- writes exactly the serialisation of the value that the query has, and that value belongs to the type, or it reports the one
+-- The headline. Where a query has a type, a check writes exactly the text of the type and a line feed, and a run on any documents,
+-- valid where the types of external variables ask for it, writes exactly the serialisation of the value that the query has, and that value belongs to the type, or it reports the one
 -- dynamic error that the query raises. Where typing rejects a query, both report the code and the place of the first
 -- expression to which the static rules give no type.
 use Rattle.std.specs.Prelude.{◌≡◌, ℕ, true, List, None, Some, ◌⊎◌}
@@ -21,9 +21,9 @@ use Rattle.gx_processor.specs.Command.{Command, run_file, check_file, query_file
 use Rattle.gx_processor.specs.FaultLines.{code_line, placed_line}
 use Rattle.gx_processor.specs.Serialisation.{serialised}
 use Rattle.gx_processor.specs.TypeBytes.{type_bytes}
-use Rattle.gx_documents.specs.Bindings.{misbound, files_bound}
+use Rattle.gx_documents.specs.Bindings.{misbound}
 use Rattle.gx_documents.specs.Documents.{Files, HoldTrees, document_nodes}
-use Rattle.gx_processor.specs.Externals.{external_words}
+use Rattle.gx_processor.specs.Externals.{external_words, documents_bound}
 use Rattle.gx_processor.specs.Answer.{Answers, writes, can_be_written}
 use Rattle.gx_processor.specs.Run.{Run}
 
@@ -49,17 +49,18 @@ pub record ReportsError (schemas : SchemaSet) (core : Core) (documents : Forest)
 abbrev pub RunEnds : SchemaSet → Core → TypedCore → Forest → Run → Type 0
 RunEnds schemas core typing documents run = WritesValue schemas core typing documents run ⊎ (ReportsError schemas core documents run ⊎ (run.status ≡ Memory))
 
--- the words bind each external variable of the query once, to files that hold documents with these trees
-pub record BindDocuments (files : Files) (core : Core) (bindings : List (List ℕ)) (documents : Forest) : Type 0 where
+-- the words bind each external variable of the query once, to files that hold documents with these trees: without types, or with
+-- those of a document that is valid as the global element that the type of the variable names
+pub record BindDocuments (files : Files) (schemas : SchemaSet) (core : Core) (bindings : List (List ℕ)) (documents : Forest) : Type 0 where
   pub bound : misbound (external_words core.declarations) bindings ≡ None
-  pub held : HoldTrees files (files_bound (external_words core.declarations) bindings) documents
+  pub held : HoldTrees schemas files (documents_bound core.declarations bindings) documents
 
 -- a run of a query that has a type without attributes at its top, on documents
 abbrev pub RunsTyped : Run → Files → Type 0
 RunsTyped run files =
     (name : List ℕ) (bindings : List (List ℕ)) (schemas : SchemaSet) (core : Core) (typing : TypedCore) (documents : Forest) → command_of run.words ≡ Some (run_file name bindings)
     → HoldsQuery files name schemas core → query_judged schemas core ≡ query_typed typing → can_be_written schemas typing ≡ true
-    → BindDocuments files core bindings documents → RunEnds schemas core typing documents run
+    → BindDocuments files schemas core bindings documents → RunEnds schemas core typing documents run
 
 -- the text of the type is written, and nothing else
 pub record WritesType (typing : TypedCore) (run : Run) : Type 0 where
@@ -88,7 +89,7 @@ RunsAsChecked run files =
     (checking : List (List ℕ)) (name : List ℕ) (bindings : List (List ℕ)) (printed : List ℕ) → command_of run.words ≡ Some (run_file name bindings)
     → command_of checking ≡ Some (check_file name) → Answers checking files (writes printed)
     → (query : HoldsTyped files name printed)
-    × (can_be_written query.schemas query.typing ≡ true → (documents : Forest) → BindDocuments files query.core bindings documents
+    × (can_be_written query.schemas query.typing ≡ true → (documents : Forest) → BindDocuments files query.schemas query.core bindings documents
     → RunEnds query.schemas query.core query.typing documents run)
 
 -- the code and the place of the first expression that fails, to which the static rules give no type, are reported, and

@@ -18,8 +18,8 @@ use Rattle.gx_processor.specs.Answer.{AnswersSchemas}
 use Rattle.gx_processor.specs.Command.{Command}
 use Rattle.gx_processor.specs.FaultLines.{read_fault_line, shown_with}
 use Rattle.gx_processor.specs.Query.{ImportsSchemas}
-use Rattle.gx_processor.specs.SchemaFiles.{schema_files, file_name_at}
-use Rattle.gx_processor.specs.Replies.{RefusesSo, OutcomeLoads, LoadFailed}
+use Rattle.gx_processor.specs.SchemaFiles.{schema_requests, file_name_at}
+use Rattle.gx_processor.specs.Replies.{RefusesSo, IsOfReader, OutcomeLoads, LoadFailed}
 
 -- a schema file holds no document, or memory is wanting
 abbrev pub unread_schema : DocumentsError → Refusal
@@ -49,7 +49,7 @@ pub record DeclaredSo (library : LibraryUse) (names : List (List ℕ)) (result :
 
 -- a refusal of schema files alone
 abbrev pub IsOfImport : Refusal → Type 0
-IsOfImport (refusal.SchemaFile file fault) = Unit {0}
+IsOfImport (refusal.SchemaFile file fault) = IsOfReader fault
 IsOfImport (refusal.Schema rule file name) = Unit {0}
 IsOfImport refusal.Memory = Unit {0}
 IsOfImport _ = ⊥
@@ -67,6 +67,6 @@ pub record ImportsSo (library : LibraryUse) (tree : Query) (result : Result Sche
   pub loads : List (List ℕ)
   pub loaded : LoadsOnly library loads
   pub answers : AnswersImport library tree (λ schemas. schemas) result
-  pub told : IfSome (library.files library.before) (λ files. OutcomeLoads (DocumentsLoaded files (schema_files tree)) loads result)
+  pub told : IfSome (library.files library.before) (λ files. OutcomeLoads (DocumentsLoaded files (schema_requests tree)) loads result)
   pub failed : FailsAtSchema library loads result
   pub own : IfErr result IsOfImport

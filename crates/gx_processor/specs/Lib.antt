@@ -19,4 +19,4 @@ pub mod RunReplies
 pub mod Headline
 pub mod Promises
 pub mod NamedQuery
-pub mod UntypedDocuments
+pub mod ExternalDocuments

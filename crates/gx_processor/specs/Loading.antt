@@ -6,28 +6,29 @@ use Rattle.gx_core.specs.declared.typed.TypedCore.{TypedCore}
 use Rattle.gx_static.specs.QueryJudgement.{query_typed, query_judged}
 use Rattle.gx_io.specs.Load.{file_of}
 use Rattle.gx_processor.specs.Answer.{Answer, Answers, can_be_written}
-use Rattle.gx_documents.specs.Bindings.{Misbound, misbound, files_bound, bound_file, is_one_of}
-use Rattle.gx_documents.specs.Documents.{Files, DocumentsLoaded}
-use Rattle.gx_processor.specs.Externals.{external_words}
+use Rattle.gx_tree.specs.PlainTree.{PlainTree}
+use Rattle.gx_documents.specs.Bindings.{Misbound, misbound, bound_file, is_one_of}
+use Rattle.gx_documents.specs.Documents.{Files, Request, tree_requests, DocumentsLoaded}
+use Rattle.gx_processor.specs.Externals.{external_words, documents_bound}
 use Rattle.gx_processor.specs.Command.{Command, run_file, check_file, command_of}
 use Rattle.gx_processor.specs.Query.{HoldsSyntax, HoldsQuery}
-use Rattle.gx_processor.specs.SchemaFiles.{schema_files}
+use Rattle.gx_processor.specs.SchemaFiles.{schema_requests}
 
 -- the documents that a run of a query that has a type loads: where its value can be written, and the words bind each of its external
 -- variables once, those of the variables in order, up to the first that is refused
-abbrev pub BoundLoads : Files → Option Misbound → (documents loads : List (List ℕ)) → Type 0
+abbrev pub BoundLoads : Files → Option Misbound → List (Request PlainTree) → (loads : List (List ℕ)) → Type 0
 BoundLoads files (Some fault) documents loads = loads ≡ []
 BoundLoads files None documents loads = DocumentsLoaded files documents loads
 
 abbrev pub RunLoads : Files → (bindings : List (List ℕ)) → SchemaSet → Core → TypedCore → (loads : List (List ℕ)) → Type 0
 RunLoads files bindings schemas core typing loads =
     MatchBool (can_be_written schemas typing)
-    (BoundLoads files (misbound (external_words core.declarations) bindings) (files_bound (external_words core.declarations) bindings) loads) (loads ≡ [])
+    (BoundLoads files (misbound (external_words core.declarations) bindings) (tree_requests schemas (documents_bound core.declarations bindings)) loads) (loads ≡ [])
 
 -- the schema files that a query names, behind its file, in order, up to the first that is refused
 abbrev pub QueryLoads : Files → (name : List ℕ) → (loads : List (List ℕ)) → Type 0
 QueryLoads files name loads =
-    ((read : HoldsSyntax files name) × ((rest : List (List ℕ)) × DocumentsLoaded files (schema_files read.tree) rest × (loads ≡ name ∷ rest)))
+    ((read : HoldsSyntax files name) × ((rest : List (List ℕ)) × DocumentsLoaded files (schema_requests read.tree) rest × (loads ≡ name ∷ rest)))
     ⊎ ((HoldsSyntax files name → ⊥) × (loads ≡ name ∷ []))
 
 -- a file that holds a query that has a type

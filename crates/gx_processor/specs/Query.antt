@@ -7,10 +7,10 @@ use Rattle.gx_documents.specs.Documents.{Files, HoldKept}
 use Rattle.gx_io.specs.Load.{file_of}
 use Rattle.gx_ast.specs.declared.query.Query.{Query}
 use Rattle.gx_syntax.specs.Query.{Parses, parsed}
-use Rattle.gx_xml.specs.SourceTree.{SourceTree}
+use Rattle.gx_xml.specs.declared.source.Source.{Source}
 use Rattle.gx_schema.specs.Import.{IsImported, declares}
 use Rattle.gx_normal.specs.Unbuilt.{unbuilt_query}
-use Rattle.gx_processor.specs.SchemaFiles.{schema_files, sources_of, KeepsRoot}
+use Rattle.gx_processor.specs.SchemaFiles.{schema_requests}
 use Rattle.gx_processor.specs.NamedQuery.{named_query, query_named}
 
 -- the bytes are those of a query, all of whose productions are built
@@ -28,9 +28,9 @@ pub record HoldsSyntax (files : Files) (name : List ℕ) : Type 0 where
 
 -- the schema files that a query names hold documents, which declare these schemas
 pub record ImportsSchemas (files : Files) (tree : Query) (schemas : SchemaSet) : Type 0 where
-  pub roots : List SourceTree
-  pub held : HoldKept KeepsRoot files (schema_files tree) roots
-  pub imports : IsImported (sources_of roots) (declares schemas)
+  pub sources : List Source
+  pub held : HoldKept files (schema_requests tree) sources
+  pub imports : IsImported sources (declares schemas)
 
 -- the query in a file has this Core under the schemas that it imports
 pub record HoldsQuery (files : Files) (name : List ℕ) (schemas : SchemaSet) (core : Core) : Type 0 where

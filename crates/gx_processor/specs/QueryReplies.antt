@@ -15,8 +15,8 @@ use Rattle.gx_processor.specs.ImportReplies.{AnswersImport, FailsAtSchema}
 use Rattle.gx_processor.specs.Loading.{QueryLoads}
 use Rattle.gx_processor.specs.NamedQuery.{named_query, query_named}
 use Rattle.gx_processor.specs.Query.{IsTreeOf, HoldsSyntax, HoldsQuery}
-use Rattle.gx_processor.specs.SchemaFiles.{schema_files}
-use Rattle.gx_processor.specs.Replies.{RefusesSo, IsOfQuery, OutcomeLoads, OutcomeFailed}
+use Rattle.gx_processor.specs.SchemaFiles.{schema_requests}
+use Rattle.gx_processor.specs.Replies.{RefusesSo, IsOfQuery, IsOfReader, OutcomeLoads, OutcomeFailed}
 
 -- a file holds a query with this tree
 abbrev pub HoldsThisTree : Files → (name : List ℕ) → Query → Type 0
@@ -42,7 +42,7 @@ HoldsNone files name _ = Unit {0}
 -- a refusal of a query that is read
 abbrev pub IsOfTree : Refusal → Type 0
 IsOfTree (refusal.Query code place) = Unit {0}
-IsOfTree (refusal.SchemaFile file fault) = Unit {0}
+IsOfTree (refusal.SchemaFile file fault) = IsOfReader fault
 IsOfTree (refusal.Schema rule file name) = Unit {0}
 IsOfTree refusal.Memory = Unit {0}
 IsOfTree _ = ⊥
@@ -53,7 +53,7 @@ pub record TreeSo (library : LibraryUse) (tree : Query) (result : Result TypedQu
   pub loaded : LoadsOnly library loads
   pub answers : AnswersImport library tree (λ (query : TypedQuery). query.schemas) result
   pub named : IfOk result (λ query. query_named query.schemas tree ≡ named_query (plain_query query.core))
-  pub told : IfSome (library.files library.before) (λ files. OutcomeLoads (DocumentsLoaded files (schema_files tree)) loads result)
+  pub told : IfSome (library.files library.before) (λ files. OutcomeLoads (DocumentsLoaded files (schema_requests tree)) loads result)
   pub failed : FailsAtSchema library loads result
   pub own : IfErr result IsOfTree
 

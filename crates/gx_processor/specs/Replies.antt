@@ -18,7 +18,7 @@ use Rattle.gx_documents.specs.BindingView.{plain_fault}
 use Rattle.gx_io.specs.LibraryUse.{LibraryUse, LoadsOnly, LibraryFailed, LastLoadFailed}
 use Rattle.gx_processor.specs.Command.{Command, query_file, command_of, texts_to_compare, NameNoCommand, AskToRun, IsRun}
 use Rattle.gx_processor.specs.Loading.{CommandLoads, LoadsAsked, AreFirstOf, MayLoad}
-use Rattle.gx_processor.specs.FaultLines.{usage_line, read_fault_line, code_line, placed_line, binding_line, long_document_line, document_line, import_line, IsQueryLine, IsSchemaLine, IsDocumentLine}
+use Rattle.gx_processor.specs.FaultLines.{usage_line, read_fault_line, code_line, placed_line, binding_line, long_document_line, document_line, invalid_line, import_line, IsQueryLine, IsSchemaLine, IsDocumentLine}
 
 -- a refusal of the query, of the words that bind or of a document, or a dynamic error is the answer; a read fault and want of memory say nothing of it
 abbrev pub RefusesSo : Refusal → (Answer → Type 0) → Type 0
@@ -29,19 +29,26 @@ RefusesSo (refusal.Binding fault) Answered = Answered (refuses status.Usage (bin
 RefusesSo (refusal.SchemaFile file faults.Unread) Answered = Unit {0}
 RefusesSo (refusal.SchemaFile file faults.TooLong) Answered = Answered (refuses status.Schema (long_document_line (string_bytes file)))
 RefusesSo (refusal.SchemaFile file (faults.Refused rule place)) Answered = Answered (refuses status.Schema (document_line rule (string_bytes file) place))
+RefusesSo (refusal.SchemaFile file (faults.Invalid rule path)) Answered = ⊥
 RefusesSo (refusal.Schema rule file name) Answered = Answered (refuses status.Schema (import_line rule (string_bytes file) name))
 RefusesSo (refusal.Document file faults.Unread) Answered = Unit {0}
 RefusesSo (refusal.Document file faults.TooLong) Answered = Answered (refuses status.Document (long_document_line (string_bytes file)))
 RefusesSo (refusal.Document file (faults.Refused rule place)) Answered = Answered (refuses status.Document (document_line rule (string_bytes file) place))
+RefusesSo (refusal.Document file (faults.Invalid rule path)) Answered = Answered (refuses status.Document (invalid_line rule (string_bytes file) path))
 RefusesSo refusal.ReadFault Answered = Unit {0}
 RefusesSo refusal.Memory Answered = Unit {0}
+
+-- a file holds no document; nothing is said of validity
+abbrev pub IsOfReader : DocumentFault → Type 0
+IsOfReader (faults.Invalid rule path) = ⊥
+IsOfReader _ = Unit {0}
 
 -- a refusal of the query or of its schema files
 abbrev pub IsOfQuery : Refusal → Type 0
 IsOfQuery refusal.ReadFault = Unit {0}
 IsOfQuery refusal.TooLong = Unit {0}
 IsOfQuery (refusal.Query code place) = Unit {0}
-IsOfQuery (refusal.SchemaFile file fault) = Unit {0}
+IsOfQuery (refusal.SchemaFile file fault) = IsOfReader fault
 IsOfQuery (refusal.Schema rule file name) = Unit {0}
 IsOfQuery refusal.Memory = Unit {0}
 IsOfQuery _ = ⊥
@@ -65,7 +72,7 @@ abbrev pub HasCause : (Runs : Type 0) → Refusal → Type 0
 HasCause Runs (refusal.Dynamic code) = Runs
 HasCause Runs (refusal.Binding fault) = Runs
 HasCause Runs (refusal.Document file fault) = Runs
-HasCause Runs (refusal.SchemaFile file fault) = Unit {0}
+HasCause Runs (refusal.SchemaFile file fault) = IsOfReader fault
 HasCause Runs (refusal.Schema rule file name) = Unit {0}
 HasCause Runs refusal.ReadFault = Unit {0}
 HasCause Runs refusal.TooLong = Unit {0}
@@ -147,6 +154,7 @@ abbrev pub IsDocumentFault : (told : Status) (file : List ℕ) → DocumentFault
 IsDocumentFault told file faults.Unread reply = IsFaultOrStarved status.ReadFault (read_fault_line file) reply
 IsDocumentFault told file faults.TooLong reply = IsFaultOrStarved told (long_document_line file) reply
 IsDocumentFault told file (faults.Refused rule place) reply = IsFaultOrStarved told (document_line rule file place) reply
+IsDocumentFault told file (faults.Invalid rule path) reply = IsFaultOrStarved told (invalid_line rule file path) reply
 
 -- what is replied to a refusal of a command over a file: its line, or no memory was found
 abbrev pub IsReplyOf : (file : List ℕ) → Refusal → Reply → Type 0

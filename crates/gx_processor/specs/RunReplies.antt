@@ -1,5 +1,5 @@
 -- What the run of a query that has a type says.
-use Rattle.std.specs.Prelude.{◌≡◌, ℕ, List, Option, Some, IfSome, Result, Ok, Err, String}
+use Rattle.std.specs.Prelude.{◌≡◌, ℕ, List, Option, None, Some, IfSome, Result, Ok, Err, String}
 use Rattle.std.specs.String.{string_bytes}
 use Rattle.gx_core.specs.declared.typed.TypedCore.{TypedCore}
 use Rattle.gx_core.specs.QueryMeaning.{plain_query, query_type}
@@ -7,7 +7,9 @@ use Rattle.gx_processor.specs.Command.{Command, run_file, check_file}
 use Rattle.gx_types.specs.SchemaSet.{SchemaSet}
 use Rattle.gx_processor.specs.TypeBytes.{type_bytes}
 use Rattle.gx_io.specs.LibraryUse.{LibraryUse, LoadsOnly}
-use Rattle.gx_documents.specs.Bindings.{Misbound}
+use Rattle.gx_core.specs.declared.expression.CoreDeclaration.{CoreDeclaration}
+use Rattle.gx_documents.specs.Bindings.{Misbound, misbound, files_bound}
+use Rattle.gx_documents.specs.Documents.{Asked}
 use Rattle.gx_documents.specs.BindingView.{plain_fault}
 use Rattle.gx_core.specs.declared.expression.Core.{Core}
 use Rattle.gx_model.specs.Forest.{Forest}
@@ -18,6 +20,7 @@ use Rattle.gx_documents.specs.Reading.{ReadDocuments}
 use Rattle.gx_processor.specs.declared.refusal.Refusal.{Refusal}
 use Rattle.gx_processor.specs.declared.refusal.Refusal.TheVariants as refusal
 use Rattle.gx_processor.specs.Answer.{Answer, writes, AnswersEvaluated, AnswersRun}
+use Rattle.gx_processor.specs.Externals.{external_words}
 use Rattle.gx_processor.specs.Loading.{RunLoads, AreBoundFiles}
 use Rattle.gx_processor.specs.FaultLines.{read_fault_line}
 use Rattle.gx_processor.specs.Replies.{RefusesSo, OutcomeLoads, LoadFailed}
@@ -62,6 +65,11 @@ IsEvaluated (Err _) = ⊥
 
 -- ---- documents
 
+-- the words bind each external variable once, to these files
+pub record BindFiles (declarations : List CoreDeclaration) (bindings names : List (List ℕ)) : Type 0 where
+  pub bound : misbound (external_words declarations) bindings ≡ None
+  pub named : names ≡ files_bound (external_words declarations) bindings
+
 -- a file holds no document, or memory is wanting
 abbrev pub unread : DocumentsError → Refusal
 unread (Failed file fault) = refusal.Document file fault
@@ -72,9 +80,9 @@ abbrev pub Follows : {Z : Type 0} → SchemaSet → Core → Result Forest Docum
 Follows schemas core (Ok forest) result = AnswersSo (AnswersEvaluated schemas core forest) result × IsEvaluated result
 Follows schemas core (Err error) result = result ≡ Err (unread error)
 
-pub record ReadSo {Z : Type 0} (library : LibraryUse) (names : List (List ℕ)) (schemas : SchemaSet) (core : Core) (result : Result (String Z) Refusal) : Type 0 where
+pub record ReadSo {Z : Type 0} (library : LibraryUse) (asked : List Asked) (schemas : SchemaSet) (core : Core) (result : Result (String Z) Refusal) : Type 0 where
   pub read : Result Forest DocumentsError
-  pub reads : ReadDocuments library names read
+  pub reads : ReadDocuments library schemas asked read
   pub follows : Follows schemas core read result
 
 -- a check writes, or memory is wanting

@@ -6,7 +6,7 @@ use Rattle.gx_ast.specs.declared.query.Setting.{Setting}
 use Rattle.gx_ast.specs.declared.query.SettingNode.{SettingNode}
 use Rattle.gx_ast.specs.declared.query.SettingNode.TheVariants.{Schema}
 use Rattle.gx_xml.specs.declared.source.Source.{Source}
-use Rattle.gx_xml.specs.SourceTree.{SourceTree}
+use Rattle.gx_documents.specs.Documents.{Request, source_request}
 
 -- the locations of an import
 abbrev pub files_named : SettingNode → List (List ℕ)
@@ -21,14 +21,10 @@ files_of_settings (setting ∷ others) = files_named setting.node ++ files_of_se
 abbrev pub schema_files : Query → List (List ℕ)
 schema_files query = files_of_settings query.settings
 
--- documents with these roots
-abbrev pub sources_of : List SourceTree → List Source
-sources_of roots = map (λ (root : SourceTree). record { root = root }) roots
+-- their documents are read as they are written
+abbrev pub schema_requests : Query → List (Request Source)
+schema_requests query = map source_request (schema_files query)
 
 -- the name of the file of a number
 abbrev pub file_name_at : (names : List (List ℕ)) (file : ℕ) → List ℕ
 file_name_at names file = unwrap_or (slice_get names file) []
-
--- of a document its root is kept
-abbrev pub KeepsRoot : (root kept : SourceTree) → Type 0
-KeepsRoot root kept = kept ≡ root

@@ -5,6 +5,7 @@ ghost use Rattle.std.specs.Str.{encode_utf8_all};
 ghost use Rattle.gx_typetext.specs.NameText.{word};
 ghost use Rattle.gx_typetext.specs.ShapeText.{shapes_text};
 ghost use Rattle.gx_io.specs.LibraryUse.{library_use};
+ghost use Rattle.gx_types.specs.SchemaInvariant.{IsSchemaSet};
 ghost use Rattle.gx_documents.specs.BindingView.{word_bytes};
 ghost use Rattle.gx_processor.specs.FaultLines.{shown_with};
 ghost use Rattle.gx_processor.specs.ImportReplies.{DeclaredSo, DeclaresIn, ImportsSo, unread_schema};
@@ -17,6 +18,7 @@ use gx_base::text_builder::TextBuilder;
 use gx_documents::documents::{DocumentsError, read_sources};
 use gx_io::Library;
 use gx_schema::import::import;
+use gx_schema::laws::imports_are_schema_sets;
 use gx_schema::refusal::{SchemaRefusal, SchemaRule};
 use gx_types::schemas::Schemas;
 use gx_types::shape::Shape;
@@ -32,6 +34,7 @@ pub fn imported_schemas<L: Library>(
     library: &mut L,
 ) -> Result<Schemas, Refusal>
     ensures imports { ImportsSo (library_use L.files L.faults L.was_loaded library.old library.new) tree.now result }
+    ensures set { IfOk result IsSchemaSet }
     ensures told { L.files library.new ≡ L.files library.old }
     ensures counted { L.faults library.old ≤ L.faults library.new }
 {
@@ -48,6 +51,7 @@ fn declared_in<L: Library>(
     library: &mut L,
 ) -> Result<Schemas, Refusal>
     ensures imports { DeclaredSo (library_use L.files L.faults L.was_loaded library.old library.new) (word_bytes files.now) result }
+    ensures set { IfOk result IsSchemaSet }
     ensures told { L.files library.new ≡ L.files library.old }
     ensures counted { L.faults library.old ≤ L.faults library.new }
 {
@@ -59,8 +63,10 @@ fn declared_in<L: Library>(
 
 // What the documents of schema files of these names declare.
 fn declared(alloc: Global, files: &[String], sources: &[Source]) -> Result<Schemas, Refusal>
-    ensures { DeclaresIn (word_bytes files.now) sources.now result }
+    ensures declared { DeclaresIn (word_bytes files.now) sources.now result }
+    ensures set { IfOk result IsSchemaSet }
 {
+    imports_are_schema_sets();
     match import(alloc, sources) {
         Ok(schemas) => Ok(schemas),
         Err(

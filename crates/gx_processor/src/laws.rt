@@ -4,7 +4,7 @@ ghost use Rattle.std.specs.Prelude.{◌≡◌, ℕ, List};
 ghost use Rattle.gx_processor.specs.Answer.{Answer, Answers, AnAnswerExists, ChecksRefuseForRuns};
 ghost use Rattle.gx_processor.specs.Loading.{AnswersLookAtTheirLoads};
 ghost use Rattle.gx_documents.specs.Documents.{Files};
-ghost use Rattle.gx_processor.specs.UntypedDocuments.{NamedQueriesHaveUntypedDocuments};
+ghost use Rattle.gx_processor.specs.ExternalDocuments.{NamedQueriesHaveDocuments};
 
 use gx_schema::laws::{an_import_exists, imports_are_one, imports_are_schema_sets};
 
@@ -35,7 +35,7 @@ pub fn answers_look_at_their_loads()
     imports_are_one();
 }
 
-/// Each external variable of a query, all of whose productions are built, is a document without types.
-pub fn named_queries_have_untyped_documents()
-    ensures { NamedQueriesHaveUntypedDocuments }
+/// Each external variable of a query is a document without types, or one whose element is global and has its declared type.
+pub fn named_queries_have_documents()
+    ensures { NamedQueriesHaveDocuments }
 {}

@@ -2,7 +2,8 @@
 
 ghost use Rattle.std.specs.Prelude.{◌≡◌, ◌≤◌, IfOk, IfErr, IfSome, Some, string_bytes};
 ghost use Rattle.gx_core.specs.QueryMeaning.{plain_query, query_type, IsSoundQuery};
-ghost use Rattle.gx_processor.specs.UntypedDocuments.{ExternalsAreUntyped};
+ghost use Rattle.gx_types.specs.SchemaInvariant.{IsSchemaSet};
+ghost use Rattle.gx_processor.specs.ExternalDocuments.{ExternalsAreDocuments};
 ghost use Rattle.gx_processor.specs.RunReplies.{TypedSo};
 ghost use Rattle.gx_io.specs.LibraryUse.{library_use};
 ghost use Rattle.gx_processor.specs.Answer.{writes, AnswersCommand};
@@ -51,8 +52,9 @@ fn typed_output<L: Library>(
     query: TypedQuery,
     library: &mut L,
 ) -> Result<String, Refusal>
+    requires schemas { IsSchemaSet query.schemas }
     requires sound { IsSoundQuery query.schemas query.core }
-    requires untyped { ExternalsAreUntyped (plain_query query.core).declarations }
+    requires externals { ExternalsAreDocuments query.schemas (plain_query query.core).declarations }
     ensures counted { L.faults library.old ≤ L.faults library.new }
     ensures typed { TypedSo (library_use L.files L.faults L.was_loaded library.old library.new) (plain_command command.entry) query.schemas query.core result }
 {

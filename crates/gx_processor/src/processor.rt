@@ -9,12 +9,12 @@ ghost use Rattle.gx_processor.specs.Command.{bytes_of, command_of};
 ghost use Rattle.gx_processor.specs.CommandView.{plain_command};
 ghost use Rattle.gx_processor.specs.Ending.{Ends, Put, PutOutput};
 ghost use Rattle.gx_documents.specs.BindingView.{plain_fault};
-ghost use Rattle.gx_processor.specs.FaultLines.{binding_line, document_line, import_line, line, placed_line, schema_rule_name, xml_rule_name};
+ghost use Rattle.gx_processor.specs.FaultLines.{binding_line, document_line, import_line, invalid_line, invalid_rule_name, line, placed_line, schema_rule_name, xml_rule_name};
 ghost use Rattle.gx_processor.specs.Promises.{Promises};
 ghost use Rattle.gx_processor.specs.Replies.{IsQueryReply, RepliesSo, LoadsSo, IsWellFormed, IsMisuse, IsUsageOrStarved, IsReplyOf, IsDocumentFault, IsFaultOrStarved, IsOutputOrStarved, IsComparison};
 
 use crate::command::{Command, command_of_words, texts_to_compare};
-use crate::laws::named_queries_have_untyped_documents;
+use crate::laws::named_queries_have_documents;
 use crate::output::output;
 use crate::refusal::Refusal;
 use crate::reply::Reply;
@@ -26,12 +26,13 @@ use gx_base::text::Text;
 use gx_core::laws::sound_queries_keep_their_types;
 use gx_documents::bindings::BindingFault;
 use gx_documents::documents::DocumentFault;
-use gx_documents::laws::documents_are_honest;
+use gx_documents::laws::{documents_are_as_asked, documents_are_honest, held_trees_are_kept};
 use gx_io::{Library, PutError, Sink};
 use gx_schema::laws::{imports_are_one, imports_are_schema_sets};
 use gx_schema::refusal::SchemaRule;
 use gx_static::laws::{query_rejection_names_a_failure, query_typing_is_sound};
 use gx_subtype::subtype::{Side, SubtypeError, subtype};
+use gx_validate::invalid::InvalidRule;
 use gx_xml::refusal::XmlRule;
 use std::alloc::{AllocError, Global};
 
@@ -39,7 +40,8 @@ use std::alloc::{AllocError, Global};
 /// `err`, and says how the run ended.
 ///
 /// `run FILE NAME=FILE ..` writes the value of the query in the file, on the documents that its external variables are bound to
-/// (XQuery 1.0, section 2.2; Serialization, section 2), and `check FILE` writes the text of the type that the static rules give the query (XQuery 1.0, section 2.2.3.1).
+/// (XQuery 1.0, section 2.2; Serialization, section 2), each validated first where the type of its variable names a global element
+/// (XML Schema 1.0 part 1, section 3.3.4), and `check FILE` writes the text of the type that the static rules give the query (XQuery 1.0, section 2.2.3.1).
 /// `subtype TEXT TEXT` writes whether the type of the left text is included in that of the right one (XQuery 1.0 and XPath
 /// 2.0 Formal Semantics, section 8.3): `yes`, `no: ` with the first list of shapes that is not, or `unknown`.
 pub fn galax<L: Library, O: Sink, E: Sink>(
@@ -61,7 +63,9 @@ pub fn galax<L: Library, O: Sink, E: Sink>(
     sound_queries_keep_their_types();
     query_rejection_names_a_failure();
     documents_are_honest();
-    named_queries_have_untyped_documents();
+    named_queries_have_documents();
+    held_trees_are_kept();
+    documents_are_as_asked();
     imports_are_schema_sets();
     imports_are_one();
     let reply = reply_to(alloc, words, library);
@@ -154,6 +158,40 @@ fn document_fault(alloc: Global, status: Status, file: &str, found: DocumentFaul
         DocumentFault::Unread => fault(alloc, Status::ReadFault, "ReadFault ", file),
         DocumentFault::TooLong => fault(alloc, status, "TooLong in ", file),
         DocumentFault::Refused(rule, place) => broken_rule(alloc, status, rule, file, place),
+        DocumentFault::Invalid(rule, path) => invalid_document(alloc, status, rule, file, &path),
+    }
+}
+
+// A refusal of a document with the rule of validity that it breaks and the path of the element.
+fn invalid_document(
+    alloc: Global,
+    status: Status,
+    rule: InvalidRule,
+    file: &str,
+    path: &Text,
+) -> Reply
+    ensures { IsFaultOrStarved status (invalid_line rule file.now path.now) result }
+{
+    let path = path.as_str();
+    match format!(in alloc; "{} in {file} at {path}\n", invalid_rule_name(rule)) {
+        Ok(text) => Reply::Fault(status, text),
+        Err(AllocError) => Reply::Starved,
+    }
+}
+
+// The name of a rule of validity in a fault line.
+fn invalid_rule_name(rule: InvalidRule) -> &'static str
+    ensures { result.now ≡ invalid_rule_name rule }
+{
+    match rule {
+        InvalidRule::WrongRoot => "WrongRoot",
+        InvalidRule::WrongContent => "WrongContent",
+        InvalidRule::MissingAttribute => "MissingAttribute",
+        InvalidRule::ExtraAttribute => "ExtraAttribute",
+        InvalidRule::BadSimpleValue => "BadSimpleValue",
+        InvalidRule::BadXsiType => "BadXsiType",
+        InvalidRule::TextInElementContent => "TextInElementContent",
+        InvalidRule::Nil => "Nil",
     }
 }
 

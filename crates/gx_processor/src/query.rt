@@ -10,7 +10,8 @@ ghost use Rattle.gx_io.specs.Load.{file_of};
 ghost use Rattle.gx_syntax.specs.Query.{Parses, parsed};
 ghost use Rattle.gx_processor.specs.Answer.{AnswersFile, AnswersBytes, AnswersBuilt, AnswersNamed, AnswersJudged};
 ghost use Rattle.gx_documents.specs.Documents.{Files};
-ghost use Rattle.gx_processor.specs.UntypedDocuments.{ExternalsAreUntyped};
+ghost use Rattle.gx_types.specs.SchemaInvariant.{IsSchemaSet};
+ghost use Rattle.gx_processor.specs.ExternalDocuments.{ExternalsAreDocuments};
 ghost use Rattle.gx_processor.specs.Command.{Command};
 ghost use Rattle.gx_processor.specs.QueryReplies.{AreOfNone, HoldsNone, HoldsThisTree, IsNotBuilt, QuerySo, TreeSo};
 ghost use Rattle.gx_processor.specs.NamedQuery.{query_named, named_query};
@@ -19,7 +20,7 @@ ghost use Rattle.gx_processor.specs.RuleCode.{rule_code};
 ghost use Rattle.gx_normal.specs.Unbuilt.{unbuilt_query};
 
 use crate::imports::imported_schemas;
-use crate::laws::named_queries_have_untyped_documents;
+use crate::laws::named_queries_have_documents;
 use crate::refusal::Refusal;
 use gx_ast::dismantle::dismantle;
 use gx_ast::query::{Definition, DefinitionNode, Initialiser, Query};
@@ -58,7 +59,8 @@ pub fn typed_query<L: Library>(
     ensures counted { L.faults library.old ≤ L.faults library.new }
     ensures typed { IfOk result (λ query. query_judged query.schemas (plain_query query.core) ≡ query_typed query.core) }
     ensures sound { IfOk result (λ query. IsSoundQuery query.schemas query.core) }
-    ensures untyped { IfOk result (λ query. ExternalsAreUntyped (plain_query query.core).declarations) }
+    ensures set { IfOk result (λ query. IsSchemaSet query.schemas) }
+    ensures externals { IfOk result (λ query. ExternalsAreDocuments query.schemas (plain_query query.core).declarations) }
 {
     match tree_in(alloc, file, library) {
         Ok(tree) => query_of(alloc, tree, library),
@@ -74,7 +76,8 @@ fn query_of<L: Library>(alloc: Global, tree: Query, library: &mut L) -> Result<T
     ensures counted { L.faults library.old ≤ L.faults library.new }
     ensures typed { IfOk result (λ query. query_judged query.schemas (plain_query query.core) ≡ query_typed query.core) }
     ensures sound { IfOk result (λ query. IsSoundQuery query.schemas query.core) }
-    ensures untyped { IfOk result (λ query. ExternalsAreUntyped (plain_query query.core).declarations) }
+    ensures set { IfOk result (λ query. IsSchemaSet query.schemas) }
+    ensures externals { IfOk result (λ query. ExternalsAreDocuments query.schemas (plain_query query.core).declarations) }
 {
     match imported_schemas(alloc, &tree, library) {
         Ok(schemas) => query_under(alloc, tree, schemas),
@@ -87,16 +90,17 @@ fn query_of<L: Library>(alloc: Global, tree: Query, library: &mut L) -> Result<T
 
 // The query of a tree under schemas. The tree ends here.
 fn query_under(alloc: Global, tree: Query, schemas: Schemas) -> Result<TypedQuery, Refusal>
-    requires built { unbuilt_query tree ≡ None }
+    requires set { IsSchemaSet schemas }
     ensures schemas { IfOk result (λ query. query.schemas ≡ schemas) }
     ensures named { IfOk result (λ query. query_named schemas tree ≡ named_query (plain_query query.core)) }
     ensures typed { IfOk result (λ query. query_judged query.schemas (plain_query query.core) ≡ query_typed query.core) }
     ensures sound { IfOk result (λ query. IsSoundQuery query.schemas query.core) }
-    ensures untyped { IfOk result (λ query. ExternalsAreUntyped (plain_query query.core).declarations) }
+    ensures set { IfOk result (λ query. IsSchemaSet query.schemas) }
+    ensures externals { IfOk result (λ query. ExternalsAreDocuments query.schemas (plain_query query.core).declarations) }
     ensures refused { IfErr result (λ refusal. (files : Files) (command : Command) → RefusesSo refusal (AnswersNamed files command schemas (query_named schemas tree))) }
     ensures cause { IfErr result IsOfRules }
 {
-    named_queries_have_untyped_documents();
+    named_queries_have_documents();
     let named = core_of(alloc, &schemas, tree)?;
     let core = typed_core(alloc, &schemas, named)?;
     Ok(TypedQuery { schemas, core })

@@ -1,19 +1,21 @@
 // Runs of queries that have a type.
 
-ghost use Rattle.std.specs.Prelude.{◌≡◌, IfOk, IfErr, length, map, MatchResult, None, true, string_bytes, ◌≤◌};
+ghost use Rattle.std.specs.Prelude.{◌≡◌, ℕ, List, IfOk, IfErr, length, map, option_map, MatchResult, None, true, string_bytes, ◌≤◌};
 ghost use Rattle.gx_core.specs.Outcome.{gives};
 ghost use Rattle.gx_core.specs.QueryMeaning.{plain_declaration, plain_query, query_outcome, IsSoundQuery};
 ghost use Rattle.gx_core.specs.Refusal.{Fails};
 ghost use Rattle.gx_documents.specs.BindingView.{word_bytes};
 ghost use Rattle.gx_documents.specs.Bindings.{files_bound, misbound, word_of_name};
-ghost use Rattle.gx_documents.specs.Documents.{AreDocumentTrees, document_nodes};
+ghost use Rattle.gx_documents.specs.Documents.{document_nodes};
+ghost use Rattle.gx_documents.specs.Requests.{all_asked, asked};
 ghost use Rattle.gx_include.specs.Decision.{is_included};
 ghost use Rattle.gx_io.specs.LibraryUse.{library_use};
-ghost use Rattle.gx_processor.specs.UntypedDocuments.{ExternalsAreUntyped};
+ghost use Rattle.gx_types.specs.SchemaInvariant.{IsSchemaSet};
+ghost use Rattle.gx_processor.specs.ExternalDocuments.{AreDocumentsOf, ExternalsAreDocuments, IsAskedOfEach};
 ghost use Rattle.gx_processor.specs.Answer.{writable_type, can_be_written, AnswersEvaluated};
 ghost use Rattle.gx_processor.specs.Command.{bytes_of};
-ghost use Rattle.gx_processor.specs.Externals.{external_words};
-ghost use Rattle.gx_processor.specs.RunReplies.{AnswersSo, IsEvaluated, IsMisboundSo, ReadSo, RunsSo, unread};
+ghost use Rattle.gx_processor.specs.Externals.{documents_asked, external_words, root_asked, root_named};
+ghost use Rattle.gx_processor.specs.RunReplies.{AnswersSo, BindFiles, IsEvaluated, IsMisboundSo, ReadSo, RunsSo, unread};
 
 use crate::query::TypedQuery;
 use crate::refusal::Refusal;
@@ -27,8 +29,10 @@ use gx_core::dyn_error::DynError;
 use gx_core::laws::sound_queries_keep_their_types;
 use gx_core::typed::{TypedCore, TypedDeclaration};
 use gx_documents::bindings::{BindingError, bound_files};
-use gx_documents::documents::{DocumentsError, document_nodes, read_documents};
-use gx_documents::laws::documents_are_honest;
+use gx_documents::documents::{
+    DocumentForm, DocumentRequest, DocumentsError, document_nodes, read_documents,
+};
+use gx_documents::laws::{documents_are_as_asked, documents_are_honest};
 use gx_eval::evaluator::evaluate;
 use gx_include::decision::is_included;
 use gx_io::Library;
@@ -37,7 +41,7 @@ use gx_model::item::ModelItem;
 use gx_model::node::Node;
 use gx_types::item_type::ItemType;
 use gx_types::schemas::Schemas;
-use gx_types::sequence_type::Ty;
+use gx_types::sequence_type::{Ty, TyNode};
 use gx_types::type_rules::{alt, star};
 use std::alloc::{AllocError, Global};
 
@@ -49,8 +53,9 @@ pub fn run<L: Library>(
     words: &[String],
     library: &mut L,
 ) -> Result<String, Refusal>
+    requires schemas { IsSchemaSet query.schemas }
     requires sound { IsSoundQuery query.schemas query.core }
-    requires untyped { ExternalsAreUntyped (plain_query query.core).declarations }
+    requires externals { ExternalsAreDocuments query.schemas (plain_query query.core).declarations }
     ensures counted { L.faults library.old ≤ L.faults library.new }
     ensures runs { RunsSo (library_use L.files L.faults L.was_loaded library.old library.new) (bytes_of words.now) query.schemas query.core result }
 {
@@ -67,8 +72,9 @@ fn value_text<L: Library>(
     words: &[String],
     library: &mut L,
 ) -> Result<String, Refusal>
+    requires schemas { IsSchemaSet schemas.now }
     requires sound { IsSoundQuery schemas.now core.now }
-    requires untyped { ExternalsAreUntyped (plain_query core.now).declarations }
+    requires externals { ExternalsAreDocuments schemas.now (plain_query core.now).declarations }
     ensures counted { L.faults library.old ≤ L.faults library.new }
     ensures runs { RunsSo (library_use L.files L.faults L.was_loaded library.old library.new) (bytes_of words.now) schemas.now core.now result }
 {
@@ -90,35 +96,116 @@ fn on_documents<L: Library>(
     words: &[String],
     library: &mut L,
 ) -> Result<String, Refusal>
+    requires schemas { IsSchemaSet schemas.now }
     requires sound { IsSoundQuery schemas.now core.now }
-    requires untyped { ExternalsAreUntyped (plain_query core.now).declarations }
+    requires externals { ExternalsAreDocuments schemas.now (plain_query core.now).declarations }
     requires writable { can_be_written schemas.now core.now ≡ true }
     ensures counted { L.faults library.old ≤ L.faults library.new }
     ensures runs { RunsSo (library_use L.files L.faults L.was_loaded library.old library.new) (bytes_of words.now) schemas.now core.now result }
 {
     match files_of(alloc, core, words) {
-        Ok(files) => over_files(alloc, schemas, core, files.as_slice(), library),
+        Ok(files) => on_files(alloc, schemas, core, files.as_slice(), library),
         Err(refusal) => Err(refusal),
     }
 }
 
 // The value over the documents in files, one for each external variable.
-fn over_files<L: Library>(
+fn on_files<L: Library>(
     alloc: Global,
     schemas: &Schemas,
     core: &TypedCore,
     files: &[String],
     library: &mut L,
 ) -> Result<String, Refusal>
+    requires schemas { IsSchemaSet schemas.now }
     requires sound { IsSoundQuery schemas.now core.now }
-    requires untyped { ExternalsAreUntyped (plain_query core.now).declarations }
+    requires externals { ExternalsAreDocuments schemas.now (plain_query core.now).declarations }
+    requires writable { can_be_written schemas.now core.now ≡ true }
     requires each { length (word_bytes files.now) ≡ length (external_words (plain_query core.now).declarations) }
     ensures counted { L.faults library.old ≤ L.faults library.new }
-    ensures read { ReadSo (library_use L.files L.faults L.was_loaded library.old library.new) (word_bytes files.now) schemas.now (plain_query core.now) result }
+    ensures runs { (bindings : List (List ℕ)) → BindFiles (plain_query core.now).declarations bindings (word_bytes files.now)
+        → RunsSo (library_use L.files L.faults L.was_loaded library.old library.new) bindings schemas.now core.now result }
 {
-    match read_documents(alloc, files, library) {
+    let declarations = core.declarations.as_slice();
+    match document_requests(alloc, declarations, files) {
+        Ok(requests) => over_documents(alloc, schemas, core, requests.as_slice(), library),
+        Err(AllocError) => Err(Refusal::Memory),
+    }
+}
+
+// The value over the documents that are asked for.
+fn over_documents<L: Library>(
+    alloc: Global,
+    schemas: &Schemas,
+    core: &TypedCore,
+    requests: &[DocumentRequest<'_>],
+    library: &mut L,
+) -> Result<String, Refusal>
+    requires schemas { IsSchemaSet schemas.now }
+    requires sound { IsSoundQuery schemas.now core.now }
+    requires externals { ExternalsAreDocuments schemas.now (plain_query core.now).declarations }
+    requires each { IsAskedOfEach (plain_query core.now).declarations (all_asked requests.now) }
+    ensures counted { L.faults library.old ≤ L.faults library.new }
+    ensures read { ReadSo (library_use L.files L.faults L.was_loaded library.old library.new) (all_asked requests.now) schemas.now (plain_query core.now) result }
+{
+    match read_documents(alloc, schemas, requests, library) {
         Ok(forest) => written(alloc, schemas, core, forest),
         Err(error) => Err(unread(error)),
+    }
+}
+
+// What is asked of files, one for each external variable.
+fn document_requests<'a>(
+    alloc: Global,
+    declarations: &'a [TypedDeclaration],
+    files: &'a [String],
+) -> Result<Vec<DocumentRequest<'a>>, AllocError>
+    ensures { IfOk result (λ requests. all_asked requests.items ≡ documents_asked (map plain_declaration declarations.now) (word_bytes files.now)) }
+{
+    let mut requests = Vec::new(alloc);
+    let mut left = declarations;
+    let mut files = files;
+    while let Some((declaration, others)) = left.split_first() {
+        let TypedDeclaration::Global { binder, value, .. } = declaration;
+        if value.is_none() {
+            let Some((file, rest)) = files.split_first() else {
+                return Ok(requests);
+            };
+            requests.push(document_request(file.as_str(), &binder.kind))?;
+            files = rest;
+        }
+        left = others;
+    }
+    Ok(requests)
+}
+
+// What is asked of the file of a variable of this type.
+fn document_request<'a>(file: &'a str, kind: &'a Option<Ty>) -> DocumentRequest<'a>
+    ensures { asked result ≡ (file.now, root_asked kind.now) }
+{
+    let form = match root_asked(kind) {
+        Some(root) => DocumentForm::Valid(root),
+        None => DocumentForm::Untyped,
+    };
+    DocumentRequest { file, form }
+}
+
+// The global element as which the document of a variable is validated, if its type names one.
+fn root_asked(kind: &Option<Ty>) -> Option<&Name>
+    ensures { option_map (λ root. root.now) result ≡ root_asked kind.now }
+{
+    match &kind.as_ref()?.node {
+        TyNode::Item(item) => root_named(item),
+        _ => None,
+    }
+}
+
+fn root_named(item: &ItemType) -> Option<&Name>
+    ensures { option_map (λ root. root.now) result ≡ root_named item.now }
+{
+    match item {
+        ItemType::Document(Some((root, _))) => root.as_ref(),
+        _ => None,
     }
 }
 
@@ -216,10 +303,10 @@ fn written(
     core: &TypedCore,
     forest: Forest,
 ) -> Result<String, Refusal>
+    requires schemas { IsSchemaSet schemas.now }
     requires sound { IsSoundQuery schemas.now core.now }
-    requires untyped { ExternalsAreUntyped (plain_query core.now).declarations }
-    requires documents { AreDocumentTrees forest }
-    requires each { length forest ≡ length (external_words (plain_query core.now).declarations) }
+    requires externals { ExternalsAreDocuments schemas.now (plain_query core.now).declarations }
+    requires documents { AreDocumentsOf schemas.now (plain_query core.now).declarations forest }
     ensures answers { AnswersSo (AnswersEvaluated schemas.now (plain_query core.now) forest) result }
     ensures own { IsEvaluated result }
 {
@@ -238,10 +325,10 @@ fn value_of(
     core: &TypedCore,
     forest: &mut Forest,
 ) -> Result<Vec<ModelItem>, DynError>
+    requires schemas { IsSchemaSet schemas.now }
     requires sound { IsSoundQuery schemas.now core.now }
-    requires untyped { ExternalsAreUntyped (plain_query core.now).declarations }
-    requires documents { AreDocumentTrees forest.now }
-    requires each { length forest.now ≡ length (external_words (plain_query core.now).declarations) }
+    requires externals { ExternalsAreDocuments schemas.now (plain_query core.now).declarations }
+    requires documents { AreDocumentsOf schemas.now (plain_query core.now).declarations forest.now }
     ensures value { IfOk result (λ v. query_outcome schemas.now (plain_query core.now) (document_nodes forest.old) forest.old ≡ gives v.items forest.new) }
     ensures raised { IfErr result (λ e. Fails e (query_outcome schemas.now (plain_query core.now) (document_nodes forest.old) forest.old)) }
 {
@@ -258,15 +345,16 @@ fn evaluated(
     forest: &mut Forest,
     documents: &[Node],
 ) -> Result<Vec<ModelItem>, DynError>
+    requires schemas { IsSchemaSet schemas.now }
     requires sound { IsSoundQuery schemas.now core.now }
-    requires untyped { ExternalsAreUntyped (plain_query core.now).declarations }
-    requires documents { AreDocumentTrees forest.now }
-    requires each { length forest.now ≡ length (external_words (plain_query core.now).declarations) }
+    requires externals { ExternalsAreDocuments schemas.now (plain_query core.now).declarations }
+    requires documents { AreDocumentsOf schemas.now (plain_query core.now).declarations forest.now }
     requires nodes { documents.now ≡ document_nodes forest.now }
     ensures value { IfOk result (λ v. query_outcome schemas.now (plain_query core.now) (document_nodes forest.old) forest.old ≡ gives v.items forest.new) }
     ensures raised { IfErr result (λ e. Fails e (query_outcome schemas.now (plain_query core.now) (document_nodes forest.old) forest.old)) }
 {
     sound_queries_keep_their_types();
     documents_are_honest();
+    documents_are_as_asked();
     evaluate(alloc, schemas, core, forest, documents)
 }

@@ -7,4 +7,4 @@ pub mod Models
 pub mod TypedAttributes
 pub mod TypedChildren
 pub mod Outcomes
-pub mod TypedRoots
+pub mod HonestTrees

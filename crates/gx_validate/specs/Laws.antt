@@ -29,5 +29,5 @@ FaultsExcludeTrees =
     → ((fault : Fault) × (validated schemas root u ≡ Err fault)) ↔ ((v : PlainTree) → IsValidTree schemas root u v → ⊥)
 
 -- a valid tree is honest
-abbrev pub ValidTreesAreTyped : Type 0
-ValidTreesAreTyped = (schemas : SchemaSet) (root : Name) (u : SourceTree) (v : PlainTree) → IsValidTree schemas root u v → IsHonestTree schemas v
+abbrev pub ValidTreesAreHonest : Type 0
+ValidTreesAreHonest = (schemas : SchemaSet) (root : Name) (u : SourceTree) (v : PlainTree) → IsValidTree schemas root u v → IsHonestTree schemas v

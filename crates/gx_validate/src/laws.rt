@@ -1,6 +1,6 @@
 // Laws over the definitions.
 
-ghost use Rattle.gx_validate.specs.Laws.{FaultsExcludeTrees, OutcomesAreValid, ValidTreesAreOne, ValidTreesAreTyped};
+ghost use Rattle.gx_validate.specs.Laws.{FaultsExcludeTrees, OutcomesAreValid, ValidTreesAreOne, ValidTreesAreHonest};
 
 /// A document comes to a tree exactly where the tree is valid for it: its root has the name that is asked for; each element has its
 /// declared type, or the one that `xsi:type` names, and keeps to it; and names, texts and attributes are those of the document,
@@ -22,6 +22,6 @@ pub fn faults_exclude_trees()
 
 /// A valid tree is honest: it holds elements and texts alone, its elements keep to their types, and no two attributes of one have equal
 /// names.
-pub fn valid_trees_are_typed()
-    ensures { ValidTreesAreTyped }
+pub fn valid_trees_are_honest()
+    ensures { ValidTreesAreHonest }
 {}

@@ -18,7 +18,9 @@ returns g c =
       keep = c.sound_queries_keep_their_types.ensures;
       names = c.query_rejection_names_a_failure.ensures;
       honest = c.documents_are_honest.ensures;
-      untyped = c.named_queries_have_untyped_documents.ensures;
+      fits = c.documents_are_as_asked.ensures;
+      trees = c.held_trees_are_kept.ensures;
+      documents = c.named_queries_have_documents.ensures;
       imports = c.imports_are_schema_sets.ensures;
       single = c.imports_are_one.ensures;
     })

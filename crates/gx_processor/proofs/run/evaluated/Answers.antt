@@ -9,7 +9,7 @@ use Rattle.gx_processor.proofs.run.evaluated.Goals as goal
 pub evaluate-requires : goal.evaluate-requires
 evaluate-requires c =
     subst (λ (ds : List PlainNode). query_outcome c.args.schemas.now (plain_query c.args.core.now) ds c.args.forest.now ≢ wrong) (sym c.requires.nodes)
-    (sound_is_not_wrong c.sound_queries_keep_their_types.ensures c.documents_are_honest.ensures c.args.schemas.now c.args.core.now c.args.forest.now c.requires.sound c.requires.untyped c.requires.documents c.requires.each)
+    (sound_is_not_wrong c.sound_queries_keep_their_types.ensures c.documents_are_honest.ensures c.documents_are_as_asked.ensures c.args.schemas.now c.args.core.now c.args.forest.now c.requires.schemas c.requires.sound c.requires.externals c.requires.documents)
 
 pub returns-clause-value : goal.returns-clause-value
 returns-clause-value c =

@@ -12,7 +12,7 @@ use Rattle.gx_xml.specs.declared.source.Declaration.{Declaration}
 use Rattle.gx_profile.specs.Contents.{tree_name}
 use Rattle.gx_validate.specs.ElementContent.{type_of_child}
 use Rattle.gx_validate.specs.Valid.{IsTypedTree, AreTypedTrees}
-use Rattle.gx_validate.specs.Laws.{ValidTreesAreTyped}
+use Rattle.gx_validate.specs.Laws.{ValidTreesAreHonest}
 
 -- a tree of an element is an element over elements and texts
 mutual
@@ -52,8 +52,8 @@ mutual
   all_own_names schemas no_trees p h = tt
   all_own_names schemas (a_tree t ts) p h = (own_names schemas t p.0 h.0, all_own_names schemas ts p.1 h.1)
 
-pub valid_trees_are_typed : ValidTreesAreTyped
-valid_trees_are_typed schemas root u v valid =
+pub valid_trees_are_honest : ValidTreesAreHonest
+valid_trees_are_honest schemas root u v valid =
     let content = tree_is_content schemas _ _ u valid.top valid.of_root in
     subst (IsHonestTree schemas) (sym valid.whole) (record {
       proper = (content, tt);
