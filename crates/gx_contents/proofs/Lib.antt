@@ -12,4 +12,6 @@ mod ContentItems
 mod ContentPositions
 mod Agreement
 mod KeptKinds
+mod OutlineViewLemmas
+mod ContentOutlines
 mod ExtensionLemmas

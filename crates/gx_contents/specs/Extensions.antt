@@ -1,8 +1,6 @@
 -- Extensions that are mixed where their bases are not, or the other way round (XML Schema 1.0 part 1, section 3.4.6, Derivation Valid (Extension)).
-use Rattle.std.specs.Prelude.{ℕ, suc, nat_le, Bool, true, false, ◌||◌, ◌&&◌, not, List, [], ◌∷◌, Option, None, Some, if◌then◌else◌}
+use Rattle.std.specs.Prelude.{ℕ, suc, nat_le, Bool, false, ◌||◌, ◌&&◌, not, List, [], ◌∷◌, Option, None, Some, if◌then◌else◌}
 use Rattle.gx_types.specs.SequenceType.{SequenceType}
-use Rattle.gx_components.specs.declared.component.Base.{Base}
-use Rattle.gx_components.specs.declared.component.Base.TheVariants.{Builtin, Declared}
 use Rattle.gx_components.specs.declared.component.ComplexType.{ComplexType}
 use Rattle.gx_components.specs.declared.component.Derivation.{Derivation}
 use Rattle.gx_components.specs.declared.component.Derivation.TheVariants.{Own, Extends, Restricts}
@@ -14,10 +12,9 @@ use Rattle.gx_contents.specs.declared.effective.Effective.{Effective}
 use Rattle.gx_contents.specs.declared.extensions.DifferingExtension.{DifferingExtension}
 use Rattle.gx_contents.specs.declared.source.ContentSource.{ContentSource}
 use Rattle.gx_contents.specs.declared.source.ContentSource.TheVariants as sources
-use Rattle.gx_contents.specs.ContentKnots.{content_of_group, content_of_type}
-use Rattle.gx_contents.specs.PositionKnots.{is_within_limit, positions_of_type}
 use Rattle.gx_contents.specs.Sources.{source_of}
 use Rattle.gx_contents.specs.TypeContents.{content_of_base, is_nothing, written_content}
+use Rattle.gx_contents.specs.WholeContents.{whole_content_of_group, whole_content_of_type}
 
 -- a content without elements and texts
 abbrev pub is_empty_content : Effective → Bool
@@ -30,29 +27,25 @@ differ one other = if one then not other else other
 abbrev pub mixed_differs : (mixed : Bool) (added : SequenceType) (base : Effective) → Bool
 mixed_differs mixed added base = differ mixed base.mixed && (not (is_empty_content base) && (not (is_nothing added) || mixed))
 
--- a base has no more positions than a content may have
-abbrev pub base_fits : (positions : ℕ → ℕ) → Base → Bool
-base_fits positions (Builtin builtin) = true
-base_fits positions (Declared number) = is_within_limit (positions number)
-
--- what is known of groups and types: the contents of groups, and the contents and the positions of types
+-- what is known of groups and types: their contents
 pub record KnownContents : Type 0 where
   pub groups : ℕ → SequenceType
   pub types : ℕ → Effective
-  pub positions : ℕ → ℕ
 
--- a type that adds to a base, if what the base holds is seen
+-- a type that adds to a base
 abbrev pub source_differs : KnownContents → ContentSource → (mixed : Bool) (added : SequenceType) → Bool
 source_differs known sources.Simple mixed added = false
 source_differs known sources.Written mixed added = false
-source_differs known (sources.Behind base) mixed added = base_fits known.positions base && mixed_differs mixed added (content_of_base known.types base)
+source_differs known (sources.Behind base) mixed added = mixed_differs mixed added (content_of_base known.types base)
 
 abbrev pub definition_differs : KnownContents → ComplexType → Bool
 definition_differs known definition = source_differs known (source_of definition.derivation) definition.mixed (written_content known.groups definition.content)
 
-abbrev pub form_differs : KnownContents → TypeForm → Bool
-form_differs known (forms.Simple definition) = false
-form_differs known (forms.Complex definition) = definition_differs known definition
+-- ---- the first of all, where a test tells which definitions differ from their bases
+
+abbrev pub form_differs : (ComplexType → Bool) → TypeForm → Bool
+form_differs differs (forms.Simple definition) = false
+form_differs differs (forms.Complex definition) = differs definition
 
 abbrev pub place_of_derivation : Derivation → ℕ
 place_of_derivation Own = 0
@@ -63,8 +56,8 @@ abbrev pub place_of_form : TypeForm → ℕ
 place_of_form (forms.Simple definition) = 0
 place_of_form (forms.Complex definition) = place_of_derivation definition.derivation
 
-abbrev pub differing_extension : KnownContents → (number : ℕ) → TypeForm → Option DifferingExtension
-differing_extension known number form = if form_differs known form then Some (record { place = place_of_form form; number = number }) else None
+abbrev pub differing_extension : (ComplexType → Bool) → (number : ℕ) → TypeForm → Option DifferingExtension
+differing_extension differs number form = if form_differs differs form then Some (record { place = place_of_form form; number = number }) else None
 
 -- the earlier of two by place, and the left one at one place
 abbrev pub earlier_extension : Option DifferingExtension → Option DifferingExtension → Option DifferingExtension
@@ -73,13 +66,14 @@ earlier_extension (Some one) None = Some one
 earlier_extension (Some one) (Some other) = if nat_le one.place other.place then Some one else Some other
 
 -- the first by place among types, of which the first has this number among all types
-abbrev pub first_differing_from : KnownContents → (number : ℕ) → List TypeComponent → Option DifferingExtension
-first_differing_from known number [] = None
-first_differing_from known number (component ∷ others) = earlier_extension (differing_extension known number component.form) (first_differing_from known (suc number) others)
+abbrev pub first_differing_from : (ComplexType → Bool) → (number : ℕ) → List TypeComponent → Option DifferingExtension
+first_differing_from differs number [] = None
+first_differing_from differs number (component ∷ others) = earlier_extension (differing_extension differs number component.form) (first_differing_from differs (suc number) others)
 
+-- contents of any size are seen
 abbrev pub known_contents : List TypeComponent → List ModelGroup → KnownContents
-known_contents types groups = record { groups = content_of_group groups; types = content_of_type types groups; positions = positions_of_type types groups }
+known_contents types groups = record { groups = whole_content_of_group groups; types = whole_content_of_type types groups }
 
 -- the first extension by place
 unfoldable pub first_differing_extension : List TypeComponent → List ModelGroup → Option DifferingExtension
-first_differing_extension types groups = first_differing_from (known_contents types groups) 0 types
+first_differing_extension types groups = first_differing_from (definition_differs (known_contents types groups)) 0 types

@@ -1,9 +1,9 @@
--- What tables of contents say.
-use Rattle.gx_types.specs.SequenceType.{never}
+-- What tables of outlines say.
 use Rattle.gx_references.specs.Known.{known}
-use Rattle.gx_contents.specs.declared.extensions.ContentTables.{ContentTables}
-use Rattle.gx_contents.specs.Extensions.{KnownContents}
-use Rattle.gx_contents.specs.TypeContents.{unknown_content}
+use Rattle.gx_contents.specs.declared.extensions.OutlineTables.{OutlineTables}
+use Rattle.gx_contents.specs.declared.outline.Outline.TheVariants.{Never}
+use Rattle.gx_contents.specs.OutlinedExtensions.{KnownOutlines}
+use Rattle.gx_contents.specs.Outlines.{unknown_outline}
 
-abbrev pub known_by : ContentTables → KnownContents
-known_by tables = record { groups = known never tables.groups.now; types = known unknown_content tables.types.now; positions = known 0 tables.positions.now }
+abbrev pub known_by : OutlineTables → KnownOutlines
+known_by tables = record { groups = known Never tables.groups.now; types = known unknown_outline tables.types.now }

@@ -18,5 +18,11 @@ pub mod ElementLaws
 pub mod Disagreement
 pub mod ElementKinds
 pub mod Laws
+pub mod WholeContents
 pub mod Extensions
+pub mod Outlines
+pub mod OutlineKnots
+pub mod OutlineViews
+pub mod OutlineLaws
+pub mod OutlinedExtensions
 pub mod KnownView

@@ -52,8 +52,8 @@ pub fn type_fits(tables: &PositionTables, component: &TypeComponent) -> bool
     is_within_limit(component_positions(groups, tables.types.as_slice(), component))
 }
 
-/// The contents of groups, over their positions.
-pub fn group_contents(
+// The contents of groups, over their positions.
+fn group_contents(
     alloc: Global,
     groups: &[ModelGroup],
     positions: &[Option<usize>],
@@ -79,8 +79,8 @@ fn fitting_groups<'a>(
     Ok(bodies)
 }
 
-/// The contents of types, over positions and the contents of groups.
-pub fn type_contents(
+// The contents of types, over positions and the contents of groups.
+fn type_contents(
     alloc: Global,
     types: &[TypeComponent],
     tables: &PositionTables,

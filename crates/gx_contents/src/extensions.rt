@@ -1,22 +1,15 @@
 // Extensions that are mixed where their bases are not, or the other way round.
 
-ghost use Rattle.std.specs.Prelude.{◌≡◌, ◌&&◌, ◌||◌, not, IfOk, OnOk};
-ghost use Rattle.gx_types.specs.SequenceType.{never};
-ghost use Rattle.gx_references.specs.Known.{known};
-ghost use Rattle.gx_contents.specs.Extensions.{base_fits, definition_differs, differ, differing_extension, earlier_extension, first_differing_extension, first_differing_from, form_differs, is_empty_content, mixed_differs, place_of_derivation, place_of_form, source_differs};
-ghost use Rattle.gx_contents.specs.TypeContents.{content_of_base, is_nothing, unknown_content, written_content};
+ghost use Rattle.std.specs.Prelude.{◌≡◌, IfOk};
+ghost use Rattle.gx_contents.specs.Extensions.{differ, differing_extension, earlier_extension, first_differing_extension, first_differing_from, form_differs, place_of_derivation, place_of_form};
 ghost use Rattle.gx_contents.specs.KnownView.{known_by};
+ghost use Rattle.gx_contents.specs.OutlinedExtensions.{outline_differs, outlined_definition_differs};
 
-use crate::contents::{group_contents, type_contents};
-use crate::effective::Effective;
-use crate::group_positions::known_positions;
-use crate::positions::{is_within_limit, position_tables};
+use crate::group_outlines::group_outlines;
+use crate::outline::{Outline, TypeOutline};
 use crate::source::{ContentSource, source};
-use crate::type_content::{base_content, base_is_mixed, is_empty, written_content};
-use gx_components::component::{
-    Base, ComplexType, Derivation, ModelGroup, TypeComponent, TypeForm,
-};
-use gx_types::sequence_type::Ty;
+use crate::type_outlines::{outline_of_base, type_outlines, written_outline};
+use gx_components::component::{ComplexType, Derivation, ModelGroup, TypeComponent, TypeForm};
 use std::alloc::{AllocError, Global};
 
 /// An extension that differs from its base in being mixed: where it is, and the number of its type.
@@ -26,16 +19,15 @@ pub struct DifferingExtension {
     pub number: usize,
 }
 
-/// What is known of groups and types: the contents of groups, and the contents and the positions of types.
+/// What is known of groups and types: their outlines.
 #[derive(Clone, Copy, Debug)]
-pub struct ContentTables<'a> {
-    pub groups: &'a [Option<Ty>],
-    pub types: &'a [Option<Effective>],
-    pub positions: &'a [Option<usize>],
+pub struct OutlineTables<'a> {
+    pub groups: &'a [Option<Outline>],
+    pub types: &'a [Option<TypeOutline>],
 }
 
 /// The first extension by place that is mixed where its base is not, or is not where its base is, unless the base is empty, or it adds
-/// nothing and is not mixed itself (XML Schema 1.0 part 1, section 3.4.6). Of a base of too many positions nothing is seen.
+/// nothing and is not mixed itself (XML Schema 1.0 part 1, section 3.4.6). Contents of any number of positions are seen.
 pub fn first_differing_extension(
     alloc: Global,
     types: &[TypeComponent],
@@ -43,45 +35,40 @@ pub fn first_differing_extension(
 ) -> Result<Option<DifferingExtension>, AllocError>
     ensures { IfOk result (λ found. found ≡ first_differing_extension types.now groups.now) }
 {
-    let positions = position_tables(alloc, types, groups)?;
-    let groups = group_contents(alloc, groups, positions.groups.as_slice())?;
-    let contents = type_contents(alloc, types, &positions, groups.as_slice())?;
-    let tables = ContentTables {
+    let groups = group_outlines(alloc, groups)?;
+    let outlines = type_outlines(alloc, types, groups.as_slice())?;
+    let tables = OutlineTables {
         groups: groups.as_slice(),
-        types: contents.as_slice(),
-        positions: positions.types.as_slice(),
+        types: outlines.as_slice(),
     };
-    first_differing(alloc, &tables, types)
+    Ok(first_differing(&tables, types))
 }
 
 fn first_differing(
-    alloc: Global,
-    tables: &ContentTables<'_>,
+    tables: &OutlineTables<'_>,
     types: &[TypeComponent],
-) -> Result<Option<DifferingExtension>, AllocError>
-    ensures { IfOk result (λ found. found ≡ first_differing_from (known_by tables.now) 0 types.now) }
+) -> Option<DifferingExtension>
+    ensures { result ≡ first_differing_from (outlined_definition_differs (known_by tables.now)) 0 types.now }
 {
     let mut first = None;
     for number in (0..types.len()).rev() {
-        let differing = differing_extension(alloc, tables, number, &types[number].form)?;
+        let differing = differing_extension(tables, number, &types[number].form);
         first = earlier_extension(differing, first);
     }
-    Ok(first)
+    first
 }
 
 fn differing_extension(
-    alloc: Global,
-    tables: &ContentTables<'_>,
+    tables: &OutlineTables<'_>,
     number: usize,
     form: &TypeForm,
-) -> Result<Option<DifferingExtension>, AllocError>
-    ensures { IfOk result (λ found. found ≡ differing_extension (known_by tables.now) number form.now) }
+) -> Option<DifferingExtension>
+    ensures { result ≡ differing_extension (outlined_definition_differs (known_by tables.now)) number form.now }
 {
-    if form_differs(alloc, tables, form)? {
-        let place = place_of_form(form);
-        return Ok(Some(DifferingExtension { place, number }));
-    }
-    Ok(None)
+    form_differs(tables, form).then(|| DifferingExtension {
+        place: place_of_form(form),
+        number,
+    })
 }
 
 // The earlier of two by place, and the first at one place.
@@ -122,59 +109,32 @@ fn place_of_derivation(derivation: Derivation) -> u64
     }
 }
 
-fn form_differs(
-    alloc: Global,
-    tables: &ContentTables<'_>,
-    form: &TypeForm,
-) -> Result<bool, AllocError>
-    ensures { IfOk result (λ differs. differs ≡ form_differs (known_by tables.now) form.now) }
+fn form_differs(tables: &OutlineTables<'_>, form: &TypeForm) -> bool
+    ensures { result ≡ form_differs (outlined_definition_differs (known_by tables.now)) form.now }
 {
     match form {
-        TypeForm::Simple(_) => Ok(false),
-        TypeForm::Complex(definition) => definition_differs(alloc, tables, definition),
+        TypeForm::Simple(_) => false,
+        TypeForm::Complex(definition) => definition_differs(tables, definition),
     }
 }
 
-fn definition_differs(
-    alloc: Global,
-    tables: &ContentTables<'_>,
-    definition: &ComplexType,
-) -> Result<bool, AllocError>
-    ensures { IfOk result (λ differs. differs ≡ definition_differs (known_by tables.now) definition.now) }
+fn definition_differs(tables: &OutlineTables<'_>, definition: &ComplexType) -> bool
+    ensures { result ≡ outlined_definition_differs (known_by tables.now) definition.now }
 {
     match source(definition.derivation) {
-        ContentSource::Simple | ContentSource::Written => Ok(false),
+        ContentSource::Simple | ContentSource::Written => false,
         ContentSource::Behind(base) => {
-            if !base_fits(tables.positions, base) {
-                return Ok(false);
-            }
-            let added = written_content(alloc, tables.groups, &definition.content)?;
-            differs_from_base(tables.types, base, definition.mixed, &added)
+            let added = written_outline(tables.groups, &definition.content);
+            outline_differs(definition.mixed, added, outline_of_base(tables.types, base))
         }
     }
 }
 
-fn base_fits(positions: &[Option<usize>], base: Base) -> bool
-    ensures { result ≡ base_fits (known 0 positions.now) base }
+fn outline_differs(mixed: bool, added: Outline, base: TypeOutline) -> bool
+    ensures { result ≡ outline_differs mixed added base }
 {
-    match base {
-        Base::Builtin(_) => true,
-        Base::Declared(number) => is_within_limit(known_positions(positions, number)),
-    }
-}
-
-fn differs_from_base(
-    types: &[Option<Effective>],
-    base: Base,
-    mixed: bool,
-    added: &Ty,
-) -> Result<bool, AllocError>
-    ensures { IfOk result (λ differs. differs ≡ mixed_differs mixed added.now (content_of_base (known unknown_content types.now) base)) }
-{
-    let content = base_content(types, base)?;
-    let base_mixed = base_is_mixed(types, base);
-    let is_empty_base = is_empty(&content) && !base_mixed;
-    Ok(differ(mixed, base_mixed) && (!is_empty_base && (!is_empty(added) || mixed)))
+    let is_empty_base = base.content.is_empty() && !base.mixed;
+    differ(mixed, base.mixed) && (!is_empty_base && (!added.is_empty() || mixed))
 }
 
 fn differ(one: bool, other: bool) -> bool

@@ -87,8 +87,8 @@ fn complex_content(
     )
 }
 
-/// The content that is written at a type, over a table of the contents of groups.
-pub fn written_content(
+// The content that is written at a type, over a table of the contents of groups.
+fn written_content(
     alloc: Global,
     groups: &[Option<Ty>],
     content: &Option<Particle>,
@@ -137,8 +137,8 @@ fn behind_base(
     join(alloc, &content, written)
 }
 
-/// The content of a base, over a table of the contents of types.
-pub fn base_content(types: &[Option<Effective>], base: Base) -> Result<Ty, AllocError>
+// The content of a base, over a table of the contents of types.
+fn base_content(types: &[Option<Effective>], base: Base) -> Result<Ty, AllocError>
     ensures { IfOk result (λ t. t ≡ (content_of_base (known unknown_content types.now) base).content) }
 {
     match base {
@@ -150,8 +150,8 @@ pub fn base_content(types: &[Option<Effective>], base: Base) -> Result<Ty, Alloc
     }
 }
 
-/// Whether a base has texts, over a table of the contents of types.
-pub fn base_is_mixed(types: &[Option<Effective>], base: Base) -> bool
+// Whether a base has texts, over a table of the contents of types.
+fn base_is_mixed(types: &[Option<Effective>], base: Base) -> bool
     ensures { result ≡ (content_of_base (known unknown_content types.now) base).mixed }
 {
     match base {
@@ -163,8 +163,8 @@ pub fn base_is_mixed(types: &[Option<Effective>], base: Base) -> bool
     }
 }
 
-/// Whether a content is empty.
-pub fn is_empty(t: &Ty) -> bool
+// Whether a content is empty.
+fn is_empty(t: &Ty) -> bool
     ensures { result ≡ is_nothing t.now }
 {
     matches!(&t.node, TyNode::Empty)
