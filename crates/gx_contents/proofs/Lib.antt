@@ -12,6 +12,7 @@ mod ContentItems
 mod ContentPositions
 mod Agreement
 mod KeptKinds
+mod WholeContentLemmas
 mod OutlineViewLemmas
 mod ContentOutlines
 mod ExtensionLemmas

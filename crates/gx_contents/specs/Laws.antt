@@ -15,6 +15,8 @@ use Rattle.gx_contents.specs.Disagreement.{first_disagreement}
 use Rattle.gx_contents.specs.ElementKinds.{element_kinds_pass}
 use Rattle.gx_contents.specs.GroupPositions.{positions_with_texts}
 use Rattle.gx_contents.specs.MixedContents.{model_of}
+use Rattle.gx_contents.specs.PositionKnots.{positions_of_type}
+use Rattle.gx_contents.specs.WholeContents.{whole_content_of_type}
 
 -- where no element particle disagrees, each content model has one type for a name
 abbrev pub OneTypeAName : Type 0
@@ -36,3 +38,8 @@ ElementsKeep = (passes : TypeName → Bool) (types : List TypeComponent) (groups
 abbrev pub ContentsAreBounded : Type 0
 ContentsAreBounded = (types : List TypeComponent) (groups : List ModelGroup) (mixed : Bool) (number : ℕ) →
     positions_of (model_of mixed (content_of_type types groups number).content) ≤ positions_with_texts CONTENT_POSITIONS
+
+-- the content of a type of no more positions than a content may have is the whole content
+abbrev pub ContentsAreWhole : Type 0
+ContentsAreWhole = (types : List TypeComponent) (groups : List ModelGroup) (number : ℕ) → positions_of_type types groups number ≤ CONTENT_POSITIONS →
+    content_of_type types groups number ≡ whole_content_of_type types groups number

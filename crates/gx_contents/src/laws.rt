@@ -1,6 +1,6 @@
 // Laws over the definitions.
 
-ghost use Rattle.gx_contents.specs.Laws.{ContentsAreBounded, ElementsKeep, OneTypeAName};
+ghost use Rattle.gx_contents.specs.Laws.{ContentsAreBounded, ContentsAreWhole, ElementsKeep, OneTypeAName};
 
 /// Where no element particle disagrees, elements of one name have one type in each content model (XML Schema 1.0 part 1, section
 /// 3.8.6, Element Declarations Consistent).
@@ -18,4 +18,10 @@ pub fn elements_keep()
 /// of a content that has more.
 pub fn contents_are_bounded()
     ensures { ContentsAreBounded }
+{}
+
+/// The content of a type of no more positions than a content may have is its whole content, so that extensions are compared with
+/// the contents that schemas keep.
+pub fn contents_are_whole()
+    ensures { ContentsAreWhole }
 {}
