@@ -193,7 +193,7 @@ fn cast_to_decimal(alloc: Global, value: &AtomValue) -> Result<AtomValue, CastEr
     match value {
         AtomValue::Untyped(text) | AtomValue::Str(text) => read_as(alloc, Builtin::Decimal, text),
         AtomValue::Truth(truth) => integer_to_decimal(i128::from(*truth)),
-        AtomValue::Num(Number::Int(i)) => integer_to_decimal(*i),
+        AtomValue::Num(Number::Int(i)) => integer_to_decimal(i.value()),
         AtomValue::Num(Number::Dec(d)) => Ok(AtomValue::Num(Number::Dec(*d))),
     }
 }
@@ -215,10 +215,9 @@ fn cast_to_integer_type(
 ) -> Result<AtomValue, CastError>
     ensures { CastsValue result (within_type kind (to_integer value.now)) }
 {
-    match cast_to_integer(alloc, value)? {
-        AtomValue::Num(Number::Int(i)) if is_in_range(kind, i) => {
-            Ok(AtomValue::Num(Number::Int(i)))
-        }
+    let cast = cast_to_integer(alloc, value)?;
+    match &cast {
+        AtomValue::Num(Number::Int(i)) if is_in_range(kind, i.value()) => Ok(cast),
         _ => Err(CastError::FORG0001),
     }
 }
@@ -228,8 +227,8 @@ fn cast_to_integer(alloc: Global, value: &AtomValue) -> Result<AtomValue, CastEr
 {
     match value {
         AtomValue::Untyped(text) | AtomValue::Str(text) => read_as(alloc, Builtin::Integer, text),
-        AtomValue::Truth(truth) => Ok(AtomValue::Num(Number::Int(i128::from(*truth)))),
-        AtomValue::Num(number) => Ok(AtomValue::Num(Number::Int(to_int(*number)))),
+        AtomValue::Truth(truth) => Ok(AtomValue::Num(Number::int(i128::from(*truth)))),
+        AtomValue::Num(number) => Ok(AtomValue::Num(Number::int(to_int(*number)))),
     }
 }
 

@@ -67,7 +67,7 @@ fn result_of(operation: ArithmeticOp, left: Number, right: Number) -> Result<Num
         ArithmeticOp::Mul => mul(left, right),
         ArithmeticOp::Div => div(left, right),
         ArithmeticOp::IDiv => match idiv(left, right) {
-            Ok(quotient) => Ok(Number::Int(quotient)),
+            Ok(quotient) => Ok(Number::int(quotient)),
             Err(fault) => Err(fault),
         },
         ArithmeticOp::Mod => modulo(left, right),

@@ -18,7 +18,7 @@ pub(crate) fn integer_of(value: &Atomic) -> Option<i128>
     ensures { result ≡ integer_of_item (atom value.now) }
 {
     match &value.value {
-        AtomValue::Num(Number::Int(i)) => Some(*i),
+        AtomValue::Num(Number::Int(i)) => Some(i.value()),
         _ => None,
     }
 }
@@ -52,7 +52,7 @@ pub(crate) fn put_integers(
     values.reserve(count as usize)?;
     for offset in 0..count {
         let integer = first + i128::from(offset);
-        values.push(ModelItem::atom(number_atom(Number::Int(integer))))?;
+        values.push(ModelItem::atom(number_atom(Number::int(integer))))?;
     }
     Ok(())
 }

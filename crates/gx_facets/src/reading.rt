@@ -84,7 +84,7 @@ fn integer(text: &str, least: i128, greatest: i128) -> Result<AtomValue, ValueRe
     ensures { result ≡ integer_within least greatest (integer_of text.now) }
 {
     match read_int(text) {
-        Ok(i) if least <= i && i <= greatest => Ok(AtomValue::Num(Number::Int(i))),
+        Ok(i) if least <= i && i <= greatest => Ok(AtomValue::Num(Number::int(i))),
         Ok(_) => Err(ValueRead::NotLexical),
         Err(e) => Err(fault(e)),
     }

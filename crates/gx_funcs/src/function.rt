@@ -172,7 +172,7 @@ pub fn integer_atom(integer: i128) -> Atomic
     ensures { result ≡ integer_atom integer }
 {
     Atomic {
-        value: AtomValue::Num(Number::Int(integer)),
+        value: AtomValue::Num(Number::int(integer)),
         kind: TypeName::Builtin(Builtin::Integer),
     }
 }

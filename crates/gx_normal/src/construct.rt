@@ -404,7 +404,7 @@ fn signed(alloc: Global, place: Place, minus: bool, operand: E) -> Result<CoreEx
     if minus {
         return Ok(at(place, CoreForm::Neg(operand)));
     }
-    let zero = Box::new(alloc, number(place, Number::Int(0)))?;
+    let zero = Box::new(alloc, number(place, Number::int(0)))?;
     Ok(at(place, CoreForm::Binary(BinaryOp::Sub, operand, zero)))
 }
 

@@ -1,4 +1,5 @@
 pub mod Number
+pub mod Halves
 pub mod Arithmetic
 pub mod Operands
 pub mod Lexical

@@ -59,11 +59,11 @@ fn at_one_type(a: Number, b: Number) -> Result<Operands, NumFault>
 {
     match a {
         Number::Int(x) => match b {
-            Number::Int(y) => Ok(Operands::Integers(x, y)),
-            Number::Dec(y) => Ok(Operands::Decimals(to_dec(x)?, y)),
+            Number::Int(y) => Ok(Operands::Integers(x.value(), y.value())),
+            Number::Dec(y) => Ok(Operands::Decimals(to_dec(x.value())?, y)),
         },
         Number::Dec(x) => match b {
-            Number::Int(y) => Ok(Operands::Decimals(x, to_dec(y)?)),
+            Number::Int(y) => Ok(Operands::Decimals(x, to_dec(y.value())?)),
             Number::Dec(y) => Ok(Operands::Decimals(x, y)),
         },
     }
@@ -73,7 +73,7 @@ fn integer(value: Option<i128>) -> Result<Number, NumFault>
     ensures { MatchOption value (result ≡ Err NumFault.Overflow) (λ i. result ≡ Ok (Number.Int i)) }
 {
     match value {
-        Some(i) => Ok(Number::Int(i)),
+        Some(i) => Ok(Number::int(i)),
         None => Err(NumFault::Overflow),
     }
 }
@@ -141,7 +141,7 @@ pub fn is_zero(a: &Number) -> bool
     ensures when { IsTrue result ↔ IsZero a.now }
 {
     match a {
-        Number::Int(i) => *i == 0,
+        Number::Int(i) => i.value() == 0,
         Number::Dec(d) => d.units == 0,
     }
 }
@@ -150,7 +150,7 @@ fn decimal_of(a: Number) -> Result<Dec, NumFault>
     ensures { OverflowUnless result (FitsDecimal (units_of a)) (units_of a) }
 {
     match a {
-        Number::Int(i) => to_dec(i),
+        Number::Int(i) => to_dec(i.value()),
         Number::Dec(d) => Ok(d),
     }
 }
@@ -196,7 +196,7 @@ pub fn modulo(a: Number, b: Number) -> Result<Number, NumFault>
     ensures when { let o = operands_of a b in DivZeroOrOverflowUnless result (IsZero b) (OperandsFit o) (exact_remainder o) }
 {
     match at_one_type(a, nonzero(b)?)? {
-        Operands::Integers(x, y) => Ok(Number::Int(integer_remainder(x, y))),
+        Operands::Integers(x, y) => Ok(Number::int(integer_remainder(x, y))),
         Operands::Decimals(x, y) => Ok(Number::Dec(Dec {
             units: x.units % y.units,
         })),
@@ -217,7 +217,7 @@ pub fn negate(a: Number) -> Result<Number, NumFault>
     ensures when { OverflowUnless result (InRange (exact_negation a)) (exact_negation a) }
 {
     match a {
-        Number::Int(i) => integer(i.checked_neg()),
+        Number::Int(i) => integer(i.value().checked_neg()),
         Number::Dec(d) => Ok(Number::Dec(Dec { units: -d.units })),
     }
 }
@@ -228,7 +228,7 @@ pub fn abs(a: Number) -> Result<Number, NumFault>
     ensures when { OverflowUnless result (InRange (exact_magnitude a)) (exact_magnitude a) }
 {
     match a {
-        Number::Int(i) => integer(i.checked_abs()),
+        Number::Int(i) => integer(i.value().checked_abs()),
         Number::Dec(d) => Ok(Number::Dec(Dec {
             units: d.units.abs(),
         })),
@@ -292,7 +292,7 @@ pub fn to_int(a: Number) -> i128
     ensures { result ≡ truncated a }
 {
     match a {
-        Number::Int(i) => i,
+        Number::Int(i) => i.value(),
         Number::Dec(d) => (d.units / 1_000_000) as i128,
     }
 }
@@ -303,11 +303,11 @@ pub fn compare(a: Number, b: Number) -> Ordering
 {
     match a {
         Number::Int(x) => match b {
-            Number::Int(y) => x.cmp(&y),
-            Number::Dec(y) => compare_with_decimal(x, y),
+            Number::Int(y) => x.value().cmp(&y.value()),
+            Number::Dec(y) => compare_with_decimal(x.value(), y),
         },
         Number::Dec(x) => match b {
-            Number::Int(y) => compare_with_decimal(y, x).reverse(),
+            Number::Int(y) => compare_with_decimal(y.value(), x).reverse(),
             Number::Dec(y) => x.units.cmp(&y.units),
         },
     }

@@ -5,6 +5,7 @@
 #![tactic(auto)]
 
 mod arithmetic;
+mod integer;
 pub mod laws;
 mod printing;
 mod reading;
@@ -13,6 +14,7 @@ pub use arithmetic::{
     abs, add, ceiling, compare, div, floor, idiv, is_zero, modulo, mul, negate, round, sub, to_dec,
     to_int,
 };
+pub use integer::Integer;
 pub use printing::print_number;
 pub use reading::{read_dec, read_int};
 use std::marker::Model;
@@ -39,7 +41,7 @@ impl Model for Dec {
 #[derive(Clone, Copy, PartialEq, Eq, Debug)]
 pub enum Number {
     /// An xs:integer.
-    Int(i128),
+    Int(Integer),
     /// An xs:decimal.
     Dec(Dec),
 }

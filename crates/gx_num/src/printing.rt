@@ -12,7 +12,7 @@ pub fn print_number(alloc: Global, a: Number) -> Result<String, AllocError>
     ensures { IfOk result (λ text. string_bytes text ≡ printed a) }
 {
     match a {
-        Number::Int(i) => format!(in alloc; "{i}"),
+        Number::Int(i) => format!(in alloc; "{}", i.value()),
         Number::Dec(d) => print_decimal(alloc, d),
     }
 }

@@ -13,23 +13,30 @@ pub fn number(word: &str) -> Option<Number> {
     if word.contains('.') {
         read_dec(word).ok().map(Number::Dec)
     } else {
-        read_int(word).ok().map(Number::Int)
+        read_int(word).ok().map(Number::int)
     }
 }
 
 /// The answer of an operation on one number, or of reading a text as one.
 pub fn one_number(alloc: Global, call: &str, word: &str) -> Result<String, AllocError> {
     match (call, number(word)) {
-        ("read_int", _) => shown(alloc, read_int(word).map(Number::Int)),
+        ("read_int", _) => shown(alloc, read_int(word).map(Number::int)),
         ("read_dec", _) => shown(alloc, read_dec(word).map(Number::Dec)),
         ("negate", Some(a)) => shown(alloc, negate(a)),
         ("abs", Some(a)) => shown(alloc, abs(a)),
         ("floor", Some(a)) => shown(alloc, floor(a)),
         ("ceiling", Some(a)) => shown(alloc, ceiling(a)),
         ("round", Some(a)) => shown(alloc, round(a)),
-        ("to_int", Some(a)) => print_number(alloc, Number::Int(to_int(a))),
-        ("to_dec", Some(Number::Int(a))) => shown(alloc, to_dec(a).map(Number::Dec)),
+        ("to_int", Some(a)) => print_number(alloc, Number::int(to_int(a))),
+        ("to_dec", Some(a)) => converted(alloc, &a),
         _ => not_a_row(alloc),
+    }
+}
+
+fn converted(alloc: Global, number: &Number) -> Result<String, AllocError> {
+    match number {
+        Number::Int(a) => shown(alloc, to_dec(a.value()).map(Number::Dec)),
+        Number::Dec(_) => not_a_row(alloc),
     }
 }
 
@@ -48,7 +55,7 @@ pub fn two_numbers(
         "sub" => shown(alloc, sub(a, b)),
         "mul" => shown(alloc, mul(a, b)),
         "div" => shown(alloc, div(a, b)),
-        "idiv" => shown(alloc, idiv(a, b).map(Number::Int)),
+        "idiv" => shown(alloc, idiv(a, b).map(Number::int)),
         "modulo" => shown(alloc, modulo(a, b)),
         "compare" => format!(in alloc; "{:?}", compare(a, b)),
         _ => not_a_row(alloc),

@@ -95,7 +95,7 @@ fn number_of(alloc: Global, text: &[char]) -> Result<Option<Number>, AllocError>
         }
     } else {
         match read_int(string.as_str()) {
-            Ok(value) => Ok(Some(Number::Int(value))),
+            Ok(value) => Ok(Some(Number::int(value))),
             Err(_) => Ok(None),
         }
     }

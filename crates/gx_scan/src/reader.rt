@@ -282,7 +282,7 @@ impl Reader<'_> {
         ensures { Ran result self.old self.new read_number }
     {
         if self.end.is_some() {
-            return Number::Int(0);
+            return Number::int(0);
         }
         match find_number(alloc, self.rest) {
             Err(_) => self.end = Some(End::Lost),
@@ -299,7 +299,7 @@ impl Reader<'_> {
                 return number;
             }
         }
-        Number::Int(0)
+        Number::int(0)
     }
 
     /// Reads a name.
