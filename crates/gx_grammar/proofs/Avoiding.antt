@@ -1,18 +1,18 @@
 -- Which tokens never stand where a grammar begins.
-use Rattle.std.proofs.Common.{◌≡◌, ◌≢◌, ℕ, ◌≤◌, Bool, true, false, List, [], ◌∷◌, ◌++◌, ◌⊎◌, inl, inr, length, refl, sym, ap, subst, ◌∙◌, Option, Some, None, arith}
-use Rattle.gx_grammar.specs.Grammar.{Guard, token, empty, ◌&◌, keyed, choose, many, rule, made}
+use Rattle.std.proofs.Common.{◌≡◌, ℕ, true, List, [], ◌∷◌, ◌++◌, ◌⊎◌, inl, inr, refl, sym, subst, ◌∙◌, Option}
+use Rattle.gx_grammar.specs.Grammar.{token, empty, ◌&◌, made}
 use Rattle.gx_grammar.specs.Language.{Language, Part, Made}
-use Rattle.gx_grammar.specs.Derivation.{Derives, of_token, of_empty, of_both, of_keyed, of_left, of_right, of_none, of_item, of_rule, of_made}
-use Rattle.gx_grammar.specs.Opening.{Opens, open_end, open_token, open_first, open_second, open_key, open_behind, open_left, open_right, open_item, open_later, open_rule, open_made}
-use Rattle.gx_grammar.specs.Halting.{Halts, halt_token, halt_first, halt_second, halt_key, halt_behind, halt_left, halt_right, halt_item, halt_later, halt_rule, halt_made}
-use Rattle.gx_grammar.specs.Decision.{Texts, Before, Until, BeforeCut, Decides}
+use Rattle.gx_grammar.specs.Derivation.{Derives, of_token, of_empty, of_both, of_made}
+use Rattle.gx_grammar.specs.Opening.{Opens, open_end, open_token, open_first, open_second, open_made}
+use Rattle.gx_grammar.specs.Halting.{Halts, halt_token, halt_first, halt_second, halt_made}
+use Rattle.gx_grammar.specs.Decision.{Texts, Until, BeforeCut, Decides}
 use Rattle.gx_grammar.specs.Laws.{LawfulTokens}
-use Rattle.gx_grammar.specs.Levels.{takes_some}
 use Rattle.gx_grammar.specs.First.{IsIn, AllOf, StandsFirst, EndsOrStarts, BeginsWith, begins_empty, begins_opening, begins_token, Fronts, first_of, first_behind, AreApart, AreFronts, IsSorted}
 use Rattle.gx_grammar.specs.Tokens.{LawfulToken}
 use Rattle.gx_grammar.specs.Joined.{AreJoined, OpensJoined}
 use Rattle.gx_grammar.specs.Avoiding.{Avoids}
-use Rattle.gx_grammar.proofs.First.{starts, halting, begins, first_in, first_stands, in_left, until_starts, before_begins}
+use Rattle.gx_grammar.specs.Leftmost.{Leftmost, leftmost_here, leftmost_made, leftmost_both}
+use Rattle.gx_grammar.proofs.First.{starts, halting, begins, first_stands, until_starts, before_begins}
 use Rattle.gx_grammar.proofs.ByTokens.{apart_avoids}
 use Rattle.gx_grammar.proofs.Sorted.{decides_less, sorted_decides}
 use Rattle.gx_grammar.proofs.Unique.{same_some}
@@ -92,12 +92,6 @@ module _ (L : Language) where
       opening : (x z : List ℕ) → C x → StandsFirst L.derives L.faults (t ∷ ts) (x ++ z) → (x ≡ []) ⊎ ((u : L.Token) × IsIn (t ∷ ts) u × L.opens u x)
       opening x z c s = elim (split (x ++ z) s) [ inl a ↦ first x (one.opening x z c a) | inr a ↦ later x (others.opening x z c a) ]
 
-  -- What reads F stands in front of all else that P reads, and `vs` may follow it, where `us` may follow P.
-  pub data Leftmost (f : Fronts L) (F : Part L) : Part L → List L.Token → List L.Token → Type 0 where
-    leftmost_here : {us : List L.Token} → Leftmost f F F us us
-    leftmost_made : {h : ℕ → Made L → Made L} {A : Part L} {us vs : List L.Token} → Leftmost f F A us vs → Leftmost f F (made h A) us vs
-    leftmost_both : {A B : Part L} {us vs : List L.Token} → Leftmost f F A (first_behind L f B us) vs → Leftmost f F (A & B) us vs
-
   module _ (f : Fronts L) (right : AreFronts L f) where
     abbrev Followed : Part L → List L.Token → List ℕ → Type 0
     Followed A us x = Until L A (EndsOrStarts L.derives L.faults us) x
@@ -118,7 +112,7 @@ module _ (L : Language) where
     both_halts A B us {z = z} {code = code} (halt_first h) = inr (code, z, h)
     both_halts A B us {z = z} {code = code} (halt_second {v = v} {y = m} d h) = inl (record { value = v; rest = m; derived = d; behind = until_starts L f right B us m (inr (code, z, h)) })
 
-    pub leftmost_until : {F P : Part L} {us vs : List L.Token} → Leftmost f F P us vs → (x : List ℕ) → Followed P us x → Followed F vs x
+    pub leftmost_until : {F P : Part L} {us vs : List L.Token} → Leftmost L f F P us vs → (x : List ℕ) → Followed P us x → Followed F vs x
     leftmost_until leftmost_here x k = k
     leftmost_until (leftmost_made {h = h} {A = A} {us = us} l) x (inl b) = leftmost_until l x (made_followed h A us b.derived b.behind)
     leftmost_until (leftmost_made {h = h} {A = A} l) x (inr e) = leftmost_until l x (inr (e.0, e.1, made_halts h A e.2))
@@ -140,7 +134,7 @@ module _ (L : Language) where
     both_opens A B us (open_first o) = inl o
     both_opens A B us (open_second {v = v} {y = m} d o) = inr (record { value = v; rest = m; derived = d; behind = before_begins L f right B us m (inl o) })
 
-    pub leftmost_cut : {F P : Part L} {us vs : List L.Token} → Leftmost f F P us vs → (x : List ℕ) → FollowedCut P us x → FollowedCut F vs x
+    pub leftmost_cut : {F P : Part L} {us vs : List L.Token} → Leftmost L f F P us vs → (x : List ℕ) → FollowedCut P us x → FollowedCut F vs x
     leftmost_cut leftmost_here x c = c
     leftmost_cut (leftmost_made {h = h} {A = A} {us = us} l) x (inl o) = leftmost_cut l x (inl (made_opens h A o))
     leftmost_cut (leftmost_made {h = h} {A = A} {us = us} l) x (inr b) = leftmost_cut l x (made_cut h A us b.derived b.behind)

@@ -11,6 +11,7 @@ pub mod Levels
 pub mod Text
 pub mod First
 pub mod Avoiding
+pub mod Leftmost
 pub mod Tokens
 pub mod Words
 pub mod Apart

@@ -1,18 +1,19 @@
 ghost use Rattle.gx_base.specs.declared.place.Place.{Place};
 ghost use Rattle.gx_grammar.specs.Apart.{HasShape, OpensWord, Shape, Spells, all_apart, all_words_apart, is, shape_begins, words_begin};
 ghost use Rattle.gx_grammar.specs.Decoding.{IsUnreadableAt};
-ghost use Rattle.gx_grammar.specs.Decision.{Chooses, Repeats, BeforeCut, Until};
+ghost use Rattle.gx_grammar.specs.Decision.{BeforeCut, Chooses, Decides, Repeats, Shortens, Texts, Until};
 ghost use Rattle.gx_grammar.specs.Avoiding.{Avoids};
 ghost use Rattle.gx_grammar.specs.Derivation.{Derives};
 ghost use Rattle.gx_grammar.specs.Either.{IsEither, IsMapped, OpensEither, scan_either, scan_mapped, seen_either};
-ghost use Rattle.gx_grammar.specs.First.{AllOf, AreApart, AreFronts, BeginsWith, CharacterChooses, EndsOrStarts, Fronts, HasHead, IsSorted, TokensChoose, by_character, by_tokens, head_passes, IsIn, first_of};
+ghost use Rattle.gx_grammar.specs.First.{AllOf, AreApart, AreFronts, BeginsWith, CharacterChooses, EndsOrStarts, Fronts, HasHead, IsIn, IsSorted, TokensChoose, by_character, by_tokens, first_behind, first_of, head_passes};
 ghost use Rattle.gx_grammar.specs.Fitting.{IsEmpty, IsFitting, Never, fault_of, scan_fitting, scan_never};
 ghost use Rattle.gx_grammar.specs.Gaps.{IsGap, OpensGap, scan_gap, seen_gap};
-ghost use Rattle.gx_grammar.specs.Grammar.{Guard, ◌&◌, choose, empty, keyed, made};
+ghost use Rattle.gx_grammar.specs.Grammar.{Guard, ◌&◌, choose, empty, keyed, made, token};
 ghost use Rattle.gx_grammar.specs.Halting.{Halts};
 ghost use Rattle.gx_grammar.specs.Joined.{AreJoined, IsOptional, OpensJoined, Tells, scan_joined, scan_optional, seen_joined};
 ghost use Rattle.gx_grammar.specs.Language.{Language, Made, Part};
 ghost use Rattle.gx_grammar.specs.Laws.{IsExact, LawfulTokens};
+ghost use Rattle.gx_grammar.specs.Leftmost.{Leftmost};
 ghost use Rattle.gx_grammar.specs.Levels.{HasRanksBelow, IsLevelled, IsNotTooDeep, IsShielded, Takings, takes_some};
 ghost use Rattle.gx_grammar.specs.Opening.{Opens, OpensUpTo};
 ghost use Rattle.gx_grammar.specs.Ran.{IsDone, Looked, Makes, Ran, Standing, left_of};
@@ -23,7 +24,7 @@ ghost use Rattle.gx_grammar.specs.Value.{Value, an_item, no_item, nothing, pair}
 ghost use Rattle.gx_grammar.specs.Walks.{IsWalk, Walk, behind_walk, opens_walk, scan_walk, seen_walk};
 ghost use Rattle.gx_grammar.specs.Words.{Entry, IsOneOf, OpensOneOf, scan_one_of, seen_one_of, spellings};
 ghost use Rattle.std.specs.List.{list_all};
-ghost use Rattle.std.specs.Prelude.{◌≡◌, ◌<◌, ◌≤◌, ◌+◌, ◌++◌, [], Bool, true, false, IfOk, List, None, Ok, Option, Result, if◌then◌else◌, length, suc, take, zero, ℕ};
+ghost use Rattle.std.specs.Prelude.{◌≡◌, ◌<◌, ◌≤◌, ◌+◌, ◌++◌, ◌∷◌, ◌⊎◌, [], Bool, true, false, IfOk, List, None, Ok, Option, Result, if◌then◌else◌, length, suc, take, zero, ℕ};
 ghost use Rattle.std.specs.Str.{IsValidUpTo, chars};
 ghost use Rattle.gx_grammar.specs.Places.{place_at};
 
@@ -93,19 +94,104 @@ pub fn sorted_is_readable<G: HasLanguage>()
         → IsSorted G.language f A [] → IsReadable G.language A }
 {}
 
-/// A guard by tokens decides where what stands otherwise avoids them, as does what begins with tokens that are apart from them,
-/// or is empty in front of what avoids them.
-pub fn avoided_tokens_decide<G: HasLanguage>()
-    ensures choice { (f : Fronts G.language) → LawfulTokens G.language → AreFronts G.language f
-        → (ts : List G.language.Token) (A B : Part G.language) (us : List G.language.Token)
-        → takes_some G.language f.takings A ≡ true → AllOf (IsIn ts) (first_of G.language f A) → AllOf (λ t. (x : List ℕ) → G.language.opens t x → Opens G.language A x) ts
-        → Avoids G.language ts (Until G.language B (EndsOrStarts G.language.derives G.language.faults us)) (BeforeCut G.language B (BeginsWith G.language.derives G.language.opens us))
-        → Chooses G.language (by_tokens G.language.scan G.language.faults G.language.seen ts) A B (EndsOrStarts G.language.derives G.language.faults us) (BeginsWith G.language.derives G.language.opens us) }
-    ensures behind { (f : Fronts G.language) → LawfulTokens G.language → AreFronts G.language f
-        → (ts : List G.language.Token) (A B : Part G.language) (us : List G.language.Token)
+/// Texts, for contracts alone.
+pub trait HasTexts {
+    /// The texts.
+    ghost texts: { Texts };
+    /// What is left of them where their ends are cut off.
+    ghost beginnings: { Texts };
+}
+
+/// Where less may follow a grammar, less stands there, whole or cut off, and its guards decide all the more.
+pub fn less_may_follow<G: HasLanguage, K: HasTexts, M: HasTexts>()
+    ensures stands { (A : Part G.language) → ((y : List ℕ) → M.texts y → K.texts y)
+        → (x : List ℕ) → Until G.language A M.texts x → Until G.language A K.texts x }
+    ensures begins { (A : Part G.language) → ((y : List ℕ) → M.beginnings y → K.beginnings y)
+        → (x : List ℕ) → BeforeCut G.language A M.beginnings x → BeforeCut G.language A K.beginnings x }
+    ensures decides { (A : Part G.language) → ((y : List ℕ) → M.texts y → K.texts y) → ((y : List ℕ) → M.beginnings y → K.beginnings y)
+        → Decides G.language A K.texts K.beginnings → Decides G.language A M.texts M.beginnings }
+{}
+
+/// What ends, or starts with one of some tokens, does so with more tokens, whole or cut off.
+pub fn more_tokens_may_start<G: HasLanguage>()
+    ensures stands { (ts us : List G.language.Token) (x : List ℕ) → ((u : G.language.Token) → IsIn ts u → IsIn us u)
+        → EndsOrStarts G.language.derives G.language.faults ts x → EndsOrStarts G.language.derives G.language.faults us x }
+    ensures begins { (ts us : List G.language.Token) (x : List ℕ) → ((u : G.language.Token) → IsIn ts u → IsIn us u)
+        → BeginsWith G.language.derives G.language.opens ts x → BeginsWith G.language.derives G.language.opens us x }
+{}
+
+/// A grammar with tokens behind it starts with its first tokens, or, where it may be empty, with those.
+pub fn first_tokens_start<G: HasLanguage>()
+    ensures stands { (f : Fronts G.language) → AreFronts G.language f → (A : Part G.language) (ts : List G.language.Token) (x : List ℕ)
+        → Until G.language A (EndsOrStarts G.language.derives G.language.faults ts) x
+        → EndsOrStarts G.language.derives G.language.faults (first_behind G.language f A ts) x }
+    ensures begins { (f : Fronts G.language) → AreFronts G.language f → (A : Part G.language) (ts : List G.language.Token) (x : List ℕ)
+        → BeforeCut G.language A (BeginsWith G.language.derives G.language.opens ts) x
+        → BeginsWith G.language.derives G.language.opens (first_behind G.language f A ts) x }
+{}
+
+/// Where a grammar stands in front of what may follow it, what is leftmost in it does so too, whole or cut off.
+pub fn leftmost_stands<G: HasLanguage>()
+    ensures stands { (f : Fronts G.language) → AreFronts G.language f → (F P : Part G.language) (us vs : List G.language.Token)
+        → Leftmost G.language f F P us vs → (x : List ℕ)
+        → Until G.language P (EndsOrStarts G.language.derives G.language.faults us) x
+        → Until G.language F (EndsOrStarts G.language.derives G.language.faults vs) x }
+    ensures begins { (f : Fronts G.language) → AreFronts G.language f → (F P : Part G.language) (us vs : List G.language.Token)
+        → Leftmost G.language f F P us vs → (x : List ℕ)
+        → BeforeCut G.language P (BeginsWith G.language.derives G.language.opens us) x
+        → BeforeCut G.language F (BeginsWith G.language.derives G.language.opens vs) x }
+{}
+
+/// Tokens are avoided where others start that are apart from them; and one more is where it is avoided alone.
+pub fn tokens_are_avoided<G: HasLanguage, K: HasTexts>()
+    ensures apart { (f : Fronts G.language) → LawfulTokens G.language → AreFronts G.language f → (ts us : List G.language.Token)
+        → AllOf (λ t. f.takings.token_takes t ≡ true) ts → AllOf (λ u. AllOf (λ t. AreApart G.language t u) ts) us
+        → Avoids G.language ts (EndsOrStarts G.language.derives G.language.faults us) (BeginsWith G.language.derives G.language.opens us) }
+    ensures more { (t : G.language.Token) (ts : List G.language.Token) → Avoids G.language (t ∷ []) K.texts K.beginnings
+        → Avoids G.language ts K.texts K.beginnings → Avoids G.language (t ∷ ts) K.texts K.beginnings }
+{}
+
+/// Tokens that a grammar avoids are avoided where a value is made of its value. Tokens that some texts avoid are avoided where
+/// nothing stands in front of these, and where a grammar does whose first tokens are apart from them.
+pub fn tokens_stay_avoided<G: HasLanguage, K: HasTexts>()
+    ensures made { (ts : List G.language.Token) (h : ℕ → Made G.language → Made G.language) (A : Part G.language)
+        → Avoids G.language ts (Until G.language A K.texts) (BeforeCut G.language A K.beginnings)
+        → Avoids G.language ts (Until G.language (made h A) K.texts) (BeforeCut G.language (made h A) K.beginnings) }
+    ensures nothing { (ts : List G.language.Token) → Avoids G.language ts K.texts K.beginnings
+        → Avoids G.language ts (Until G.language empty K.texts) (BeforeCut G.language empty K.beginnings) }
+    ensures behind { (f : Fronts G.language) → LawfulTokens G.language → AreFronts G.language f → (ts : List G.language.Token) (A B : Part G.language)
         → AllOf (λ t. f.takings.token_takes t ≡ true) ts → AllOf (λ u. AllOf (λ t. AreApart G.language t u) ts) (first_of G.language f A)
-        → Avoids G.language ts (Until G.language B (EndsOrStarts G.language.derives G.language.faults us)) (BeforeCut G.language B (BeginsWith G.language.derives G.language.opens us))
-        → Avoids G.language ts (Until G.language (A & B) (EndsOrStarts G.language.derives G.language.faults us)) (BeforeCut G.language (A & B) (BeginsWith G.language.derives G.language.opens us)) }
+        → Avoids G.language ts (Until G.language B K.texts) (BeforeCut G.language B K.beginnings)
+        → Avoids G.language ts (Until G.language (A & B) K.texts) (BeforeCut G.language (A & B) K.beginnings) }
+{}
+
+/// A guard by tokens decides where what stands otherwise avoids them.
+pub fn avoided_tokens_decide<G: HasLanguage, K: HasTexts>()
+    ensures choice { (f : Fronts G.language) → LawfulTokens G.language → AreFronts G.language f
+        → (ts : List G.language.Token) (A B : Part G.language)
+        → takes_some G.language f.takings A ≡ true → AllOf (IsIn ts) (first_of G.language f A) → AllOf (λ t. (x : List ℕ) → G.language.opens t x → Opens G.language A x) ts
+        → Avoids G.language ts (Until G.language B K.texts) (BeforeCut G.language B K.beginnings)
+        → Chooses G.language (by_tokens G.language.scan G.language.faults G.language.seen ts) A B K.texts K.beginnings }
+    ensures repetition { (f : Fronts G.language) → LawfulTokens G.language → AreFronts G.language f
+        → (ts : List G.language.Token) (A : Part G.language)
+        → takes_some G.language f.takings A ≡ true → AllOf (IsIn ts) (first_of G.language f A) → AllOf (λ t. (x : List ℕ) → G.language.opens t x → Opens G.language A x) ts
+        → Avoids G.language ts K.texts K.beginnings
+        → Repeats G.language (by_tokens G.language.scan G.language.faults G.language.seen ts) A K.texts K.beginnings }
+{}
+
+/// A grammar whose guards decide by first tokens, or by first characters, decides; and, where a token ends it, it does so
+/// whatever follows.
+pub fn sorted_decides<G: HasLanguage, K: HasTexts>()
+    ensures before_tokens { (f : Fronts G.language) → LawfulTokens G.language → AreFronts G.language f → (A : Part G.language) (ts : List G.language.Token)
+        → IsSorted G.language f A ts → Decides G.language A (EndsOrStarts G.language.derives G.language.faults ts) (BeginsWith G.language.derives G.language.opens ts) }
+    ensures ended { (f : Fronts G.language) → LawfulTokens G.language → AreFronts G.language f → (A : Part G.language) (t u : G.language.Token)
+        → f.takings.token_takes t ≡ true → IsSorted G.language f A (t ∷ []) → Decides G.language (A & (token t & token u)) K.texts K.beginnings }
+{}
+
+/// A grammar that takes a character leaves another text than it was given.
+pub fn takings_shorten<G: HasLanguage>()
+    ensures { (f : Fronts G.language) → LawfulTokens G.language → AreFronts G.language f → (A : Part G.language)
+        → takes_some G.language f.takings A ≡ true → Shortens G.language A }
 {}
 
 /// A guard by tokens decides where what stands otherwise is apart from them.
@@ -201,6 +287,18 @@ pub fn made_tokens_are_lawful<T: HasTokens>()
         → (value : T.Worth → T.Worth → T.Worth)
         → LawfulToken (AreJoined T.derives T.derives_behind value) (OpensJoined T.derives T.opens T.opens_behind)
         (scan_joined T.scan T.scan_behind value) (seen_joined T.scan T.seen T.seen_behind) no_fault }
+{}
+
+/// Two tokens as one, the second right behind the first, are avoided behind the first where the second is.
+pub fn joined_tokens_are_avoided<T: HasTokens, K: HasTexts>()
+    ensures never { (faults : List ℕ → Option ℕ) → LawfulToken T.derives T.opens T.scan T.seen faults → (value : T.Worth → T.Worth → T.Worth)
+        → ((y z : List ℕ) (v : T.Worth) → K.texts y → T.derives_behind v y z → ⊥)
+        → (x y z : List ℕ) (v w : T.Worth) → T.derives v x y → K.texts y → AreJoined T.derives T.derives_behind value w x z → ⊥ }
+    ensures opening { (faults : List ℕ → Option ℕ) → LawfulToken T.derives T.opens T.scan T.seen faults → (value : T.Worth → T.Worth → T.Worth)
+        → T.opens_behind []
+        → ((y z w : List ℕ) (v : T.Worth) → K.beginnings y → T.derives_behind v (y ++ z) w → (y ≡ []) ⊎ T.opens_behind y)
+        → (x y z r : List ℕ) (v w : T.Worth) → T.derives v x y → K.beginnings y → AreJoined T.derives T.derives_behind value w (x ++ z) r
+        → OpensJoined T.derives T.opens T.opens_behind x }
 {}
 
 /// Tokens whose shapes are apart by computation are apart, and those whose shapes begin with a character, or with other

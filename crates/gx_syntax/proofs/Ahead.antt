@@ -1,42 +1,37 @@
 -- No expression begins as a declaration does.
-use Rattle.std.proofs.Common.{◌≡◌, ◌≢◌, ℕ, zero, suc, ◌≤◌, min, ◌==◌, ◌||◌, ◌&&◌, Bool, true, false, if◌then◌else◌, List, [], ◌∷◌, ◌++◌, ◌⊎◌, inl, inr, length, refl, sym, ap, subst, ◌∙◌, Option, Some, None, eqb-true, codes, arith}
+use Rattle.std.proofs.Common.{◌≡◌, ◌≢◌, ℕ, zero, suc, min, ◌==◌, ◌||◌, ◌&&◌, Bool, true, false, if◌then◌else◌, List, [], ◌∷◌, ◌++◌, ◌⊎◌, inl, inr, length, refl, sym, ap, subst, ◌∙◌, Some, None, eqb-true, codes, arith}
 use Rattle.gx_base.specs.declared.place.Place.{Place}
 use Rattle.gx_base.specs.WhiteSpace.{is_white_space}
 use Rattle.gx_grammar.specs.Value.{nothing, characters, node, pair}
-use Rattle.gx_grammar.specs.Grammar.{token, ◌&◌, keyed, choose, rule, made}
+use Rattle.gx_grammar.specs.Grammar.{token, ◌&◌, keyed, rule}
 use Rattle.gx_grammar.specs.Derivation.{Derives, of_token, of_keyed, of_left, of_right, of_rule, of_made}
 use Rattle.gx_grammar.specs.Opening.{Opens, open_end, open_token, open_key, open_behind, open_left, open_right, open_rule, open_made}
 use Rattle.gx_grammar.specs.Halting.{Halts, halt_token, halt_key, halt_behind, halt_left, halt_right, halt_rule, halt_made}
-use Rattle.gx_grammar.specs.Decision.{Before, Until, BeforeCut}
+use Rattle.gx_grammar.specs.Decision.{Until, BeforeCut}
 use Rattle.gx_grammar.specs.Text.{AtEnd, Nowhere}
 use Rattle.gx_grammar.specs.First.{IsIn, AllOf, head_passes, HasHead, AreApart, Stands, StandsFirst, EndsOrStarts, BeginsWith, first_behind}
 use Rattle.gx_grammar.specs.Apart.{all_apart, words_begin}
 use Rattle.gx_grammar.specs.Avoiding.{Avoids}
+use Rattle.gx_grammar.specs.Leftmost.{Leftmost, leftmost_here, leftmost_made, leftmost_both}
 use Rattle.gx_grammar.specs.Gaps.{Gap, gap_ends, gap_white, comment_begins, OpensGap, opens_end}
-use Rattle.gx_grammar.specs.Tokens.{IsWord, IsNamed, IsFrontOf, all_pass, behind_run, behind_common, strip, unless_passes, seen_name, seen_word, no_fault}
-use Rattle.gx_grammar.specs.Joined.{AreJoined, seen_behind}
+use Rattle.gx_grammar.specs.Tokens.{IsFrontOf, all_pass, behind_run, behind_common, strip, unless_passes, seen_name, no_fault}
+use Rattle.gx_grammar.specs.Joined.{seen_behind}
 use Rattle.std.proofs.lemmas.Bool.{and_parts}
 use Rattle.std.proofs.lemmas.Option.{some_pair_parts}
-use Rattle.gx_grammar.proofs.PublicLaws.{apart_by_heads, computed_apart, computed_words}
-use Rattle.gx_grammar.proofs.First.{ends_in, begins_in, until_starts, before_begins}
-use Rattle.gx_grammar.proofs.ByTokens.{apart_avoids}
-use Rattle.gx_grammar.proofs.Avoiding.{joined_never, joined_opening, Leftmost, leftmost_here, leftmost_made, leftmost_both, leftmost_until, leftmost_cut, avoids_more}
-use Rattle.gx_grammar.proofs.Sorted.{until_less, before_cut_less}
+use Rattle.gx_grammar.proofs.PublicLaws.{apart_avoids, apart_by_heads, avoids_more, before_begins, before_cut_less, begins_in, computed_apart, computed_words, ends_in, joined_never, joined_opening, leftmost_cut, leftmost_until, until_less, until_starts}
 use Rattle.gx_syntax.specs.declared.word.Barrier.TheVariants as barrier
 use Rattle.gx_syntax.specs.declared.word.Word.{Word}
 use Rattle.gx_syntax.specs.declared.word.Word.TheVariants as word
-use Rattle.gx_syntax.specs.declared.word.Level.{Level}
-use Rattle.gx_syntax.specs.declared.word.Level.TheVariants as level
 use Rattle.gx_syntax.specs.declared.word.WordSet.{WordSet}
 use Rattle.gx_syntax.specs.declared.word.WordSet.TheVariants as set
 use Rattle.gx_base.specs.NameCharacters.{is_ncname_start, is_ncname_character, is_xml_character}
 use Rattle.gx_syntax.specs.Characters.{is_word_character, no_character}
-use Rattle.gx_syntax.specs.Words.{letters_of, ends_at, ending_of, words_of}
-use Rattle.gx_syntax.specs.Nodes.{Node, Made, Found, join_binary, join_path, join_comma, second_value}
-use Rattle.gx_syntax.specs.Tokens.{Token, one_of, qname, ncname, gap, leading, local_wildcard, IsGapHere, scan_gap_here, IsQName, IsNCName, scan_ncname, seen_local_part, starts_local_part, HasLocalPart, IsTheWord, IsGapWith, OpensGapWith, second_of_two, scan_colon, entries, derives, opens, scan, seen, faults, shape_of}
-use Rattle.gx_syntax.specs.Grammar.{Phrase, word_of, single, is_single, level_at, operator, infix_operator, more, chain, two, expression, step_of, after_name, after_axis, arguments, behind_any_name, path_from, filtered_step, more_predicates, predicate, signed_path, other_operand, ladder, begun, branched_or_name, opened_or_name, named_single, rules, behind_single, query_language, constructed, constructed_by}
+use Rattle.gx_syntax.specs.Words.{letters_of, ends_at, ending_of}
+use Rattle.gx_syntax.specs.Nodes.{Node, Made, Found, join_binary}
+use Rattle.gx_syntax.specs.Tokens.{Token, one_of, qname, ncname, gap, leading, local_wildcard, IsGapHere, scan_gap_here, IsQName, IsNCName, scan_ncname, seen_local_part, starts_local_part, IsTheWord, IsGapWith, second_of_two, derives, opens, seen, faults, shape_of}
+use Rattle.gx_syntax.specs.Grammar.{Phrase, word_of, single, is_single, level_at, operator, infix_operator, more, chain, two, expression, step_of, after_name, after_axis, arguments, behind_any_name, path_from, filtered_step, more_predicates, predicate, signed_path, other_operand, ladder, begun, branched_or_name, opened_or_name, named_single, behind_single, query_language, constructed, constructed_by}
 use Rattle.gx_syntax.specs.NodeTests.{if_wildcard, wildcard_or, any_step}
-use Rattle.gx_syntax.specs.Casts.{casts, type_test, cast_test, behind_cast}
+use Rattle.gx_syntax.specs.Casts.{casts, type_test, cast_test}
 use Rattle.gx_syntax.specs.Fronts.{fronts}
 use Rattle.gx_syntax.specs.Tokens.{version_words, setter_words, import_words, definer_words, declaration_words}
 use Rattle.gx_syntax.proofs.Tokens.{token_lawful, the_word_lawful, gap_lawful}

@@ -1,7 +1,7 @@
 -- The guards of FLWOR expressions and quantified ones decide.
-use Rattle.std.proofs.Common.{◌≡◌, ℕ, zero, suc, Bool, true, false, List, [], ◌∷◌, ◌++◌, inl, inr, refl}
+use Rattle.std.proofs.Common.{◌≡◌, ℕ, zero, suc, Bool, true, List, [], ◌∷◌, inl, inr, refl}
 use Rattle.gx_base.specs.declared.place.Place.{Place}
-use Rattle.gx_grammar.specs.Grammar.{token, empty, rule}
+use Rattle.gx_grammar.specs.Grammar.{empty}
 use Rattle.gx_grammar.specs.Opening.{open_token, open_first, open_made, open_key}
 use Rattle.gx_grammar.specs.First.{IsIn, AllOf, AreApart, AreFronts, IsSorted}
 use Rattle.gx_grammar.specs.Apart.{all_apart}
@@ -14,7 +14,7 @@ use Rattle.gx_syntax.specs.declared.word.Binder.TheVariants as binder
 use Rattle.gx_syntax.specs.Words.{binder_in}
 use Rattle.gx_syntax.specs.Nodes.{Made}
 use Rattle.gx_syntax.specs.Tokens.{Token, one_of, barred_words, shape_of}
-use Rattle.gx_syntax.specs.Grammar.{Phrase, single, word_of, keyword, behind_single, query_language}
+use Rattle.gx_syntax.specs.Grammar.{Phrase, word_of, keyword, behind_single, query_language}
 use Rattle.gx_syntax.specs.Bound.{bound, bound_type, position}
 use Rattle.gx_syntax.specs.Keys.{ordered, order_clause}
 use Rattle.gx_syntax.specs.Binding.{first_bound, position_of, bound_to, head, binding, further_binding, more_bindings, bindings, clause, word_found, last_clause, more_clauses, flwor, quantified}

@@ -1,5 +1,5 @@
 -- The guards of the parts of bindings decide.
-use Rattle.std.proofs.Common.{◌≡◌, ℕ, Bool, true, false, List, [], ◌∷◌, ◌++◌, inl, refl}
+use Rattle.std.proofs.Common.{◌≡◌, ℕ, Bool, true, false, List, [], ◌∷◌, inl, refl}
 use Rattle.std.specs.List.{list_all}
 use Rattle.gx_base.specs.declared.place.Place.{Place}
 use Rattle.gx_grammar.specs.Grammar.{empty}

@@ -1,10 +1,10 @@
 -- The tokens that computed constructors begin with.
-use Rattle.std.proofs.Common.{◌≡◌, ◌≢◌, ℕ, zero, suc, ◌≤◌, ◌==◌, ◌||◌, ◌&&◌, Bool, true, false, List, [], ◌∷◌, ◌++◌, ◌⊎◌, inl, inr, length, length-append, refl, sym, ap, subst, ◌∙◌, Option, Some, None, is_some, eqb-true, append_assoc, arith, drop}
+use Rattle.std.proofs.Common.{◌≡◌, ◌≢◌, ℕ, suc, ◌≤◌, ◌==◌, ◌||◌, ◌&&◌, Bool, true, false, List, [], ◌∷◌, ◌++◌, ◌⊎◌, inl, inr, length, length-append, refl, sym, ap, subst, ◌∙◌, Option, Some, None, is_some, eqb-true, append_assoc, arith, drop}
 use Rattle.gx_base.specs.WhiteSpace.{is_white_space}
 use Rattle.gx_base.specs.NameCharacters.{is_ncname_start, is_ncname_character, is_xml_character}
 use Rattle.gx_grammar.specs.First.{head_passes}
 use Rattle.gx_grammar.specs.Gaps.{Gap, gap_ends, gap_white, comment_begins, comment_ends, comment_goes_on, ends_gap, goes_on_inside}
-use Rattle.gx_grammar.specs.Joined.{IsOptional, Tells, scan_optional}
+use Rattle.gx_grammar.specs.Joined.{Tells, scan_optional}
 use Rattle.gx_grammar.specs.Fitting.{Never, scan_never}
 use Rattle.gx_grammar.specs.Tokens.{LawfulToken, all_pass, no_fault}
 use Rattle.gx_grammar.specs.Value.{nothing}
@@ -12,7 +12,7 @@ use Rattle.gx_grammar.proofs.PublicLaws.{lawful_optional, lawful_stop}
 use Rattle.std.proofs.lemmas.Bool.{and_parts}
 use Rattle.gx_syntax.specs.Characters.{no_character}
 use Rattle.gx_syntax.specs.Nodes.{Made}
-use Rattle.gx_syntax.specs.Tokens.{IsNCName, IsLocalPart, HasLocalPart, IsQName, IsGapBrace, IsConstructor, OpensConstructor, NoConstructor, scan_constructor, seen_constructor, starts_local_part, starts_constructor, begins_no_word, has_join, joins_words}
+use Rattle.gx_syntax.specs.Tokens.{IsNCName, IsLocalPart, HasLocalPart, IsQName, IsConstructor, OpensConstructor, NoConstructor, scan_constructor, seen_constructor, starts_local_part, starts_constructor, begins_no_word, has_join, joins_words}
 
 -- what stands in front of a `{` stands there whatever follows
 

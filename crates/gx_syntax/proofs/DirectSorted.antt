@@ -1,8 +1,8 @@
 -- The guards of direct constructors decide.
-use Rattle.std.proofs.Common.{◌≡◌, ◌≢◌, ℕ, zero, suc, ◌<◌, ◌==◌, ◌||◌, Bool, true, false, [], ◌∷◌, ◌++◌, List, refl, ap, ◌∙◌, inl, inr, eqb-true, arith}
+use Rattle.std.proofs.Common.{◌≡◌, ℕ, zero, suc, ◌<◌, ◌==◌, ◌||◌, Bool, true, false, [], ◌∷◌, List, refl, ap, ◌∙◌, inl, inr, eqb-true, arith}
 use Rattle.gx_base.specs.WhiteSpace.{is_white_space}
 use Rattle.gx_base.specs.declared.place.Place.{Place}
-use Rattle.gx_grammar.specs.Grammar.{token, choose, rule}
+use Rattle.gx_grammar.specs.Grammar.{token, rule}
 use Rattle.gx_grammar.specs.Tokens.{IsFrontOf}
 use Rattle.gx_grammar.specs.First.{AllOf, AreApart, IsIn, AreFronts, HasHead, IsSorted, Stands, head_passes}
 use Rattle.gx_grammar.specs.Opening.{Opens, open_left, open_right, open_first, open_made, open_rule, open_token}
@@ -16,7 +16,7 @@ use Rattle.gx_syntax.specs.declared.runs.Run.TheVariants as run
 use Rattle.gx_base.specs.NameCharacters.{is_ncname_start}
 use Rattle.gx_syntax.specs.Nodes.{Node, Made}
 use Rattle.gx_syntax.specs.Tokens.{Token, text_run, reference, qname, white, no_attribute, no_element, begins_attribute, shape_of, takes, opens, derives, faults}
-use Rattle.gx_syntax.specs.Grammar.{Phrase, behind_nested, within, nested, word_of, at_tokens, name, query_language}
+use Rattle.gx_syntax.specs.Grammar.{Phrase, behind_nested, within, nested, word_of, name, query_language}
 use Rattle.gx_syntax.specs.Fronts.{fronts}
 use Rattle.gx_syntax.specs.Strings.{opening_of, closing_of, doubled_of}
 use Rattle.gx_syntax.specs.Direct.{start_of, symbol_piece, text_piece, reference_piece, cdata, enclosed, brace_piece, plain_piece, value_piece, value_pieces_of, value_pieces, value_in, attribute_value, behind_attribute, attribute, attributes, content_piece, content_pieces_of, content_pieces, content, end_tag, no_content, filled, content_if_any, behind_tag, element_of, element_at, direct_step}

@@ -1,8 +1,7 @@
 -- Tokens that are apart for reasons of their own.
-use Rattle.std.proofs.Common.{◌≡◌, ◌≢◌, ℕ, ◌==◌, ◌||◌, ◌&&◌, Bool, true, false, if◌then◌else◌, List, [], ◌∷◌, ◌++◌, ◌⊎◌, inl, inr, refl, sym, ap, subst, ◌∙◌, Some, None, eqb-true, ◌<◌, nat_le, arith}
+use Rattle.std.proofs.Common.{◌≡◌, ◌≢◌, ℕ, ◌==◌, ◌||◌, Bool, true, false, List, [], ◌∷◌, ◌++◌, ◌⊎◌, inl, inr, refl, sym, ap, subst, ◌∙◌, None, eqb-true, ◌<◌, nat_le, arith}
 use Rattle.std.proofs.lemmas.Bool.{lt-leb, leb-true}
 use Rattle.gx_base.specs.declared.place.Place.{Place}
-use Rattle.gx_grammar.specs.Value.{characters}
 use Rattle.gx_grammar.specs.First.{head_passes, HasHead, AreApart, Stands}
 use Rattle.gx_grammar.specs.Apart.{is, Spells}
 use Rattle.gx_grammar.specs.Words.{spellings}
@@ -18,7 +17,7 @@ use Rattle.gx_syntax.specs.Characters.{is_digit}
 use Rattle.gx_syntax.specs.Words.{words_of}
 use Rattle.gx_syntax.specs.Nodes.{Node, Made}
 use Rattle.gx_syntax.specs.Numeral.{OpensNumeral, scan_literal, is_small}
-use Rattle.gx_syntax.specs.Tokens.{Token, one_of, qname, number, gap_then_open, gap_not_open, gap_then_dollar, gap_then_neither, IsGapHere, no_value, stops_name, entries, begins_sign, begins_number, number_code, derives, faults, opens, scan}
+use Rattle.gx_syntax.specs.Tokens.{one_of, qname, number, gap_then_open, gap_not_open, gap_then_dollar, gap_then_neither, IsGapHere, no_value, stops_name, entries, begins_sign, begins_number, number_code, derives, faults, opens}
 use Rattle.gx_syntax.specs.Grammar.{query_language}
 use Rattle.gx_syntax.proofs.Tokens.{gap_lawful, literal_lawful}
 use Rattle.gx_syntax.proofs.Shapes.{shaped}

@@ -1,5 +1,5 @@
 -- Where no constructor is read, none stands.
-use Rattle.std.proofs.Common.{◌≡◌, ℕ, Bool, true, false, List, [], ◌∷◌, ◌++◌, ◌⊎◌, inl, inr, refl, sym, ap, subst, ◌∙◌}
+use Rattle.std.proofs.Common.{◌≡◌, ℕ, true, false, List, [], ◌∷◌, ◌++◌, ◌⊎◌, inl, inr, refl, subst}
 use Rattle.gx_base.specs.declared.place.Place.{Place}
 use Rattle.gx_grammar.specs.Grammar.{token, ◌&◌, made}
 use Rattle.gx_grammar.specs.Derivation.{Derives, of_token, of_both, of_made}

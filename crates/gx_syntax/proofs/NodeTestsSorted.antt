@@ -1,5 +1,5 @@
 -- The guards of node tests decide.
-use Rattle.std.proofs.Common.{◌≡◌, ℕ, Bool, true, false, List, [], ◌∷◌, Option, Some, None, inl, inr, refl}
+use Rattle.std.proofs.Common.{◌≡◌, ℕ, Bool, true, false, List, [], ◌∷◌, Option, Some, None, inl, refl}
 use Rattle.std.specs.List.{list_all}
 use Rattle.gx_base.specs.declared.place.Place.{Place}
 use Rattle.gx_grammar.specs.Grammar.{empty, choose}
@@ -7,7 +7,7 @@ use Rattle.gx_grammar.specs.Value.{nothing, characters, node, pair, no_item, an_
 use Rattle.gx_grammar.specs.Opening.{open_token, open_first, open_made}
 use Rattle.gx_grammar.specs.Levels.{takes_some}
 use Rattle.gx_grammar.specs.First.{AllOf, first_of, HasHead, AreFronts, IsSorted, by_character}
-use Rattle.gx_grammar.specs.Apart.{is, shape_begins, words_begin}
+use Rattle.gx_grammar.specs.Apart.{is, shape_begins}
 use Rattle.gx_grammar.proofs.PublicLaws.{character_chooses, computed_apart, computed_heads, computed_words, tokens_choose}
 use Rattle.gx_syntax.specs.declared.word.Word.TheVariants as word
 use Rattle.gx_syntax.specs.declared.kind_words.KindWord.{KindWord}

@@ -1,16 +1,15 @@
 -- Bytes are parsed in one way.
-use Rattle.std.proofs.Common.{◌≡◌, ℕ, ◌==◌, Bool, true, false, if◌then◌else◌, List, [], ◌++◌, ◌⊎◌, inl, inr, length, Result, Ok, Err, refl, sym, ap, ap₂, subst, ◌∙◌, encode_utf8_all, take, arith}
-use Rattle.std.specs.Str.{all_scalars, chars, IsUtf8, IsValidUpTo}
+use Rattle.std.proofs.Common.{◌≡◌, ℕ, ◌==◌, if◌then◌else◌, List, ◌⊎◌, inl, inr, length, Result, Err, refl, sym, ap, ap₂, subst, ◌∙◌, encode_utf8_all, take}
+use Rattle.std.specs.Str.{chars}
 use Rattle.std.proofs.lemmas.Str.{chars-encodes, utf8_valid_len-IsValidUpTo}
 use Rattle.std.proofs.Math.Seq.{take-append_seam}
 use Rattle.gx_base.specs.declared.place.Place.{Place}
 use Rattle.gx_ast.specs.declared.query.Query.{Query}
 use Rattle.gx_grammar.specs.Value.{node}
-use Rattle.gx_grammar.specs.Derivation.{Derives}
 use Rattle.gx_grammar.specs.Decoding.{IsUnreadableAt}
 use Rattle.gx_grammar.specs.Places.{place_at}
 use Rattle.gx_grammar.specs.Text.{IsVerdict}
-use Rattle.gx_grammar.specs.Reading.{Refusal, Unfit, Faulty, TooDeep}
+use Rattle.gx_grammar.specs.Reading.{Refusal, Unfit, Faulty}
 use Rattle.gx_grammar.proofs.PublicLaws.{same_verdict}
 use Rattle.gx_syntax.specs.declared.refusal.SyntaxRule.{SyntaxRule}
 use Rattle.gx_syntax.specs.declared.refusal.SyntaxRule.TheVariants.{NotUtf8, Syntax, TooNested, LiteralTooLarge, BadReference}

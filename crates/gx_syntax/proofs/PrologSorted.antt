@@ -1,19 +1,16 @@
 -- The guards of queries with their prologs decide, so they are read exactly.
-use Rattle.std.proofs.Common.{◌≡◌, ◌≢◌, ℕ, ◌==◌, Bool, true, false, List, [], ◌∷◌, ◌++◌, ◌⊎◌, inl, inr, refl, sym, ap, subst, ◌∙◌, codes, eqb-true}
+use Rattle.std.proofs.Common.{◌≡◌, ℕ, ◌==◌, true, false, List, [], ◌∷◌, ◌++◌, ◌⊎◌, inl, inr, refl, sym, ap, ◌∙◌, codes, eqb-true}
 use Rattle.gx_base.specs.declared.place.Place.{Place}
-use Rattle.gx_grammar.specs.Grammar.{token, empty, ◌&◌, rule}
+use Rattle.gx_grammar.specs.Grammar.{token, empty, ◌&◌}
 use Rattle.gx_grammar.specs.Opening.{Opens, open_token, open_first, open_left, open_right, open_made, open_key}
-use Rattle.gx_grammar.specs.Decision.{Texts, Until, BeforeCut, Decides}
+use Rattle.gx_grammar.specs.Decision.{Until, BeforeCut, Decides}
 use Rattle.gx_grammar.specs.Text.{AtEnd, Nowhere, AllDecide, IsReadable}
-use Rattle.gx_grammar.specs.First.{IsIn, AllOf, head_passes, HasHead, AreApart, Stands, EndsOrStarts, BeginsWith, IsSorted, first_of}
+use Rattle.gx_grammar.specs.First.{AllOf, head_passes, HasHead, AreApart, Stands, EndsOrStarts, BeginsWith, IsSorted}
 use Rattle.gx_grammar.specs.Apart.{all_apart, is, word_begins}
 use Rattle.gx_grammar.specs.Tokens.{no_fault, seen_word}
 use Rattle.gx_grammar.specs.Gaps.{opens_end}
 use Rattle.gx_grammar.specs.Avoiding.{Avoids}
-use Rattle.gx_grammar.proofs.PublicLaws.{apart_by_heads, character_chooses, computed_apart, computed_heads, tokens_choose, tokens_repeat}
-use Rattle.gx_grammar.proofs.ByTokens.{avoided_choose, avoided_repeat}
-use Rattle.gx_grammar.proofs.Avoiding.{joined_never, joined_opening, avoids_made, avoids_empty, avoids_behind, closed_decides}
-use Rattle.gx_grammar.proofs.Sorted.{decides_less, sorted_decides, shortens}
+use Rattle.gx_grammar.proofs.PublicLaws.{apart_by_heads, avoided_choose, avoided_repeat, avoids_behind, avoids_empty, avoids_made, character_chooses, closed_decides, computed_apart, computed_heads, decides_less, joined_never, joined_opening, shortens, sorted_decides, tokens_choose, tokens_repeat}
 use Rattle.gx_syntax.specs.declared.word.Word.{Word}
 use Rattle.gx_syntax.specs.declared.word.Word.TheVariants as word
 use Rattle.gx_syntax.specs.declared.word.WordSet.{WordSet}
@@ -25,10 +22,10 @@ use Rattle.gx_syntax.specs.declared.word.Definer.TheVariants as definer_is
 use Rattle.gx_syntax.specs.declared.runs.Quote.TheVariants as quote
 use Rattle.gx_base.specs.NameCharacters.{is_ncname_start}
 use Rattle.gx_syntax.specs.Characters.{is_word_character}
-use Rattle.gx_syntax.specs.Words.{letters_of, words_of}
+use Rattle.gx_syntax.specs.Words.{letters_of}
 use Rattle.gx_syntax.specs.Nodes.{Node, Made}
 use Rattle.gx_syntax.specs.Tokens.{Token, one_of, gap, leading, begins_word, IsTheWord, OpensTheWord, scan_the_word, IsGapHere, scan_gap_here, IsGapWith, OpensGapWith, second_of_two, derives, opens, seen, faults, shape_of}
-use Rattle.gx_syntax.specs.Grammar.{Phrase, word_of, lexeme, single, rules, behind, behind_single, expression, query_language}
+use Rattle.gx_syntax.specs.Grammar.{Phrase, word_of, lexeme, rules, behind, expression, query_language}
 use Rattle.gx_syntax.specs.Strings.{quoted, string_of}
 use Rattle.gx_syntax.specs.Bound.{bound}
 use Rattle.gx_syntax.specs.Fronts.{fronts}

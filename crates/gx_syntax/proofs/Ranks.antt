@@ -1,7 +1,7 @@
 -- Each Single holds Singles of one level less, so the levels suffice.
-use Rattle.std.proofs.Common.{◌≡◌, ℕ, zero, suc, ◌<◌, Bool, true, false, if◌then◌else◌, List, [], ◌∷◌, Option, Some, None, refl, codes, arith}
+use Rattle.std.proofs.Common.{ℕ, zero, suc, ◌<◌, true, false, if◌then◌else◌, Option, Some, None, arith}
 use Rattle.gx_base.specs.declared.place.Place.{Place}
-use Rattle.gx_grammar.specs.Grammar.{token, ◌&◌, keyed, choose, rule, made}
+use Rattle.gx_grammar.specs.Grammar.{choose, rule}
 use Rattle.gx_grammar.specs.Levels.{HasRanksBelow, IsShielded, IsLevelled}
 use Rattle.gx_grammar.proofs.PublicLaws.{below_shields}
 use Rattle.gx_syntax.specs.declared.word.Barrier.{Barrier}
@@ -10,8 +10,8 @@ use Rattle.gx_syntax.specs.declared.word.Word.TheVariants as word
 use Rattle.gx_syntax.specs.declared.word.WordSet.{WordSet}
 use Rattle.gx_syntax.specs.declared.word.WordSet.TheVariants as set
 use Rattle.gx_syntax.specs.Nodes.{Made, Join, join_binary, join_path, join_comma}
-use Rattle.gx_syntax.specs.Tokens.{Token, gap, gap_then_open, gap_not_open, gap_then_neither}
-use Rattle.gx_syntax.specs.Grammar.{Production, single, within, nested, Phrase, at_tokens, is_single, level_at, is_name, is_reserved, keyword, operator, infix_operator, more, stop, chain, two, expression, numeral, literal, name, variable_step, dots, parenthesised_step, more_arguments, arguments_in, arguments, after_name, after_axis, step_of, behind_plain_name, behind_any_name, test_or_literal, other_step, step, predicate, more_predicates, filtered_step, path_from, more_signs, signed_path, other_operand, ladder, condition, typeswitch, branched, branched_or_name, begun, behind_keyword, opened_or_name, named_single, rules, query_language, computed, braced, constructor_name, named_node, no_node, constructed, constructed_by}
+use Rattle.gx_syntax.specs.Tokens.{Token, gap_not_open, gap_then_neither}
+use Rattle.gx_syntax.specs.Grammar.{Production, single, within, nested, Phrase, is_single, level_at, is_reserved, keyword, operator, infix_operator, more, stop, chain, two, expression, numeral, literal, name, variable_step, dots, parenthesised_step, more_arguments, arguments_in, arguments, after_name, after_axis, step_of, behind_plain_name, behind_any_name, test_or_literal, other_step, step, predicate, more_predicates, filtered_step, path_from, more_signs, signed_path, other_operand, ladder, condition, typeswitch, branched, branched_or_name, begun, behind_keyword, opened_or_name, named_single, rules, query_language, computed, braced, constructor_name, named_node, no_node, constructed, constructed_by}
 use Rattle.gx_syntax.specs.declared.word.Opening.{Opening}
 use Rattle.gx_syntax.specs.Computed.{computed_named, node_named}
 use Rattle.gx_syntax.specs.declared.word.ComputedNode.{ComputedNode}

@@ -1,34 +1,31 @@
 -- How the tokens look.
-use Rattle.std.proofs.Common.{◌≡◌, ◌≢◌, ℕ, zero, suc, ◌<◌, ◌==◌, ◌||◌, ◌&&◌, Bool, true, false, if◌then◌else◌, List, [], ◌∷◌, ◌++◌, ◌⊎◌, inl, inr, length, length-append, refl, sym, ap, subst, ◌∙◌, eqb-true, Option, Some, None, arith}
+use Rattle.std.proofs.Common.{◌≡◌, ◌≢◌, ℕ, ◌==◌, ◌||◌, ◌&&◌, Bool, true, false, if◌then◌else◌, List, [], ◌∷◌, ◌++◌, inl, inr, refl, sym, ap, subst, ◌∙◌, eqb-true, eq-eqb, Option, Some, None}
 use Rattle.gx_base.specs.declared.place.Place.{Place}
 use Rattle.gx_base.specs.WhiteSpace.{is_white_space}
-use Rattle.gx_grammar.specs.Value.{Value, nothing, characters}
-use Rattle.gx_grammar.specs.First.{Stands, head_passes, HasHead, AreApart}
-use Rattle.gx_grammar.specs.Tokens.{IsFrontOf, IsNamed, IsRun, all_pass, opens_name, opens_run}
+use Rattle.gx_grammar.specs.First.{Stands, head_passes}
+use Rattle.gx_grammar.specs.Tokens.{IsFrontOf, all_pass, opens_name}
 use Rattle.gx_grammar.specs.Gaps.{Gap, gap_ends, gap_white, comment_begins, OpensGap, opens_end, opens_paren, opens_white, opens_begin}
 use Rattle.gx_grammar.specs.Words.{spellings, scan_one_of}
 use Rattle.gx_grammar.specs.Fitting.{fault_of, fault_where}
 use Rattle.gx_grammar.specs.Laws.{LawfulTokens}
-use Rattle.gx_grammar.specs.Levels.{AreTakings}
 use Rattle.gx_grammar.specs.Apart.{Spells, HasShape, is, word_begins}
 use Rattle.std.proofs.lemmas.Bool.{and_parts}
 use Rattle.gx_grammar.proofs.PublicLaws.{lawful_tokens, one_of_opened, one_of_opening, one_of_spells}
-use Rattle.gx_grammar.proofs.Tokens.{equal_self}
 use Rattle.gx_syntax.specs.declared.word.WordSet.{WordSet}
 use Rattle.gx_base.specs.NameCharacters.{is_ncname_start, is_ncname_character, is_xml_character}
-use Rattle.gx_syntax.specs.Characters.{is_digit, no_character}
+use Rattle.gx_syntax.specs.Characters.{is_digit}
 use Rattle.gx_syntax.specs.Words.{letters_of, words_of, ends_at}
 use Rattle.gx_syntax.specs.declared.word.Ending.TheVariants as end
 use Rattle.gx_syntax.specs.declared.word.Word.{Word}
 use Rattle.gx_syntax.specs.Nodes.{Node, Made}
-use Rattle.gx_syntax.specs.Numeral.{IsDigits, OpensNumeral, is_small, scan_literal}
+use Rattle.gx_syntax.specs.Numeral.{OpensNumeral, is_small, scan_literal}
 use Rattle.gx_syntax.specs.declared.word.Barrier.{Barrier}
-use Rattle.gx_syntax.specs.Tokens.{Token, one_of, constructor, no_constructor, word_end, qname, number, number_end, gap, gap_then_open, gap_not_open, barred, indication, entries, IsNCName, IsGapHere, begins_at, barrier_fault, limit_code, number_code, derives, opens, faults, begins_gap, begins_number, shape_of, text_run, reference, white, blank, no_attribute, no_element, tag_open, tag_name, cdata_text, ncname, local_wildcard, gap_then_dollar, gap_then_neither, barred_words, begins_dollar, leading, begins_word}
+use Rattle.gx_syntax.specs.Tokens.{Token, one_of, constructor, no_constructor, word_end, qname, number, number_end, gap, gap_then_open, gap_not_open, barred, indication, entries, begins_at, limit_code, number_code, derives, opens, faults, begins_gap, begins_number, shape_of, text_run, reference, white, blank, no_attribute, no_element, tag_open, tag_name, cdata_text, ncname, local_wildcard, gap_then_dollar, gap_then_neither, barred_words, begins_dollar, leading, begins_word}
 use Rattle.gx_syntax.specs.declared.runs.Run.{Run}
 use Rattle.gx_syntax.specs.References.{is_text}
 use Rattle.gx_syntax.proofs.ReferenceTokens.{reference_begins, fault_begins, reference_opened}
 use Rattle.gx_syntax.specs.Grammar.{query_language}
-use Rattle.gx_syntax.proofs.Tokens.{token_lawful, literal_lawful, pointed_begins, Begins, or_left, or_right, is_full, word_full}
+use Rattle.gx_syntax.proofs.Tokens.{token_lawful, literal_lawful, pointed_begins, or_left, or_right, is_full, word_full}
 
 abbrev Stood : Token → List ℕ → Type 0
 Stood t x = Stands {Node = Node} derives faults t x
@@ -191,11 +188,11 @@ elements_stand (c ∷ d ∷ x) (inr f) = go (c == 60) (is_ncname_start d) refl r
 
 letters_begin : (cs x y : List ℕ) → is_full cs ≡ true → x ≡ cs ++ y → (x ≢ []) × (head_passes (λ c. word_begins (is c) true cs) x ≡ true)
 letters_begin [] x y e f = absurd (cc)
-letters_begin (d ∷ cs) x y e f = full_head (λ c. word_begins (is c) true (d ∷ cs)) d (cs ++ y) f (equal_self d)
+letters_begin (d ∷ cs) x y e f = full_head (λ c. word_begins (is c) true (d ∷ cs)) d (cs ++ y) f (eq-eqb d d refl)
 
 front_begins : (cs x : List ℕ) → IsFrontOf x cs → x ≢ [] → head_passes (λ c. word_begins (is c) true cs) x ≡ true
 front_begins cs [] o n = absurd (n refl)
-front_begins cs (c ∷ x) o n = ap (word_begins (is c) true) o.1 ∙ equal_self c
+front_begins cs (c ∷ x) o n = ap (word_begins (is c) true) o.1 ∙ eq-eqb c c refl
 
 leading_stand : (w : Word) (ws : WordSet) (x : List ℕ) → Stood (leading w ws) x → (x ≢ []) × (head_passes (begins_word w) x ≡ true)
 leading_stand w ws x (inl d) = let j = d.2 in letters_begin (letters_of w) x j.between (word_full w) j.begins.spelled

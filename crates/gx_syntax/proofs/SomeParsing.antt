@@ -1,13 +1,13 @@
 -- Bytes are parsed somehow.
-use Rattle.std.proofs.Common.{◌≡◌, ◌≢◌, ◌<◌, ◌≤◌, ℕ, zero, suc, Bool, true, false, if◌then◌else◌, List, [], length, Option, Some, None, is_some, Result, Ok, Err, refl, sym, ap, subst, ◌∙◌, ◌⊎◌, inl, inr, take, arith}
+use Rattle.std.proofs.Common.{◌≡◌, ◌<◌, ℕ, zero, suc, Bool, true, false, if◌then◌else◌, List, [], length, Option, Some, None, is_some, Result, Ok, Err, refl, sym, ap, subst, ◌⊎◌, inl, inr, take, arith}
 use Rattle.std.specs.Str.{chars, IsUtf8, IsValidUpTo, is_utf8}
 use Rattle.std.proofs.lemmas.Str.{IsUtf8-from_is_utf8, is_utf8-from_IsUtf8}
 use Rattle.std.proofs.lemmas.List.{take_all}
 use Rattle.std.proofs.Math.Nat.{eq-or-lt_of_le, lt_of_not-le}
 use Rattle.gx_base.specs.declared.place.Place.{Place}
 use Rattle.gx_ast.specs.declared.query.Query.{Query}
-use Rattle.gx_grammar.specs.Value.{Value, node}
-use Rattle.gx_grammar.specs.Grammar.{Grammar, made}
+use Rattle.gx_grammar.specs.Value.{node}
+use Rattle.gx_grammar.specs.Grammar.{made}
 use Rattle.gx_grammar.specs.Derivation.{Derives, of_made}
 use Rattle.gx_grammar.specs.Halting.{Halts, halt_token, halt_first, halt_second, halt_key, halt_behind, halt_left, halt_right, halt_item, halt_later, halt_rule, halt_made}
 use Rattle.gx_grammar.specs.Fitting.{fault_of, fault_where}
@@ -18,16 +18,14 @@ use Rattle.gx_grammar.specs.Text.{IsVerdict, IsFaulty, read_text}
 use Rattle.gx_grammar.specs.Reading.{Refusal, Unfit, Faulty, TooDeep}
 use Rattle.gx_grammar.proofs.PublicLaws.{unreadable_at}
 use Rattle.gx_syntax.specs.declared.refusal.SyntaxRule.TheVariants.{NotUtf8, Syntax, TooNested, LiteralTooLarge, BadReference}
-use Rattle.gx_syntax.specs.declared.runs.Radix.TheVariants as radix
 use Rattle.gx_syntax.specs.Numeral.{is_small, scan_literal}
-use Rattle.gx_syntax.specs.References.{closes}
 use Rattle.gx_syntax.specs.Words.{words_of}
-use Rattle.gx_syntax.specs.Nodes.{Node, Made, Whole}
+use Rattle.gx_syntax.specs.Nodes.{Made, Whole}
 use Rattle.gx_syntax.specs.Tokens.{Token, one_of, qname, number, number_end, gap, gap_then_open, gap_not_open, barred, indication, text_run, reference, white, blank, no_attribute, no_element, starts_element, constructor, no_constructor, word_end, tag_name, cdata_text, ncname, local_wildcard, gap_then_dollar, gap_then_neither, barred_words, entries, faults, begins_at, scan_reference, limit_code, number_code, reference_code, leading}
 use Rattle.gx_syntax.specs.Grammar.{Phrase, query_language, place_in}
 use Rattle.gx_syntax.specs.Prolog.{query, query_in}
 use Rattle.gx_syntax.specs.Levels.{more_than}
-use Rattle.gx_syntax.specs.Query.{IsQuery, IsText, Parsing, parsed, refused, Parses}
+use Rattle.gx_syntax.specs.Query.{IsText, Parsing, parsed, refused, Parses}
 use Rattle.gx_syntax.proofs.Verdict.{verdict}
 
 -- the codes of the faults

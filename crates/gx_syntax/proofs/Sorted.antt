@@ -1,29 +1,26 @@
 -- The guards of the grammar decide, so it is read exactly.
-use Rattle.std.proofs.Common.{◌≡◌, ◌≢◌, ℕ, zero, suc, ◌<◌, ◌==◌, ◌||◌, ◌&&◌, Bool, true, false, if◌then◌else◌, List, [], ◌∷◌, ◌++◌, Option, Some, None, inl, inr, refl, sym, ap, ap₂, ◌∙◌, codes, eqb-true, arith}
+use Rattle.std.proofs.Common.{◌≡◌, ℕ, zero, suc, ◌&&◌, Bool, true, false, if◌then◌else◌, List, [], ◌∷◌, Option, Some, None, inl, inr, refl}
 use Rattle.std.specs.List.{list_all}
 use Rattle.gx_base.specs.declared.place.Place.{Place}
-use Rattle.gx_grammar.specs.Grammar.{token, empty, ◌&◌, keyed, choose, many, rule, made}
-use Rattle.gx_grammar.specs.Opening.{open_token, open_first, open_second, open_key, open_made}
-use Rattle.gx_grammar.specs.Laws.{LawfulTokens}
+use Rattle.gx_grammar.specs.Grammar.{token, empty, choose, rule}
+use Rattle.gx_grammar.specs.Opening.{open_token, open_first, open_key, open_made}
 use Rattle.gx_grammar.specs.Levels.{takes_some, AreTakings}
-use Rattle.gx_grammar.specs.First.{by_character, IsIn, AllOf, first_of, first_behind, head_passes, HasHead, AreApart, Stands, AreFronts, IsSorted, CharacterChooses, TokensChoose}
-use Rattle.gx_grammar.specs.Apart.{Shape, HasShape, all_apart, is, shape_begins, words_begin}
+use Rattle.gx_grammar.specs.First.{by_character, IsIn, AllOf, first_of, first_behind, HasHead, AreApart, AreFronts, IsSorted, TokensChoose}
+use Rattle.gx_grammar.specs.Apart.{all_apart, is, shape_begins, words_begin}
 use Rattle.std.proofs.lemmas.Bool.{and_parts}
-use Rattle.gx_grammar.proofs.PublicLaws.{apart_by_heads, character_chooses, computed_apart, computed_heads, computed_words, sorted_readable, tokens_choose, tokens_repeat}
+use Rattle.gx_grammar.proofs.PublicLaws.{apart_by_heads, avoided_choose, character_chooses, computed_apart, computed_heads, computed_words, tokens_choose, tokens_repeat}
 use Rattle.gx_syntax.specs.declared.word.Barrier.TheVariants as barrier
-use Rattle.gx_syntax.specs.declared.word.Word.{Word}
 use Rattle.gx_syntax.specs.declared.word.Word.TheVariants as word
 use Rattle.gx_syntax.specs.declared.word.Level.{Level}
 use Rattle.gx_syntax.specs.declared.word.Level.TheVariants as level
 use Rattle.gx_syntax.specs.declared.word.WordSet.{WordSet}
 use Rattle.gx_syntax.specs.declared.word.WordSet.TheVariants as set
 use Rattle.gx_base.specs.NameCharacters.{is_ncname_start}
-use Rattle.gx_syntax.specs.Characters.{is_digit, is_word_character}
-use Rattle.gx_grammar.specs.Value.{nothing}
-use Rattle.gx_syntax.specs.Nodes.{Node, Made, Join, join_binary, join_path, join_comma, second_value}
+use Rattle.gx_syntax.specs.Characters.{is_word_character}
+use Rattle.gx_syntax.specs.Nodes.{Made, Join, join_binary, join_path, join_comma, second_value}
 use Rattle.gx_syntax.specs.declared.word.Barrier.{Barrier}
-use Rattle.gx_syntax.specs.Tokens.{Token, one_of, qname, number, number_end, gap, gap_then_open, gap_not_open, gap_then_dollar, barred, begins_sign, shape_of, takes, derives, faults, constructor}
-use Rattle.gx_syntax.specs.Grammar.{Production, single, within, nested, behind, Phrase, lexeme, word_of, at_tokens, is_single, level_at, is_name, is_reserved, keyword, operator, infix_operator, more, stop, chain, two, expression, numeral, literal, name, variable_step, dots, parenthesised_step, more_arguments, arguments_in, arguments, after_name, after_axis, step_of, behind_plain_name, behind_any_name, test_or_literal, other_step, step, predicate, more_predicates, filtered_step, path_from, more_signs, signed_path, other_operand, ladder, condition, typeswitch, branched, branched_or_name, begun, behind_keyword, opened_or_name, named_single, rules, behind_single, query_language, computed, braced, constructor_name, named_node, no_node, constructed, constructed_by}
+use Rattle.gx_syntax.specs.Tokens.{Token, one_of, qname, number, gap_then_open, gap_not_open, gap_then_dollar, barred, begins_sign, shape_of, constructor}
+use Rattle.gx_syntax.specs.Grammar.{Production, single, within, nested, behind, Phrase, word_of, is_single, level_at, is_reserved, keyword, operator, infix_operator, more, stop, chain, two, expression, numeral, literal, name, variable_step, dots, parenthesised_step, more_arguments, arguments_in, arguments, after_name, after_axis, step_of, behind_plain_name, behind_any_name, test_or_literal, other_step, step, predicate, more_predicates, filtered_step, path_from, more_signs, signed_path, other_operand, ladder, condition, typeswitch, branched, branched_or_name, begun, behind_keyword, opened_or_name, named_single, rules, behind_single, query_language, computed, braced, constructor_name, named_node, no_node, constructed, constructed_by}
 use Rattle.gx_syntax.specs.Casts.{casts, type_test, cast_test, casts_fit, behind_cast}
 use Rattle.gx_syntax.specs.Fronts.{fronts}
 use Rattle.gx_syntax.specs.declared.word.Opening.{Opening}
@@ -31,7 +28,6 @@ use Rattle.gx_syntax.specs.declared.word.Opening.TheVariants as opening_is
 use Rattle.gx_syntax.specs.Binding.{opening_named, opened, flwor, quantified}
 use Rattle.gx_syntax.proofs.Tokens.{tokens_taken}
 use Rattle.gx_syntax.proofs.Shapes.{lawful, shaped}
-use Rattle.gx_grammar.proofs.ByTokens.{avoided_choose}
 use Rattle.gx_syntax.proofs.NoConstructor.{constructors_avoided}
 use Rattle.gx_syntax.specs.Computed.{computed_named, node_named}
 use Rattle.gx_syntax.specs.declared.word.ComputedNode.{ComputedNode}

@@ -11,7 +11,7 @@ use Rattle.gx_syntax.specs.declared.runs.Run.TheVariants as run
 use Rattle.gx_syntax.specs.Tokens.{Token, text_run, reference, shape_of}
 use Rattle.gx_syntax.specs.Grammar.{Phrase, word_of, query_language}
 use Rattle.gx_syntax.specs.Fronts.{fronts}
-use Rattle.gx_syntax.specs.Strings.{opening_of, closing_of, doubled_of, string_part, string_parts, quoted, string_of}
+use Rattle.gx_syntax.specs.Strings.{closing_of, doubled_of, string_part, string_parts, quoted, string_of}
 use Rattle.gx_syntax.proofs.Shapes.{lawful, shaped}
 
 module _ (at : ℕ → Place) (right : AreFronts (query_language at) (fronts at)) where

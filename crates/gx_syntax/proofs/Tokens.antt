@@ -1,17 +1,15 @@
 -- The tokens keep their laws, and how they look.
-use Rattle.std.proofs.Common.{◌≡◌, ◌≢◌, ℕ, zero, suc, ◌<◌, ◌≤◌, ◌==◌, ◌||◌, ◌&&◌, Bool, true, false, if◌then◌else◌, List, [], ◌∷◌, ◌++◌, ◌⊎◌, inl, inr, length, length-append, refl, sym, ap, subst, ◌∙◌, Option, Some, None, eqb-true, codes, arith}
-use Rattle.gx_base.specs.declared.place.Place.{Place}
+use Rattle.std.proofs.Common.{◌≡◌, ℕ, ◌<◌, ◌≤◌, ◌==◌, ◌||◌, ◌&&◌, Bool, true, false, List, [], ◌∷◌, ◌++◌, ◌⊎◌, inl, inr, length, length-append, refl, sym, ap, subst, ◌∙◌, Option, Some, None, eqb-true, arith}
 use Rattle.gx_base.specs.WhiteSpace.{is_white_space}
-use Rattle.gx_grammar.specs.Value.{Value, nothing, characters, node, pair}
-use Rattle.gx_grammar.specs.First.{Stands, head_passes}
-use Rattle.gx_grammar.specs.Tokens.{LawfulToken, no_fault, IsWord, IsNamed, IsRun, IsFrontOf, all_pass, opens_name, opens_run, scan_word, seen_name, seen_run, seen_word}
-use Rattle.gx_grammar.specs.Gaps.{Gap, gap_ends, gap_white, comment_begins, OpensGap, opens_end, opens_paren, opens_white, opens_begin, seen_gap}
-use Rattle.gx_grammar.specs.Words.{Entry, IsOneOf, OpensOneOf, scan_one_of, seen_one_of, spellings}
-use Rattle.gx_grammar.specs.Joined.{Tells}
-use Rattle.gx_grammar.specs.Fitting.{Never, scan_never, fault_of, fault_where}
-use Rattle.gx_grammar.specs.Apart.{Spells, OpensWord, all_words_apart, is}
+use Rattle.gx_grammar.specs.Value.{nothing, characters, node, pair}
+use Rattle.gx_grammar.specs.First.{head_passes}
+use Rattle.gx_grammar.specs.Tokens.{LawfulToken, no_fault, IsWord, IsNamed, IsFrontOf, all_pass, opens_name, opens_run, scan_word, seen_name, seen_run, seen_word}
+use Rattle.gx_grammar.specs.Gaps.{OpensGap, seen_gap}
+use Rattle.gx_grammar.specs.Words.{IsOneOf, OpensOneOf, scan_one_of, seen_one_of, spellings}
+use Rattle.gx_grammar.specs.Fitting.{Never, scan_never, fault_where}
+use Rattle.gx_grammar.specs.Apart.{all_words_apart, is}
 use Rattle.std.proofs.lemmas.Bool.{and_parts}
-use Rattle.gx_grammar.proofs.PublicLaws.{fitting_firm, head_cut, lawful_barred, lawful_either, lawful_fitting, lawful_gap, lawful_joined, lawful_name, lawful_one_of, lawful_optional, lawful_run, lawful_stop, lawful_walk, lawful_word, one_of_opened, one_of_opening, one_of_spells}
+use Rattle.gx_grammar.proofs.PublicLaws.{fitting_firm, head_cut, lawful_barred, lawful_either, lawful_fitting, lawful_gap, lawful_joined, lawful_name, lawful_one_of, lawful_optional, lawful_run, lawful_stop, lawful_walk, lawful_word}
 use Rattle.gx_syntax.specs.declared.word.Word.{Word}
 use Rattle.gx_syntax.specs.declared.word.Word.TheVariants as word
 use Rattle.gx_syntax.specs.declared.word.Level.TheVariants as level
@@ -19,11 +17,10 @@ use Rattle.gx_syntax.specs.declared.word.WordSet.{WordSet}
 use Rattle.gx_syntax.specs.declared.word.WordSet.TheVariants as set
 use Rattle.gx_base.specs.NameCharacters.{is_ncname_start, is_ncname_character, is_xml_character}
 use Rattle.gx_syntax.specs.Characters.{is_digit, no_character}
-use Rattle.gx_syntax.specs.Words.{letters_of, ends_at, ending_of, spelling_of, words_of}
+use Rattle.gx_syntax.specs.Words.{letters_of, ends_at, ending_of, words_of}
 use Rattle.gx_syntax.specs.Nodes.{Node, Made, Found}
-use Rattle.gx_syntax.specs.Numeral.{together, IsDigits, scan_digits, IsFraction, scan_fraction, starts_point, HasFraction, scan_with_fraction, IsPointed, OpensNumeral, scan_pointed, seen_numeral, has_digit, is_small, IsLiteral, scan_literal, IsNumeral, scan_numeral}
-use Rattle.gx_syntax.specs.declared.word.Barrier.{Barrier}
-use Rattle.gx_syntax.specs.Tokens.{Token, one_of, qname, number, number_end, gap, gap_then_open, gap_not_open, barred, indication, entry_of, entries, IsNCName, scan_ncname, behind_colon, IsColon, scan_colon, OpensColon, IsLocalPart, OpensLocalPart, scan_local_part, seen_local_part, starts_local_part, HasLocalPart, scan_has_local_part, IsQName, OpensQName, no_value, IsGapHere, scan_gap_here, IsParenthesis, scan_parenthesis, OpensParenthesis, scan_no_parenthesis, OpensNothing, indicators, first_of_two, IsIndicator, OpensIndicator, scan_indicator, seen_indicator, stops_type, IsNoIndicator, scan_no_indicator, begins_at, barrier_fault, limit_code, number_code, derives, opens, scan, seen, faults, takes, begins_gap, begins_number, text_run, reference, white, blank, no_attribute, no_element, tag_open, element_fault, tag_name, cdata_text, ncname, local_wildcard, wildcard_letters, IsLocalWildcard, scan_local_wildcard, starts_local_wildcard, no_characters, begins_attribute, cdata_value, cdata_walk, entity_words, gap_then_dollar, gap_then_neither, barred_words, IsDollar, scan_dollar, OpensDollar, stops_name, IsNeither, scan_neither, word_fault, leading, second_of_two, IsGapWith, OpensGapWith, scan_gap_with, seen_gap_with, IsTheWord, OpensTheWord, scan_the_word}
+use Rattle.gx_syntax.specs.Numeral.{together, IsDigits, scan_digits, IsFraction, scan_fraction, starts_point, HasFraction, scan_with_fraction, IsPointed, OpensNumeral, scan_pointed, seen_numeral, has_digit, is_small, IsLiteral, scan_literal}
+use Rattle.gx_syntax.specs.Tokens.{Token, one_of, qname, number, number_end, gap, gap_then_open, gap_not_open, barred, indication, entries, IsNCName, scan_ncname, behind_colon, IsColon, scan_colon, OpensColon, IsLocalPart, OpensLocalPart, scan_local_part, seen_local_part, starts_local_part, HasLocalPart, scan_has_local_part, IsQName, OpensQName, no_value, IsGapHere, scan_gap_here, IsParenthesis, scan_parenthesis, OpensParenthesis, scan_no_parenthesis, OpensNothing, indicators, first_of_two, IsIndicator, OpensIndicator, scan_indicator, seen_indicator, stops_type, IsNoIndicator, scan_no_indicator, barrier_fault, limit_code, number_code, derives, opens, scan, seen, faults, takes, begins_number, text_run, reference, white, blank, no_attribute, no_element, tag_open, element_fault, tag_name, cdata_text, ncname, local_wildcard, wildcard_letters, IsLocalWildcard, scan_local_wildcard, starts_local_wildcard, no_characters, begins_attribute, cdata_value, cdata_walk, entity_words, gap_then_dollar, gap_then_neither, barred_words, IsDollar, scan_dollar, OpensDollar, stops_name, IsNeither, scan_neither, word_fault, leading, second_of_two, IsGapWith, OpensGapWith, scan_gap_with, seen_gap_with, IsTheWord, OpensTheWord, scan_the_word}
 use Rattle.gx_syntax.specs.References.{is_text, text_value}
 use Rattle.gx_syntax.proofs.ReferenceTokens.{reference_lawful, number_shorter}
 use Rattle.gx_syntax.specs.Tokens.{scan_qname, seen_qname, constructor, no_constructor, IsBrace, OpensBrace, scan_brace, IsGapBrace, OpensGapBrace, scan_gap_brace, seen_gap_brace, IsConstructor, OpensConstructor, scan_constructor, seen_constructor, front_of_two, word_end, starts_fraction, OpensPoint}

@@ -1,10 +1,10 @@
 -- The guards of sequence types decide.
-use Rattle.std.proofs.Common.{◌≡◌, ◌≢◌, ◌==◌, ℕ, Bool, true, false, List, [], ◌∷◌, ◌++◌, ◌⊎◌, inl, inr, refl, sym, ap, ◌∙◌}
+use Rattle.std.proofs.Common.{◌≡◌, ◌==◌, ℕ, true, false, List, [], ◌∷◌, ◌++◌, ◌⊎◌, inl, inr, refl, sym, ap, ◌∙◌}
 use Rattle.gx_base.specs.declared.place.Place.{Place}
-use Rattle.gx_grammar.specs.Grammar.{token, empty, ◌&◌, choose, made}
+use Rattle.gx_grammar.specs.Grammar.{empty}
 use Rattle.gx_grammar.specs.Opening.{Opens, open_token, open_first, open_made}
 use Rattle.gx_grammar.specs.Levels.{takes_some}
-use Rattle.gx_grammar.specs.First.{IsIn, AllOf, first_of, head_passes, HasHead, AreApart, Stands, AreFronts, IsSorted}
+use Rattle.gx_grammar.specs.First.{IsIn, AllOf, first_of, head_passes, AreApart, Stands, AreFronts, IsSorted}
 use Rattle.gx_grammar.specs.Tokens.{IsFrontOf}
 use Rattle.gx_grammar.specs.Words.{IsOneOf, OpensOneOf}
 use Rattle.gx_grammar.specs.Apart.{all_apart, is}
@@ -16,7 +16,7 @@ use Rattle.gx_syntax.specs.declared.kind_words.TypeWord.{TypeWord}
 use Rattle.gx_syntax.specs.declared.kind_words.TypeWord.TheVariants as type_word_is
 use Rattle.gx_base.specs.NameCharacters.{is_ncname_start}
 use Rattle.gx_syntax.specs.Nodes.{Node, Made}
-use Rattle.gx_syntax.specs.Tokens.{Token, qname, indication, indicators, IsIndicator, OpensIndicator, stops_type, shape_of, derives, opens, faults}
+use Rattle.gx_syntax.specs.Tokens.{Token, qname, indication, indicators, OpensIndicator, stops_type, shape_of, derives, opens, faults}
 use Rattle.gx_syntax.specs.Grammar.{Phrase, word_of, name, query_language}
 use Rattle.gx_syntax.specs.Types.{type_word, written_name, tested_name, behind_comma, tested, declared, nothing_inside, document_test, document, content, named_content, declared_content, bare_tail, item_tail, empty_tail, type_tail, behind_type, sequence_type, single_type}
 use Rattle.gx_syntax.specs.Fronts.{fronts}

@@ -1,7 +1,7 @@
 -- The guards of typeswitches decide.
-use Rattle.std.proofs.Common.{◌≡◌, ℕ, zero, suc, Bool, true, false, List, [], ◌∷◌, ◌++◌, inl, inr, refl}
+use Rattle.std.proofs.Common.{◌≡◌, ℕ, zero, suc, true, List, [], ◌∷◌, inl, inr, refl}
 use Rattle.gx_base.specs.declared.place.Place.{Place}
-use Rattle.gx_grammar.specs.Grammar.{token, empty, rule}
+use Rattle.gx_grammar.specs.Grammar.{empty}
 use Rattle.gx_grammar.specs.Opening.{open_token, open_first, open_made}
 use Rattle.gx_grammar.specs.First.{IsIn, AllOf, AreApart, AreFronts, IsSorted}
 use Rattle.gx_grammar.specs.Apart.{all_apart}

@@ -1,24 +1,18 @@
 -- What the reading of a whole text says of it.
-use Rattle.std.proofs.Common.{◌≡◌, ◌≢◌, ◌∷◌, Option, Some, None, ℕ, zero, suc, ◌+◌, ◌≤◌, ◌<◌, true, List, [], length, Result, Ok, Err, IfOk, IfErr, refl, sym, ap, subst, ◌∙◌, arith, ◌⊎◌, inl, inr, encode_utf8_all}
-use Rattle.std.specs.Str.{all_scalars, chars, IsUtf8, IsValidUpTo}
-use Rattle.std.proofs.lemmas.Str.{chars-encodes, length-le-encodes}
+use Rattle.std.proofs.Common.{◌≡◌, ℕ, zero, suc, ◌+◌, ◌≤◌, List, length, refl, sym, ap, subst, ◌∙◌, arith}
+use Rattle.std.specs.Str.{chars, IsUtf8, IsValidUpTo}
+use Rattle.std.proofs.lemmas.Str.{chars-encodes}
 use Rattle.std.proofs.lemmas.List.{take_all}
-use Rattle.gx_base.specs.declared.place.Place.{Place}
 use Rattle.gx_ast.specs.declared.query.Query.{Query}
 use Rattle.gx_grammar.specs.Value.{node}
-use Rattle.gx_grammar.specs.Text.{AtEnd, Nowhere, IsVerdict, read_text, whole_only, with_rest}
-use Rattle.gx_grammar.specs.Ran.{Standing, Going, GaveUp, Lost, Ran}
-use Rattle.gx_grammar.specs.Reading.{Refusal, Unfit, Faulty, TooDeep, Reading, start}
-use Rattle.gx_grammar.proofs.PublicLaws.{exact_text, never_too_deep, same_verdict, unique}
+use Rattle.gx_grammar.specs.Text.{AtEnd, Nowhere, IsVerdict, read_text}
+use Rattle.gx_grammar.proofs.PublicLaws.{exact_text, never_too_deep, unique}
 use Rattle.gx_syntax.specs.Levels.{more_than}
 use Rattle.gx_syntax.specs.Fronts.{fronts}
-use Rattle.gx_syntax.specs.declared.refusal.SyntaxRule.TheVariants.{NotUtf8, Syntax, TooNested, LiteralTooLarge, BadReference}
-use Rattle.gx_syntax.specs.declared.refusal.SyntaxRefusal.{SyntaxRefusal}
-use Rattle.gx_syntax.specs.declared.refusal.SyntaxRefusal.TheVariants.{Refused as RefusedBy, Memory}
-use Rattle.gx_syntax.specs.Nodes.{Made, Whole}
+use Rattle.gx_syntax.specs.Nodes.{Whole}
 use Rattle.gx_syntax.specs.Grammar.{query_language, place_in}
 use Rattle.gx_syntax.specs.Prolog.{query}
-use Rattle.gx_syntax.specs.Query.{IsQuery, IsText, Parses, parsed, RefusesText, RefusesBytes}
+use Rattle.gx_syntax.specs.Query.{IsQuery, IsText}
 use Rattle.gx_syntax.proofs.PrologSorted.{readable}
 use Rattle.gx_syntax.proofs.Ranks.{levelled}
 use Rattle.gx_syntax.proofs.PrologRanks.{query_ranks}

@@ -4,10 +4,9 @@
 --   Let ::= "let" Given ("," Given)*          Given ::= Var As? ":=" Single
 --   Some ::= ("some" | "every") In ("," In)* "satisfies" Single          In ::= Var As? "in" Single
 -- A FLWOR has at most 64 of the clauses `for` and `let`, and each of them, `some` and `every` at most 64 bindings.
-use Rattle.std.specs.Prelude.{ℕ, zero, suc, ◌+◌, List, [], ◌∷◌, ◌&&◌, codes, Bool, true, false, Option, Some, None, if◌then◌else◌}
+use Rattle.std.specs.Prelude.{ℕ, zero, suc, ◌+◌, [], ◌∷◌, ◌&&◌, codes, Bool, true, false, Option, Some, None, if◌then◌else◌}
 use Rattle.gx_base.specs.declared.place.Place.{Place}
-use Rattle.gx_ast.specs.SyntaxTree.{SyntaxTree, Bindings, Clauses, at as located, flwor as flwor_form, quantified as quantified_form, no_binding, a_binding, no_clause, for_clause, let_clause, where_clause}
-use Rattle.gx_ast.specs.declared.sequence_type.BoundVariable.{BoundVariable}
+use Rattle.gx_ast.specs.SyntaxTree.{Bindings, Clauses, at as located, flwor as flwor_form, quantified as quantified_form, no_binding, a_binding, no_clause, for_clause, let_clause, where_clause}
 use Rattle.gx_grammar.specs.Value.{nothing, node, pair}
 use Rattle.gx_grammar.specs.Grammar.{token, empty, ◌&◌, keyed, choose, rule, made}
 use Rattle.gx_syntax.specs.declared.word.Word.TheVariants as word
@@ -20,7 +19,7 @@ use Rattle.gx_syntax.specs.declared.word.Binder.{Binder}
 use Rattle.gx_syntax.specs.declared.word.Binder.TheVariants as binder
 use Rattle.gx_syntax.specs.Words.{clause_word_of, binder_in, binding_word, is_keyword}
 use Rattle.gx_syntax.specs.Nodes.{Made, Tree, Found, MaybeBound, MaybeType, Binds, BindingClause, WhereClause, second_value, name_length, tree}
-use Rattle.gx_syntax.specs.Tokens.{Token, one_of, gap, gap_then_dollar, barred_words}
+use Rattle.gx_syntax.specs.Tokens.{one_of, gap, gap_then_dollar, barred_words}
 use Rattle.gx_syntax.specs.Basics.{Phrase, single, word_of, lexeme, word_gap, keyword, at_tokens, is_name}
 use Rattle.gx_syntax.specs.Types.{written_name}
 use Rattle.gx_syntax.specs.Bound.{bound_value, position_made, bound, bound_type, position}

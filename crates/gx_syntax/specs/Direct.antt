@@ -24,7 +24,7 @@ use Rattle.gx_syntax.specs.Nodes.{Made, Tree, Name, PieceOf, ValueIs, AttributeI
 use Rattle.gx_base.specs.NameCharacters.{is_ncname_start}
 use Rattle.gx_syntax.specs.References.{quote_of}
 use Rattle.gx_syntax.specs.Tokens.{Token, text_run, reference, gap, qname, white, blank, no_attribute as no_more, no_element, tag_name, cdata_text}
-use Rattle.gx_syntax.specs.Basics.{Production, within, nested, Phrase, word_of, at_tokens, name}
+use Rattle.gx_syntax.specs.Basics.{within, nested, Phrase, word_of, at_tokens, name}
 use Rattle.gx_syntax.specs.Strings.{opening_of, closing_of, doubled_of}
 
 -- the characters of a name as it is written

@@ -12,27 +12,24 @@
 --   Step ::= Literal | "$" QName | "(" Expr? ")" | "." | ".." | Forward | QName "(" (Single ("," Single)*)? ")" | Direct
 -- A Single, and a direct element in the content of another, stands inside at most 39 Singles and direct elements; each chain
 -- has at most 64 members, and each step at most 64 predicates.
-use Rattle.std.specs.Prelude.{ℕ, zero, suc, ◌+◌, ◌-◌, List, [], ◌∷◌, ◌==◌, ◌&&◌, ◌||◌, Bool, true, false, Option, Some, None, if◌then◌else◌, length, codes, nat_eq}
-use Rattle.std.specs.Cmp.Lexicographic.{pointwise}
+use Rattle.std.specs.Prelude.{ℕ, zero, suc, ◌+◌, ◌-◌, List, [], ◌∷◌, ◌||◌, Bool, true, false, Option, Some, None, if◌then◌else◌, length, codes}
 use Rattle.gx_base.specs.declared.place.Place.{Place}
 use Rattle.gx_ast.specs.declared.name.Axis.{Axis}
 use Rattle.gx_ast.specs.declared.name.QName.{QName}
 use Rattle.gx_ast.specs.SyntaxTree.{at as located, call}
-use Rattle.gx_grammar.specs.Grammar.{Grammar, Guard, token, empty, ◌&◌, keyed, choose, many, rule, made}
-use Rattle.gx_grammar.specs.Value.{Value, nothing, characters, node, pair}
+use Rattle.gx_grammar.specs.Grammar.{token, empty, ◌&◌, keyed, choose, many, rule, made}
+use Rattle.gx_grammar.specs.Value.{node, pair}
 use Rattle.gx_grammar.specs.Language.{Language}
-use Rattle.gx_grammar.specs.First.{EndsOrStarts, BeginsWith, by_character, by_tokens}
+use Rattle.gx_grammar.specs.First.{EndsOrStarts, BeginsWith, by_character}
 use Rattle.gx_grammar.specs.Apart.{is}
 use Rattle.gx_grammar.specs.Places.{place_at}
 use Rattle.gx_syntax.specs.declared.word.Barrier.TheVariants as barrier
-use Rattle.gx_syntax.specs.declared.word.Word.{Word}
 use Rattle.gx_syntax.specs.declared.word.Word.TheVariants as word
 use Rattle.gx_syntax.specs.declared.word.Level.{Level}
 use Rattle.gx_syntax.specs.declared.word.Level.TheVariants as level
 use Rattle.gx_syntax.specs.declared.word.WordSet.{WordSet}
 use Rattle.gx_syntax.specs.declared.word.WordSet.TheVariants as set
 use Rattle.gx_base.specs.NameCharacters.{is_ncname_start}
-use Rattle.gx_syntax.specs.Characters.{is_digit}
 use Rattle.gx_syntax.specs.declared.word.Barrier.{Barrier}
 use Rattle.gx_syntax.specs.Tokens.{Token, one_of, qname, number, number_end, gap, gap_then_open, gap_not_open, barred, gap_then_dollar, gap_then_neither, barred_words, no_element, reference, text_run, derives, opens, scan, seen, faults, constructor, no_constructor}
 pub use Rattle.gx_syntax.specs.Basics.{Production, single, within, nested, Phrase, lexeme, word_of, at_tokens, is_name}
@@ -52,7 +49,7 @@ use Rattle.gx_syntax.specs.Strings.{string_of}
 use Rattle.gx_syntax.specs.Direct.{start_of, element_at, direct_step}
 use Rattle.gx_syntax.specs.Types.{kind_word}
 use Rattle.gx_syntax.specs.NodeTests.{axis_word, test_of, step_tree, wildcard_or, any_step, axis_test, attribute_step, wildcard_step, kind_content}
-use Rattle.gx_syntax.specs.Nodes.{Node, Made, Arguments, Constructs, Content, Test, predicate_value, filtered_value, Join, join_binary, join_path, join_comma, first_value, second_value, operator_value, chain_value, signed_value, number_value, name_at, name_length, name_value, variable_value, arguments_value, named_value, dots_value, parenthesised_value, condition_value, tree}
+use Rattle.gx_syntax.specs.Nodes.{Node, Made, Arguments, Constructs, Content, Test, predicate_value, filtered_value, Join, join_binary, join_path, join_comma, second_value, chain_value, signed_value, number_value, name_at, name_length, variable_value, arguments_value, named_value, dots_value, parenthesised_value, condition_value, tree}
 
 -- an operand stands beside at most one other
 abbrev pub is_single : Level → Bool

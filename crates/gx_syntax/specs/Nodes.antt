@@ -1,5 +1,5 @@
 -- What the parts of the grammar make.
-use Rattle.std.specs.Prelude.{ℕ, List, [], ◌∷◌, ◌+◌, length, Bool, true, false, None, Option}
+use Rattle.std.specs.Prelude.{ℕ, List, [], ◌+◌, length, Bool, true, false, None, Option}
 use Rattle.gx_base.specs.declared.place.Place.{Place}
 use Rattle.gx_ast.specs.declared.name.QName.{QName}
 use Rattle.gx_ast.specs.declared.name.Variable.{Variable}
@@ -26,7 +26,7 @@ use Rattle.gx_ast.specs.declared.query.Query.{Query}
 use Rattle.gx_ast.specs.declared.expression.BinaryOperator.{BinaryOperator}
 use Rattle.gx_ast.specs.declared.expression.BinaryOperator.TheVariants as binary_operator
 use Rattle.gx_ast.specs.SyntaxTree.{SyntaxTree, SyntaxForm, SyntaxTrees, Bindings, Attributes, AttributeParts, Parts, at, number, variable, parenthesised, empty_sequence, context_item, call, comma, conditional, binary, signed, path, axis_step, parent_step, filtered, no_tree, a_tree}
-use Rattle.gx_grammar.specs.Value.{Value, nothing, characters, node, pair, no_item, an_item}
+use Rattle.gx_grammar.specs.Value.{Value, nothing, characters, node, pair, an_item}
 use Rattle.gx_syntax.specs.declared.word.Word.{Word}
 use Rattle.gx_syntax.specs.declared.word.ClauseWord.{ClauseWord}
 use Rattle.gx_syntax.specs.declared.pieces.Piece.{Piece}

@@ -1,5 +1,5 @@
 -- Numeric literals: digits with at most one point among them, first or last or between.
-use Rattle.std.specs.Prelude.{ℕ, List, [], ◌∷◌, ◌++◌, ◌==◌, ◌||◌, Bool, true, false, Option, ℤ, pos, Result, Ok, Err, if◌then◌else◌, is_some}
+use Rattle.std.specs.Prelude.{ℕ, List, [], ◌∷◌, ◌++◌, ◌==◌, ◌||◌, Bool, true, false, Option, ℤ, pos, Result, Ok, Err, if◌then◌else◌}
 use Rattle.gx_num.specs.declared.Number.{Number}
 use Rattle.gx_num.specs.declared.Number.TheVariants.{Int, Dec}
 use Rattle.gx_num.specs.declared.NumRead.{NumRead}
@@ -8,7 +8,7 @@ use Rattle.gx_grammar.specs.Value.{Value, nothing, characters}
 use Rattle.gx_grammar.specs.Tokens.{IsRun, IsNamed, scan_run, scan_name, opens_run, opens_name, seen_run, seen_name}
 use Rattle.gx_grammar.specs.Joined.{AreJoined, OpensJoined, scan_joined, seen_joined, IsOptional, scan_optional}
 use Rattle.gx_grammar.specs.First.{head_passes}
-use Rattle.gx_grammar.specs.Fitting.{IsFitting, scan_fitting, fault_of}
+use Rattle.gx_grammar.specs.Fitting.{IsFitting, scan_fitting}
 use Rattle.gx_grammar.specs.Apart.{is}
 use Rattle.gx_syntax.specs.Characters.{is_digit, no_character}
 

@@ -8,23 +8,17 @@
 --   Second ::= "declare" "variable" Var As? (":=" Single | "external")
 --     | "declare" "function" QName "(" (Var As? ("," Var As?)*)? ")" As? "{" Expr "}"
 -- `xquery`, `declare` and `import` are names too: a declaration begins where one of the words for it stands behind.
-use Rattle.std.specs.Prelude.{ℕ, List, [], ◌∷◌, Bool, true, false, Option, Some, None}
+use Rattle.std.specs.Prelude.{ℕ, List, [], ◌∷◌, Bool, true, false, Some, None}
 use Rattle.gx_base.specs.declared.place.Place.{Place}
 use Rattle.gx_ast.specs.SyntaxTree.{at as located, empty_sequence}
 use Rattle.gx_ast.specs.declared.sequence_type.EmptyOrder.{EmptyOrder}
 use Rattle.gx_ast.specs.declared.sequence_type.EmptyOrder.TheVariants as empty_order
-use Rattle.gx_ast.specs.declared.query.Version.{Version}
-use Rattle.gx_ast.specs.declared.query.Prefix.{Prefix}
-use Rattle.gx_ast.specs.declared.query.SchemaPrefix.{SchemaPrefix}
 use Rattle.gx_ast.specs.declared.query.SchemaPrefix.TheVariants as schema_prefix_is
 use Rattle.gx_ast.specs.declared.query.Setting.{Setting}
-use Rattle.gx_ast.specs.declared.query.SettingNode.{SettingNode}
 use Rattle.gx_ast.specs.declared.query.SettingNode.TheVariants as sets
-use Rattle.gx_ast.specs.declared.query.Initialiser.{Initialiser}
 use Rattle.gx_ast.specs.declared.query.Initialiser.TheVariants as initial
 use Rattle.gx_ast.specs.declared.query.Parameter.{Parameter}
 use Rattle.gx_ast.specs.declared.query.Definition.{Definition}
-use Rattle.gx_ast.specs.declared.query.DefinitionNode.{DefinitionNode}
 use Rattle.gx_ast.specs.declared.query.DefinitionNode.TheVariants as defines
 use Rattle.gx_ast.specs.declared.query.Query.{Query}
 use Rattle.gx_grammar.specs.Value.{nothing, characters, node, pair, an_item}
@@ -40,7 +34,7 @@ use Rattle.gx_syntax.specs.declared.word.Definer.TheVariants as definer_is
 use Rattle.gx_syntax.specs.declared.runs.Quote.{Quote}
 use Rattle.gx_syntax.specs.declared.runs.Quote.TheVariants as quote
 use Rattle.gx_syntax.specs.Words.{setter_of, definer_of}
-use Rattle.gx_syntax.specs.Nodes.{Made, Tree, Found, MaybeName, Name, MaybeBound, MaybeType, Encoding, MaybeVersion, Prefixes, Imports, Says, Sets, Starts, Takes, Gives, Defines, Whole}
+use Rattle.gx_syntax.specs.Nodes.{Made, Tree, Found, Name, MaybeBound, MaybeType, Encoding, MaybeVersion, Prefixes, Imports, Says, Sets, Starts, Takes, Gives, Defines, Whole}
 use Rattle.gx_syntax.specs.Tokens.{one_of, ncname, gap, version_words, setter_words, import_words, definer_words}
 use Rattle.gx_syntax.specs.Basics.{Phrase, single, word_of, lexeme, at_tokens}
 use Rattle.gx_syntax.specs.Types.{written_name}

@@ -3,10 +3,9 @@ use Rattle.std.proofs.Common.{◌≡◌, ◌≢◌, ℕ, ◌<◌, Bool, true, fa
 use Rattle.gx_grammar.specs.Value.{nothing, characters}
 use Rattle.gx_grammar.specs.Laws.{LawfulTokens}
 use Rattle.gx_grammar.specs.First.{Stands, AreApart, head_passes}
-use Rattle.gx_grammar.specs.Tokens.{LawfulToken, IsWord, IsNamed, all_pass, opens_name}
-use Rattle.gx_grammar.specs.Apart.{HasShape, is}
+use Rattle.gx_grammar.specs.Tokens.{LawfulToken, IsFrontOf, IsWord, IsNamed, all_pass, opens_name}
+use Rattle.gx_grammar.specs.Apart.{HasShape, OpensWord, Spells, is}
 use Rattle.std.proofs.lemmas.Bool.{and_parts}
-use Rattle.gx_grammar.proofs.Apart.{word_shape}
 use Rattle.gx_grammar.proofs.PublicLaws.{lawful_gap, lawful_name, lawful_tokens, lawful_word}
 use Rattle.gx_base.specs.NameCharacters.{is_ncname_start, is_ncname_character, is_xml_character}
 use Rattle.gx_typetext.specs.Letters.{no_character, starts, goes, stops}
@@ -43,9 +42,13 @@ abbrev Stood : Token → List ℕ → Type 0
 Stood t x = Stands {Node = TypeTextNode} derives no_faults t x
 
 word_shaped : (t : Token) (word : List ℕ) (test : ℕ → Bool) → ((v : Made) (x y : List ℕ) → derives t v x y → IsWord nothing word test v x y)
-    → (x : List ℕ) → Stood t x → (y : List ℕ) × (x ≡ word ++ y) × (head_passes test y ≡ false)
-word_shaped t word test d x (inl s) = let w = d s.0 x s.1 s.2 in (s.1, w.spelled, w.ended)
+    → (x : List ℕ) → Stood t x → Spells (record { word = word; test = test } ∷ []) x
+word_shaped t word test d x (inl s) = let w = d s.0 x s.1 s.2 in inl (s.1, w.spelled, w.ended)
 word_shaped t word test d x (inr s) = absurd (let e = s.1 in cc e)
+
+word_opened : (word : List ℕ) (test : ℕ → Bool) (x : List ℕ) → OpensWord (record { word = word; test = test } ∷ []) x → IsFrontOf x word
+word_opened word test x (inl o) = o
+word_opened word test x (inr o) = absurd o
 
 name_shaped : (t : Token) (first test stop : ℕ → Bool) → ((v : Made) (x y : List ℕ) → derives t v x y → IsNamed characters first test stop v x y)
     → (x : List ℕ) → Stood t x → (x ≢ []) × (head_passes first x ≡ true)
@@ -57,8 +60,8 @@ name_opened first test [] o n = absurd (n refl)
 name_opened first test (c ∷ x) o n = o.0
 
 pub shaped : (t : Token) → HasShape type_texts t (token_shape t)
-shaped (symbol w) = word_shape type_texts (symbol w) w no_character (word_shaped (symbol w) w no_character (λ v x y d. d), (λ x o. o), (λ x o. o))
-shaped (keyword w) = word_shape type_texts (keyword w) w is_ncname_character (word_shaped (keyword w) w is_ncname_character (λ v x y d. d), (λ x o. o), (λ x o. o))
+shaped (symbol w) = (word_shaped (symbol w) w no_character (λ v x y d. d), (λ x o. inl o), word_opened w no_character)
+shaped (keyword w) = (word_shaped (keyword w) w is_ncname_character (λ v x y d. d), (λ x o. inl o), word_opened w is_ncname_character)
 shaped (named r) = (name_shaped (named r) (starts r) (goes r) (stops r) (λ v x y d. d), name_opened (starts r) (goes r))
 shaped gap = tt
 

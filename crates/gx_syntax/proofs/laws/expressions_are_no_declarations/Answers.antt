@@ -1,4 +1,3 @@
-use Rattle.gx_syntax.proofs.PrologSorted.{definition_sorted}
 use Rattle.gx_syntax.proofs.Ahead.{declarations_avoided}
 use Rattle.gx_syntax.proofs.laws.expressions_are_no_declarations.Goals as goal
 

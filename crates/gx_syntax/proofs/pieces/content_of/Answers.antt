@@ -1,4 +1,4 @@
-use Rattle.std.proofs.Common.{◌≡◌, List, [], sym, ap, ◌∙◌, map-id, rules}
+use Rattle.std.proofs.Common.{List, [], sym, ap, ◌∙◌, map-id, rules}
 use Rattle.std.proofs.lemmas.Iterator.Adapters.{YieldsList-from_vec}
 use Rattle.std.proofs.lemmas.Iterator.Consumers.{YieldsList-end}
 use Rattle.gx_ast.specs.declared.expression.Part.{Part}
