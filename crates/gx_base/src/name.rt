@@ -48,7 +48,7 @@ impl PartialEq for Name {
     ghost laws = { Prim.search (comparing, rules) };
 
     fn eq(&self, other: &Name) -> bool {
-        self.uri == other.uri && self.local == other.local
+        self.local == other.local && self.uri == other.uri
     }
 }
 
