@@ -5,6 +5,7 @@ pub mod ExpressionParts
 pub mod TypedView
 pub mod TypedParts
 pub mod Bindings
+pub mod Slots
 pub mod Invariant
 pub mod Outcome
 pub mod BinaryOperators

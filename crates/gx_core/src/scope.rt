@@ -1,23 +1,35 @@
 // The variables in scope, each with what is bound to it.
 
-ghost use Rattle.std.specs.Prelude.{◌≡◌, [], ◌∷◌, OnOk, OnErr, IfSome, IfNone, None, Some, option_copied, drop};
+ghost use Rattle.std.specs.Prelude.{◌≡◌, [], ◌∷◌, OnOk, OnErr, IfSome, IfNone, None, Some, option_copied, drop, get_or, length, ◌<◌, ℕ};
 ghost use Rattle.gx_core.specs.Bindings.{look_up};
 
 use std::alloc::{AllocError, Global};
 use std::marker::Model;
 
-/// What is bound to each variable in scope, which contracts see as a list of pairs with the innermost binding first.
+#[derive(Drop)]
+struct Binding<T> {
+    variable: u32,
+    hidden: Option<usize>,
+    bound: T,
+}
+
+/// What is bound to each variable in scope, which contracts see as a list of pairs with the innermost binding first. A
+/// variable is found by its number in constant time.
 #[derive(Drop)]
 pub struct Scope<T> {
-    bindings: Vec<(u32, T)>,
+    bindings: Vec<Binding<T>>,
+    innermost: Vec<Option<usize>>,
 }
 
 impl<T> Model for Scope<T> {
     ghost use Rattle.std.specs.Prelude.{List, ℕ, reverse};
+    ghost use Rattle.gx_core.specs.Slots.{HasSlots, pairs_of};
 
     ghost Value = { List (ℕ × T) };
 
-    ghost view = { λ s. reverse s.bindings.items };
+    ghost view = { λ s. pairs_of (reverse s.bindings.items) };
+
+    ghost invariant = { λ s. HasSlots s.innermost.items (reverse s.bindings.items) };
 }
 
 impl<T> Scope<T> {
@@ -27,6 +39,7 @@ impl<T> Scope<T> {
     {
         Scope {
             bindings: Vec::new(alloc),
+            innermost: Vec::new(alloc),
         }
     }
 
@@ -36,7 +49,16 @@ impl<T> Scope<T> {
         T: Drop,
         ensures { OnOk result (self.new ≡ (variable, bound) ∷ self.old) }
     {
-        self.bindings.push((variable, bound))?;
+        make_room(&mut self.innermost, variable)?;
+        let number = variable as usize;
+        let slot = self.bindings.len();
+        let hidden = self.innermost[number];
+        self.bindings.push(Binding {
+            variable,
+            hidden,
+            bound,
+        })?;
+        self.innermost[number] = Some(slot);
         Ok(())
     }
 
@@ -46,20 +68,40 @@ impl<T> Scope<T> {
         T: Drop,
         ensures { self.new ≡ drop 1 self.old }
     {
-        let _innermost = self.bindings.pop();
+        if let Some(ended) = self.bindings.pop() {
+            self.innermost[ended.variable as usize] = ended.hidden;
+        }
     }
 
     /// What is bound to a variable, innermost first.
     pub fn find(&self, variable: u32) -> Option<&T>
         ensures { option_copied result ≡ look_up self.now variable }
     {
-        let mut outer = self.bindings.as_slice();
-        while let Some((binding, rest)) = outer.split_last() {
-            if binding.0 == variable {
-                return Some(&binding.1);
-            }
-            outer = rest;
-        }
+        let slot = kept_slot(&self.innermost, variable)?;
+        Some(&self.bindings[slot].bound)
+    }
+}
+
+// Room for the slot of a variable.
+fn make_room(slots: &mut Vec<Option<usize>>, variable: u32) -> Result<(), AllocError>
+    ensures kept { (v : ℕ) → get_or slots.new.items v None ≡ get_or slots.old.items v None }
+    ensures room { OnOk result (variable < length slots.new.items) }
+{
+    let count = variable as usize + 1;
+    if slots.len() < count {
+        slots.resize(count, None)?;
+    }
+    Ok(())
+}
+
+// The slot that is kept for a variable.
+fn kept_slot(slots: &Vec<Option<usize>>, variable: u32) -> Option<usize>
+    ensures { result ≡ get_or slots.now.items variable None }
+{
+    let number = variable as usize;
+    if number < slots.len() {
+        slots[number]
+    } else {
         None
     }
 }
