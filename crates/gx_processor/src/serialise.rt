@@ -1,6 +1,6 @@
 // The writing of values.
 
-ghost use Rattle.std.specs.Prelude.{◌≡◌, IfOk, string_bytes, map};
+ghost use Rattle.std.specs.Prelude.{◌≡◌, IfOk, string_bytes};
 ghost use Rattle.gx_processor.specs.Serialisation.{serialised, serial_item, node_item};
 ghost use Rattle.gx_model.specs.Forest.{node_in};
 
@@ -10,30 +10,19 @@ use gx_model::copied::copied_tree;
 use gx_model::forest::Forest;
 use gx_model::item::{ItemForm, ModelItem};
 use gx_model::node::Node;
-use gx_serial::item::{SerialItem, answer_text};
+use gx_serial::item::{AnswerText, SerialItem};
 use std::alloc::{AllocError, Global};
 
 /// The text of a value, as the serialiser writes an answer (Serialization, section 2).
 pub fn serialise(alloc: Global, forest: &Forest, value: &[ModelItem]) -> Result<String, AllocError>
     ensures { IfOk result (λ text. string_bytes text ≡ serialised forest.now value.now) }
 {
-    let items = serial_items(alloc, forest, value)?;
-    let text = answer_text(alloc, items.as_slice())?;
-    Ok(text.into_string())
-}
-
-fn serial_items(
-    alloc: Global,
-    forest: &Forest,
-    value: &[ModelItem],
-) -> Result<Vec<SerialItem>, AllocError>
-    ensures { IfOk result (λ items. items.items ≡ map (serial_item forest.now) value.now) }
-{
-    let mut items = Vec::new(alloc);
+    let mut answer = AnswerText::new(alloc);
     for item in value {
-        items.push(serial_item(alloc, forest, item)?)?;
+        let item = serial_item(alloc, forest, item)?;
+        answer.add(alloc, &item)?;
     }
-    Ok(items)
+    Ok(answer.into_text().into_string())
 }
 
 fn serial_item(alloc: Global, forest: &Forest, item: &ModelItem) -> Result<SerialItem, AllocError>

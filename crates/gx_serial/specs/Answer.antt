@@ -22,3 +22,12 @@ answer_text (Tree t ∷ items) = spelled_markup (marked outermost_scope t) ++ an
 abbrev pub left_after : Bool → List SerialItem → List ℕ
 left_after true items = separator items ++ answer_text items
 left_after false items = answer_text items
+
+-- an answer of which some items are written: its text so far, and whether an atomic value stands last in it
+pub record PartialAnswer : Type 0 where
+  pub text : List ℕ
+  pub follows_value : Bool
+
+-- the text that it becomes with the items that come
+abbrev pub with_items : PartialAnswer → List SerialItem → List ℕ
+with_items answer items = answer.text ++ left_after answer.follows_value items

@@ -1,5 +1,5 @@
 -- Prefixes and the URIs that they are bound to (Namespaces in XML 1.0).
-use Rattle.std.specs.Prelude.{ℕ, zero, suc, ◌+◌, List, [], ◌∷◌, ◌++◌, length, Bool, false, not, ◌&&◌, bytes_eq, Option, Some, None, if◌then◌else◌, codes, decimal}
+use Rattle.std.specs.Prelude.{ℕ, zero, suc, ◌+◌, List, ◌++◌, length, Bool, false, not, ◌&&◌, bytes_eq, Option, Some, None, if◌then◌else◌, codes, decimal}
 use Rattle.std.specs.List.{list_any}
 pub use Rattle.gx_tree.specs.Binding.{Binding, last_of, bound_to, xml, xml_uri, xmlns, xmlns_uri, outermost_scope}
 

@@ -1,10 +1,12 @@
 // What is serialised.
-ghost use Rattle.std.specs.Prelude.{◌≡◌, ◌≤◌, List, ◌∷◌, ◌++◌, IfOk, OnOk, OnErr, IsErrOf};
+ghost use Rattle.std.specs.Prelude.{◌≡◌, ◌≤◌, List, [], ◌∷◌, ◌++◌, IfOk, OnOk, OnErr, IsErrOf};
 ghost use Rattle.std.specs.Str.{encode_utf8_all};
 ghost use Rattle.gx_io.specs.Faults.{Rose};
 ghost use Rattle.gx_io.specs.Put.{GrowsBy, GrowsByPrefix};
 ghost use Rattle.gx_serial.specs.declared.item.SerialItem.{SerialItem};
-ghost use Rattle.gx_serial.specs.Answer.{answer_text, left_after};
+ghost use Rattle.gx_serial.specs.Answer.{answer_text, with_items};
+ghost use Rattle.gx_serial.specs.Markup.{spelled_markup};
+ghost use Rattle.gx_serial.specs.Marked.{marked};
 ghost use Rattle.gx_serial.specs.Binding.{outermost_scope};
 
 use crate::binding::Bindings;
@@ -16,6 +18,7 @@ use gx_base::text_builder::TextBuilder;
 use gx_io::{PutError, Sink};
 use gx_tree::tree::Tree;
 use std::alloc::{AllocError, Global};
+use std::marker::Model;
 
 /// An item of an answer: the text of an atomic value, or a node with all that it holds. A node is no attribute.
 #[derive(Debug, Drop)]
@@ -45,54 +48,72 @@ pub fn serialise<S: Sink>(alloc: Global, items: &[SerialItem], sink: &mut S) -> 
 pub fn answer_text(alloc: Global, items: &[SerialItem]) -> Result<TextBuilder, AllocError>
     ensures { IfOk result (λ text. text ≡ answer_text items.now) }
 {
+    let mut answer = AnswerText::new(alloc);
+    for item in items {
+        answer.add(alloc, item)?;
+    }
+    Ok(answer.into_text())
+}
+
+/// The text of an answer to which items are added one after another.
+#[derive(Drop)]
+pub struct AnswerText {
+    text: TextBuilder,
+    follows_value: bool,
+}
+
+impl Model for AnswerText {
+    ghost use Rattle.gx_serial.specs.Answer.{PartialAnswer};
+
+    ghost Value = { PartialAnswer };
+
+    ghost view = { λ a. record { text = a.text; follows_value = a.follows_value } };
+}
+
+impl AnswerText {
+    /// The answer without items.
+    pub fn new(alloc: Global) -> AnswerText
+        ensures { (items : List SerialItem) → with_items result items ≡ answer_text items }
+    {
+        AnswerText {
+            text: TextBuilder::new(alloc),
+            follows_value: false,
+        }
+    }
+
+    /// Adds an item, with a space before an atomic value that follows another one.
+    pub fn add(&mut self, alloc: Global, item: &SerialItem) -> Result<(), AllocError>
+        ensures { OnOk result ((rest : List SerialItem) → with_items self.new rest ≡ with_items self.old (item.now ∷ rest)) }
+    {
+        match item {
+            SerialItem::Text(text) => {
+                if self.follows_value {
+                    self.text.push(' ')?;
+                }
+                self.follows_value = true;
+                push_text(&mut self.text, text)
+            }
+            SerialItem::Tree(tree) => {
+                self.follows_value = false;
+                push_outermost(alloc, &mut self.text, tree)
+            }
+        }
+    }
+
+    /// The text of the items that were added.
+    pub fn into_text(self) -> TextBuilder
+        ensures { result ≡ with_items self [] }
+    {
+        self.text
+    }
+}
+
+// Adds a tree that stands in no element.
+fn push_outermost(alloc: Global, out: &mut TextBuilder, tree: &Tree) -> Result<(), AllocError>
+    ensures { OnOk result (out.new ≡ out.old ++ spelled_markup (marked outermost_scope tree.now)) }
+{
     let none = Text::empty(alloc)?;
     let mut scope = Bindings::new(alloc);
     scope.push(&none, &none)?;
-    let mut out = TextBuilder::new(alloc);
-    push_items(alloc, &mut out, &mut scope, items)?;
-    Ok(out)
-}
-
-fn push_items<'a>(
-    alloc: Global,
-    out: &mut TextBuilder,
-    scope: &mut Bindings<'a>,
-    items: &'a [SerialItem],
-) -> Result<(), AllocError>
-    requires { scope.old ≡ outermost_scope }
-    ensures { OnOk result (out.new ≡ out.old ++ answer_text items.now) }
-{
-    let mut follows_value = false;
-    for item in items {
-        follows_value = push_item(alloc, out, scope, follows_value, item)?;
-    }
-    Ok(())
-}
-
-// Adds an item, and says whether it is an atomic value.
-fn push_item<'a>(
-    alloc: Global,
-    out: &mut TextBuilder,
-    scope: &mut Bindings<'a>,
-    follows_value: bool,
-    item: &'a SerialItem,
-) -> Result<bool, AllocError>
-    requires { scope.old ≡ outermost_scope }
-    ensures text { IfOk result (λ is_value. (rest : List SerialItem)
-        → out.new ++ left_after is_value rest ≡ out.old ++ left_after follows_value (item.now ∷ rest)) }
-    ensures scope { OnOk result (scope.new ≡ outermost_scope) }
-{
-    match item {
-        SerialItem::Text(text) => {
-            if follows_value {
-                out.push(' ')?;
-            }
-            push_text(out, text)?;
-            Ok(true)
-        }
-        SerialItem::Tree(tree) => {
-            push_tree(alloc, out, scope, tree)?;
-            Ok(false)
-        }
-    }
+    push_tree(alloc, out, &mut scope, tree)
 }
