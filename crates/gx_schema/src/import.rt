@@ -320,7 +320,7 @@ fn schemas_written(
     elements_keep();
     uses_are_distinct();
     kinds_are_written();
-    Ok(Schemas::new(types, read.elements, targets))
+    Schemas::new(alloc, types, read.elements, targets)
 }
 
 fn types_written(

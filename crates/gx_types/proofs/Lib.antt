@@ -1,5 +1,6 @@
 pub mod DerivationLemmas
 pub mod SchemaLemmas
+pub mod TypeIndexes
 pub mod EqualNames
 pub mod EqualTypes
 pub mod Joined

@@ -13,6 +13,7 @@ pub mod Prime
 pub mod TypeRules
 pub mod BuiltinBase
 pub mod SchemaSet
+pub mod TypeIndex
 pub mod Derivation
 pub mod Grounded
 pub mod SchemaInvariant

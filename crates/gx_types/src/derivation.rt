@@ -1,13 +1,12 @@
 // Derivation of types, and what item types take.
 
-ghost use Rattle.std.specs.Prelude.{◌≡◌, IsTrue, ◌↔◌, option_copied};
-ghost use Rattle.gx_types.specs.SchemaSet.{declaration_among};
+ghost use Rattle.std.specs.Prelude.{◌≡◌, IsTrue, ◌↔◌};
 ghost use Rattle.gx_types.specs.Derivation.{bases_among, DerivesFrom, LeadsTo, is_derived};
 ghost use Rattle.gx_types.specs.Grounded.{EndsWithin};
 ghost use Rattle.gx_types.specs.ItemTakes.{ItemTakes, name_fits};
 
 use crate::builtin::builtin_base;
-use crate::declaration::Declared;
+use crate::declared_types::DeclaredTypes;
 use crate::item_type::{ItemType, same_kinds};
 use crate::schemas::Schemas;
 use crate::shape::Shape;
@@ -20,8 +19,8 @@ pub fn derives(schemas: &Schemas, t: &TypeName, u: &TypeName) -> bool
     ensures exact { IsTrue result ↔ DerivesFrom schemas.now t.now u.now }
     ensures test { result ≡ is_derived schemas.now t.now u.now }
 {
-    let types = schemas.types.as_slice();
-    leads_to(types, t, u, types.len())
+    let types = schemas.declared_types();
+    leads_to(types, t, u, types.count())
 }
 
 /// Whether an item type takes a shape (XQuery 1.0, section 2.5.4).
@@ -56,7 +55,7 @@ fn fits(wanted: &Option<Name>, name: &Name) -> bool
 }
 
 // Whether a chain of bases with at most so many declared types leads from a type to another one.
-fn leads_to(types: &[Declared], t: &TypeName, u: &TypeName, steps: usize) -> bool
+fn leads_to(types: &DeclaredTypes, t: &TypeName, u: &TypeName, steps: usize) -> bool
     requires { EndsWithin (bases_among types.now) steps t.now }
     ensures { IsTrue result ↔ LeadsTo (bases_among types.now) t.now u.now }
 {
@@ -68,23 +67,9 @@ fn leads_to(types: &[Declared], t: &TypeName, u: &TypeName, steps: usize) -> boo
             Some(base) => leads_to(types, &TypeName::Builtin(base), u, steps),
             None => false,
         },
-        TypeName::Named(_) | TypeName::Anonymous(_) => match declaration(types, t) {
+        TypeName::Named(_) | TypeName::Anonymous(_) => match types.declaration(t) {
             Some(declared) => leads_to(types, &declared.base, u, steps - 1),
             None => false,
         },
     }
-}
-
-// The declaration of a type.
-pub(crate) fn declaration<'a>(types: &'a [Declared], t: &TypeName) -> Option<&'a Declared>
-    ensures { option_copied result ≡ declaration_among types.now t.now }
-{
-    let mut rest = types;
-    while let Some((declared, others)) = rest.split_first() {
-        if same_kinds(&declared.name, t) {
-            return Some(declared);
-        }
-        rest = others;
-    }
-    None
 }

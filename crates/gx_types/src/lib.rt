@@ -4,6 +4,7 @@
 
 mod builtin;
 pub mod declaration;
+mod declared_types;
 pub mod derivation;
 pub mod item_type;
 pub mod laws;

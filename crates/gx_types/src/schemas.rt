@@ -4,7 +4,7 @@ ghost use Rattle.std.specs.Prelude.{◌≡◌, option_copied};
 ghost use Rattle.gx_types.specs.SchemaSet.{type_of_element};
 
 use crate::declaration::{Declared, GlobalElement};
-use crate::derivation::declaration;
+use crate::declared_types::DeclaredTypes;
 use gx_base::name::Name;
 use gx_base::text::Text;
 use gx_base::type_name::TypeName;
@@ -15,7 +15,7 @@ use std::marker::Model;
 /// part 1, section 3.15).
 #[derive(Drop)]
 pub struct Schemas {
-    pub(crate) types: Vec<Declared>,
+    types: DeclaredTypes,
     elements: Vec<GlobalElement>,
     targets: Vec<Text>,
 }
@@ -30,9 +30,9 @@ impl Model for Schemas {
 
     ghost coded = { Prim.hlevel (codes, kinds.the_row.coded) };
 
-    ghost view = { λ s. record { types = s.types.items; elements = s.elements.items; targets = s.targets.items } };
+    ghost view = { λ s. record { types = s.types; elements = s.elements.items; targets = s.targets.items } };
 
-    ghost invariant = { λ s. IsSchemaSet (record { types = s.types.items; elements = s.elements.items; targets = s.targets.items }) };
+    ghost invariant = { λ s. IsSchemaSet (record { types = s.types; elements = s.elements.items; targets = s.targets.items }) };
 }
 
 #[tactic(auto, using(crate::proofs::SchemaLemmas::nothing_is_a_schema_set))]
@@ -45,20 +45,26 @@ impl Schemas {
     pub fn empty(alloc: Global) -> Result<Schemas, AllocError>
         ensures { IfOk result (λ s. s ≡ no_declarations) }
     {
-        Ok(Schemas::new(Vec::new(alloc), Vec::new(alloc), Vec::new(alloc)))
+        Schemas::new(alloc, Vec::new(alloc), Vec::new(alloc), Vec::new(alloc))
     }
 
     /// Schemas of these types, in document order, of these global elements, and with the target namespace of each file, empty
     /// where it has none.
-    pub fn new(types: Vec<Declared>, elements: Vec<GlobalElement>, targets: Vec<Text>) -> Schemas
+    pub fn new(
+        alloc: Global,
+        types: Vec<Declared>,
+        elements: Vec<GlobalElement>,
+        targets: Vec<Text>,
+    ) -> Result<Schemas, AllocError>
         requires { IsSchemaSet (record { types = types.items; elements = elements.items; targets = targets.items }) }
-        ensures { result ≡ record { types = types.items; elements = elements.items; targets = targets.items } }
+        ensures { IfOk result (λ s. s ≡ record { types = types.items; elements = elements.items; targets = targets.items }) }
     {
-        Schemas {
+        let types = DeclaredTypes::new(alloc, types)?;
+        Ok(Schemas {
             types,
             elements,
             targets,
-        }
+        })
     }
 
     /// The declared types, in document order.
@@ -69,11 +75,19 @@ impl Schemas {
         self.types.as_slice()
     }
 
+    // The declared types with their index.
+    pub(crate) fn declared_types(&self) -> &DeclaredTypes
+        ensures value { result.now ≡ self.now.types }
+        ensures invariant { IsSchemaSet self.now }
+    {
+        &self.types
+    }
+
     /// The declaration of a type; None exactly where it is not declared.
     pub fn declared(&self, t: &TypeName) -> Option<&Declared>
         ensures { option_copied result ≡ declaration_of self.now t.now }
     {
-        declaration(self.types.as_slice(), t)
+        self.types.declaration(t)
     }
 
     /// The type of the global element of a name (XML Schema 1.0 part 1, section 3.3); None exactly where none has the name.

@@ -6,7 +6,7 @@ ghost use Rattle.gx_types.specs.SimpleType.{own_facets, all_facets, bottom_of, a
 ghost use Rattle.gx_types.specs.SimpleView.{atomic_view, simple_view, facets_view};
 
 use crate::declaration::{Content, Declared};
-use crate::derivation::declaration;
+use crate::declared_types::DeclaredTypes;
 use crate::schemas::Schemas;
 use gx_base::type_name::{Builtin, TypeName};
 use gx_facets::Facets;
@@ -45,7 +45,7 @@ pub fn simple_type<'a>(
 ) -> Result<SimpleType<'a>, AllocError>
     ensures { IfOk result (λ s. simple_view s ≡ meaning_of schemas.now t.now) }
 {
-    type_with_values(alloc, schemas.types(), t)
+    type_with_values(alloc, schemas.declared_types(), t)
 }
 
 /// What an atomic type means that is declared; None exactly where the type is not declared as one.
@@ -56,12 +56,12 @@ pub fn declared_atomic_type<'a>(
 ) -> Result<Option<AtomicType<'a>>, AllocError>
     ensures { IfOk result (λ found. option_map atomic_view found ≡ declared_atomic schemas.now t.now) }
 {
-    atomic_type_among(alloc, schemas.types(), t)
+    atomic_type_among(alloc, schemas.declared_types(), t)
 }
 
 fn atomic_type_among<'a>(
     alloc: Global,
-    types: &'a [Declared],
+    types: &'a DeclaredTypes,
     t: &TypeName,
 ) -> Result<Option<AtomicType<'a>>, AllocError>
     requires { BasesEnd types.now }
@@ -75,7 +75,7 @@ fn atomic_type_among<'a>(
 
 fn type_with_values<'a>(
     alloc: Global,
-    types: &'a [Declared],
+    types: &'a DeclaredTypes,
     t: &TypeName,
 ) -> Result<SimpleType<'a>, AllocError>
     requires { BasesEnd types.now }
@@ -93,7 +93,7 @@ fn type_with_values<'a>(
 // The simple type with these facets besides its own.
 fn restricted_type<'a>(
     alloc: Global,
-    types: &'a [Declared],
+    types: &'a DeclaredTypes,
     t: &TypeName,
     facets: Vec<&'a Facets>,
 ) -> Result<SimpleType<'a>, AllocError>
@@ -131,7 +131,7 @@ fn without_values<'a>(alloc: Global, t: &TypeName) -> Result<AtomicType<'a>, All
 
 fn atomic_type<'a>(
     alloc: Global,
-    types: &'a [Declared],
+    types: &'a DeclaredTypes,
     t: &TypeName,
 ) -> Result<AtomicType<'a>, AllocError>
     requires { BasesEnd types.now }
@@ -147,7 +147,7 @@ fn atomic_type<'a>(
 // The facets, and those of a type and of all its bases.
 fn with_all_facets<'a>(
     mut facets: Vec<&'a Facets>,
-    types: &'a [Declared],
+    types: &'a DeclaredTypes,
     t: &TypeName,
 ) -> Result<Vec<&'a Facets>, AllocError>
     requires { BasesEnd types.now }
@@ -178,7 +178,7 @@ fn with_own_facets<'a>(
 }
 
 // The built-in type at which the bases of a type end.
-fn bottom(types: &[Declared], t: &TypeName) -> Builtin
+fn bottom(types: &DeclaredTypes, t: &TypeName) -> Builtin
     requires { BasesEnd types.now }
     ensures { result ≡ bottom_of types.now t.now }
 {
@@ -203,7 +203,7 @@ fn own_facets(content: &Content) -> Option<&Facets>
     }
 }
 
-fn content<'a>(types: &'a [Declared], t: &TypeName) -> Option<&'a Content>
+fn content<'a>(types: &'a DeclaredTypes, t: &TypeName) -> Option<&'a Content>
     ensures { option_copied result ≡ own_content types.now t.now }
 {
     match own_declaration(types, t) {
@@ -212,11 +212,11 @@ fn content<'a>(types: &'a [Declared], t: &TypeName) -> Option<&'a Content>
     }
 }
 
-fn own_declaration<'a>(types: &'a [Declared], t: &TypeName) -> Option<&'a Declared>
+fn own_declaration<'a>(types: &'a DeclaredTypes, t: &TypeName) -> Option<&'a Declared>
     ensures { option_copied result ≡ own_declaration types.now t.now }
 {
     match t {
         TypeName::Builtin(_) => None,
-        TypeName::Named(_) | TypeName::Anonymous(_) => declaration(types, t),
+        TypeName::Named(_) | TypeName::Anonymous(_) => types.declaration(t),
     }
 }

@@ -8,7 +8,7 @@ use Rattle.gx_types.proofs.BaseChains.{all_end}
 use Rattle.gx_types.proofs.simple_type.declared_atomic_type.Goals as goal
 
 pub atomic_type_among-requires : goal.atomic_type_among-requires
-atomic_type_among-requires c = subst BasesEnd (sym c.types.ensures.value) (all_end c.args.schemas.now c.types.ensures.invariant)
+atomic_type_among-requires c = subst BasesEnd (sym c.declared_types.ensures.value) (all_end c.args.schemas.now c.declared_types.ensures.invariant)
 
 pub returns : goal.returns
-returns c = subst (λ (types : List Declared). IfOk c.atomic_type_among.result (λ found. option_map atomic_view found ≡ atomic_of_content types c.args.t.now (own_content types c.args.t.now))) c.types.ensures.value c.atomic_type_among.ensures
+returns c = subst (λ (types : List Declared). IfOk c.atomic_type_among.result (λ found. option_map atomic_view found ≡ atomic_of_content types c.args.t.now (own_content types c.args.t.now))) c.declared_types.ensures.value c.atomic_type_among.ensures
