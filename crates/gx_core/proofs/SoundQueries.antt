@@ -9,10 +9,8 @@ use Rattle.gx_model.specs.Belongs.{Belongs}
 use Rattle.gx_model.specs.Growth.{Extends}
 use Rattle.gx_model.proofs.PublicLaws.{values_stay}
 use Rattle.gx_core.specs.declared.expression.Binder.{Binder}
-use Rattle.gx_core.specs.declared.expression.CoreDeclaration.{CoreDeclaration}
-use Rattle.gx_core.specs.declared.expression.CoreDeclaration.TheVariants.{Global}
-use Rattle.gx_core.specs.declared.typed.TypedDeclaration.{TypedDeclaration}
-use Rattle.gx_core.specs.declared.typed.TypedDeclaration.TheVariants as typed
+use Rattle.gx_core.specs.Queries.{CoreDeclaration, TypedDeclaration}
+use Rattle.gx_core.specs.declared.expression.Declaration.TheVariants.{Global}
 use Rattle.gx_core.specs.Expression.{At, plain, annotation_of}
 use Rattle.gx_core.specs.Bindings.{Types}
 use Rattle.gx_core.specs.Outcome.{Outcome}
@@ -67,7 +65,7 @@ globals_keep : (setting : Setting) (ds : List TypedDeclaration) (documents : Lis
     → KeepsFact setting situation.forest (λ now bindings. Fits setting.schemas now (types_declared ds types) bindings) (globals_bound (context_of setting) (map plain_declaration ds) documents situation.bindings situation.forest)
 globals_keep setting [] documents types situation sound fit =
     fact_at_once setting situation.forest (λ now bindings. Fits setting.schemas now types bindings) situation.bindings situation.honest situation.fits
-globals_keep setting (typed.Global name binder (Some value) ∷ ds) documents types situation sound fit =
+globals_keep setting (Global name binder (Some value) ∷ ds) documents types situation sound fit =
     fact_after setting situation.forest (IsOfType setting.schemas (annotation_of value)) (λ now bindings. Fits setting.schemas now (types_declared ds ((binder.variable, annotation_of value) ∷ types)) bindings)
     (meaning (context_of setting) (plain value) situation.bindings situation.forest)
     (λ items left. globals_bound (context_of setting) (map plain_declaration ds) documents ((binder.variable, items) ∷ situation.bindings) left)
@@ -75,8 +73,8 @@ globals_keep setting (typed.Global name binder (Some value) ∷ ds) documents ty
     (λ items now e honest belongs.
     globals_keep setting ds documents ((binder.variable, annotation_of value) ∷ types) (one_more setting types situation binder (annotation_of value) items now e honest belongs) sound.1
     (documents_fit_still setting.schemas situation.forest now (map plain_declaration ds) documents e fit))
-globals_keep setting (typed.Global name binder None ∷ ds) [] types situation sound fit = absurd fit
-globals_keep setting (typed.Global name binder None ∷ ds) (document ∷ documents) types situation sound fit =
+globals_keep setting (Global name binder None ∷ ds) [] types situation sound fit = absurd fit
+globals_keep setting (Global name binder None ∷ ds) (document ∷ documents) types situation sound fit =
     let next : Situation setting (external_types binder binder.kind ++ types) = record {
       bindings = (binder.variable, node document ∷ []) ∷ situation.bindings;
       forest = situation.forest;

@@ -3,10 +3,8 @@ use Rattle.std.specs.Prelude.{◌≡◌, refl}
 use Rattle.std.proofs.Common.{◌∙◌, ap}
 use base.Stored.{Gv, gnil, gcons, Coded}
 use Rattle.gx_base.specs.Stored.{stored_place, place_once}
-use Rattle.gx_types.specs.SequenceType.{SequenceType}
-use Rattle.gx_types.specs.TypeCode.{type_code}
 use Rattle.gx_core.specs.contracts.operator.Operator.{the_row}
-use Rattle.gx_core.specs.Expression.{Expression, At, Parts, no_parts, a_part, CoreExpression}
+use Rattle.gx_core.specs.Expression.{Expression, At, Parts, no_parts, a_part}
 
 abbrev mutual
   pub store_expression : {A : Type 0} → (A → Gv) → Expression A → Gv
@@ -40,11 +38,5 @@ mutual
       ap (λ x. a_part x others) (expression_once c a b (ap before e)) ∙ ap (a_part b) (parts_once c others rest (ap behind e))
   parts_once c _ _ e = absurd (cc)
 
-abbrev pub unit_code : Coded (Unit {0})
-unit_code = record { code = λ u. gnil; inj = λ x y e. refl }
-
-abbrev pub expression_code : Coded CoreExpression
-expression_code = record { code = store_expression unit_code.code; inj = expression_once unit_code }
-
-abbrev pub typed_expression_code : Coded (Expression SequenceType)
-typed_expression_code = record { code = store_expression type_code.code; inj = expression_once type_code }
+abbrev pub expression_code : {A : Type 0} → Coded A → Coded (Expression A)
+expression_code c = record { code = store_expression c.code; inj = expression_once c }

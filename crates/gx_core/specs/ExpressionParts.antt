@@ -2,18 +2,18 @@
 use Rattle.std.specs.Prelude.{◌+◌, ◌≤◌, max, List, [], ◌∷◌}
 use Rattle.std.proofs.Common.{arith}
 use denote.Param.Weighed.{most}
-use Rattle.gx_core.specs.declared.expression.CoreForm.{CoreForm}
-use Rattle.gx_core.specs.declared.expression.CoreForm.TheVariants.{Lit, Var, Empty, Seq, For, Let, If, Cast, Castable, Step, Nodes, Order, DataOf, NoContext, Call, Neg, Binary}
-use Rattle.gx_core.specs.declared.expression.CoreExpr.TheDeep.{deep-CoreForm}
+use Rattle.gx_core.specs.declared.expression.Form.{Form}
+use Rattle.gx_core.specs.declared.expression.Form.TheVariants.{Lit, Var, Empty, Seq, For, Let, If, Cast, Castable, Step, Nodes, Order, DataOf, NoContext, Call, Neg, Binary}
+use Rattle.gx_core.specs.declared.expression.Expr.TheDeep.{deep-Form}
 use Rattle.gx_core.specs.Expression.{Expression, expression_size, parts_size, all_parts}
 use Rattle.gx_core.specs.ExpressionView.{parts_of}
 
-most_parts : (es : List (Expression (Unit {0}))) → most (λ e. expression_size e + 1) es ≤ 1 + parts_size (all_parts es)
+most_parts : {A : Type 0} (es : List (Expression A)) → most (λ e. expression_size e + 1) es ≤ 1 + parts_size (all_parts es)
 most_parts [] = omega arith
 most_parts (e ∷ es) = omega (arith, most_parts es)
 
 -- each part of an expression is smaller than the expression
-pub parts_are_smaller : (f : CoreForm) → max (deep-CoreForm f) 0 ≤ 1 + parts_size (parts_of f)
+pub parts_are_smaller : {A : Type 0} (f : Form A) → max (deep-Form A f) 0 ≤ 1 + parts_size (parts_of f)
 parts_are_smaller (Lit a) = omega arith
 parts_are_smaller (Var n) = omega arith
 parts_are_smaller Empty = omega arith

@@ -1,12 +1,12 @@
--- The plain tree that a Core expression stands for.
+-- The plain tree that an expression stands for.
 use Rattle.gx_core.specs.declared.operator.Operator.{Operator}
 use Rattle.gx_core.specs.declared.operator.Operator.TheVariants as operators
-use Rattle.gx_core.specs.declared.expression.CoreForm.{CoreForm}
-use Rattle.gx_core.specs.declared.expression.CoreForm.TheVariants.{Lit, Var, Empty, Seq, For, Let, If, Cast, Castable, Step, Nodes, Order, DataOf, NoContext, Call, Neg, Binary}
-use Rattle.gx_core.specs.declared.expression.CoreExpr.TheInside.{Inside}
-use Rattle.gx_core.specs.Expression.{Parts, no_parts, one_part, two_parts, three_parts, all_parts, CoreExpression, core_at}
+use Rattle.gx_core.specs.declared.expression.Form.{Form}
+use Rattle.gx_core.specs.declared.expression.Form.TheVariants.{Lit, Var, Empty, Seq, For, Let, If, Cast, Castable, Step, Nodes, Order, DataOf, NoContext, Call, Neg, Binary}
+use Rattle.gx_core.specs.declared.expression.Expr.TheInside.{Inside}
+use Rattle.gx_core.specs.Expression.{Expression, At, Parts, no_parts, one_part, two_parts, three_parts, all_parts}
 
-abbrev pub operator_of : CoreForm → Operator
+abbrev pub operator_of : {A : Type 0} → Form A → Operator
 operator_of (Lit a) = operators.Lit a
 operator_of (Var n) = operators.Var n
 operator_of Empty = operators.Empty
@@ -25,7 +25,7 @@ operator_of (Call function es) = operators.Call function
 operator_of (Neg a) = operators.Neg
 operator_of (Binary o a b) = operators.Binary o
 
-abbrev pub parts_of : CoreForm → Parts (Unit {0})
+abbrev pub parts_of : {A : Type 0} → Form A → Parts A
 parts_of (Lit a) = no_parts
 parts_of (Var n) = no_parts
 parts_of Empty = no_parts
@@ -44,5 +44,5 @@ parts_of (Call function es) = all_parts es.items
 parts_of (Neg a) = one_part a.value
 parts_of (Binary o a b) = two_parts a.value b.value
 
-abbrev pub expression_of : Inside → CoreExpression
-expression_of e = core_at e.place e.outer (operator_of e.form) (parts_of e.form)
+abbrev pub expression_of : {A : Type 0} → Inside A → Expression A
+expression_of e = At e.place e.outer e.kind (operator_of e.form) (parts_of e.form)

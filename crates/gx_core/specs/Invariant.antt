@@ -4,9 +4,8 @@ use Rattle.std.specs.Bool.{IsTrue}
 use Rattle.std.specs.List.{list_any}
 use Rattle.gx_core.specs.declared.operator.Operator.{Operator}
 use Rattle.gx_core.specs.declared.operator.Operator.TheVariants as operators
-use Rattle.gx_core.specs.declared.expression.Core.{Core}
-use Rattle.gx_core.specs.declared.expression.CoreDeclaration.{CoreDeclaration}
-use Rattle.gx_core.specs.declared.expression.CoreDeclaration.TheVariants.{Global}
+use Rattle.gx_core.specs.Queries.{Core, CoreDeclaration}
+use Rattle.gx_core.specs.declared.expression.Declaration.TheVariants.{Global}
 use Rattle.gx_core.specs.Expression.{Expression, At, Parts, no_parts, a_part, CoreExpression}
 use Rattle.gx_core.specs.Bindings.{numbers_bound_by}
 

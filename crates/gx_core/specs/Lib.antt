@@ -2,8 +2,7 @@ pub mod Expression
 pub mod ExpressionCode
 pub mod ExpressionView
 pub mod ExpressionParts
-pub mod TypedView
-pub mod TypedParts
+pub mod Queries
 pub mod Bindings
 pub mod Slots
 pub mod Invariant

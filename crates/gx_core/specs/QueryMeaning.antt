@@ -7,12 +7,8 @@ use Rattle.gx_model.specs.Honest.{IsHonest}
 use Rattle.gx_model.specs.Item.{node, Items}
 use Rattle.gx_model.specs.Belongs.{Belongs}
 use Rattle.gx_core.specs.declared.expression.Binder.{Binder}
-use Rattle.gx_core.specs.declared.expression.Core.{Core}
-use Rattle.gx_core.specs.declared.expression.CoreDeclaration.{CoreDeclaration}
-use Rattle.gx_core.specs.declared.expression.CoreDeclaration.TheVariants.{Global}
-use Rattle.gx_core.specs.declared.typed.TypedCore.{TypedCore}
-use Rattle.gx_core.specs.declared.typed.TypedDeclaration.{TypedDeclaration}
-use Rattle.gx_core.specs.declared.typed.TypedDeclaration.TheVariants as typed
+use Rattle.gx_core.specs.Queries.{Core, TypedCore, CoreDeclaration, TypedDeclaration}
+use Rattle.gx_core.specs.declared.expression.Declaration.TheVariants.{Global}
 use Rattle.gx_core.specs.Expression.{plain, annotation_of}
 use Rattle.gx_core.specs.Bindings.{Types}
 use Rattle.gx_core.specs.Outcome.{Outcome, gives, wrong, after}
@@ -22,7 +18,7 @@ use Rattle.gx_core.specs.Soundness.{Setting, typed_setting, Keeps, IsSound}
 -- ---- the query without its types, and the type of its value
 
 abbrev pub plain_declaration : TypedDeclaration → CoreDeclaration
-plain_declaration (typed.Global name binder value) = Global name binder (option_map plain value)
+plain_declaration (Global name binder value) = Global name binder (option_map plain value)
 
 abbrev pub plain_query : TypedCore → Core
 plain_query query = record { declarations = map plain_declaration query.declarations; body = plain query.body }
@@ -56,8 +52,8 @@ external_types binder (Some t) = (binder.variable, t) ∷ []
 
 -- a global variable has the type of its value
 abbrev pub global_types : TypedDeclaration → Types
-global_types (typed.Global name binder (Some value)) = (binder.variable, annotation_of value) ∷ []
-global_types (typed.Global name binder None) = external_types binder binder.kind
+global_types (Global name binder (Some value)) = (binder.variable, annotation_of value) ∷ []
+global_types (Global name binder None) = external_types binder binder.kind
 
 -- the types of the globals behind those that are in scope
 abbrev pub types_declared : List TypedDeclaration → Types → Types
@@ -65,8 +61,8 @@ types_declared [] types = types
 types_declared (declaration ∷ others) types = types_declared others (global_types declaration ++ types)
 
 abbrev pub IsSoundValue : Setting → TypedDeclaration → Types → Type 0
-IsSoundValue setting (typed.Global name binder (Some value)) types = IsSound setting value types
-IsSoundValue setting (typed.Global name binder None) types = Unit {0}
+IsSoundValue setting (Global name binder (Some value)) types = IsSound setting value types
+IsSoundValue setting (Global name binder None) types = Unit {0}
 
 -- each value, under the types of the globals before it
 abbrev pub ValuesAreSound : Setting → List TypedDeclaration → Types → Type 0

@@ -1,4 +1,4 @@
-// Core expressions.
+// Core expressions, as they are normalised and with their types.
 
 ghost use Rattle.std.specs.Prelude.{◌≡◌};
 ghost use Rattle.gx_core.specs.BinaryOperators.{class_of};
@@ -14,25 +14,35 @@ use gx_types::sequence_type::Ty;
 use gx_types::step::{Axis, Test};
 use std::marker::Model;
 
-/// A Core expression inside another one.
-pub type E = Box<CoreExpr>;
-
 /// A whole query in Core: its declarations in order, and its body (XQuery 1.0 and XPath 2.0 Formal Semantics, section 2.3).
+/// Each expression carries a `K`.
 #[derive(Drop)]
-pub struct Core {
-    pub declarations: Declarations<CoreDeclaration>,
-    pub body: CoreExpr,
+pub struct Query<K> {
+    pub declarations: Declarations<Declaration<K>>,
+    pub body: Expr<K>,
 }
+
+/// A query as it is normalised.
+pub type Core = Query<()>;
+
+/// A query whose expressions have their types.
+pub type TypedCore = Query<Ty>;
 
 /// A declaration of the prolog: a global variable, with its value unless it is external (XQuery 1.0, section 4.14).
 #[derive(Drop)]
-pub enum CoreDeclaration {
+pub enum Declaration<K> {
     Global {
         name: Name,
         binder: Binder,
-        value: Option<CoreExpr>,
+        value: Option<Expr<K>>,
     },
 }
+
+/// A declaration of a query as it is normalised.
+pub type CoreDeclaration = Declaration<()>;
+
+/// A declaration whose expressions have their types.
+pub type TypedDeclaration = Declaration<Ty>;
 
 /// The binding occurrence of a variable: its number, the place of its `$`, and the type that is written behind `as`.
 #[derive(Debug, Drop)]
@@ -119,49 +129,59 @@ impl BinaryOp {
     }
 }
 
-/// A Core expression. `place` is its own place, `outer` that of its outermost parentheses as they were written; the two
-/// are equal where there are none.
+/// A Core expression, with what it carries: its type `kind` in typed Core, and nothing before. `place` is its own place, `outer`
+/// that of its outermost parentheses as they were written; the two are equal where there are none.
 #[cycle(core_tree)]
 #[derive(Debug, Drop)]
-pub struct CoreExpr {
+pub struct Expr<K> {
     pub place: Place,
     pub outer: Place,
-    pub form: CoreForm,
+    pub kind: K,
+    pub form: Form<K>,
 }
 
-/// What a Core expression is: a literal, a variable by its number, the empty sequence, a sequence of two parts, a `for`, a
+/// An expression as it is normalised.
+pub type CoreExpr = Expr<()>;
+
+/// An expression with its type.
+pub type TypedExpr = Expr<Ty>;
+
+/// An expression inside another one.
+pub type Part<K> = Box<Expr<K>>;
+
+/// What an expression is: a literal, a variable by its number, the empty sequence, a sequence of two parts, a `for`, a
 /// `let`, a conditional, a cast or a test whether there is one, to a type and of an empty operand where that is true, a step along
 /// an axis with a test from the node of a variable, an operand of nodes alone, an operand in document order, the atomization of
 /// its operand, what looks at a context where there is none, a call of a built-in function, the negation of a number, or an operator of two operands.
 #[cycle(core_tree)]
 #[derive(Debug, Drop)]
-pub enum CoreForm {
+pub enum Form<K> {
     Lit(Atomic),
     Var(u32),
     Empty,
-    Seq(E, E),
-    For(Binder, E, E),
-    Let(Binder, E, E),
-    If(E, E, E),
-    Cast(E, TypeName, bool),
-    Castable(E, TypeName, bool),
+    Seq(Part<K>, Part<K>),
+    For(Binder, Part<K>, Part<K>),
+    Let(Binder, Part<K>, Part<K>),
+    If(Part<K>, Part<K>, Part<K>),
+    Cast(Part<K>, TypeName, bool),
+    Castable(Part<K>, TypeName, bool),
     Step(Axis, Test, u32),
-    Nodes(E),
-    Order(E),
-    DataOf(E),
+    Nodes(Part<K>),
+    Order(Part<K>),
+    DataOf(Part<K>),
     NoContext,
-    Call(Function, Vec<CoreExpr>),
-    Neg(E),
-    Binary(BinaryOp, E, E),
+    Call(Function, Vec<Expr<K>>),
+    Neg(Part<K>),
+    Binary(BinaryOp, Part<K>, Part<K>),
 }
 
-impl Model for CoreExpr {
-    ghost use Rattle.gx_core.specs.Expression.{CoreExpression, expression_size};
+impl<K> Model for Expr<K> {
+    ghost use Rattle.gx_core.specs.Expression.{Expression, expression_size};
     ghost use Rattle.gx_core.specs.ExpressionCode.{expression_code};
 
-    ghost Value = { CoreExpression };
+    ghost Value = { Expression K };
 
-    ghost coded = { expression_code };
+    ghost coded = { expression_code K.code };
 
     ghost use Rattle.gx_core.specs.ExpressionView.{expression_of};
 

@@ -9,4 +9,3 @@ pub mod laws;
 pub mod operator;
 pub mod scope;
 pub mod stack;
-pub mod typed;

@@ -3,9 +3,8 @@ use Rattle.std.proofs.Common.{◌≡◌, List, [], ◌∷◌, ◌++◌, map, Non
 use Rattle.gx_types.specs.SchemaSet.{SchemaSet}
 use Rattle.gx_model.specs.Forest.{Forest, PlainNode}
 use Rattle.gx_model.specs.Item.{node, Items}
-use Rattle.gx_core.specs.declared.typed.TypedCore.{TypedCore}
-use Rattle.gx_core.specs.declared.typed.TypedDeclaration.{TypedDeclaration}
-use Rattle.gx_core.specs.declared.typed.TypedDeclaration.TheVariants.{Global}
+use Rattle.gx_core.specs.Queries.{TypedCore, TypedDeclaration}
+use Rattle.gx_core.specs.declared.expression.Declaration.TheVariants.{Global}
 use Rattle.gx_core.specs.Expression.{plain}
 use Rattle.gx_core.specs.Outcome.{Outcome, gives, raises, wrong, after}
 use Rattle.gx_core.specs.Meaning.{Context, Bindings, meaning}

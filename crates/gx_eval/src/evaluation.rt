@@ -22,10 +22,9 @@ use crate::hand::at_hand;
 use crate::nodes::{append_nodes, stepped};
 use crate::operand::{append_all, condition_of, cut_at, split_at};
 use crate::single::{Single, of_one};
-use gx_core::expression::BinaryOp;
+use gx_core::expression::{BinaryOp, Form, TypedCore, TypedDeclaration, TypedExpr};
 use gx_core::scope::Scope;
 use gx_core::stack::Stack;
-use gx_core::typed::{TypedCore, TypedDeclaration, TypedExpr, TypedForm};
 use gx_funcs::function::Function;
 use gx_model::forest::Forest;
 use gx_model::item::ModelItem;
@@ -148,41 +147,39 @@ impl<'a> Evaluation<'a> {
     {
         let first = self.values.len();
         match &expression.form {
-            TypedForm::Lit(value) => Ok(self.values.push(ModelItem::atom(value.clone()?))?),
-            TypedForm::Var(number) => self.append_variable(*number),
-            TypedForm::Empty => Ok(()),
-            TypedForm::Seq(left, right) => Ok(self.open_part(left, Pending::Evaluate(right))?),
-            TypedForm::For(binder, source, body) => {
+            Form::Lit(value) => Ok(self.values.push(ModelItem::atom(value.clone()?))?),
+            Form::Var(number) => self.append_variable(*number),
+            Form::Empty => Ok(()),
+            Form::Seq(left, right) => Ok(self.open_part(left, Pending::Evaluate(right))?),
+            Form::For(binder, source, body) => {
                 Ok(self.open_part(source, Pending::Gather(binder.variable, first, body))?)
             }
-            TypedForm::Let(binder, value, body) => {
+            Form::Let(binder, value, body) => {
                 Ok(self.open_part(value, Pending::Bind(binder.variable, first, body))?)
             }
-            TypedForm::If(condition, chosen, otherwise) => {
+            Form::If(condition, chosen, otherwise) => {
                 Ok(self.open_part(condition, Pending::Choose(first, chosen, otherwise))?)
             }
-            TypedForm::Cast(operand, kind, allows_empty) => {
+            Form::Cast(operand, kind, allows_empty) => {
                 let cast = Single::Cast(kind, *allows_empty);
                 self.open_single(alloc, schemas, forest, cast, operand)
             }
-            TypedForm::Castable(operand, kind, allows_empty) => {
+            Form::Castable(operand, kind, allows_empty) => {
                 let castable = Single::Castable(kind, *allows_empty);
                 self.open_single(alloc, schemas, forest, castable, operand)
             }
-            TypedForm::Step(axis, test, number) => {
+            Form::Step(axis, test, number) => {
                 self.append_step(alloc, schemas, forest, *axis, test, *number)
             }
-            TypedForm::Nodes(operand) => Ok(self.open_change(Change::Nodes, operand)?),
-            TypedForm::Order(operand) => Ok(self.open_change(Change::Order, operand)?),
-            TypedForm::DataOf(operand) => Ok(self.open_change(Change::Data, operand)?),
-            TypedForm::NoContext => Err(Failure::Wrong),
-            TypedForm::Call(function, arguments) => {
+            Form::Nodes(operand) => Ok(self.open_change(Change::Nodes, operand)?),
+            Form::Order(operand) => Ok(self.open_change(Change::Order, operand)?),
+            Form::DataOf(operand) => Ok(self.open_change(Change::Data, operand)?),
+            Form::NoContext => Err(Failure::Wrong),
+            Form::Call(function, arguments) => {
                 self.open_call(alloc, schemas, forest, *function, arguments.as_slice())
             }
-            TypedForm::Neg(operand) => {
-                self.open_single(alloc, schemas, forest, Single::Neg, operand)
-            }
-            TypedForm::Binary(operator, left, right) => {
+            Form::Neg(operand) => { self.open_single(alloc, schemas, forest, Single::Neg, operand) }
+            Form::Binary(operator, left, right) => {
                 Ok(self.open_part(left, Pending::Right(*operator, first, right))?)
             }
         }

@@ -10,8 +10,8 @@ ghost use Rattle.gx_eval.specs.Resume.{items_of};
 
 use crate::bound::Bound;
 use crate::operand::any_node;
+use gx_core::expression::{Form, TypedExpr};
 use gx_core::scope::Scope;
-use gx_core::typed::{TypedExpr, TypedForm};
 use gx_model::item::ModelItem;
 use std::alloc::AllocError;
 use std::slice;
@@ -42,7 +42,7 @@ pub(crate) fn at_hand<'s>(
     ensures { (k : Context) (forest : Forest) → IfOk result (λ found. IfSome found (λ hand. meaning k expression.now (items_of scope.now) forest ≡ gives (hand_items hand) forest)) }
 {
     match &expression.form {
-        TypedForm::DataOf(operand) => atoms_at_hand(scope, operand),
+        Form::DataOf(operand) => atoms_at_hand(scope, operand),
         _ => value_at_hand(scope, expression),
     }
 }
@@ -73,12 +73,12 @@ fn value_at_hand<'s>(
     ensures { (k : Context) (forest : Forest) → IfOk result (λ found. IfSome found (λ hand. meaning k expression.now (items_of scope.now) forest ≡ gives (hand_items hand) forest)) }
 {
     match &expression.form {
-        TypedForm::Lit(value) => Ok(Some(AtHand::Literal(ModelItem::atom(value.clone()?)))),
-        TypedForm::Var(number) => match scope.find(*number) {
+        Form::Lit(value) => Ok(Some(AtHand::Literal(ModelItem::atom(value.clone()?)))),
+        Form::Var(number) => match scope.find(*number) {
             Some(bound) => Ok(Some(AtHand::There(bound.as_slice()))),
             None => Ok(None),
         },
-        TypedForm::Empty => Ok(Some(AtHand::There(&[]))),
+        Form::Empty => Ok(Some(AtHand::There(&[]))),
         _ => Ok(None),
     }
 }

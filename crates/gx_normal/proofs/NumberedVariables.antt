@@ -19,9 +19,8 @@ use Rattle.gx_resolved.specs.declared.tree.Declaration.{Declaration}
 use Rattle.gx_resolved.specs.declared.tree.Declaration.TheVariants as declared
 use Rattle.gx_resolved.specs.ResolvedTree.{ResolvedTree, ResolvedTrees, resolved_at, no_resolved, a_resolved}
 use Rattle.gx_core.specs.declared.expression.BinaryOp.{BinaryOp}
-use Rattle.gx_core.specs.declared.expression.Core.{Core}
-use Rattle.gx_core.specs.declared.expression.CoreDeclaration.{CoreDeclaration}
-use Rattle.gx_core.specs.declared.expression.CoreDeclaration.TheVariants.{Global}
+use Rattle.gx_core.specs.Queries.{Core, CoreDeclaration}
+use Rattle.gx_core.specs.declared.expression.Declaration.TheVariants.{Global}
 use Rattle.gx_core.specs.declared.operator.Operator.TheVariants as operators
 use Rattle.gx_core.specs.Expression.{CoreExpression, At, no_parts, all_parts}
 use Rattle.gx_core.specs.Invariant.{is_among, IsScoped, ArePartsScoped, numbers_bound, numbers_bound_in, AreDistinct, scope_behind, AreValuesScoped, declared_numbers, HasValueOrType, HasQueryVariablesInOrder}

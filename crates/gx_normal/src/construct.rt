@@ -13,7 +13,7 @@ use gx_ast::expression::BinaryOperator;
 use gx_base::place::Place;
 use gx_base::text::Text;
 use gx_base::type_name::{Builtin, TypeName};
-use gx_core::expression::{BinaryOp, Binder, CoreExpr, CoreForm, E};
+use gx_core::expression::{BinaryOp, Binder, CoreExpr, Form};
 use gx_facets::{AtomValue, Atomic};
 use gx_funcs::function::{Function, string_atom};
 use gx_num::Number;
@@ -86,7 +86,7 @@ fn construct_of_two(
         return Ok(empty(place));
     };
     match construct {
-        Construct::Sequence => Ok(at(first.outer, CoreForm::Seq(first, second))),
+        Construct::Sequence => Ok(at(first.outer, Form::Seq(first, second))),
         Construct::Binary(operator) => operation(alloc, place, *operator, first, second),
         _ => Ok(empty(place)),
     }
@@ -97,8 +97,8 @@ fn operation(
     alloc: Global,
     place: Place,
     operator: BinaryOperator,
-    first: E,
-    second: E,
+    first: Box<CoreExpr>,
+    second: Box<CoreExpr>,
 ) -> Result<CoreExpr, AllocError>
     ensures { IfOk result (λ e. e ≡ operation_at place (joining place operator) first.value second.value) }
 {
@@ -117,7 +117,7 @@ fn operation(
             Some(op) => {
                 let first = data_around(alloc, first)?;
                 let second = data_around(alloc, second)?;
-                Ok(at(place, CoreForm::Binary(op, first, second)))
+                Ok(at(place, Form::Binary(op, first, second)))
             }
             None => Ok(empty(place)),
         },
@@ -153,7 +153,7 @@ fn construct_of_three(
 }
 
 // The part, where there is one alone.
-fn one_part_of(alloc: Global, parts: Vec<CoreExpr>) -> Result<Option<E>, AllocError>
+fn one_part_of(alloc: Global, parts: Vec<CoreExpr>) -> Result<Option<Box<CoreExpr>>, AllocError>
     ensures { (place : Place) (make : CoreExpression → CoreExpression)
         → IfOk result (λ o. MatchOption o (of_one place make parts.items ≡ empty_at place) (λ e. of_one place make parts.items ≡ make e.value)) }
 {
@@ -168,7 +168,10 @@ fn one_part_of(alloc: Global, parts: Vec<CoreExpr>) -> Result<Option<E>, AllocEr
 }
 
 // The parts, where there are two.
-fn two_parts_of(alloc: Global, parts: Vec<CoreExpr>) -> Result<Option<(E, E)>, AllocError>
+fn two_parts_of(
+    alloc: Global,
+    parts: Vec<CoreExpr>,
+) -> Result<Option<(Box<CoreExpr>, Box<CoreExpr>)>, AllocError>
     ensures { (place : Place) (make : CoreExpression → CoreExpression → CoreExpression)
         → IfOk result (λ o. MatchOption o (of_two place make parts.items ≡ empty_at place) (λ p. of_two place make parts.items ≡ make p.0.value p.1.value)) }
 {
@@ -191,7 +194,11 @@ fn two_of(parts: Vec<CoreExpr>) -> Option<(CoreExpr, CoreExpr)>
     }
 }
 
-fn boxed(alloc: Global, first: CoreExpr, second: CoreExpr) -> Result<(E, E), AllocError>
+fn boxed(
+    alloc: Global,
+    first: CoreExpr,
+    second: CoreExpr,
+) -> Result<(Box<CoreExpr>, Box<CoreExpr>), AllocError>
     ensures { IfOk result (λ pair. (pair.0.value ≡ first) × (pair.1.value ≡ second)) }
 {
     let first = Box::new(alloc, first)?;
@@ -199,10 +206,15 @@ fn boxed(alloc: Global, first: CoreExpr, second: CoreExpr) -> Result<(E, E), All
 }
 
 /// A `let`.
-pub(crate) fn let_in(place: Place, binder: Binder, value: E, body: E) -> CoreExpr
+pub(crate) fn let_in(
+    place: Place,
+    binder: Binder,
+    value: Box<CoreExpr>,
+    body: Box<CoreExpr>,
+) -> CoreExpr
     ensures { result ≡ let_at place binder value.value body.value }
 {
-    at(place, CoreForm::Let(binder, value, body))
+    at(place, Form::Let(binder, value, body))
 }
 
 /// The context item, which is the value of the variable with this number.
@@ -210,8 +222,8 @@ pub(crate) fn context_item(place: Place, focus: Option<u32>) -> CoreExpr
     ensures { result ≡ context_item_at place focus }
 {
     match focus {
-        Some(number) => at(place, CoreForm::Var(number)),
-        None => at(place, CoreForm::NoContext),
+        Some(number) => at(place, Form::Var(number)),
+        None => at(place, Form::NoContext),
     }
 }
 
@@ -225,8 +237,8 @@ pub(crate) fn step(
     ensures { IfOk result (λ e. e ≡ step_at place focus axis test.now) }
 {
     match focus {
-        Some(number) => Ok(at(place, CoreForm::Step(axis, test.clone()?, number))),
-        None => Ok(at(place, CoreForm::NoContext)),
+        Some(number) => Ok(at(place, Form::Step(axis, test.clone()?, number))),
+        None => Ok(at(place, Form::NoContext)),
     }
 }
 
@@ -242,21 +254,21 @@ pub(crate) fn path(
 {
     let first = Box::new(alloc, first)?;
     let second = Box::new(alloc, second)?;
-    let nodes = Box::new(alloc, at(place, CoreForm::Nodes(first)))?;
+    let nodes = Box::new(alloc, at(place, Form::Nodes(first)))?;
     let binder = Binder {
         variable: number,
         place,
         kind: None,
     };
-    let each = Box::new(alloc, at(place, CoreForm::For(binder, nodes, second)))?;
-    Ok(at(place, CoreForm::Order(each)))
+    let each = Box::new(alloc, at(place, Form::For(binder, nodes, second)))?;
+    Ok(at(place, Form::Order(each)))
 }
 
 /// The empty sequence.
 pub(crate) fn empty(place: Place) -> CoreExpr
     ensures { result ≡ empty_at place }
 {
-    at(place, CoreForm::Empty)
+    at(place, Form::Empty)
 }
 
 fn cast(
@@ -264,12 +276,12 @@ fn cast(
     place: Place,
     kind: TypeName,
     optional: bool,
-    operand: E,
+    operand: Box<CoreExpr>,
 ) -> Result<CoreExpr, AllocError>
     ensures { IfOk result (λ e. e ≡ cast_at place kind optional operand.value) }
 {
     let operand = data_around(alloc, operand)?;
-    Ok(at(place, CoreForm::Cast(operand, kind, optional)))
+    Ok(at(place, Form::Cast(operand, kind, optional)))
 }
 
 fn castable(
@@ -277,12 +289,12 @@ fn castable(
     place: Place,
     kind: TypeName,
     optional: bool,
-    operand: E,
+    operand: Box<CoreExpr>,
 ) -> Result<CoreExpr, AllocError>
     ensures { IfOk result (λ e. e ≡ castable_at place kind optional operand.value) }
 {
     let operand = data_around(alloc, operand)?;
-    Ok(at(place, CoreForm::Castable(operand, kind, optional)))
+    Ok(at(place, Form::Castable(operand, kind, optional)))
 }
 
 // A call, or the operator that `data` is.
@@ -299,37 +311,38 @@ fn call_of(
             Some(argument) => Ok(data_of(place, argument)),
             None => Ok(empty(place)),
         },
-        _ => Ok(at(place, CoreForm::Call(function, arguments))),
+        _ => Ok(at(place, Form::Call(function, arguments))),
     }
 }
 
-fn data_of(place: Place, operand: E) -> CoreExpr
+fn data_of(place: Place, operand: Box<CoreExpr>) -> CoreExpr
     ensures { result ≡ data_at place operand.value }
 {
-    at(place, CoreForm::DataOf(operand))
+    at(place, Form::DataOf(operand))
 }
 
 /// `if`, whose test is its effective boolean value.
 pub(crate) fn conditional(
     alloc: Global,
     place: Place,
-    test: E,
-    chosen: E,
-    otherwise: E,
+    test: Box<CoreExpr>,
+    chosen: Box<CoreExpr>,
+    otherwise: Box<CoreExpr>,
 ) -> Result<CoreExpr, AllocError>
     ensures { IfOk result (λ e. e ≡ conditional_at place test.value chosen.value otherwise.value) }
 {
     let test = boolean_around(alloc, test)?;
-    Ok(at(place, CoreForm::If(test, chosen, otherwise)))
+    Ok(at(place, Form::If(test, chosen, otherwise)))
 }
 
 /// An expression at a place, without parentheses.
-pub(crate) fn at(place: Place, form: CoreForm) -> CoreExpr
+pub(crate) fn at(place: Place, form: Form<()>) -> CoreExpr
     ensures { result ≡ core_at place place (operator_of form) (parts_of form) }
 {
     CoreExpr {
         place,
         outer: place,
+        kind: (),
         form,
     }
 }
@@ -344,7 +357,7 @@ pub(crate) fn number(place: Place, value: Number) -> CoreExpr
     };
     let value = AtomValue::Num(value);
     let kind = TypeName::Builtin(kind);
-    at(place, CoreForm::Lit(Atomic { value, kind }))
+    at(place, Form::Lit(Atomic { value, kind }))
 }
 
 /// A string.
@@ -352,14 +365,14 @@ pub(crate) fn string(place: Place, text: &Text) -> Result<CoreExpr, AllocError>
     ensures { IfOk result (λ e. e ≡ literal_at place (string_atom text.now)) }
 {
     let value = string_atom(text.clone()?);
-    Ok(at(place, CoreForm::Lit(value)))
+    Ok(at(place, Form::Lit(value)))
 }
 
 /// A call without arguments.
 pub(crate) fn call_of_none(alloc: Global, place: Place, function: Function) -> CoreExpr
     ensures { result ≡ call_at place function no_parts }
 {
-    at(place, CoreForm::Call(function, Vec::new(alloc)))
+    at(place, Form::Call(function, Vec::new(alloc)))
 }
 
 /// The operator of Core for one that is written, if it is one.
@@ -394,43 +407,53 @@ fn within(outer: Place, e: CoreExpr) -> CoreExpr
     ensures { result ≡ within outer e }
 {
     let CoreExpr { place, form, .. } = e;
-    CoreExpr { place, outer, form }
+    CoreExpr {
+        place,
+        outer,
+        kind: (),
+        form,
+    }
 }
 
-fn signed(alloc: Global, place: Place, minus: bool, operand: E) -> Result<CoreExpr, AllocError>
+fn signed(
+    alloc: Global,
+    place: Place,
+    minus: bool,
+    operand: Box<CoreExpr>,
+) -> Result<CoreExpr, AllocError>
     ensures { IfOk result (λ e. e ≡ signed_at place minus operand.value) }
 {
     let operand = data_around(alloc, operand)?;
     if minus {
-        return Ok(at(place, CoreForm::Neg(operand)));
+        return Ok(at(place, Form::Neg(operand)));
     }
     let zero = Box::new(alloc, number(place, Number::int(0)))?;
-    Ok(at(place, CoreForm::Binary(BinaryOp::Sub, operand, zero)))
+    Ok(at(place, Form::Binary(BinaryOp::Sub, operand, zero)))
 }
 
 fn call(
     alloc: Global,
     place: Place,
     function: Function,
-    argument: E,
+    argument: Box<CoreExpr>,
 ) -> Result<CoreExpr, AllocError>
     ensures { IfOk result (λ e. e ≡ call_at place function (one_part argument.value)) }
 {
     let mut arguments = Vec::new(alloc);
     arguments.push(Box::into_inner(argument))?;
-    Ok(at(place, CoreForm::Call(function, arguments)))
+    Ok(at(place, Form::Call(function, arguments)))
 }
 
-fn boolean_around(alloc: Global, operand: E) -> Result<E, AllocError>
+fn boolean_around(alloc: Global, operand: Box<CoreExpr>) -> Result<Box<CoreExpr>, AllocError>
     ensures { IfOk result (λ e. e.value ≡ boolean_around operand.value) }
 {
     let place = operand.outer;
     Ok(Box::new(alloc, call(alloc, place, Function::Boolean, operand)?)?)
 }
 
-fn data_around(alloc: Global, operand: E) -> Result<E, AllocError>
+fn data_around(alloc: Global, operand: Box<CoreExpr>) -> Result<Box<CoreExpr>, AllocError>
     ensures { IfOk result (λ e. e.value ≡ data_around operand.value) }
 {
-    let data = at(operand.outer, CoreForm::DataOf(operand));
+    let data = at(operand.outer, Form::DataOf(operand));
     Ok(Box::new(alloc, data)?)
 }

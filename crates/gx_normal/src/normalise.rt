@@ -2,7 +2,7 @@
 
 ghost use Rattle.std.specs.Prelude.{◌≡◌, [], ◌++◌, ◌∷◌, ◌+◌, None, IfOk, OnOk};
 ghost use Rattle.gx_core.specs.Invariant.{HasQueryVariablesInOrder};
-ghost use Rattle.gx_core.specs.declared.expression.CoreDeclaration.TheVariants as declarations;
+ghost use Rattle.gx_core.specs.declared.expression.Declaration.TheVariants as declarations;
 ghost use Rattle.gx_normal.specs.Normalisation.{behind_declarations, core_of, declarations_of, external_binder, main_core, query_core};
 
 use crate::normalising::{Normalising, Numbers, numbered_binder};

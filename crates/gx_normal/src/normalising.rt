@@ -9,7 +9,7 @@ ghost use Rattle.gx_normal.specs.declared.normalising.Task.TheVariants as tasks;
 use crate::construct::{at, construct, context_item, empty, let_in, path, step};
 use gx_base::place::Place;
 use gx_core::dismantle::dismantle;
-use gx_core::expression::{Binder, CoreExpr, CoreForm};
+use gx_core::expression::{Binder, CoreExpr, Form};
 use gx_resolved::nested_map::NestedMap;
 use gx_resolved::stack::Stack;
 use gx_resolved::tree::{BoundName, Construct, ResolvedExpr};
@@ -161,7 +161,7 @@ impl<'a> Normalising<'a> {
         ensures { OnOk result (left_of self.new ≡ left_behind (variable_at place (number_at self.old.numbers binder)) self.old) }
     {
         let e = match self.numbers.find(&binder) {
-            Some(number) => at(place, CoreForm::Var(*number)),
+            Some(number) => at(place, Form::Var(*number)),
             None => empty(place),
         };
         self.add(alloc, e)

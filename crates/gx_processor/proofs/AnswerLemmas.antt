@@ -9,8 +9,7 @@ use Rattle.gx_base.specs.declared.code.Code.TheVariants.{GLXS0001, SENR0001}
 use Rattle.gx_types.specs.SchemaSet.{SchemaSet}
 use Rattle.gx_schema.specs.Import.{Imported, declares, breaks}
 use Rattle.gx_schema.specs.Laws.{ImportsAreOne}
-use Rattle.gx_core.specs.declared.expression.Core.{Core}
-use Rattle.gx_core.specs.declared.typed.TypedCore.{TypedCore}
+use Rattle.gx_core.specs.Queries.{Core, TypedCore}
 use Rattle.gx_core.specs.Expression.{outer_of}
 use Rattle.gx_model.specs.Forest.{Forest}
 use Rattle.gx_model.specs.Item.{Items}

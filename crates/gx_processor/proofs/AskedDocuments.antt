@@ -4,8 +4,8 @@ use Rattle.gx_base.specs.declared.name.Name.{Name}
 use Rattle.gx_types.specs.SchemaSet.{SchemaSet, global_type}
 use Rattle.gx_types.specs.SequenceType.{SequenceType}
 use Rattle.gx_model.specs.Forest.{Forest}
-use Rattle.gx_core.specs.declared.expression.CoreDeclaration.{CoreDeclaration}
-use Rattle.gx_core.specs.declared.expression.CoreDeclaration.TheVariants.{Global}
+use Rattle.gx_core.specs.Queries.{CoreDeclaration}
+use Rattle.gx_core.specs.declared.expression.Declaration.TheVariants.{Global}
 use Rattle.gx_documents.specs.Bindings.{files_bound}
 use Rattle.gx_documents.specs.Documents.{Asked, AreDocumentTrees, AreGlobal, files_asked, tree_requests}
 use Rattle.gx_processor.specs.ExternalDocuments.{AreDocumentsOf, IsAskedOfEach, IsDocumentType, ExternalsAreDocuments}

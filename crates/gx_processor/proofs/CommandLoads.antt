@@ -2,8 +2,7 @@
 use Rattle.std.proofs.Common.{◌≡◌, ℕ, List, [], ◌∷◌, ◌++◌, append_assoc, Option, Some, None, Result, Ok, Err, String, string_bytes, IfSome, IfErr, inl, inr, refl, sym, ◌∙◌, ap, ap₂, subst, ◌≤◌}
 use Rattle.std.proofs.lemmas.List.{append-nil}
 use Rattle.gx_types.specs.SchemaSet.{SchemaSet}
-use Rattle.gx_core.specs.declared.expression.Core.{Core}
-use Rattle.gx_core.specs.declared.typed.TypedCore.{TypedCore}
+use Rattle.gx_core.specs.Queries.{Core, TypedCore}
 use Rattle.gx_core.specs.QueryMeaning.{plain_query, query_type}
 use Rattle.gx_static.specs.QueryJudgement.{QueryJudgement, query_typed, query_rejected, query_judged}
 use Rattle.gx_io.specs.Calls.{Loads}

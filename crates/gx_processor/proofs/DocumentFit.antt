@@ -22,9 +22,8 @@ use Rattle.gx_tree.specs.PlainTree.{PlainTree}
 use Rattle.gx_model.specs.Forest.{Forest, node_in}
 use Rattle.gx_model.specs.Item.{node, Items}
 use Rattle.gx_model.specs.Belongs.{Belongs, shape_of}
-use Rattle.gx_core.specs.declared.expression.CoreDeclaration.{CoreDeclaration}
-use Rattle.gx_core.specs.declared.expression.CoreDeclaration.TheVariants.{Global}
-use Rattle.gx_core.specs.declared.typed.TypedCore.{TypedCore}
+use Rattle.gx_core.specs.Queries.{TypedCore, CoreDeclaration}
+use Rattle.gx_core.specs.declared.expression.Declaration.TheVariants.{Global}
 use Rattle.gx_core.specs.Outcome.{Outcome, gives, raises, wrong}
 use Rattle.gx_core.specs.Soundness.{Setting, typed_setting, Keeps}
 use Rattle.gx_core.specs.QueryMeaning.{IsDeclaredSo, DocumentsFit, plain_query, query_outcome, query_type, IsSoundQuery, SoundQueriesKeepTheirTypes}

@@ -6,8 +6,7 @@ use Rattle.gx_base.specs.declared.code.Code.{Code}
 use Rattle.gx_base.specs.declared.code.Code.TheVariants.{GLXS0001}
 use Rattle.gx_types.specs.SchemaSet.{SchemaSet}
 use Rattle.gx_schema.specs.Import.{declares}
-use Rattle.gx_core.specs.declared.expression.Core.{Core}
-use Rattle.gx_core.specs.declared.typed.TypedCore.{TypedCore}
+use Rattle.gx_core.specs.Queries.{Core, TypedCore}
 use Rattle.gx_static.specs.QueryJudgement.{QueryJudgement, query_typed, query_judged}
 use Rattle.gx_io.specs.Load.{file_of}
 use Rattle.gx_ast.specs.declared.query.Query.{Query as SyntaxQuery}

@@ -5,7 +5,7 @@ use Rattle.std.specs.Bool.{MatchBool}
 use Rattle.gx_base.specs.declared.code.Code.TheVariants.{SENR0001}
 use Rattle.gx_base.specs.declared.place.Place.{Place}
 use Rattle.gx_types.specs.SchemaSet.{SchemaSet}
-use Rattle.gx_core.specs.declared.typed.TypedCore.{TypedCore}
+use Rattle.gx_core.specs.Queries.{TypedCore}
 use Rattle.gx_core.specs.Expression.{outer_of}
 use Rattle.gx_core.specs.QueryMeaning.{plain_query}
 use Rattle.gx_tree.specs.PlainTree.{PlainTree}

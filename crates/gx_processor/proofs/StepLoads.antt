@@ -2,8 +2,7 @@
 use Rattle.std.proofs.Common.{◌≡◌, ℕ, Bool, true, false, List, [], ◌++◌, Option, Some, None, inl, inr, refl, sym, ◌∙◌, ap₂, subst, Err, string_bytes}
 use Rattle.std.specs.Bool.{MatchBool}
 use Rattle.gx_types.specs.SchemaSet.{SchemaSet}
-use Rattle.gx_core.specs.declared.expression.Core.{Core}
-use Rattle.gx_core.specs.declared.typed.TypedCore.{TypedCore}
+use Rattle.gx_core.specs.Queries.{Core, TypedCore}
 use Rattle.gx_io.specs.LibraryUse.{LibraryUse}
 use Rattle.gx_io.specs.SinkUse.{SinkUse}
 use Rattle.gx_documents.specs.declared.documents.DocumentFault.TheVariants as faults

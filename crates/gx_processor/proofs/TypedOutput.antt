@@ -1,7 +1,7 @@
 -- What a command says of a query that has a type, and what it says with the steps in front.
 use Rattle.std.proofs.Common.{◌≡◌, ℕ, ◌≤◌, List, Option, Result, Ok, Err, String, IfSome, IfErr, sym, ap, subst}
 use Rattle.gx_types.specs.SchemaSet.{SchemaSet}
-use Rattle.gx_core.specs.declared.typed.TypedCore.{TypedCore}
+use Rattle.gx_core.specs.Queries.{TypedCore}
 use Rattle.gx_core.specs.QueryMeaning.{plain_query}
 use Rattle.gx_static.specs.QueryJudgement.{query_typed, query_judged}
 use Rattle.gx_io.specs.Calls.{Loads}

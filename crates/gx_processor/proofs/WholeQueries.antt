@@ -23,7 +23,7 @@ use Rattle.gx_ast.specs.declared.name.QName.{QName}
 use Rattle.gx_types.specs.SameItemType.{same_type_name}
 use Rattle.gx_types.specs.SchemaSet.{SchemaSet, global_type}
 use Rattle.gx_types.proofs.EqualNames.{builtins_are_one, type_name_itself}
-use Rattle.gx_core.specs.declared.expression.Core.{Core}
+use Rattle.gx_core.specs.Queries.{Core}
 use Rattle.gx_names.specs.declared.refusal.Refusal.{Refusal}
 use Rattle.gx_resolved.specs.declared.tree.Declaration.{Declaration}
 use Rattle.gx_names.specs.Environment.{Environment, Functions, element_name, or_nameless, plain_name}

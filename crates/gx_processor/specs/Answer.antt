@@ -18,8 +18,7 @@ use Rattle.gx_xml.specs.declared.source.Source.{Source}
 use Rattle.gx_validate.specs.Outcome.{Fault}
 use Rattle.gx_typetext.specs.TypeReading.{IsTypeText}
 use Rattle.gx_subtype.specs.Comparison.{IsNoType, IsAnswerText}
-use Rattle.gx_core.specs.declared.expression.Core.{Core}
-use Rattle.gx_core.specs.declared.typed.TypedCore.{TypedCore}
+use Rattle.gx_core.specs.Queries.{Core, TypedCore}
 use Rattle.gx_model.specs.Forest.{Forest}
 use Rattle.gx_model.specs.Item.{Items}
 use Rattle.gx_core.specs.Expression.{outer_of}

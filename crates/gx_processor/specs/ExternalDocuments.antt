@@ -11,9 +11,8 @@ use Rattle.gx_types.specs.SameItemType.{same_type_name}
 use Rattle.gx_types.specs.SchemaSet.{SchemaSet, global_type}
 use Rattle.gx_types.specs.SequenceType.{SequenceType, item}
 use Rattle.gx_model.specs.Forest.{Forest}
-use Rattle.gx_core.specs.declared.expression.Core.{Core}
-use Rattle.gx_core.specs.declared.expression.CoreDeclaration.{CoreDeclaration}
-use Rattle.gx_core.specs.declared.expression.CoreDeclaration.TheVariants.{Global}
+use Rattle.gx_core.specs.Queries.{Core, CoreDeclaration}
+use Rattle.gx_core.specs.declared.expression.Declaration.TheVariants.{Global}
 use Rattle.gx_documents.specs.Documents.{Asked, AreDocumentTrees}
 use Rattle.gx_processor.specs.Externals.{external_words, documents_asked}
 use Rattle.gx_processor.specs.NamedQuery.{named_query, query_named}

@@ -4,8 +4,8 @@ use Rattle.gx_base.specs.declared.name.Name.{Name}
 use Rattle.gx_types.specs.declared.item_type.ItemType.{ItemType}
 use Rattle.gx_types.specs.declared.item_type.ItemType.TheVariants.{Document}
 use Rattle.gx_types.specs.SequenceType.{SequenceType, item}
-use Rattle.gx_core.specs.declared.expression.CoreDeclaration.{CoreDeclaration}
-use Rattle.gx_core.specs.declared.expression.CoreDeclaration.TheVariants.{Global}
+use Rattle.gx_core.specs.Queries.{CoreDeclaration}
+use Rattle.gx_core.specs.declared.expression.Declaration.TheVariants.{Global}
 use Rattle.gx_documents.specs.Bindings.{files_bound, word_of_name}
 use Rattle.gx_documents.specs.Documents.{Asked}
 

@@ -6,8 +6,7 @@ use Rattle.std.specs.Prelude.{◌≡◌, ℕ, true, List, None, Some, ◌⊎◌}
 use Rattle.gx_base.specs.declared.place.Place.{Place}
 use Rattle.gx_base.specs.declared.code.Code.{Code}
 use Rattle.gx_types.specs.SchemaSet.{SchemaSet}
-use Rattle.gx_core.specs.declared.expression.Core.{Core}
-use Rattle.gx_core.specs.declared.typed.TypedCore.{TypedCore}
+use Rattle.gx_core.specs.Queries.{Core, TypedCore}
 use Rattle.gx_model.specs.Forest.{Forest}
 use Rattle.gx_model.specs.Item.{Items}
 use Rattle.gx_model.specs.Belongs.{Belongs}

@@ -1,8 +1,7 @@
 -- The files that the steps of an answer load.
 use Rattle.std.specs.Prelude.{◌≡◌, ℕ, true, MatchBool, List, [], ◌∷◌, ◌++◌, map, Option, None, Some, ◌⊎◌}
 use Rattle.gx_types.specs.SchemaSet.{SchemaSet}
-use Rattle.gx_core.specs.declared.expression.Core.{Core}
-use Rattle.gx_core.specs.declared.typed.TypedCore.{TypedCore}
+use Rattle.gx_core.specs.Queries.{Core, TypedCore}
 use Rattle.gx_static.specs.QueryJudgement.{query_typed, query_judged}
 use Rattle.gx_io.specs.Load.{file_of}
 use Rattle.gx_processor.specs.Answer.{Answer, Answers, can_be_written}

@@ -7,7 +7,7 @@ use Rattle.gx_types.specs.SchemaSet.{SchemaSet}
 use Rattle.gx_names.specs.declared.refusal.Refusal.{Refusal}
 use Rattle.gx_names.specs.Refusals.{query_refusals}
 use Rattle.gx_names.specs.Resolution.{query_resolved}
-use Rattle.gx_core.specs.declared.expression.Core.{Core}
+use Rattle.gx_core.specs.Queries.{Core}
 use Rattle.gx_normal.specs.Normalisation.{query_core}
 
 -- the Core of a query as it is written, or the first refusal

@@ -2,7 +2,7 @@
 use Rattle.std.specs.Prelude.{◌≡◌, ℕ, ◌≤◌, List, length, None, Some}
 use Rattle.gx_base.specs.declared.limits.TheConstants.{FILE_BYTES}
 use Rattle.gx_types.specs.SchemaSet.{SchemaSet}
-use Rattle.gx_core.specs.declared.expression.Core.{Core}
+use Rattle.gx_core.specs.Queries.{Core}
 use Rattle.gx_documents.specs.Documents.{Files, HoldKept}
 use Rattle.gx_io.specs.Load.{file_of}
 use Rattle.gx_ast.specs.declared.query.Query.{Query}

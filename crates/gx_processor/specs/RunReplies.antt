@@ -1,17 +1,15 @@
 -- What the run of a query that has a type says.
 use Rattle.std.specs.Prelude.{◌≡◌, ℕ, List, Option, None, Some, IfSome, Result, Ok, Err, String}
 use Rattle.std.specs.String.{string_bytes}
-use Rattle.gx_core.specs.declared.typed.TypedCore.{TypedCore}
+use Rattle.gx_core.specs.Queries.{Core, TypedCore, CoreDeclaration}
 use Rattle.gx_core.specs.QueryMeaning.{plain_query, query_type}
 use Rattle.gx_processor.specs.Command.{Command, run_file, check_file}
 use Rattle.gx_types.specs.SchemaSet.{SchemaSet}
 use Rattle.gx_processor.specs.TypeBytes.{type_bytes}
 use Rattle.gx_io.specs.LibraryUse.{LibraryUse, LoadsOnly}
-use Rattle.gx_core.specs.declared.expression.CoreDeclaration.{CoreDeclaration}
 use Rattle.gx_documents.specs.Bindings.{Misbound, misbound, files_bound}
 use Rattle.gx_documents.specs.Documents.{Asked}
 use Rattle.gx_documents.specs.BindingView.{plain_fault}
-use Rattle.gx_core.specs.declared.expression.Core.{Core}
 use Rattle.gx_model.specs.Forest.{Forest}
 use Rattle.gx_documents.specs.declared.documents.DocumentsError.{DocumentsError}
 use Rattle.gx_documents.specs.declared.documents.DocumentsError.TheVariants.{Failed, Memory as NoMemory}

@@ -17,7 +17,7 @@ use crate::query::{TypedQuery, typed_query};
 use crate::refusal::Refusal;
 use crate::run::run;
 use gx_core::dismantle::dismantle_query;
-use gx_core::typed::TypedCore;
+use gx_core::expression::TypedCore;
 use gx_io::Library;
 use gx_schema::laws::imports_are_one;
 use gx_types::sequence_type::Ty;

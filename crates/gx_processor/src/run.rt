@@ -26,8 +26,8 @@ use gx_base::text_builder::TextBuilder;
 use gx_base::type_name::{Builtin, TypeName};
 use gx_core::dismantle::dismantle_query;
 use gx_core::dyn_error::DynError;
+use gx_core::expression::{TypedCore, TypedDeclaration};
 use gx_core::laws::sound_queries_keep_their_types;
-use gx_core::typed::{TypedCore, TypedDeclaration};
 use gx_documents::bindings::{BindingError, bound_files};
 use gx_documents::documents::{
     DocumentForm, DocumentRequest, DocumentsError, document_nodes, read_documents,

@@ -12,8 +12,7 @@ use Rattle.gx_core.specs.declared.operator.Operator.TheVariants as operators
 use Rattle.gx_core.specs.Expression.{CoreExpression, core_at, Parts, no_parts, a_part, one_part, two_parts, three_parts, all_parts, each_of, annotation_of}
 use Rattle.gx_core.specs.Bindings.{Types, types_bound}
 use Rattle.gx_core.specs.Soundness.{TypedExpression}
-use Rattle.gx_core.specs.declared.typed.TypedCore.{TypedCore}
-use Rattle.gx_core.specs.declared.typed.TypedDeclaration.{TypedDeclaration}
+use Rattle.gx_core.specs.Queries.{TypedCore, TypedDeclaration}
 use Rattle.gx_static.specs.Rule.{ruling}
 use Rattle.gx_static.specs.Judgement.{Judged, Judgement, typed, rejected, with_typed, judged, parts_judged, concluded}
 use Rattle.gx_static.specs.declared.typing.Task.{Task}

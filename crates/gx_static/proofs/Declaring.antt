@@ -2,11 +2,8 @@
 use Rattle.std.proofs.Common.{◌≡◌, List, [], ◌∷◌, ◌++◌, None, Some, refl, sym, ◌∙◌, ap, append_assoc}
 use Rattle.std.proofs.lemmas.List.{append-nil}
 use Rattle.gx_types.specs.SchemaSet.{SchemaSet}
-use Rattle.gx_core.specs.declared.expression.Core.{Core}
-use Rattle.gx_core.specs.declared.expression.CoreDeclaration.{CoreDeclaration}
-use Rattle.gx_core.specs.declared.expression.CoreDeclaration.TheVariants.{Global}
-use Rattle.gx_core.specs.declared.typed.TypedDeclaration.{TypedDeclaration}
-use Rattle.gx_core.specs.declared.typed.TypedDeclaration.TheVariants as globals
+use Rattle.gx_core.specs.Queries.{Core, CoreDeclaration, TypedDeclaration}
+use Rattle.gx_core.specs.declared.expression.Declaration.TheVariants.{Global}
 use Rattle.gx_core.specs.Bindings.{Types}
 use Rattle.gx_core.specs.QueryMeaning.{global_types, types_declared}
 use Rattle.gx_core.specs.Soundness.{TypedExpression}
@@ -54,7 +51,7 @@ declarations_continue schemas (Global name binder (Some value) ∷ ds) behind pa
     (λ d. declarations_continue schemas ds behind parts (global_types d ++ types) (declared ++ d ∷ [])
     ∙ also_behind (declarations_judged schemas ds (global_types d ++ types)) _ _ (λ ts. ap (λ (us : List TypedDeclaration). continued schemas behind parts (types_declared ts (global_types d ++ types)) us) (behind_one declared ts d)))
 declarations_continue schemas (Global name binder None ∷ ds) behind parts types declared =
-    one_more (typed (globals.Global name binder None)) (λ d. declarations_judged schemas ds (global_types d ++ types))
+    one_more (typed (Global name binder None)) (λ d. declarations_judged schemas ds (global_types d ++ types))
     (λ d. continued schemas (tasks_of ds behind) parts (global_types d ++ types) (declared ++ d ∷ []))
     (λ ts. continued schemas behind parts (types_declared ts types) (declared ++ ts))
     (λ d. declarations_continue schemas ds behind parts (global_types d ++ types) (declared ++ d ∷ [])

@@ -14,12 +14,8 @@ use Rattle.gx_types.specs.SchemaSet.{SchemaSet}
 use Rattle.gx_types.specs.SchemaInvariant.{IsSchemaSet}
 use Rattle.gx_types.specs.SequenceType.{SequenceType}
 use Rattle.gx_core.specs.declared.expression.Binder.{Binder}
-use Rattle.gx_core.specs.declared.expression.Core.{Core}
-use Rattle.gx_core.specs.declared.expression.CoreDeclaration.{CoreDeclaration}
-use Rattle.gx_core.specs.declared.expression.CoreDeclaration.TheVariants.{Global}
-use Rattle.gx_core.specs.declared.typed.TypedCore.{TypedCore}
-use Rattle.gx_core.specs.declared.typed.TypedDeclaration.{TypedDeclaration}
-use Rattle.gx_core.specs.declared.typed.TypedDeclaration.TheVariants as globals
+use Rattle.gx_core.specs.Queries.{Core, TypedCore, CoreDeclaration, TypedDeclaration}
+use Rattle.gx_core.specs.declared.expression.Declaration.TheVariants.{Global}
 use Rattle.gx_core.specs.Bindings.{Types}
 use Rattle.gx_core.specs.Expression.{CoreExpression, annotation_of, plain}
 use Rattle.gx_core.specs.Invariant.{IsScoped, scope_behind, AreValuesScoped, HasValueOrType, HasQueryVariablesInOrder}
@@ -47,7 +43,7 @@ record AreDeclaredSoundly (s : SchemaSet) (ds : List CoreDeclaration) (types : T
 declared_holds : (s : SchemaSet) (name : Name) (binder : Binder) (value : CoreExpression) (types : Types) (t : TypedExpression) → IsTypedSoundly s value types t
     → IfTyped (IsDeclaredSoundly s (Global name binder (Some value)) types) (declared_as s name binder t)
 declared_holds s name binder value types t h =
-    elim (is_as_written s binder.kind (annotation_of t)) as (λ (b : Bool). IfTyped (IsDeclaredSoundly s (Global name binder (Some value)) types) (if b then typed (globals.Global name binder (Some t)) else rejected binder.place XPTY0004)) [
+    elim (is_as_written s binder.kind (annotation_of t)) as (λ (b : Bool). IfTyped (IsDeclaredSoundly s (Global name binder (Some value)) types) (if b then typed (Global name binder (Some t)) else rejected binder.place XPTY0004)) [
       | true ↦ record { same = ap (λ (e : CoreExpression). Global name binder (Some e)) h.same; sound = h.sound }
       | false ↦ tt
     ]
@@ -100,7 +96,7 @@ declared_fails : (s : SchemaSet) (name : Name) (binder : Binder) (value : CoreEx
 declared_fails s name binder value types t e = of_test (is_as_written s binder.kind (annotation_of t)) refl
   where
     of_test : (b : Bool) → is_as_written s binder.kind (annotation_of t) ≡ b
-        → IfRejected (DeclarationFails s (Global name binder (Some value)) types) (if b then typed (globals.Global name binder (Some t)) else rejected binder.place XPTY0004)
+        → IfRejected (DeclarationFails s (Global name binder (Some value)) types) (if b then typed (Global name binder (Some t)) else rejected binder.place XPTY0004)
     of_test true h = tt
     of_test false h = inr (record { typing = t; judged_value = e; refused = h; there = refl; is = refl })
 
@@ -132,7 +128,7 @@ query_rejection_names_failure s core place code j = subst (IfRejected (QueryFail
 
 declared_bound : (s : SchemaSet) (name : Name) (binder : Binder) (t : TypedExpression) → IfRejected Bound (declared_as s name binder t)
 declared_bound s name binder t =
-    elim (is_as_written s binder.kind (annotation_of t)) as (λ (b : Bool). IfRejected Bound (if b then typed (globals.Global name binder (Some t)) else rejected binder.place XPTY0004)) [
+    elim (is_as_written s binder.kind (annotation_of t)) as (λ (b : Bool). IfRejected Bound (if b then typed (Global name binder (Some t)) else rejected binder.place XPTY0004)) [
       | true ↦ tt
       | false ↦ λ e. cc
     ]
@@ -141,13 +137,13 @@ declared_bound s name binder t =
 abbrev BringsNumber : CoreDeclaration → TypedDeclaration → Type 0
 BringsNumber (Global name binder value) t = in_scope (global_types t) ≡ binder.variable ∷ []
 
-external_number : (name : Name) (binder : Binder) (kind : Option SequenceType) → binder.kind ≡ kind → HasValueOrType (Global name binder None) → in_scope (global_types (globals.Global name binder None)) ≡ binder.variable ∷ []
+external_number : (name : Name) (binder : Binder) (kind : Option SequenceType) → binder.kind ≡ kind → HasValueOrType (Global name binder None) → in_scope (global_types (Global name binder None)) ≡ binder.variable ∷ []
 external_number name binder None e h = absurd (cc)
 external_number name binder (Some t) e h = rw e refl
 
 declared_number : (s : SchemaSet) (name : Name) (binder : Binder) (value : CoreExpression) (t : TypedExpression) → IfTyped (BringsNumber (Global name binder (Some value))) (declared_as s name binder t)
 declared_number s name binder value t =
-    elim (is_as_written s binder.kind (annotation_of t)) as (λ (b : Bool). IfTyped (BringsNumber (Global name binder (Some value))) (if b then typed (globals.Global name binder (Some t)) else rejected binder.place XPTY0004)) [
+    elim (is_as_written s binder.kind (annotation_of t)) as (λ (b : Bool). IfTyped (BringsNumber (Global name binder (Some value))) (if b then typed (Global name binder (Some t)) else rejected binder.place XPTY0004)) [
       | true ↦ refl
       | false ↦ tt
     ]

@@ -7,12 +7,8 @@ use Rattle.gx_base.specs.declared.code.Code.TheVariants.{XPST0008, XPTY0004}
 use Rattle.gx_types.specs.SchemaSet.{SchemaSet}
 use Rattle.gx_types.specs.SchemaInvariant.{IsSchemaSet}
 use Rattle.gx_core.specs.declared.expression.Binder.{Binder}
-use Rattle.gx_core.specs.declared.expression.Core.{Core}
-use Rattle.gx_core.specs.declared.expression.CoreDeclaration.{CoreDeclaration}
-use Rattle.gx_core.specs.declared.expression.CoreDeclaration.TheVariants.{Global}
-use Rattle.gx_core.specs.declared.typed.TypedCore.{TypedCore}
-use Rattle.gx_core.specs.declared.typed.TypedDeclaration.{TypedDeclaration}
-use Rattle.gx_core.specs.declared.typed.TypedDeclaration.TheVariants as globals
+use Rattle.gx_core.specs.Queries.{Core, TypedCore, CoreDeclaration, TypedDeclaration}
+use Rattle.gx_core.specs.declared.expression.Declaration.TheVariants.{Global}
 use Rattle.gx_core.specs.Bindings.{Types}
 use Rattle.gx_core.specs.Expression.{CoreExpression, annotation_of}
 use Rattle.gx_core.specs.Invariant.{HasQueryVariablesInOrder}
@@ -29,11 +25,11 @@ use Rattle.gx_static.specs.Failure.{FailsFirst}
 -- the type of a value is included in that which is written at the variable, where the code stands
 abbrev pub declared_as : SchemaSet → Name → Binder → TypedExpression → Judged TypedDeclaration
 declared_as schemas name binder value =
-    if is_as_written schemas binder.kind (annotation_of value) then typed (globals.Global name binder (Some value)) else rejected binder.place XPTY0004
+    if is_as_written schemas binder.kind (annotation_of value) then typed (Global name binder (Some value)) else rejected binder.place XPTY0004
 
 abbrev pub declaration_judged : SchemaSet → CoreDeclaration → Types → Judged TypedDeclaration
 declaration_judged schemas (Global name binder (Some value)) types = with_typed (judged schemas value types) (declared_as schemas name binder)
-declaration_judged schemas (Global name binder None) types = typed (globals.Global name binder None)
+declaration_judged schemas (Global name binder None) types = typed (Global name binder None)
 
 -- declarations in order, each under the types of those before it
 abbrev pub declarations_judged : SchemaSet → List CoreDeclaration → Types → Judged (List TypedDeclaration)

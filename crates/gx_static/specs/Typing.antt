@@ -10,11 +10,8 @@ use Rattle.gx_core.specs.declared.operator.Operator.TheVariants as operators
 use Rattle.gx_core.specs.Expression.{CoreExpression, Parts, no_parts, a_part, each_of, annotation_of}
 use Rattle.gx_core.specs.Bindings.{Types}
 use Rattle.gx_core.specs.Soundness.{TypedExpression}
-use Rattle.gx_core.specs.declared.expression.CoreDeclaration.{CoreDeclaration}
-use Rattle.gx_core.specs.declared.expression.CoreDeclaration.TheVariants.{Global}
-use Rattle.gx_core.specs.declared.typed.TypedCore.{TypedCore}
-use Rattle.gx_core.specs.declared.typed.TypedDeclaration.{TypedDeclaration}
-use Rattle.gx_core.specs.declared.typed.TypedDeclaration.TheVariants as globals
+use Rattle.gx_core.specs.Queries.{TypedCore, CoreDeclaration, TypedDeclaration}
+use Rattle.gx_core.specs.declared.expression.Declaration.TheVariants.{Global}
 use Rattle.gx_core.specs.QueryMeaning.{global_types, external_types}
 use Rattle.gx_static.specs.Rule.{ruling}
 use Rattle.gx_static.specs.Judgement.{Judged, typed, rejected, judged, concluded}
@@ -94,7 +91,7 @@ continued schemas (Declare name binder ∷ tasks) [] types declared = None
 continued schemas (Declare name binder ∷ tasks) (t ∷ parts) types declared =
     then_typed (declared_as schemas name binder t) (λ d. continued schemas tasks parts (global_types d ++ types) (declared ++ d ∷ []))
 continued schemas (External name binder ∷ tasks) parts types declared =
-    continued schemas tasks parts (external_types binder binder.kind ++ types) (declared ++ globals.Global name binder None ∷ [])
+    continued schemas tasks parts (external_types binder binder.kind ++ types) (declared ++ Global name binder None ∷ [])
 
 abbrev pub judgement_of : SchemaSet → Typing → Awaited
 judgement_of schemas typing = continued schemas typing.tasks typing.parts typing.scope typing.declared.items

@@ -8,8 +8,7 @@ ghost use Rattle.gx_static.specs.Refusal.{NamesFailure};
 use crate::error::InferError;
 use crate::laws::{query_rejection_names_a_failure, query_typing_is_sound};
 use crate::typing::Typing;
-use gx_core::expression::Core;
-use gx_core::typed::TypedCore;
+use gx_core::expression::{Core, TypedCore};
 use gx_types::schemas::Schemas;
 use std::alloc::Global;
 

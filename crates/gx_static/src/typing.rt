@@ -8,11 +8,11 @@ ghost use Rattle.gx_core.specs.declared.operator.Operator.TheVariants as operato
 ghost use Rattle.gx_core.specs.Expression.{Parts, no_parts, all_parts, each_of, annotation_of, outer_of};
 ghost use Rattle.gx_core.specs.Bindings.{look_up};
 ghost use Rattle.gx_core.specs.Soundness.{TypedExpression};
-ghost use Rattle.gx_core.specs.TypedView.{typed_operator_of, typed_parts_of};
+ghost use Rattle.gx_core.specs.ExpressionView.{operator_of, parts_of};
 ghost use Rattle.gx_static.specs.Judgement.{judged, typed, code_place, own_place};
 ghost use Rattle.gx_static.specs.Refusal.{RefusesType, refusal_at};
 ghost use Rattle.gx_static.specs.Rule.{has_type, ruling, variable_ruling};
-ghost use Rattle.gx_core.specs.declared.typed.TypedDeclaration.TheVariants as globals;
+ghost use Rattle.gx_core.specs.declared.expression.Declaration.TheVariants as globals;
 ghost use Rattle.gx_static.specs.QueryJudgement.{core_judged};
 ghost use Rattle.gx_static.specs.Typing.{Awaited, continued, tasks_of, then_typed, typed_in_order, finished, part_count, last_parts, judgement_of, judgement_with, EndsRejected};
 ghost use Rattle.gx_static.specs.declared.typing.Task.TheVariants as tasks;
@@ -30,12 +30,13 @@ use gx_base::code::Code;
 use gx_base::name::Name;
 use gx_base::place::Place;
 use gx_core::declarations::Declarations;
-use gx_core::dismantle::{dismantle, dismantle_declarations, dismantle_typed};
-use gx_core::expression::{Binder, Core, CoreDeclaration, CoreExpr, CoreForm, E};
+use gx_core::dismantle::{dismantle, dismantle_declarations};
+use gx_core::expression::{
+    Binder, Core, CoreDeclaration, CoreExpr, Form, TypedCore, TypedDeclaration, TypedExpr,
+};
 use gx_core::operator::Operator;
 use gx_core::scope::Scope;
 use gx_core::stack::Stack;
-use gx_core::typed::{T, TypedCore, TypedDeclaration, TypedExpr, TypedForm};
 use gx_funcs::function::Function;
 use gx_types::schemas::Schemas;
 use gx_types::sequence_type::{Ty, TyNode};
@@ -103,7 +104,7 @@ impl Typing {
             }
         }
         for part in self.parts.into_items() {
-            dismantle_typed(alloc, part.form);
+            dismantle(alloc, part.form);
         }
         dismantle_declarations(alloc, self.declared);
     }
@@ -142,43 +143,38 @@ impl Typing {
     fn open(&mut self, expression: CoreExpr) -> Result<(), AllocError>
         ensures { (schemas : SchemaSet) → OnOk result (judgement_of schemas self.new ≡ judgement_with schemas (tasks.Infer expression) self.old) }
     {
-        let CoreExpr { place, outer, form } = expression;
+        let CoreExpr {
+            place,
+            outer,
+            form,
+            ..
+        } = expression;
         match form {
-            CoreForm::Lit(value) => self.open_leaf(place, outer, Operator::Lit(value)),
-            CoreForm::Var(number) => self.open_leaf(place, outer, Operator::Var(number)),
-            CoreForm::Empty => self.open_leaf(place, outer, Operator::Empty),
-            CoreForm::Seq(first, second) => self.open_pair(
-                place,
-                outer,
-                Operator::Seq,
-                first,
-                second,
-            ),
-            CoreForm::For(binder, source, body) => {
-                self.open_for(place, outer, binder, source, body)
-            }
-            CoreForm::Let(binder, value, body) => self.open_let(place, outer, binder, value, body),
-            CoreForm::If(condition, chosen, otherwise) => {
+            Form::Lit(value) => self.open_leaf(place, outer, Operator::Lit(value)),
+            Form::Var(number) => self.open_leaf(place, outer, Operator::Var(number)),
+            Form::Empty => self.open_leaf(place, outer, Operator::Empty),
+            Form::Seq(first, second) => self.open_pair(place, outer, Operator::Seq, first, second),
+            Form::For(binder, source, body) => { self.open_for(place, outer, binder, source, body) }
+            Form::Let(binder, value, body) => self.open_let(place, outer, binder, value, body),
+            Form::If(condition, chosen, otherwise) => {
                 self.open_conditional(place, outer, condition, chosen, otherwise)
             }
-            CoreForm::Cast(operand, kind, optional) => {
+            Form::Cast(operand, kind, optional) => {
                 self.open_single(place, outer, Operator::Cast(kind, optional), operand)
             }
-            CoreForm::Castable(operand, kind, optional) => {
+            Form::Castable(operand, kind, optional) => {
                 self.open_single(place, outer, Operator::Castable(kind, optional), operand)
             }
-            CoreForm::Step(axis, test, number) => {
+            Form::Step(axis, test, number) => {
                 self.open_leaf(place, outer, Operator::Step(axis, test, number))
             }
-            CoreForm::Nodes(operand) => self.open_single(place, outer, Operator::Nodes, operand),
-            CoreForm::Order(operand) => self.open_single(place, outer, Operator::Order, operand),
-            CoreForm::DataOf(operand) => self.open_single(place, outer, Operator::DataOf, operand),
-            CoreForm::NoContext => self.open_leaf(place, outer, Operator::NoContext),
-            CoreForm::Call(function, arguments) => {
-                self.open_call(place, outer, function, arguments)
-            }
-            CoreForm::Neg(operand) => self.open_single(place, outer, Operator::Neg, operand),
-            CoreForm::Binary(operator, left, right) => {
+            Form::Nodes(operand) => self.open_single(place, outer, Operator::Nodes, operand),
+            Form::Order(operand) => self.open_single(place, outer, Operator::Order, operand),
+            Form::DataOf(operand) => self.open_single(place, outer, Operator::DataOf, operand),
+            Form::NoContext => self.open_leaf(place, outer, Operator::NoContext),
+            Form::Call(function, arguments) => { self.open_call(place, outer, function, arguments) }
+            Form::Neg(operand) => self.open_single(place, outer, Operator::Neg, operand),
+            Form::Binary(operator, left, right) => {
                 self.open_pair(place, outer, Operator::Binary(operator), left, right)
             }
         }
@@ -201,7 +197,7 @@ impl Typing {
         place: Place,
         outer: Place,
         operator: Operator,
-        operand: E,
+        operand: Box<CoreExpr>,
     ) -> Result<(), AllocError>
         ensures { (schemas : SchemaSet) → OnOk result (judgement_of schemas self.new
             ≡ typed_in_order schemas (operand.value ∷ []) self.old.scope
@@ -217,8 +213,8 @@ impl Typing {
         place: Place,
         outer: Place,
         operator: Operator,
-        first: E,
-        second: E,
+        first: Box<CoreExpr>,
+        second: Box<CoreExpr>,
     ) -> Result<(), AllocError>
         ensures { (schemas : SchemaSet) → OnOk result (judgement_of schemas self.new
             ≡ typed_in_order schemas (first.value ∷ second.value ∷ []) self.old.scope
@@ -233,9 +229,9 @@ impl Typing {
         &mut self,
         place: Place,
         outer: Place,
-        condition: E,
-        chosen: E,
-        otherwise: E,
+        condition: Box<CoreExpr>,
+        chosen: Box<CoreExpr>,
+        otherwise: Box<CoreExpr>,
     ) -> Result<(), AllocError>
         ensures { (schemas : SchemaSet) → OnOk result (judgement_of schemas self.new
             ≡ typed_in_order schemas (condition.value ∷ chosen.value ∷ otherwise.value ∷ []) self.old.scope
@@ -274,8 +270,8 @@ impl Typing {
         place: Place,
         outer: Place,
         binder: Binder,
-        source: E,
-        body: E,
+        source: Box<CoreExpr>,
+        body: Box<CoreExpr>,
     ) -> Result<(), AllocError>
         ensures { (schemas : SchemaSet) → OnOk result (judgement_of schemas self.new
             ≡ then_typed (judged schemas source.value self.old.scope) (λ t. then_typed (judged schemas body.value ((binder.variable, prime_of (annotation_of t)) ∷ self.old.scope))
@@ -296,8 +292,8 @@ impl Typing {
         place: Place,
         outer: Place,
         binder: Binder,
-        value: E,
-        body: E,
+        value: Box<CoreExpr>,
+        body: Box<CoreExpr>,
     ) -> Result<(), AllocError>
         ensures { (schemas : SchemaSet) → OnOk result (judgement_of schemas self.new
             ≡ then_typed (judged schemas value.value self.old.scope) (λ t. then_typed (judged schemas body.value ((binder.variable, annotation_of t) ∷ self.old.scope))
@@ -354,7 +350,7 @@ impl Typing {
         if is_as_written(alloc, schemas, &binder, &value.kind)? {
             Ok(self.add_global(name, binder, value)?)
         } else {
-            dismantle_typed(alloc, value.form);
+            dismantle(alloc, value.form);
             Err(InferError::NoType {
                 place: binder.place,
                 code: Code::XPTY0004,
@@ -433,7 +429,7 @@ impl Typing {
             schemas,
             place,
             outer,
-            TypedForm::Call(function, arguments),
+            Form::Call(function, arguments),
         )
     }
 
@@ -444,13 +440,13 @@ impl Typing {
         schemas: &Schemas,
         place: Place,
         outer: Place,
-        form: TypedForm,
+        form: Form<Ty>,
     ) -> Result<(), InferError>
         ensures typed { OnOk result (judgement_of schemas.now self.new
-            ≡ finished schemas.now place outer (typed_operator_of form) self.old.scope
-            (λ t below. continued schemas.now self.old.tasks (t ∷ below) self.old.scope self.old.declared.items) (typed_parts_of form) self.old.parts) }
-        ensures rejected { IfErr result (λ e. EndsRejected e (finished schemas.now place outer (typed_operator_of form) self.old.scope
-            (λ t below. continued schemas.now self.old.tasks (t ∷ below) self.old.scope self.old.declared.items) (typed_parts_of form) self.old.parts)) }
+            ≡ finished schemas.now place outer (operator_of form) self.old.scope
+            (λ t below. continued schemas.now self.old.tasks (t ∷ below) self.old.scope self.old.declared.items) (parts_of form) self.old.parts) }
+        ensures rejected { IfErr result (λ e. EndsRejected e (finished schemas.now place outer (operator_of form) self.old.scope
+            (λ t below. continued schemas.now self.old.tasks (t ∷ below) self.old.scope self.old.declared.items) (parts_of form) self.old.parts)) }
     {
         match form_type(alloc, schemas, &form, &self.scope) {
             Ok(kind) => Ok(
@@ -463,61 +459,59 @@ impl Typing {
             ),
             Err(error) => {
                 let refusal = refusal(place, &form, error);
-                dismantle_typed(alloc, form);
+                dismantle(alloc, form);
                 Err(refusal)
             }
         }
     }
 
     // An operator over the parts on top.
-    fn form(&mut self, alloc: Global, operator: Operator) -> Result<TypedForm, AllocError>
+    fn form(&mut self, alloc: Global, operator: Operator) -> Result<Form<Ty>, AllocError>
         requires { part_count operator ≤ length self.now.parts }
-        ensures operator { IfOk result (λ form. typed_operator_of form ≡ operator) }
+        ensures operator { IfOk result (λ form. operator_of form ≡ operator) }
         ensures parts { (next : Parts SequenceType → List TypedExpression → Awaited)
-            → IfOk result (λ form. last_parts (part_count operator) self.old.parts no_parts next ≡ next (typed_parts_of form) self.new.parts) }
+            → IfOk result (λ form. last_parts (part_count operator) self.old.parts no_parts next ≡ next (parts_of form) self.new.parts) }
         ensures tasks { self.new.tasks ≡ self.old.tasks }
         ensures scope { self.new.scope ≡ self.old.scope }
         ensures declared { self.new.declared.items ≡ self.old.declared.items }
     {
         match operator {
-            Operator::Lit(value) => Ok(TypedForm::Lit(value)),
-            Operator::Var(number) => Ok(TypedForm::Var(number)),
-            Operator::Empty => Ok(TypedForm::Empty),
+            Operator::Lit(value) => Ok(Form::Lit(value)),
+            Operator::Var(number) => Ok(Form::Var(number)),
+            Operator::Empty => Ok(Form::Empty),
             Operator::Seq => {
                 let second = self.part(alloc)?;
-                Ok(TypedForm::Seq(self.part(alloc)?, second))
+                Ok(Form::Seq(self.part(alloc)?, second))
             }
             Operator::For(binder) => {
                 let body = self.part(alloc)?;
-                Ok(TypedForm::For(binder, self.part(alloc)?, body))
+                Ok(Form::For(binder, self.part(alloc)?, body))
             }
             Operator::Let(binder) => {
                 let body = self.part(alloc)?;
-                Ok(TypedForm::Let(binder, self.part(alloc)?, body))
+                Ok(Form::Let(binder, self.part(alloc)?, body))
             }
             Operator::If => {
                 let otherwise = self.part(alloc)?;
                 let chosen = self.part(alloc)?;
-                Ok(TypedForm::If(self.part(alloc)?, chosen, otherwise))
+                Ok(Form::If(self.part(alloc)?, chosen, otherwise))
             }
-            Operator::Cast(kind, optional) => {
-                Ok(TypedForm::Cast(self.part(alloc)?, kind, optional))
-            }
+            Operator::Cast(kind, optional) => { Ok(Form::Cast(self.part(alloc)?, kind, optional)) }
             Operator::Castable(kind, optional) => {
-                Ok(TypedForm::Castable(self.part(alloc)?, kind, optional))
+                Ok(Form::Castable(self.part(alloc)?, kind, optional))
             }
-            Operator::Step(axis, test, number) => Ok(TypedForm::Step(axis, test, number)),
-            Operator::Nodes => Ok(TypedForm::Nodes(self.part(alloc)?)),
-            Operator::Order => Ok(TypedForm::Order(self.part(alloc)?)),
-            Operator::DataOf => Ok(TypedForm::DataOf(self.part(alloc)?)),
-            Operator::NoContext => Ok(TypedForm::NoContext),
+            Operator::Step(axis, test, number) => Ok(Form::Step(axis, test, number)),
+            Operator::Nodes => Ok(Form::Nodes(self.part(alloc)?)),
+            Operator::Order => Ok(Form::Order(self.part(alloc)?)),
+            Operator::DataOf => Ok(Form::DataOf(self.part(alloc)?)),
+            Operator::NoContext => Ok(Form::NoContext),
             Operator::Call(function) => {
-                Ok(TypedForm::Call(function, self.last(alloc, function.arity())?))
+                Ok(Form::Call(function, self.last(alloc, function.arity())?))
             }
-            Operator::Neg => Ok(TypedForm::Neg(self.part(alloc)?)),
+            Operator::Neg => Ok(Form::Neg(self.part(alloc)?)),
             Operator::Binary(operator) => {
                 let right = self.part(alloc)?;
-                Ok(TypedForm::Binary(operator, self.part(alloc)?, right))
+                Ok(Form::Binary(operator, self.part(alloc)?, right))
             }
         }
     }
@@ -544,7 +538,7 @@ impl Typing {
     }
 
     // Takes the part on top.
-    fn part(&mut self, alloc: Global) -> Result<T, AllocError>
+    fn part(&mut self, alloc: Global) -> Result<Box<TypedExpr>, AllocError>
         requires { self.now.parts ≢ [] }
         ensures part { IfOk result (λ part. self.old.parts ≡ part.value ∷ self.new.parts) }
         ensures tasks { self.new.tasks ≡ self.old.tasks }
@@ -606,49 +600,47 @@ fn kinds(alloc: Global, expressions: &[TypedExpr]) -> Result<Vec<Ty>, AllocError
 fn form_type(
     alloc: Global,
     schemas: &Schemas,
-    form: &TypedForm,
+    form: &Form<Ty>,
     scope: &Scope<Ty>,
 ) -> Result<Ty, RuleError>
-    ensures typed { IfOk result (λ t. ruling schemas.now (typed_operator_of form.now) (each_of annotation_of (typed_parts_of form.now)) scope.now ≡ has_type t) }
-    ensures refused { IfErr result (λ e. RefusesType e (ruling schemas.now (typed_operator_of form.now) (each_of annotation_of (typed_parts_of form.now)) scope.now)) }
+    ensures typed { IfOk result (λ t. ruling schemas.now (operator_of form.now) (each_of annotation_of (parts_of form.now)) scope.now ≡ has_type t) }
+    ensures refused { IfErr result (λ e. RefusesType e (ruling schemas.now (operator_of form.now) (each_of annotation_of (parts_of form.now)) scope.now)) }
 {
     match form {
-        TypedForm::Lit(value) => literal_type(alloc, value),
-        TypedForm::Var(number) => variable_type(*number, scope),
-        TypedForm::Empty => Ok(Ty {
+        Form::Lit(value) => literal_type(alloc, value),
+        Form::Var(number) => variable_type(*number, scope),
+        Form::Empty => Ok(Ty {
             node: TyNode::Empty,
         }),
-        TypedForm::Seq(first, second) => Ok(sequence_type(alloc, &first.kind, &second.kind)?),
-        TypedForm::For(binder, source, body) => {
+        Form::Seq(first, second) => Ok(sequence_type(alloc, &first.kind, &second.kind)?),
+        Form::For(binder, source, body) => {
             for_type(alloc, schemas, binder, &source.kind, &body.kind)
         }
-        TypedForm::Let(binder, value, body) => {
+        Form::Let(binder, value, body) => {
             let_type(alloc, schemas, binder, &value.kind, &body.kind)
         }
-        TypedForm::If(condition, chosen, otherwise) => conditional_type(
+        Form::If(condition, chosen, otherwise) => conditional_type(
             alloc,
             schemas,
             &condition.kind,
             &chosen.kind,
             &otherwise.kind,
         ),
-        TypedForm::Cast(operand, kind, optional) => {
-            cast_type(alloc, kind, *optional, &operand.kind)
-        }
-        TypedForm::Castable(operand, _, _) => castable_type(alloc, &operand.kind),
-        TypedForm::Step(axis, test, number) => {
+        Form::Cast(operand, kind, optional) => { cast_type(alloc, kind, *optional, &operand.kind) }
+        Form::Castable(operand, _, _) => castable_type(alloc, &operand.kind),
+        Form::Step(axis, test, number) => {
             step_in_scope(alloc, schemas, *axis, test, *number, scope)
         }
-        TypedForm::Nodes(operand) => nodes_type(alloc, schemas, &operand.kind),
-        TypedForm::Order(operand) => order_type(alloc, schemas, &operand.kind),
-        TypedForm::DataOf(operand) => data_type(alloc, schemas, &operand.kind),
-        TypedForm::NoContext => Err(no_type(Code::XPDY0002)),
-        TypedForm::Call(function, arguments) => {
+        Form::Nodes(operand) => nodes_type(alloc, schemas, &operand.kind),
+        Form::Order(operand) => order_type(alloc, schemas, &operand.kind),
+        Form::DataOf(operand) => data_type(alloc, schemas, &operand.kind),
+        Form::NoContext => Err(no_type(Code::XPDY0002)),
+        Form::Call(function, arguments) => {
             let kinds = kinds(alloc, arguments.as_slice())?;
             call_type(alloc, schemas, *function, kinds.as_slice())
         }
-        TypedForm::Neg(operand) => negation_type(alloc, schemas, &operand.kind),
-        TypedForm::Binary(operator, left, right) => {
+        Form::Neg(operand) => negation_type(alloc, schemas, &operand.kind),
+        Form::Binary(operator, left, right) => {
             binary_type(alloc, schemas, *operator, &left.kind, &right.kind)
         }
     }
@@ -666,8 +658,8 @@ fn variable_type(number: u32, scope: &Scope<Ty>) -> Result<Ty, RuleError>
 }
 
 // Why the operator of a form has no type.
-fn refusal(place: Place, form: &TypedForm, error: RuleError) -> InferError
-    ensures { result ≡ refusal_at (own_place (typed_operator_of form.now) place) (each_of outer_of (typed_parts_of form.now)) error }
+fn refusal(place: Place, form: &Form<Ty>, error: RuleError) -> InferError
+    ensures { result ≡ refusal_at (own_place (operator_of form.now) place) (each_of outer_of (parts_of form.now)) error }
 {
     match error {
         RuleError::NoType { code, part } => InferError::NoType {
@@ -680,33 +672,30 @@ fn refusal(place: Place, form: &TypedForm, error: RuleError) -> InferError
 
 // Where the code of an operator stands: at a part, at the variable of a `for` or a `let`, or at the operator itself.
 #[tactic(auto, using(crate::proofs::Continuing::each_of_arguments))]
-fn form_place(place: Place, form: &TypedForm, part: Option<u32>) -> Place
-    ensures { result ≡ code_place (own_place (typed_operator_of form.now) place) (each_of outer_of (typed_parts_of form.now)) part }
+fn form_place(place: Place, form: &Form<Ty>, part: Option<u32>) -> Place
+    ensures { result ≡ code_place (own_place (operator_of form.now) place) (each_of outer_of (parts_of form.now)) part }
 {
     match form {
-        TypedForm::Lit(_)
-        | TypedForm::Var(_)
-        | TypedForm::Empty
-        | TypedForm::Step(_, _, _)
-        | TypedForm::NoContext => code_place(place, &[], part),
-        TypedForm::Nodes(operand)
-        | TypedForm::Order(operand)
-        | TypedForm::DataOf(operand)
-        | TypedForm::Neg(operand)
-        | TypedForm::Cast(operand, _, _)
-        | TypedForm::Castable(operand, _, _) => code_place(place, &[operand.outer], part),
-        TypedForm::Seq(first, second) | TypedForm::Binary(_, first, second) => {
+        Form::Lit(_) | Form::Var(_) | Form::Empty | Form::Step(_, _, _) | Form::NoContext =>
+            code_place(place, &[], part),
+        Form::Nodes(operand)
+        | Form::Order(operand)
+        | Form::DataOf(operand)
+        | Form::Neg(operand)
+        | Form::Cast(operand, _, _)
+        | Form::Castable(operand, _, _) => code_place(place, &[operand.outer], part),
+        Form::Seq(first, second) | Form::Binary(_, first, second) => {
             code_place(place, &[first.outer, second.outer], part)
         }
-        TypedForm::For(binder, first, body) | TypedForm::Let(binder, first, body) => {
+        Form::For(binder, first, body) | Form::Let(binder, first, body) => {
             code_place(binder.place, &[first.outer, body.outer], part)
         }
-        TypedForm::If(condition, chosen, otherwise) => code_place(
+        Form::If(condition, chosen, otherwise) => code_place(
             place,
             &[condition.outer, chosen.outer, otherwise.outer],
             part,
         ),
-        TypedForm::Call(_, arguments) => argument_place(place, arguments.as_slice(), part),
+        Form::Call(_, arguments) => argument_place(place, arguments.as_slice(), part),
     }
 }
 

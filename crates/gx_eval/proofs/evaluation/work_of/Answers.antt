@@ -1,5 +1,5 @@
 use Rattle.std.proofs.Common.{List, [], ◌∷◌, sym, ◌∙◌, ap}
-use Rattle.gx_core.specs.declared.typed.TypedDeclaration.{TypedDeclaration}
+use Rattle.gx_core.specs.Queries.{TypedDeclaration}
 use Rattle.gx_eval.specs.declared.evaluation.Pending.{Pending}
 use Rattle.gx_eval.specs.Resume.{resume, declared_then, only_documents}
 use Rattle.gx_eval.proofs.Globals.{same_behind, last_declared}

@@ -1,5 +1,5 @@
 use Rattle.std.proofs.Common.{sym, subst}
-use Rattle.gx_core.specs.declared.expression.Core.{Core}
+use Rattle.gx_core.specs.Queries.{Core}
 use Rattle.gx_processor.specs.ExternalDocuments.{ExternalsAreDocuments}
 use Rattle.gx_processor.proofs.query.query_under.Goals as goal
 

@@ -1,5 +1,5 @@
 use Rattle.std.proofs.Common.{List, sym, ◌∙◌, ap}
-use Rattle.gx_core.specs.declared.expression.CoreDeclaration.{CoreDeclaration}
+use Rattle.gx_core.specs.Queries.{CoreDeclaration}
 use Rattle.gx_static.specs.declared.typing.Task.{Task}
 use Rattle.gx_static.specs.Typing.{tasks_of}
 use Rattle.gx_static.proofs.Declaring.{tasks_joined}

@@ -2,7 +2,7 @@ use Rattle.std.proofs.Common.{◌≡◌, ◌++◌, ◌∷◌, [], ℕ, ◌-◌, 
 use Rattle.gx_core.specs.Expression.{CoreExpression}
 use Rattle.gx_core.specs.Bindings.{Types}
 use Rattle.gx_core.specs.Soundness.{TypedExpression}
-use Rattle.gx_core.specs.declared.typed.TypedDeclaration.{TypedDeclaration}
+use Rattle.gx_core.specs.Queries.{TypedDeclaration}
 use Rattle.gx_static.specs.declared.typing.Task.{Task}
 use Rattle.gx_static.specs.declared.typing.Task.TheVariants.{FinishCall}
 use Rattle.gx_static.specs.Typing.{continued, typed_in_order}
