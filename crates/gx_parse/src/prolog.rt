@@ -26,15 +26,13 @@ use gx_ast::query::{
     SettingNode, Version,
 };
 use gx_ast::sequence_type::EmptyOrder;
+use gx_base::limits::NESTING;
 use gx_base::text::Text;
 use gx_base::text_builder::TextBuilder;
 use gx_scan::reader::Reader;
 use gx_scan::source::Source;
 use gx_syntax::runs::Quote;
 use gx_syntax::word::{Definer, Setter, Word, WordSet};
-
-// So many singles may stand one inside another.
-const LEVELS: u8 = 40;
 
 // Reads a word with the gap behind it.
 fn symbol(reader: &mut Reader<'_>, word: Word)
@@ -369,7 +367,7 @@ fn initialiser(reader: &mut Reader<'_>, source: &Source<'_>) -> Initialiser
         return Initialiser::External;
     }
     symbol(reader, Word::Assign);
-    Initialiser::Value(single(reader, source, LEVELS))
+    Initialiser::Value(single(reader, source, NESTING))
 }
 
 // Reads what stands behind `declare variable`.
@@ -459,7 +457,7 @@ fn function_definer(reader: &mut Reader<'_>, source: &Source<'_>) -> Option<Defi
     let list = parameters(reader, source);
     let kind = kind_of(reader, source);
     symbol(reader, Word::BraceOpen);
-    let body = expression(reader, source, LEVELS);
+    let body = expression(reader, source, NESTING);
     symbol(reader, Word::CloseBrace);
     let parameters = Items::from_vec(list);
     Some(DefinitionNode::Function(name, parameters, kind, body))
@@ -566,7 +564,7 @@ pub fn query(reader: &mut Reader<'_>, source: &Source<'_>) -> Query
     let version = maybe_version(reader, source);
     let settings = settings(reader, source);
     let definitions = definitions(reader, source);
-    let body = expression(reader, source, LEVELS);
+    let body = expression(reader, source, NESTING);
     Query {
         version,
         settings: Items::from_vec(settings),
