@@ -79,7 +79,11 @@ impl Children {
         ensures { IfOk result (λ v. contents_of v.items ≡ children_with self no_content) }
     {
         self.flush(alloc)?;
-        let Children { done, pending: _ } = self;
+        let Children {
+            mut done,
+            pending: _,
+        } = self;
+        done.shrink_to_fit();
         Ok(done)
     }
 }
