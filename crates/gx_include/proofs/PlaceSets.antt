@@ -1,10 +1,14 @@
 -- Sets of positions of a type, and what they read.
-use Rattle.std.proofs.Common.{◌≡◌, ◌≢◌, ℕ, zero, suc, ◌+◌, ◌*◌, ◌<◌, ◌≤◌, ◌/◌, ◌%◌, ◌==◌, Bool, true, false, ◌&&◌, ◌||◌, List, [], ◌∷◌, ◌++◌, ◌⊎◌, inl, inr, Option, Some, refl, sym, ◌∙◌, ap, subst, ◌↔◌, get_or, length, slice_get, length-append, arith}
+use Rattle.std.proofs.Common.{◌≡◌, ◌≢◌, ℕ, zero, suc, ◌+◌, ◌-◌, ◌*◌, ◌<◌, ◌≤◌, ◌/◌, ◌%◌, ◌^◌, ◌==◌, Bool, true, false, ◌&&◌, ◌||◌, List, [], ◌∷◌, ◌++◌, ◌⊎◌, inl, inr, Option, Some, refl, sym, ◌∙◌, ap, subst, ◌↔◌, get_or, length, slice_get, length-append, pow_mono, arith}
 use Rattle.std.specs.Prelude.{Vec}
 use Rattle.std.specs.Bool.{IsTrue}
 use Rattle.std.specs.Int.{bit_at}
 use Rattle.std.proofs.Math.Bool.{and-false}
 use Rattle.std.proofs.lemmas.Bool.{cases_lt, cases_eq, or_cases, or_left, or_right, and_from, and_parts, eq-eqb, eqb-true}
+use Rattle.std.proofs.Math.ListN.{replicate}
+use Rattle.std.proofs.lemmas.List.{length-replicate}
+use Rattle.std.proofs.lemmas.Nat.{shr-shr}
+use Rattle.std.proofs.lemmas.Nat.Bits.{bit_at-zero, bit_at_above, bit_at_cat_low, bit_at_cat_high}
 use Rattle.std.proofs.lemmas.Option.{slice_get_cases, slice_get_within}
 use Rattle.gx_types.specs.declared.item_type.ItemType.{ItemType}
 use Rattle.gx_types.specs.declared.shape.Shape.{Shape}
@@ -12,15 +16,14 @@ use Rattle.gx_types.specs.SchemaSet.{SchemaSet}
 use Rattle.gx_types.specs.SequenceType.{SequenceType}
 use Rattle.gx_types.specs.Takes.{Takes}
 use Rattle.gx_types.specs.TypeRules.{positions_of}
-use Rattle.gx_include.specs.declared.chunks.Chunk.{Chunk}
-use Rattle.gx_include.specs.Bits.{has_bit, has_chunked}
-use Rattle.gx_include.specs.Following.{AreFollowing, has_place, may_follow, LeadsFrom, LeadsTo, IsMask, AreComing, AreOfType, AreBehind}
+use Rattle.gx_include.specs.Bits.{has_bit}
+use Rattle.gx_include.specs.Following.{AreFollowing, FollowsOne, has_place, members_in, follows_block, FollowsMember, IsMask, AreComing, AreOfType, AreBehind}
 use Rattle.gx_include.specs.Positions.{both_set}
 use Rattle.gx_include.specs.Step.{single, all_next, all_tests, step_over, is_end}
 use Rattle.gx_include.specs.Test.{is_taken, IsDecided}
 use Rattle.gx_include.proofs.Lists.{set_within}
 use Rattle.gx_include.proofs.SetReads.{Reads, length_tests, single_has, reads_forward, reads_back, end_reads, reads_end, larger_reads, single_within, member_reads, start_reads, reads_start}
-use Rattle.gx_include.proofs.WordSets.{word_within, in_word}
+use Rattle.gx_include.proofs.WordSets.{word_within, no_member}
 
 get_both : (xs ys : List Bool) (i : ℕ) → get_or (both_set xs ys) i false ≡ (get_or xs i false && get_or ys i false)
 get_both [] ys i = refl
@@ -68,25 +71,97 @@ places_end s t places list answer none ends w = (
 
 -- rows
 
+-- a number with one bit more, above its others
+with_bit : (bit members : ℕ) → members < 2 ^ bit → bit_at (2 ^ bit + members) bit ≡ 1
+with_bit bit members within =
+    let one : 2 ^ bit + members ≡ 1 * 2 ^ bit + members = omega arith in
+    let none : bit - bit ≡ 0 = omega arith in
+    ap (λ n. bit_at n bit) one ∙ bit_at_cat_high 1 bit members bit within (omega arith) ∙ ap (λ i. bit_at 1 i) none
+
+other_bit : (bit members other : ℕ) → members < 2 ^ bit → other ≢ bit → bit_at (2 ^ bit + members) other ≡ bit_at members other
+other_bit bit members other within apart =
+    let one : 2 ^ bit + members ≡ 1 * 2 ^ bit + members = omega arith in
+    ap (λ n. bit_at n other) one
+    ∙ elim (cases_lt other bit) [
+      | inl l ↦ bit_at_cat_low 1 bit members other l
+      | inr l ↦ bit_at_cat_high 1 bit members other within l ∙ bit_at_above 1 1 (other - bit) (omega arith) (omega arith) ∙ sym (bit_at_above members bit other within l)
+    ]
+
 module _ {A : Type 0} where
-  at_push : (rows : List (Vec Chunk A)) (row : Vec Chunk A) (i : ℕ) (other : Vec Chunk A) → slice_get (rows ++ row ∷ []) i ≡ Some other → (slice_get rows i ≡ Some other) ⊎ ((i ≡ length rows) × (row ≡ other))
+  at_push : (rows : List (Vec ℕ A)) (row : Vec ℕ A) (i : ℕ) (other : Vec ℕ A) → slice_get (rows ++ row ∷ []) i ≡ Some other → (slice_get rows i ≡ Some other) ⊎ ((i ≡ length rows) × (row ≡ other))
   at_push [] row zero other h = inr (refl, cc)
   at_push [] row (suc i) other h = absurd (cc)
   at_push (r ∷ rows) row zero other h = inl h
   at_push (r ∷ rows) row (suc i) other h = elim (at_push rows row i other h) [ inl k ↦ inl k | inr e ↦ inr (omega (arith, e.0), e.1) ]
 
-  pub row_more : (t : SequenceType) (count : ℕ) (rows after : List (Vec Chunk A)) (row : Vec Chunk A) → after ≡ rows ++ row ∷ []
-      → ((place : ℕ) → has_chunked row.items place ≡ get_or (all_next t (single count)) place false) → AreFollowing t count rows → AreFollowing t (count + 1) after
+  -- one row more, that of its number
+  row_more : (t : SequenceType) (count : ℕ) (rows after : List (Vec ℕ A)) (row : Vec ℕ A) → after ≡ rows ++ row ∷ []
+      → ((place : ℕ) → (has_bit row.items place ≡ true) ↔ FollowsOne t (count / 16) (count % 16) place) → AreFollowing t count rows → AreFollowing t (count + 1) after
   row_more t count rows after row e is all =
       subst (λ rs. AreFollowing t (count + 1) rs) (sym e) (record {
         count_is = length-append rows (row ∷ []) ∙ omega (arith, all.count_is);
-        are = λ origin other at place. elim (at_push rows row origin other at) [
-          | inl h ↦ all.are origin other h place
-          | inr p ↦ ap (λ (r : Vec Chunk A). has_chunked r.items place) (sym p.1) ∙ is place ∙ ap (λ n. get_or (all_next t (single n)) place false) (sym (p.0 ∙ all.count_is))
+        are = λ index other at place. elim (at_push rows row index other at) [
+          | inl h ↦ all.are index other h place
+          | inr p ↦
+              subst (λ (r : Vec ℕ A). (has_bit r.items place ≡ true) ↔ FollowsOne t (index / 16) (index % 16) place) p.1
+              (subst (λ n. (has_bit row.items place ≡ true) ↔ FollowsOne t (n / 16) (n % 16) place) (sym (p.0 ∙ all.count_is)) (is place))
         ];
       })
 
-  pub no_row : (t : SequenceType) (rows : List (Vec Chunk A)) → rows ≡ [] → AreFollowing t 0 rows
+  -- the row of a block and members, at its number
+  row_at : (t : SequenceType) (count block members : ℕ) (rows after : List (Vec ℕ A)) (row : Vec ℕ A) → members < 16 → count ≡ block * 16 + members → after ≡ rows ++ row ∷ []
+      → ((place : ℕ) → (has_bit row.items place ≡ true) ↔ FollowsOne t block members place) → AreFollowing t count rows → AreFollowing t (count + 1) after
+  row_at t count block members rows after row low at e is =
+      let b : block ≡ count / 16 = omega arith in
+      let m : members ≡ count % 16 = omega arith in
+      row_more t count rows after row e (subst (λ k. (place : ℕ) → (has_bit row.items place ≡ true) ↔ FollowsOne t (count / 16) k place) m
+      (subst (λ k. (place : ℕ) → (has_bit row.items place ≡ true) ↔ FollowsOne t k members place) b is))
+
+  -- the row of no place
+  pub empty_row : (t : SequenceType) (block : ℕ) (rows after : List (Vec ℕ A)) (row : Vec ℕ A) → row.items ≡ [] → after ≡ rows ++ row ∷ [] → AreFollowing t (block * 16) rows
+      → AreFollowing t (block * 16 + 1) after
+  empty_row t block rows after row none e = row_at t (block * 16) block 0 rows after row (omega arith) (omega arith) e (λ place. (
+    λ h. let f : has_bit row.items place ≡ false = ap (λ ws. has_bit ws place) none ∙ no_member 0 place in absurd (cc),
+    λ q. absurd (omega (arith, q.2, bit_at-zero q.0)),
+  ))
+
+  -- the row of some places and one behind them
+  pub further_row : (t : SequenceType) (block bit members : ℕ) (rows after : List (Vec ℕ A)) (old row : Vec ℕ A) (last : List ℕ) → bit < 4 → members < 2 ^ bit
+      → slice_get rows (block * 16 + members) ≡ Some old → ((place : ℕ) → has_bit last place ≡ get_or (all_next t (single (block * 4 + bit))) place false)
+      → ((place : ℕ) → has_bit row.items place ≡ has_bit old.items place || has_bit last place) → after ≡ rows ++ row ∷ [] → AreFollowing t (block * 16 + 2 ^ bit + members) rows
+      → AreFollowing t (block * 16 + 2 ^ bit + members + 1) after
+  further_row t block bit members rows after old row last low within at next joined e are =
+      row_at t (block * 16 + 2 ^ bit + members) block (2 ^ bit + members) rows after row (omega (arith, room)) (omega arith) e (λ place. (forth place, back place)) are
+    where
+      room : 2 ^ bit ≤ 8
+      room = let p : bit ≤ 3 = omega arith in pow_mono p
+
+      before : (place : ℕ) → (has_bit old.items place ≡ true) ↔ FollowsOne t block members place
+      before place =
+          let b : (block * 16 + members) / 16 ≡ block = omega (arith, room) in
+          let m : (block * 16 + members) % 16 ≡ members = omega (arith, room) in
+          subst (λ k. (has_bit old.items place ≡ true) ↔ FollowsOne t block k place) m
+          (subst (λ k. (has_bit old.items place ≡ true) ↔ FollowsOne t k ((block * 16 + members) % 16) place) b (are.are (block * 16 + members) old at place))
+
+      forth : (place : ℕ) → has_bit row.items place ≡ true → FollowsOne t block (2 ^ bit + members) place
+      forth place h =
+          elim (or_cases (has_bit old.items place) (has_bit last place) (sym (joined place) ∙ h)) [
+            | inl o ↦
+                let q = (before place).0 o in
+                let apart : q.0 ≢ bit = λ same. absurd (let f : bit_at members q.0 ≡ 0 = bit_at_above members bit q.0 within (omega arith) in omega (arith, q.2)) in
+                (q.0, q.1, other_bit bit members q.0 within apart ∙ q.2, q.3)
+            | inr l ↦ (bit, low, with_bit bit members within, sym (next place) ∙ l)
+          ]
+
+      back : (place : ℕ) → FollowsOne t block (2 ^ bit + members) place → has_bit row.items place ≡ true
+      back place q =
+          joined place
+          ∙ elim (cases_eq q.0 bit) [
+            | inl same ↦ or_right (has_bit old.items place) (has_bit last place) (next place ∙ ap (λ i. get_or (all_next t (single (block * 4 + i))) place false) (sym same) ∙ q.3)
+            | inr apart ↦ or_left (has_bit old.items place) (has_bit last place) ((before place).1 (q.0, q.1, sym (other_bit bit members q.0 within apart) ∙ q.2, q.3))
+          ]
+
+  pub no_row : (t : SequenceType) (rows : List (Vec ℕ A)) → rows ≡ [] → AreFollowing t 0 rows
   no_row t rows e = subst (λ rs. AreFollowing t 0 rs) (sym e) (record { count_is = refl; are = λ origin row at. absurd (cc) })
 
 -- ends
@@ -116,161 +191,154 @@ pub an_end : (t : SequenceType) (places : List ℕ) (k : ℕ) (answer : Bool) �
     → IsTrue answer ↔ ((place : ℕ) × (has_bit places place ≡ true) × (is_end t (single place) ≡ true))
 an_end t places k answer e here = let p = and_parts (has_bit places k) (is_end t (single k)) here in (λ h. (k, p.0, p.1), λ q. e)
 
+-- blocks of four places
+
+members_low : (set : List ℕ) (block : ℕ) → members_in set block < 16
+members_low set block = omega arith
+
+bit_of_part : (word k bit : ℕ) → bit < 4 → bit_at word (k + bit) ≡ bit_at (word / 2 ^ k % 16) bit
+bit_of_part word k bit low =
+    let parts : word / 2 ^ k ≡ word / 2 ^ k / 16 * 2 ^ 4 + word / 2 ^ k % 16 = omega arith in
+    ap (λ n. n % 2) (sym (shr-shr word k bit)) ∙ ap (λ n. bit_at n bit) parts ∙ bit_at_cat_low (word / 2 ^ k / 16) 4 (word / 2 ^ k % 16) bit low
+
+in_block : (set : List ℕ) (block bit : ℕ) → bit < 4 → has_bit set (block * 4 + bit) ≡ (bit_at (members_in set block) bit == 1)
+in_block set block bit low =
+    let word : (block * 4 + bit) / 64 ≡ block / 16 = omega arith in
+    let at : (block * 4 + bit) % 64 ≡ block % 16 * 4 + bit = omega arith in
+    ap (λ i. bit_at (get_or set i 0) ((block * 4 + bit) % 64) == 1) word ∙ ap (λ i. bit_at (get_or set (block / 16) 0) i == 1) at
+    ∙ ap (λ b. b == 1) (bit_of_part (get_or set (block / 16) 0) (block % 16 * 4) bit low)
+
 -- what some places come to
 
 module _ {A : Type 0} where
-  -- a place may come next behind one of those that a word of a set has, but for those that are left
-  abbrev LedBut : List (Vec Chunk A) → (index word left place : ℕ) → Type 0
-  LedBut rows index word left place = (bit : ℕ) × (bit < 64) × (bit_at word bit ≡ 1) × (bit_at left bit ≡ 0) × (may_follow rows (index * 64 + bit) place ≡ true)
+  -- a place may come next behind a member of a set in a block below a bound
+  abbrev FollowsBelow : List (Vec ℕ A) → (set : List ℕ) → (bound place : ℕ) → Type 0
+  FollowsBelow rows set bound place = (block : ℕ) × (block < bound) × (follows_block rows set block place ≡ true)
 
-  -- the places that may come next behind those of a word are put into a set, but for those behind what is left of the word
-  pub record AreLedBut (rows : List (Vec Chunk A)) (index word left : ℕ) (old after : List ℕ) : Type 0 where
-    pub room : length after ≡ length old
-    pub within : (bit : ℕ) → bit < 64 → bit_at left bit ≡ 1 → bit_at word bit ≡ 1
-    pub bits : (place : ℕ) → place / 64 < length old → (has_bit after place ≡ true) ↔ ((has_bit old place ≡ true) ⊎ LedBut rows index word left place)
-
-  pub one_led_but : (rows : List (Vec Chunk A)) (index word left rest bit : ℕ) (old after more : List ℕ) → bit < 64 → bit_at left bit ≡ 1 → bit_at rest bit ≡ 0
-      → ((other : ℕ) → other < 64 → other ≢ bit → bit_at rest other ≡ bit_at left other) → length more ≡ length after
-      → ((place : ℕ) → place / 64 < length after → has_bit more place ≡ has_bit after place || may_follow rows (index * 64 + bit) place) → AreLedBut rows index word left old after
-      → AreLedBut rows index word rest old more
-  one_led_but rows index word left rest bit old after more low member removed others room adds are = record {
-    room = room ∙ are.room;
-    within = λ other h e. elim (cases_eq other bit) [
-      | inl same ↦ absurd (let f : bit_at rest other ≡ 0 = ap (λ i. bit_at rest i) same ∙ removed in omega arith)
-      | inr apart ↦ are.within other h (sym (others other h apart) ∙ e)
-    ];
-    bits = λ place h. (forth place h, back place h);
-  }
-    where
-      forth : (place : ℕ) → place / 64 < length old → has_bit more place ≡ true → (has_bit old place ≡ true) ⊎ LedBut rows index word rest place
-      forth place h e =
-          elim (or_cases (has_bit after place) (may_follow rows (index * 64 + bit) place) (sym (adds place (omega (arith, are.room))) ∙ e)) [
-            | inl l ↦ elim ((are.bits place h).0 l) [
-              | inl o ↦ inl o
-              | inr p ↦ inr (p.0, p.1, p.2, still p.0 p.1 p.3, p.4)
-            ]
-            | inr l ↦ inr (bit, low, are.within bit low member, removed, l)
-          ]
-        where
-          still : (other : ℕ) → other < 64 → bit_at left other ≡ 0 → bit_at rest other ≡ 0
-          still other k none = elim (cases_eq other bit) [
-            | inl same ↦ ap (λ i. bit_at rest i) same ∙ removed
-            | inr apart ↦ others other k apart ∙ none
-          ]
-
-      back : (place : ℕ) → place / 64 < length old → (has_bit old place ≡ true) ⊎ LedBut rows index word rest place → has_bit more place ≡ true
-      back place h q = adds place (omega (arith, are.room)) ∙ either q
-        where
-          before : (has_bit old place ≡ true) ⊎ LedBut rows index word left place → (has_bit after place || may_follow rows (index * 64 + bit) place) ≡ true
-          before r = or_left (has_bit after place) (may_follow rows (index * 64 + bit) place) ((are.bits place h).1 r)
-
-          either : (has_bit old place ≡ true) ⊎ LedBut rows index word rest place → (has_bit after place || may_follow rows (index * 64 + bit) place) ≡ true
-          either (inl o) = before (inl o)
-          either (inr p) = elim (cases_eq p.0 bit) [
-            | inl same ↦ or_right (has_bit after place) (may_follow rows (index * 64 + bit) place) (ap (λ i. may_follow rows (index * 64 + i) place) (sym same) ∙ p.4)
-            | inr apart ↦ before (inr (p.0, p.1, p.2, sym (others p.0 p.1 apart) ∙ p.3, p.4))
-          ]
-
-  -- a place may come next behind one of a set that is below a bound
-  abbrev LeadsBelow : List (Vec Chunk A) → (set : List ℕ) → (bound place : ℕ) → Type 0
-  LeadsBelow rows set bound place = (origin : ℕ) × (origin < bound) × (has_bit set origin ≡ true) × (may_follow rows origin place ≡ true)
-
-  -- a set has the places that may come next behind those of so many words, as far as it has room
-  pub record AreLedTo (rows : List (Vec Chunk A)) (set : List ℕ) (room : ℕ) (after : List ℕ) (count : ℕ) : Type 0 where
+  -- a set has the places that may come next behind the members of another one in so many blocks, as far as it has room
+  pub record AreLedTo (rows : List (Vec ℕ A)) (set : List ℕ) (room : ℕ) (after : List ℕ) (count : ℕ) : Type 0 where
     pub room_is : length after ≡ room
-    pub bits : (place : ℕ) → place / 64 < room → (has_bit after place ≡ true) ↔ LeadsBelow rows set (count * 64) place
+    pub bits : (place : ℕ) → place / 64 < room → (has_bit after place ≡ true) ↔ FollowsBelow rows set count place
 
-  pub led_more : (rows : List (Vec Chunk A)) (set after more : List ℕ) (room k word : ℕ) → word ≡ get_or set k 0 → length more ≡ length after
-      → ((place : ℕ) → place / 64 < length after → (has_bit more place ≡ true) ↔ ((has_bit after place ≡ true) ⊎ LeadsFrom rows k word place)) → AreLedTo rows set room after k
+  pub none_led : (rows : List (Vec ℕ A)) (set after : List ℕ) (room : ℕ) → after ≡ replicate room 0 → AreLedTo rows set room after 0
+  none_led rows set after room e = record {
+    room_is = ap length e ∙ length-replicate room 0;
+    bits = λ place h. (
+      λ f. absurd (let g : has_bit after place ≡ false = ap (λ ws. has_bit ws place) e ∙ no_member room place in cc),
+      λ q. absurd (omega (arith, q.1)),
+    );
+  }
+
+  pub led_more : (rows : List (Vec ℕ A)) (set after more : List ℕ) (room k : ℕ) → length more ≡ length after
+      → ((place : ℕ) → place / 64 < length after → has_bit more place ≡ has_bit after place || follows_block rows set k place) → AreLedTo rows set room after k
       → AreLedTo rows set room more (k + 1)
-  led_more rows set after more room k word is e step are = record {
+  led_more rows set after more room k e adds are = record {
     room_is = e ∙ are.room_is;
     bits = λ place h.
-        let here = step place (omega (arith, are.room_is)) in (
-          λ f. elim (here.0 f) [
-            | inl o ↦ let q = (are.bits place h).0 o in (q.0, omega (arith, q.1), q.2, q.3)
-            | inr q ↦ (k * 64 + q.0, omega (arith, q.1), member q.0 q.1 q.2, q.3)
+        let step = adds place (omega (arith, are.room_is)) in (
+          λ f. elim (or_cases (has_bit after place) (follows_block rows set k place) (sym step ∙ f)) [
+            | inl o ↦ let q = (are.bits place h).0 o in (q.0, omega (arith, q.1), q.2)
+            | inr l ↦ (k, omega arith, l)
           ],
-          λ q. here.1 (elim (cases_lt q.0 (k * 64)) [
-            | inl l ↦ inl ((are.bits place h).1 (q.0, l, q.2, q.3))
-            | inr l ↦ inr (from_word place q.0 l q.1 q.2 q.3)
-          ]),
+          λ q. step ∙ elim (cases_lt q.0 k) [
+            | inl l ↦ or_left (has_bit after place) (follows_block rows set k place) ((are.bits place h).1 (q.0, l, q.2))
+            | inr l ↦
+                let last : k ≡ q.0 = omega (arith, q.1) in
+                or_right (has_bit after place) (follows_block rows set k place) (ap (λ n. follows_block rows set n place) last ∙ q.2)
+          ],
         );
   }
-    where
-      member : (bit : ℕ) → bit < 64 → bit_at word bit ≡ 1 → has_bit set (k * 64 + bit) ≡ true
-      member bit low h = in_word set k bit low ∙ ap (λ w. bit_at w bit == 1) (sym is) ∙ eq-eqb (bit_at word bit) 1 h
 
-      from_word : (place origin : ℕ) → k * 64 ≤ origin → origin < (k + 1) * 64 → has_bit set origin ≡ true → may_follow rows origin place ≡ true → LeadsFrom rows k word place
-      from_word place origin above below h f =
-          let low : origin % 64 < 64 = omega arith in
-          let at : k * 64 + origin % 64 ≡ origin = omega arith in (
-            origin % 64,
-            low,
-            eqb-true (bit_at word (origin % 64)) 1 (ap (λ w. bit_at w (origin % 64) == 1) is ∙ sym (in_word set k (origin % 64) low) ∙ ap (λ n. has_bit set n) at ∙ h),
-            ap (λ n. may_follow rows n place) at ∙ f,
-          )
-
-  follows_within : (rows : List (Vec Chunk A)) (origin place : ℕ) → may_follow rows origin place ≡ true → origin < length rows
-  follows_within rows origin place h =
-      elim (slice_get_cases rows origin).1 [
-        | inl q ↦ slice_get_within rows origin q.0 q.2
-        | inr q ↦ let f = ap (λ (o : Option (Vec Chunk A)). has_place o place) q.1 in absurd (cc)
+  block_within : (rows : List (Vec ℕ A)) (set : List ℕ) (block place : ℕ) → follows_block rows set block place ≡ true → block * 16 < length rows
+  block_within rows set block place h =
+      elim (slice_get_cases rows (block * 16 + members_in set block)).1 [
+        | inl q ↦ omega (arith, slice_get_within rows (block * 16 + members_in set block) q.0 q.2)
+        | inr q ↦ let f = ap (λ (o : Option (Vec ℕ A)). has_place o place) q.1 in absurd (cc)
       ]
 
-  -- all words were looked at, and the set is met with a mask
-  pub all_led : (rows : List (Vec Chunk A)) (set mask after met : List ℕ) (k : ℕ) → length rows / 64 + 1 ≤ k → ((place : ℕ) → has_bit met place ≡ has_bit after place && has_bit mask place)
-      → AreLedTo rows set (length mask) after k → (place : ℕ) → (has_bit met place ≡ true) ↔ (LeadsTo rows set place × (has_bit mask place ≡ true))
+  -- all blocks were looked at, and the set is met with a mask
+  pub all_led : (rows : List (Vec ℕ A)) (set mask after met : List ℕ) (k : ℕ) → length rows / 16 + 1 ≤ k → ((place : ℕ) → has_bit met place ≡ has_bit after place && has_bit mask place)
+      → AreLedTo rows set (length mask) after k → (place : ℕ) → (has_bit met place ≡ true) ↔ (FollowsMember rows set place × (has_bit mask place ≡ true))
   all_led rows set mask after met k past bits are place = (
     λ h.
         let p = and_parts (has_bit after place) (has_bit mask place) (sym (bits place) ∙ h) in
-        let q = (are.bits place (word_within mask place p.1)).0 p.0 in ((q.0, q.2, q.3), p.1),
+        let q = (are.bits place (word_within mask place p.1)).0 p.0 in ((q.0, q.2), p.1),
     λ q.
         let o = q.0 in
-        let l = follows_within rows o.0 place o.2 in
+        let l = block_within rows set o.0 place o.1 in
         bits place
         ∙ and_from (has_bit after place) (has_bit mask place)
-        ((are.bits place (word_within mask place q.1)).1 (o.0, omega (arith, l), o.1, o.2)) q.1,
+        ((are.bits place (word_within mask place q.1)).1 (o.0, omega (arith, l), o.1)) q.1,
   )
 
-  pub coming_of_mask : (t : SequenceType) (test : ItemType → Bool) (rows : List (Vec Chunk A)) (mask before after : List ℕ) → IsMask t test mask
-      → ((place : ℕ) → (has_bit after place ≡ true) ↔ (LeadsTo rows before place × (has_bit mask place ≡ true))) → AreComing t rows test before after
+  pub coming_of_mask : (t : SequenceType) (test : ItemType → Bool) (rows : List (Vec ℕ A)) (mask before after : List ℕ) → IsMask t test mask
+      → ((place : ℕ) → (has_bit after place ≡ true) ↔ (FollowsMember rows before place × (has_bit mask place ≡ true))) → AreComing t rows test before after
   coming_of_mask t test rows mask before after is led place = (
     λ h. let p = (led place).0 h in (p.0, sym (is place) ∙ p.1),
     λ q. (led place).1 (q.0, is place ∙ q.1),
   )
 
-  follows_next : (t : SequenceType) (rows : List (Vec Chunk A)) (count origin place : ℕ) → AreFollowing t count rows → may_follow rows origin place ≡ true → get_or (all_next t (single origin)) place false ≡ true
-  follows_next t rows count origin place are h =
-      elim (slice_get_cases rows origin).1 [
-        | inl q ↦ sym (are.are origin q.0 q.2 place) ∙ sym (ap (λ o. has_place o place) q.2) ∙ h
-        | inr q ↦ let f = ap (λ (o : Option (Vec Chunk A)). has_place o place) q.1 in absurd (cc)
+  follows_next : (t : SequenceType) (rows : List (Vec ℕ A)) (set : List ℕ) (count block place : ℕ) → AreFollowing t count rows → follows_block rows set block place ≡ true
+      → (origin : ℕ) × (has_bit set origin ≡ true) × (get_or (all_next t (single origin)) place false ≡ true)
+  follows_next t rows set count block place are h =
+      elim (slice_get_cases rows (block * 16 + members_in set block)).1 [
+        | inl q ↦
+            let b : block ≡ (block * 16 + members_in set block) / 16 = omega (arith, members_low set block) in
+            let m : members_in set block ≡ (block * 16 + members_in set block) % 16 = omega (arith, members_low set block) in
+            let f = (are.are (block * 16 + members_in set block) q.0 q.2 place).0 (sym (ap (λ o. has_place o place) q.2) ∙ h) in (
+              block * 4 + f.0,
+              in_block set block f.0 f.1 ∙ eq-eqb (bit_at (members_in set block) f.0) 1 (ap (λ n. bit_at n f.0) m ∙ f.2),
+              ap (λ n. get_or (all_next t (single (n * 4 + f.0))) place false) b ∙ f.3,
+            )
+        | inr q ↦ let f = ap (λ (o : Option (Vec ℕ A)). has_place o place) q.1 in absurd (cc)
       ]
 
-  next_follows : (t : SequenceType) (rows : List (Vec Chunk A)) (count origin place : ℕ) → AreFollowing t count rows → origin < count → get_or (all_next t (single origin)) place false ≡ true → may_follow rows origin place ≡ true
-  next_follows t rows count origin place are within h =
-      elim (slice_get_cases rows origin).1 [
-        | inl q ↦ ap (λ o. has_place o place) q.2 ∙ are.are origin q.0 q.2 place ∙ h
-        | inr q ↦ absurd (omega (arith, q.0, are.count_is))
-      ]
+  next_follows : (t : SequenceType) (rows : List (Vec ℕ A)) (set : List ℕ) (count origin place : ℕ) → AreFollowing t count rows → origin / 4 * 16 + 16 ≤ count → has_bit set origin ≡ true
+      → get_or (all_next t (single origin)) place false ≡ true → FollowsMember rows set place
+  next_follows t rows set count origin place are within member h = (
+    block,
+    elim (slice_get_cases rows (block * 16 + members_in set block)).1 [
+      | inl q ↦
+          let b : block ≡ (block * 16 + members_in set block) / 16 = omega (arith, members_low set block) in
+          let m : members_in set block ≡ (block * 16 + members_in set block) % 16 = omega (arith, members_low set block) in
+          ap (λ o. has_place o place) q.2
+          ∙ (are.are (block * 16 + members_in set block) q.0 q.2 place).1 (
+            origin % 4,
+            low,
+            ap (λ n. bit_at n (origin % 4)) (sym m) ∙ eqb-true (bit_at (members_in set block) (origin % 4)) 1 (sym (in_block set block (origin % 4) low) ∙ ap (λ n. has_bit set n) at ∙ member),
+            ap (λ n. get_or (all_next t (single (n * 4 + origin % 4))) place false) (sym b) ∙ ap (λ n. get_or (all_next t (single n)) place false) at ∙ h,
+          )
+      | inr q ↦ absurd (omega (arith, q.0, are.count_is, members_low set block))
+    ],
+  )
+    where
+      block : ℕ
+      block = origin / 4
 
-  pub behind_are : (t : SequenceType) (test : ItemType → Bool) (rows : List (Vec Chunk A)) (before after : List ℕ) → AreFollowing t (positions_of t + 1) rows → AreOfType t before
+      low : origin % 4 < 4
+      low = omega arith
+
+      at : origin / 4 * 4 + origin % 4 ≡ origin
+      at = omega arith
+
+  pub behind_are : (t : SequenceType) (test : ItemType → Bool) (rows : List (Vec ℕ A)) (before after : List ℕ) → AreFollowing t (((positions_of t + 1) / 4 + 1) * 16) rows → AreOfType t before
       → AreComing t rows test before after → AreBehind t test before after
   behind_are t test rows before after are within coming place = (
     λ h.
         let p = (coming place).0 h in
-        let o = p.0 in (
+        let o = follows_next t rows before (((positions_of t + 1) / 4 + 1) * 16) p.0.0 place are p.0.1 in (
           o.0,
           o.1,
           get_both (all_next t (single o.0)) (all_tests t test) place
-              ∙ and_from (get_or (all_next t (single o.0)) place false) (get_or (all_tests t test) place false) (follows_next t rows (positions_of t + 1) o.0 place are o.2) p.1,
+              ∙ and_from (get_or (all_next t (single o.0)) place false) (get_or (all_tests t test) place false) o.2 p.1,
         ),
     λ q.
         let p = and_parts (get_or (all_next t (single q.0)) place false) (get_or (all_tests t test) place false) (sym (get_both (all_next t (single q.0)) (all_tests t test) place) ∙ q.2) in
-        (coming place).1 ((q.0, q.1, next_follows t rows (positions_of t + 1) q.0 place are (within q.0 q.1) p.0), p.1),
+        let l = within q.0 q.1 in
+        (coming place).1 (next_follows t rows before (((positions_of t + 1) / 4 + 1) * 16) q.0 place are (omega arith) q.1 p.0, p.1),
   )
 
-  pub behind_within : (t : SequenceType) (test : ItemType → Bool) (rows : List (Vec Chunk A)) (before after : List ℕ) → AreComing t rows test before after → AreOfType t after
+  pub behind_within : (t : SequenceType) (test : ItemType → Bool) (rows : List (Vec ℕ A)) (before after : List ℕ) → AreComing t rows test before after → AreOfType t after
   behind_within t test rows before after coming place h =
       let p = (coming place).0 h in
       let k = set_within (all_tests t test) place p.1 in

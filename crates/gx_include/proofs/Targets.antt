@@ -7,11 +7,10 @@ use Rattle.gx_types.specs.declared.item_type.ItemType.{ItemType}
 use Rattle.gx_types.specs.declared.shape.Shape.{Shape}
 use Rattle.gx_types.specs.SchemaSet.{SchemaSet}
 use Rattle.gx_types.specs.SequenceType.{SequenceType}
-use Rattle.gx_include.specs.declared.chunks.Chunk.{Chunk}
 use Rattle.gx_include.specs.declared.reading.Reading.{Reading}
 use Rattle.gx_include.specs.declared.reading.Symbol.{Symbol}
 use Rattle.gx_include.specs.Bits.{has_bit}
-use Rattle.gx_include.specs.Following.{AreComing, IsMask, LeadsTo}
+use Rattle.gx_include.specs.Following.{AreComing, IsMask, FollowsMember}
 use Rattle.gx_include.specs.ItemIndex.{items_of}
 use Rattle.gx_include.specs.Step.{all_tests}
 use Rattle.gx_include.specs.Test.{is_taken}
@@ -31,11 +30,11 @@ get_there (x ∷ xs) (suc i) h = get_there xs i (omega arith)
 tests_alike : (t : SequenceType) (one other : ItemType → Bool) → ((kind : ItemType) → one kind ≡ other kind) → all_tests t one ≡ all_tests t other
 tests_alike t one other f = ap (λ ts. false ∷ ts) (tests_are t one ∙ map_alike one other f (items_of t) ∙ sym (tests_are t other))
 
-module _ {A : Type 0} (t : SequenceType) (rows : List (Vec Chunk A)) where
+module _ {A : Type 0} (t : SequenceType) (rows : List (Vec ℕ A)) where
   -- the same places come next over item types that pass the same tests
   coming_alike : (one other : ItemType → Bool) → ((kind : ItemType) → one kind ≡ other kind) → (before after : List ℕ) → AreComing t rows one before after → AreComing t rows other before after
   coming_alike one other f before after coming =
-      subst (λ ts. (place : ℕ) → (has_bit after place ≡ true) ↔ (LeadsTo rows before place × (get_or ts place false ≡ true))) (tests_alike t one other f) coming
+      subst (λ ts. (place : ℕ) → (has_bit after place ≡ true) ↔ (FollowsMember rows before place × (get_or ts place false ≡ true))) (tests_alike t one other f) coming
 
 module _ {B : Type 0} where
   -- a state that keeps its number keeps its places
@@ -45,7 +44,7 @@ module _ {B : Type 0} where
       let there = alike number q.0 q.1 in
       (slice_get_within more number q.0 there, ap places_of (there ∙ sym q.1))
 
-module _ {A B : Type 0} (t : SequenceType) (rows : List (Vec Chunk A)) where
+module _ {A B : Type 0} (t : SequenceType) (rows : List (Vec ℕ A)) where
   transition_alike : (one other : ItemType → Bool) → ((kind : ItemType) → one kind ≡ other kind) → (states : List (Vec ℕ B)) (origin target : ℕ) → IsTransition t rows one states origin target
       → IsTransition t rows other states origin target
   transition_alike one other f states origin target is = record {
@@ -73,7 +72,7 @@ module _ {A B : Type 0} (t : SequenceType) (rows : List (Vec Chunk A)) where
     some_stays states more alike reading None h = h
     some_stays states more alike reading (Some target) h = transition_stays (is_taken s (shape_read reading.symbol)) states more reading.state target alike h
 
-module _ {A B S : Type 0} (t : SequenceType) (rows : List (Vec Chunk A)) (s : SchemaSet) where
+module _ {A B S : Type 0} (t : SequenceType) (rows : List (Vec ℕ A)) (s : SchemaSet) where
   -- what is looked up is the transition of the shape
   pub next_is : (states : List (Vec ℕ B)) (targets : IndexMap Reading ℕ S) (reading : Reading) (shape : Shape) (target : ℕ) → AreTransitions t rows s states targets
       → get same_reading targets reading ≡ Some target → shape_read reading.symbol ≡ shape → IsTransition t rows (is_taken s shape) states reading.state target

@@ -1,13 +1,12 @@
 -- Sets of numbers as bits.
-use Rattle.std.proofs.Common.{◌≡◌, ◌≢◌, ℕ, zero, suc, ◌+◌, ◌*◌, ◌<◌, ◌≤◌, ◌/◌, ◌%◌, ◌^◌, Bool, true, false, ◌&&◌, ◌||◌, ◌==◌, List, inl, inr, refl, sym, ◌∙◌, ap, subst, get_or, length, arith, max, min, bit_and, bit_or, w64}
+use Rattle.std.proofs.Common.{◌≡◌, ◌≢◌, ℕ, zero, suc, ◌+◌, ◌<◌, ◌≤◌, ◌/◌, ◌%◌, ◌^◌, Bool, true, false, ◌&&◌, ◌||◌, ◌==◌, List, inl, inr, refl, sym, ◌∙◌, ap, subst, get_or, length, arith, max, min, bit_and, bit_or}
 use Rattle.std.specs.Prelude.{slice_set}
-use Rattle.std.specs.Int.{bit_at, bit_not}
+use Rattle.std.specs.Int.{bit_at}
 use Rattle.std.proofs.Math.ListN.{replicate}
 use Rattle.std.proofs.Math.Bool.{or-false, or_comm}
-use Rattle.std.proofs.lemmas.Bool.{cases_lt, cases_eq, eqb-true, eq-eqb, ne_eqb}
+use Rattle.std.proofs.lemmas.Bool.{cases_lt, eqb-true, eq-eqb, ne_eqb}
 use Rattle.std.proofs.lemmas.List.{get_or-set_same, get_or-set_other, get_or_past, length-set, length-replicate}
-use Rattle.std.proofs.lemmas.Nat.Bits.{bit_at_or, bit_at_and, bit_at-zero, bit_at-lt, bit_at-pow_same, bit_at-pow_other, bit_at_clear_same}
-use Rattle.std.proofs.lemmas.Nat.{and_le_l}
+use Rattle.std.proofs.lemmas.Nat.Bits.{bit_at_or, bit_at_and, bit_at-zero, bit_at-lt, bit_at-pow_same, bit_at-pow_other}
 use Rattle.gx_include.specs.Bits.{has_bit}
 
 -- one bit
@@ -38,24 +37,6 @@ bit_both m n i = ap (λ b. b == 1) (bit_at_and m n i) ∙ and_bit (bit_at m i) (
 
 no_bit : (i : ℕ) → (bit_at 0 i == 1) ≡ false
 no_bit i = ap (λ b. b == 1) (bit_at-zero i)
-
--- a bit that is set is taken away: the word is smaller
-pub smaller_without : (word bit rest : ℕ) → bit < 64 → bit_at word bit ≡ 1 → rest ≡ bit_and word (bit_not w64 (1 * 2 ^ bit % 2 ^ 64)) → rest < word
-smaller_without word bit rest within is e =
-    elim (cases_eq rest word) [
-      | inl same ↦
-          let gone : bit_at rest bit ≡ 0 = ap (λ w. bit_at w bit) e ∙ bit_at_clear_same w64 word bit within in
-          let kept : bit_at rest bit ≡ bit_at word bit = ap (λ w. bit_at w bit) same in
-          absurd (omega arith)
-      | inr other ↦ omega (arith, and_le_l word (bit_not w64 (1 * 2 ^ bit % 2 ^ 64)))
-    ]
-
--- a member of a word of a set
-pub in_word : (set : List ℕ) (k bit : ℕ) → bit < 64 → has_bit set (k * 64 + bit) ≡ (bit_at (get_or set k 0) bit == 1)
-in_word set k bit within =
-    let word : (k * 64 + bit) / 64 ≡ k = omega arith in
-    let place : (k * 64 + bit) % 64 ≡ bit = omega arith in
-    ap (λ i. bit_at (get_or set i 0) ((k * 64 + bit) % 64) == 1) word ∙ ap (λ i. bit_at (get_or set k 0) i == 1) place
 
 -- no number is in words without bits
 pub no_member : (count number : ℕ) → has_bit (replicate count 0) number ≡ false
@@ -113,19 +94,6 @@ put_in set after number bit old within e o f other =
         other_set set (number / 64) (bit_or (get_or set (number / 64) 0) (2 ^ (number % 64))) other (λ w. let g = eq-eqb (other / 64) (number / 64) w in absurd (cc))
         ∙ ap (λ b. b || has_bit set other) (sym (ne_eqb other number (λ q. let g = eq-eqb (other / 64) (number / 64) (ap (λ i. i / 64) q) in absurd (cc))))
 
--- a word is joined with another one
-
-pub word_united : (set after : List ℕ) (k word old : ℕ) → k < length set → old ≡ get_or set k 0 → after ≡ slice_set set k (bit_or old word)
-    → (number : ℕ) → has_bit after number ≡ has_bit set number || ((k == number / 64) && (bit_at word (number % 64) == 1))
-word_united set after k word old within o e number = ap (λ ws. has_bit ws number) e ∙ by (k == number / 64) refl
-  where
-    by : (b : Bool) → (k == number / 64) ≡ b → has_bit (slice_set set k (bit_or old word)) number ≡ has_bit set number || (b && (bit_at word (number % 64) == 1))
-    by true h =
-        let w : number / 64 ≡ k = sym (eqb-true k (number / 64) h) in
-        word_set set k (bit_or old word) number within w ∙ bit_either old word (number % 64)
-        ∙ ap (λ v. (bit_at v (number % 64) == 1) || (bit_at word (number % 64) == 1)) (o ∙ ap (λ i. get_or set i 0) (sym w))
-    by false h = other_set set k (bit_or old word) number (λ w. let g = eq-eqb k (number / 64) (sym w) in absurd (cc)) ∙ sym (or-false (has_bit set number))
-
 -- words are met in turn: those below a bound are, and the others stayed
 
 pub record AreMetBelow (old other set : List ℕ) (bound : ℕ) : Type 0 where
@@ -166,6 +134,60 @@ all_met old other set k past is n =
       | inr l ↦
           let none = not_past old n (omega arith) in
           ap (λ w. bit_at w (n % 64) == 1) (is.left n l) ∙ none ∙ ap (λ b. b && has_bit other n) (sym none)
+    ]
+
+-- words are united in turn: those below a bound are, and the others stayed
+
+pub record AreUnitedBelow (old other set : List ℕ) (bound : ℕ) : Type 0 where
+  pub room : length set ≡ length old
+  pub done : (number : ℕ) → number / 64 < bound → has_bit set number ≡ has_bit old number || has_bit other number
+  pub left : (number : ℕ) → bound ≤ number / 64 → get_or set (number / 64) 0 ≡ get_or old (number / 64) 0
+
+pub none_united : (old other : List ℕ) → AreUnitedBelow old other old 0
+none_united old other = record { room = refl; done = λ n h. absurd (omega arith); left = λ n h. refl }
+
+pub one_united : (old other set after : List ℕ) (k one two : ℕ) → k < length set → one ≡ get_or set k 0 → two ≡ get_or other k 0 → after ≡ slice_set set k (bit_or one two)
+    → AreUnitedBelow old other set k → AreUnitedBelow old other after (k + 1)
+one_united old other set after k one two within o p e is =
+    subst (λ ws. AreUnitedBelow old other ws (k + 1)) (sym e) (record {
+      room = length-set set k (bit_or one two) ∙ is.room;
+      done = done;
+      left = λ n h. get_or-set_other set k (n / 64) (bit_or one two) 0 (λ g. omega arith) ∙ is.left n (omega arith);
+    })
+  where
+    done : (n : ℕ) → n / 64 < k + 1 → has_bit (slice_set set k (bit_or one two)) n ≡ has_bit old n || has_bit other n
+    done n below =
+        elim (cases_lt (n / 64) k) [
+          | inl l ↦ other_set set k (bit_or one two) n (λ g. omega arith) ∙ is.done n l
+          | inr l ↦
+              let last : n / 64 ≡ k = omega arith in
+              word_set set k (bit_or one two) n within last ∙ bit_either one two (n % 64)
+              ∙ ap (λ w. (bit_at w (n % 64) == 1) || (bit_at two (n % 64) == 1)) (o ∙ ap (λ i. get_or set i 0) (sym last) ∙ is.left n l)
+              ∙ ap (λ w. has_bit old n || (bit_at w (n % 64) == 1)) (p ∙ ap (λ i. get_or other i 0) (sym last))
+        ]
+
+-- all words are united that both sets have
+pub all_united : (old other set : List ℕ) (k : ℕ) → min (length old) (length other) ≤ k → AreUnitedBelow old other set k
+    → (n : ℕ) → n / 64 < length old → has_bit set n ≡ has_bit old n || has_bit other n
+all_united old other set k past is n room =
+    elim (cases_lt (n / 64) k) [
+      | inl l ↦ is.done n l
+      | inr l ↦
+          ap (λ w. bit_at w (n % 64) == 1) (is.left n l) ∙ sym (or-false (has_bit old n)) ∙ ap (λ b. has_bit old n || b) (sym (not_past other n (omega arith)))
+    ]
+
+-- a set with room for two sets has the members of both
+pub both_united : (one other none first set : List ℕ) → none ≡ replicate (max (length one) (length other)) 0 → length first ≡ length none → length set ≡ length first
+    → ((n : ℕ) → n / 64 < length none → has_bit first n ≡ has_bit none n || has_bit one n) → ((n : ℕ) → n / 64 < length first → has_bit set n ≡ has_bit first n || has_bit other n)
+    → (n : ℕ) → has_bit set n ≡ has_bit one n || has_bit other n
+both_united one other none first set e room more_room adds_one adds_other n =
+    elim (cases_lt (n / 64) (length none)) [
+      | inl l ↦
+          adds_other n (omega arith)
+          ∙ ap (λ b. b || has_bit other n) (adds_one n l ∙ ap (λ b. b || has_bit one n) (ap (λ ws. has_bit ws n) e ∙ no_member (max (length one) (length other)) n))
+      | inr l ↦
+          let width : length none ≡ max (length one) (length other) = ap length e ∙ length-replicate (max (length one) (length other)) 0 in
+          not_past set n (omega arith) ∙ sym (ap (λ b. b || has_bit other n) (not_past one n (omega arith)) ∙ not_past other n (omega arith))
     ]
 
 -- flags are packed in turn

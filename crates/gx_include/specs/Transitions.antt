@@ -6,7 +6,6 @@ use Rattle.gx_types.specs.declared.shape.Shape.{Shape}
 use Rattle.gx_types.specs.declared.shape.Shape.TheVariants as shapes
 use Rattle.gx_types.specs.SchemaSet.{SchemaSet}
 use Rattle.gx_types.specs.SequenceType.{SequenceType}
-use Rattle.gx_include.specs.declared.chunks.Chunk.{Chunk}
 use Rattle.gx_include.specs.declared.reading.Reading.{Reading}
 use Rattle.gx_include.specs.declared.reading.Symbol.{Symbol}
 use Rattle.gx_include.specs.declared.reading.Symbol.TheVariants as symbols
@@ -42,13 +41,13 @@ abbrev pub places_at : {B : Type 0} → List (Vec ℕ B) → ℕ → List ℕ
 places_at states number = places_of (slice_get states number)
 
 -- the places of one state come to those of another one, over item types that pass a test
-pub record IsTransition {A B : Type 0} (t : SequenceType) (rows : List (Vec Chunk A)) (test : ItemType → Bool) (states : List (Vec ℕ B)) (origin target : ℕ) : Type 0 where
+pub record IsTransition {A B : Type 0} (t : SequenceType) (rows : List (Vec ℕ A)) (test : ItemType → Bool) (states : List (Vec ℕ B)) (origin target : ℕ) : Type 0 where
   pub origin_within : origin < length states
   pub target_within : target < length states
   pub coming : AreComing t rows test (places_at states origin) (places_at states target)
 
 -- each target that is kept is that of its reading
-abbrev pub AreTransitions : {A B S : Type 0} → SequenceType → List (Vec Chunk A) → SchemaSet → List (Vec ℕ B) → IndexMap Reading ℕ S → Type 0
+abbrev pub AreTransitions : {A B S : Type 0} → SequenceType → List (Vec ℕ A) → SchemaSet → List (Vec ℕ B) → IndexMap Reading ℕ S → Type 0
 AreTransitions t rows schemas states targets =
     (reading : Reading) → IfSome (get same_reading targets reading) (λ target. IsTransition t rows (is_taken schemas (shape_read reading.symbol)) states reading.state target)
 

@@ -1,7 +1,6 @@
 // Sets of numbers as bits, 64 to a word.
 
-ghost use Rattle.std.specs.Prelude.{◌≡◌, ◌≢◌, ◌==◌, ◌&&◌, ◌||◌, ◌<◌, ◌/◌, ℕ, IfOk, false, length, slice_index_or};
-ghost use Rattle.std.specs.Int.{bit_at};
+ghost use Rattle.std.specs.Prelude.{◌≡◌, ◌==◌, ◌&&◌, ◌||◌, ◌<◌, ◌/◌, ℕ, IfOk, false, length, slice_index_or};
 ghost use Rattle.gx_include.specs.Bits.{has_bit};
 
 use std::alloc::{AllocError, Global};
@@ -21,26 +20,6 @@ pub(crate) fn word_at(set: &[u64], index: usize) -> u64
         Some(word) => *word,
         None => 0,
     }
-}
-
-// The lowest member of a word.
-pub(crate) fn lowest(word: u64) -> usize
-    requires { word ≢ 0 }
-    ensures within { result < 64 }
-    ensures member { bit_at word result ≡ 1 }
-{
-    word.trailing_zeros() as usize
-}
-
-// A word without one of its members.
-pub(crate) fn without(word: u64, bit: usize) -> u64
-    requires within { bit < 64 }
-    requires member { bit_at word bit ≡ 1 }
-    ensures smaller { result < word }
-    ensures removed { bit_at result bit ≡ 0 }
-    ensures others { (other : ℕ) → other < 64 → other ≢ bit → bit_at result other ≡ bit_at word other }
-{
-    word & !(1u64 << bit)
 }
 
 // Puts a number into a set that has room for it.
@@ -71,6 +50,27 @@ pub(crate) fn intersect(set: &mut Vec<u64>, other: &[u64])
     for word in 0..set.len() {
         set[word] = set[word] & word_at(other, word);
     }
+}
+
+// Puts the members of another set into a set, as far as that has room.
+pub(crate) fn unite(set: &mut Vec<u64>, other: &[u64])
+    ensures room { length set.new.items ≡ length set.old.items }
+    ensures bits { (number : ℕ) → number / 64 < length set.old.items → has_bit set.new.items number ≡ has_bit set.old.items number || has_bit other.now number }
+{
+    let count = set.len().min(other.len());
+    for word in 0..count {
+        set[word] = set[word] | other[word];
+    }
+}
+
+// The numbers that are in one of two sets.
+pub(crate) fn union(alloc: Global, one: &[u64], other: &[u64]) -> Result<Vec<u64>, AllocError>
+    ensures { IfOk result (λ set. (number : ℕ) → has_bit set.items number ≡ has_bit one.now number || has_bit other.now number) }
+{
+    let mut set = vec![in alloc; 0; one.len().max(other.len())]?;
+    unite(&mut set, one);
+    unite(&mut set, other);
+    Ok(set)
 }
 
 // The set of the numbers whose flags are set.

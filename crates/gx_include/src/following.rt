@@ -1,51 +1,80 @@
 // The positions that may come next behind each position of a type, and what sets of places come to.
 
-ghost use Rattle.std.specs.Prelude.{◌≡◌, ◌+◌, ◌<◌, ◌≤◌, ◌/◌, ◌&&◌, ◌||◌, ◌⊎◌, ℕ, IfOk, OnOk, IsTrue, ◌↔◌, true, false, length, slice_index_or};
-ghost use Rattle.gx_include.specs.Bits.{has_bit, has_chunked};
-ghost use Rattle.gx_include.specs.Following.{AreFollowing, IsMask, LeadsFrom, LeadsTo, may_follow};
+ghost use Rattle.std.specs.Prelude.{◌≡◌, ◌+◌, ◌*◌, ◌^◌, ◌<◌, ◌≤◌, ◌/◌, ◌&&◌, ◌||◌, ℕ, IfOk, OnOk, IsTrue, ◌↔◌, true, false, length, slice_index_or};
+ghost use Rattle.gx_include.specs.Bits.{has_bit};
+ghost use Rattle.gx_include.specs.Following.{AreFollowing, IsMask, FollowsMember, follows_block, members_in};
 ghost use Rattle.gx_include.specs.Step.{single, all_next, is_end};
 ghost use Rattle.gx_include.specs.Test.{is_taken};
 
-use crate::bits::{has, intersect, lowest, packed, without, word_at};
-use crate::chunks::{Chunk, chunked, unite};
+use crate::bits::{has, intersect, packed, union, unite, word_at};
 use crate::step::{ends_at, next_positions, only, taking_positions};
 use gx_types::schemas::Schemas;
 use gx_types::sequence_type::Ty;
 use gx_types::shape::Shape;
 use std::alloc::{AllocError, Global};
 
-// The positions that may come next behind the start of a type and behind its positions, for so many of these.
-pub(crate) fn following(alloc: Global, t: &Ty, count: usize) -> Result<Vec<Vec<Chunk>>, AllocError>
-    ensures { IfOk result (λ rows. AreFollowing t.now count rows.items) }
+// The positions that may come next behind each choice of places of each block of four, for so many places: the start of a type
+// and its positions.
+pub(crate) fn following(alloc: Global, t: &Ty, count: usize) -> Result<Vec<Vec<u64>>, AllocError>
+    ensures { IfOk result (λ rows. AreFollowing t.now ((count / 4 + 1) * 16) rows.items) }
 {
     let mut rows = Vec::new(alloc);
-    for origin in 0..count {
-        add_row(alloc, t, origin, &mut rows)?;
+    for block in 0..count / 4 + 1 {
+        add_block(alloc, t, block, &mut rows)?;
     }
     Ok(rows)
 }
 
-// Puts the row of a place behind those of the places before it.
-fn add_row(
+// Puts the rows of a block behind those of the blocks before it.
+fn add_block(
     alloc: Global,
     t: &Ty,
-    origin: usize,
-    rows: &mut Vec<Vec<Chunk>>,
+    block: usize,
+    rows: &mut Vec<Vec<u64>>,
 ) -> Result<(), AllocError>
-    ensures { OnOk result (AreFollowing t.now origin rows.old.items → AreFollowing t.now (origin + 1) rows.new.items) }
+    requires bound { block < 2 ^ 62 }
+    requires before { AreFollowing t.now (block * 16) rows.old.items }
+    ensures { OnOk result (AreFollowing t.now ((block + 1) * 16) rows.new.items) }
 {
-    let row = row_of(alloc, t, origin)?;
-    rows.push(row)?;
+    rows.push(Vec::new(alloc))?;
+    for bit in 0..4usize {
+        add_place(alloc, t, block, bit, rows)?;
+    }
+    Ok(())
+}
+
+// Puts the rows of a block that have one place more behind those that have only places before it.
+fn add_place(
+    alloc: Global,
+    t: &Ty,
+    block: usize,
+    bit: usize,
+    rows: &mut Vec<Vec<u64>>,
+) -> Result<(), AllocError>
+    requires bound { block < 2 ^ 62 }
+    requires within { bit < 4 }
+    requires before { AreFollowing t.now (block * 16 + 2 ^ bit) rows.old.items }
+    ensures { OnOk result (AreFollowing t.now (block * 16 + 2 ^ (bit + 1)) rows.new.items) }
+{
+    let last = row_of(alloc, t, block * 4 + bit)?;
+    for members in 0..1usize << bit {
+        let row = union(
+            alloc,
+            rows[block * 16 + members].as_slice(),
+            last.as_slice(),
+        )?;
+        rows.push(row)?;
+    }
     Ok(())
 }
 
 // The positions that may come next behind one.
-fn row_of(alloc: Global, t: &Ty, origin: usize) -> Result<Vec<Chunk>, AllocError>
-    ensures { IfOk result (λ row. (place : ℕ) → has_chunked row.items place ≡ slice_index_or (all_next t.now (single origin)) place false) }
+fn row_of(alloc: Global, t: &Ty, origin: usize) -> Result<Vec<u64>, AllocError>
+    ensures { IfOk result (λ row. (place : ℕ) → has_bit row.items place ≡ slice_index_or (all_next t.now (single origin)) place false) }
 {
     let set = only(alloc, origin)?;
     let next = next_positions(alloc, t, set.as_slice())?;
-    let row = chunked(alloc, next.as_slice())?;
+    let row = packed(alloc, next.as_slice())?;
     Ok(row)
 }
 
@@ -66,42 +95,36 @@ pub(crate) fn mask_of(
 // The places of a mask that may come next behind those of a set.
 pub(crate) fn places_coming(
     alloc: Global,
-    rows: &[Vec<Chunk>],
+    rows: &[Vec<u64>],
     mask: &[u64],
     places: &[u64],
 ) -> Result<Vec<u64>, AllocError>
-    ensures { IfOk result (λ after. (place : ℕ) → (has_bit after.items place ≡ true) ↔ (LeadsTo rows.now places.now place × (has_bit mask.now place ≡ true))) }
+    ensures { IfOk result (λ after. (place : ℕ) → (has_bit after.items place ≡ true) ↔ (FollowsMember rows.now places.now place × (has_bit mask.now place ≡ true))) }
 {
     let mut after = vec![in alloc; 0; mask.len()]?;
-    for index in 0..rows.len() / 64 + 1 {
-        add_next(rows, index, word_at(places, index), &mut after);
+    for block in 0..rows.len() / 16 + 1 {
+        add_next(rows, places, block, &mut after);
     }
     intersect(&mut after, mask);
     Ok(after)
 }
 
-// Puts the places that may come next behind those of a word of a set into another set.
-fn add_next(rows: &[Vec<Chunk>], index: usize, word: u64, after: &mut Vec<u64>)
-    requires { index ≤ length rows.now / 64 }
+// Puts the places that may come next behind the members of a set in a block into another set, as far as that has room.
+fn add_next(rows: &[Vec<u64>], places: &[u64], block: usize, after: &mut Vec<u64>)
+    requires { block ≤ length rows.now / 16 }
     ensures room { length after.new.items ≡ length after.old.items }
-    ensures bits { (place : ℕ) → place / 64 < length after.old.items → (has_bit after.new.items place ≡ true) ↔ ((has_bit after.old.items place ≡ true) ⊎ LeadsFrom rows.now index word place) }
+    ensures bits { (place : ℕ) → place / 64 < length after.old.items → has_bit after.new.items place ≡ has_bit after.old.items place || follows_block rows.now places.now block place }
 {
-    let mut left = word;
-    while left != 0 {
-        let bit = lowest(left);
-        left = without(left, bit);
-        add_behind(rows, index * 64 + bit, after);
+    if let Some(row) = rows.get(block * 16 + members_in_block(places, block)) {
+        unite(after, row.as_slice());
     }
 }
 
-// Puts the places that may come next behind a place into a set, as far as that has room.
-fn add_behind(rows: &[Vec<Chunk>], origin: usize, after: &mut Vec<u64>)
-    ensures room { length after.new.items ≡ length after.old.items }
-    ensures bits { (place : ℕ) → place / 64 < length after.old.items → has_bit after.new.items place ≡ has_bit after.old.items place || may_follow rows.now origin place }
+// The members of a set in a block, as the bits of a number.
+fn members_in_block(places: &[u64], block: usize) -> usize
+    ensures { result ≡ members_in places.now block }
 {
-    if let Some(row) = rows.get(origin) {
-        unite(after, row.as_slice());
-    }
+    ((word_at(places, block / 16) >> (block % 16 * 4)) % 16) as usize
 }
 
 // Whether a list of the type may end at one of some places.

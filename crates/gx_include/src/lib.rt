@@ -3,7 +3,6 @@
 
 mod alphabet;
 mod bits;
-mod chunks;
 mod decide;
 pub mod decision;
 pub mod derivations;

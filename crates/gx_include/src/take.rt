@@ -1,6 +1,6 @@
 // What a type takes.
 
-ghost use Rattle.std.specs.Prelude.{◌≡◌, ◌+◌, ℕ, IfOk, OnOk, IsTrue, ◌↔◌, false, slice_index_or};
+ghost use Rattle.std.specs.Prelude.{◌≡◌, ◌+◌, ◌*◌, ◌/◌, ℕ, IfOk, OnOk, IsTrue, ◌↔◌, false, slice_index_or};
 ghost use Rattle.gx_types.specs.Takes.{Takes};
 ghost use Rattle.gx_types.specs.TypeRules.{positions_of};
 ghost use Rattle.gx_include.specs.Bits.{has_bit};
@@ -9,7 +9,6 @@ ghost use Rattle.gx_include.specs.Step.{single, step_over};
 ghost use Rattle.gx_include.specs.Test.{is_taken, IsDecided};
 
 use crate::bits::packed;
-use crate::chunks::Chunk;
 use crate::following::{ends_at_one, following};
 use crate::places::meet;
 use crate::step::{ends_at, next_positions, only, taking_positions};
@@ -50,15 +49,15 @@ fn takes_by_sets(
     Ok(ends_at(t, set.as_slice()))
 }
 
-// The same for a long list, with the positions that may come next behind the start and behind each position.
+// The same for a long list, with the rows of the positions that may come next.
 fn takes_by_rows(
     alloc: Global,
     schemas: &Schemas,
     t: &Ty,
-    rows: &[Vec<Chunk>],
+    rows: &[Vec<u64>],
     list: &[Shape],
 ) -> Result<bool, AllocError>
-    requires { AreFollowing t.now (positions_of t.now + 1) rows.now }
+    requires { AreFollowing t.now (((positions_of t.now + 1) / 4 + 1) * 16) rows.now }
     ensures { IfOk result (λ answer. IsTrue answer ↔ Takes schemas.now t.now list.now) }
 {
     let _declarations = schemas.types();
@@ -67,7 +66,7 @@ fn takes_by_rows(
     for shape in list {
         state = transitions.next(alloc, schemas, t, rows, state, shape)?;
     }
-    let end = ends_at_one(alloc, t, rows.len(), transitions.places(state))?;
+    let end = ends_at_one(alloc, t, rows.len() / 4, transitions.places(state))?;
     Ok(end)
 }
 

@@ -5,7 +5,6 @@ ghost use Rattle.gx_include.specs.Following.{AreComing};
 ghost use Rattle.gx_include.specs.Test.{is_taken};
 ghost use Rattle.gx_include.specs.Transitions.{shape_read, places_at, AreTransitions, AreMasks, AreNumberedAlike, IsAnew};
 
-use crate::chunks::Chunk;
 use crate::following::{mask_of, places_coming};
 use crate::reading::{Reading, Symbol};
 use gx_types::schemas::Schemas;
@@ -56,7 +55,7 @@ impl<'a> Transitions<'a> {
         alloc: Global,
         schemas: &Schemas,
         t: &Ty,
-        rows: &[Vec<Chunk>],
+        rows: &[Vec<u64>],
         state: usize,
         shape: &'a Shape,
     ) -> Result<usize, AllocError>
@@ -81,7 +80,7 @@ impl<'a> Transitions<'a> {
         alloc: Global,
         schemas: &Schemas,
         t: &Ty,
-        rows: &[Vec<Chunk>],
+        rows: &[Vec<u64>],
         state: usize,
         shape: &'a Shape,
     ) -> Result<usize, AllocError>
@@ -108,7 +107,7 @@ impl<'a> Transitions<'a> {
         alloc: Global,
         schemas: &Schemas,
         t: &Ty,
-        rows: &[Vec<Chunk>],
+        rows: &[Vec<u64>],
         state: usize,
         shape: &Shape,
     ) -> Result<Vec<u64>, AllocError>

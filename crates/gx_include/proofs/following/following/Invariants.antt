@@ -1,5 +1,6 @@
+use Rattle.std.proofs.Common.{◌*◌}
 use Rattle.gx_include.specs.Following.{AreFollowing}
 use Rattle.gx_include.proofs.following.following.Given as goal
 
-abbrev pub invariant-loop-origin : goal.invariant-loop-origin
-invariant-loop-origin l = AreFollowing l.t l.origin l.rows.items
+abbrev pub invariant-loop-block : goal.invariant-loop-block
+invariant-loop-block l = AreFollowing l.t (l.block * 16) l.rows.items

@@ -1,4 +1,4 @@
-use Rattle.std.proofs.Common.{◌≡◌, ◌+◌, ◌<◌, true, sym, ◌∙◌, ap, subst, ◌∷◌, ◌↔◌, ℕ, List, drop, length, arith}
+use Rattle.std.proofs.Common.{◌≡◌, ◌+◌, ◌<◌, ◌/◌, true, sym, ◌∙◌, ap, subst, ◌∷◌, ◌↔◌, ℕ, List, drop, length, arith}
 use Rattle.std.specs.Bool.{IsTrue}
 use Rattle.std.proofs.lemmas.List.{drop_more}
 use Rattle.std.proofs.Math.ListN.{drop_of_length-le}
@@ -50,7 +50,7 @@ loop-shape-preserved c =
 
 pub ends_at_one-requires : goal.ends_at_one-requires
 ends_at_one-requires c =
-    subst (λ (ps : List ℕ). (place : ℕ) → has_bit ps place ≡ true → place < length c.args.rows.now) (sym c.places.ensures)
+    subst (λ (ps : List ℕ). (place : ℕ) → has_bit ps place ≡ true → place < length c.args.rows.now / 4) (sym c.places.ensures)
     (λ place h. let k = c.loop-shape.invariant.within place h in omega (arith, k, c.requires.count_is))
 
 pub returns : goal.returns

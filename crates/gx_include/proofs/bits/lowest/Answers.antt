@@ -1,8 +1,0 @@
-use Rattle.std.proofs.Common.{arith, w64}
-use Rattle.std.proofs.lemmas.Nat.Bits.{bit_at-trailing_zeros}
-use Rattle.gx_include.proofs.bits.lowest.Goals as goal
-
-pub returns : goal.returns
-returns c =
-    let h = bit_at-trailing_zeros w64 c.args.word (omega (arith, c.requires)) c.ranges.word.fits in
-    record { within = h.0; member = h.1 }
