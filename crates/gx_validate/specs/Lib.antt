@@ -1,6 +1,7 @@
 pub mod InstanceAttributes
 pub mod Annotation
 pub mod ElementContent
+pub mod ChildKinds
 pub mod Taking
 pub mod Rules
 pub mod Outcome

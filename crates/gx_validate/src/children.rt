@@ -10,7 +10,8 @@ ghost use Rattle.gx_validate.specs.Taking.{is_text_at_most, takes_shapes};
 ghost use Rattle.gx_xml.specs.SourceView.{contents_of};
 
 use crate::annotation::type_in_content;
-use crate::content::{Texts, complex_model, is_ignored, is_stray, texts_allowed, type_of_child};
+use crate::child_kinds::ChildKinds;
+use crate::content::{Texts, complex_model, is_ignored, is_stray, texts_allowed};
 use crate::scope::Scope;
 use gx_base::text::Text;
 use gx_base::text_builder::TextBuilder;
@@ -56,12 +57,12 @@ fn child_shape<'a>(
     alloc: Global,
     schemas: &Schemas,
     scope: &Scope<'a>,
-    holder: Option<&Declared>,
+    kinds: &ChildKinds<'_>,
     element: &'a SourceElement,
 ) -> Result<Shape, AllocError>
-    ensures { IfOk result (λ shape. shape ≡ child_shape schemas.entry.now (scope_declarations scope.entry.now) (option_copied holder.entry) element.entry.now) }
+    ensures { IfOk result (λ shape. shape ≡ child_shape schemas.entry.now (scope_declarations scope.entry.now) kinds.entry.now element.entry.now) }
 {
-    let declared = type_of_child(holder, &element.name)?;
+    let declared = kinds.kind_of(&element.name)?;
     let kind = type_in_content(alloc, schemas, scope, &declared, element)?;
     let name = element.name.clone()?;
     Ok(Shape::Elem(name, kind))
@@ -78,12 +79,13 @@ fn child_shapes<'a>(
     ensures { IfOk result (λ shapes. shapes.items ≡ child_shapes schemas.entry.now (scope_declarations scope.entry.now) (option_copied holder.entry) (contents_of children.entry.now)) }
 {
     let texts = texts_allowed(holder);
-    let mut shapes = Vec::new(alloc);
+    let kinds = ChildKinds::new(alloc, holder, children.len())?;
+    let mut shapes = Vec::with_capacity(alloc, children.len())?;
     let mut left = children;
     while let Some((child, others)) = left.split_first() {
         match child {
             SourceChild::Element(element) => {
-                shapes.push(child_shape(alloc, schemas, scope, holder, element)?)?;
+                shapes.push(child_shape(alloc, schemas, scope, &kinds, element)?)?;
             }
             SourceChild::Text(text) => add_text(&mut shapes, texts, text)?,
         }

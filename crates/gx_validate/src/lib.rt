@@ -3,6 +3,7 @@
 
 mod annotation;
 mod attributes;
+mod child_kinds;
 mod children;
 mod content;
 pub mod invalid;

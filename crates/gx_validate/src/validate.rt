@@ -10,7 +10,8 @@ ghost use Rattle.gx_xml.specs.SourceView.{contents_of};
 
 use crate::annotation::annotation;
 use crate::attributes::{typed_attributes, uses_allowed};
-use crate::content::{Texts, is_ignored, texts_allowed, type_of_child};
+use crate::child_kinds::ChildKinds;
+use crate::content::{Texts, is_ignored, texts_allowed};
 use crate::invalid::{Invalid, InvalidRule};
 use crate::path::{number_among_siblings, within_step};
 use crate::rules::broken_rule;
@@ -158,12 +159,13 @@ fn typed_contents<'a>(
     ensures fault { IfErr result (λ e. IsInvalid e (typed_contents schemas.entry.now (scope_declarations scope.entry.now) (option_copied holder.entry) [] (contents_of children.entry.now))) }
 {
     let texts = texts_allowed(holder);
-    let mut done = Vec::new(alloc);
+    let kinds = ChildKinds::new(alloc, holder, children.len())?;
+    let mut done = Vec::with_capacity(alloc, children.len())?;
     let mut left = children;
     while let Some((child, others)) = left.split_first() {
         match child {
             SourceChild::Element(element) => {
-                let tree = typed_child(alloc, schemas, scope, holder, &done, element)?;
+                let tree = typed_child(alloc, schemas, scope, &kinds, &done, element)?;
                 add_tree(&mut done, tree)?;
             }
             SourceChild::Text(text) => add_text(&mut done, texts, text)?,
@@ -179,14 +181,14 @@ fn typed_child<'a>(
     alloc: Global,
     schemas: &Schemas,
     scope: &Scope<'a>,
-    holder: Option<&Declared>,
+    kinds: &ChildKinds<'_>,
     done: &Vec<Tree>,
     element: &'a SourceElement,
 ) -> Result<Tree, Invalid>
-    ensures tree { IfOk result (λ t. typed_child schemas.entry.now (scope_declarations scope.entry.now) (option_copied holder.entry) done.entry.now.items element.entry.now ≡ Ok t) }
-    ensures fault { IfErr result (λ e. IsInvalid e (typed_child schemas.entry.now (scope_declarations scope.entry.now) (option_copied holder.entry) done.entry.now.items element.entry.now)) }
+    ensures tree { IfOk result (λ t. typed_child schemas.entry.now (scope_declarations scope.entry.now) kinds.entry.now done.entry.now.items element.entry.now ≡ Ok t) }
+    ensures fault { IfErr result (λ e. IsInvalid e (typed_child schemas.entry.now (scope_declarations scope.entry.now) kinds.entry.now done.entry.now.items element.entry.now)) }
 {
-    let declared = type_of_child(holder, &element.name)?;
+    let declared = kinds.kind_of(&element.name)?;
     match typed_element(alloc, schemas, scope, &declared, element) {
         Ok(tree) => Ok(tree),
         Err(invalid) => {
