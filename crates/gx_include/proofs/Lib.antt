@@ -25,5 +25,6 @@ pub mod SomeAnswer
 mod Symbols
 mod Targets
 mod Derived
+mod DerivedTypes
 pub mod Asked
 pub mod WordSets

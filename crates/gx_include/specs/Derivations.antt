@@ -1,10 +1,10 @@
 -- Which declared types are derived from a type that item types ask for, by their numbers in document order.
-use Rattle.std.specs.Prelude.{◌≡◌, ℕ, Bool, true, false, List, length, Option, None, Some, IfSome, IsSome, Vec, slice_get, slice_index_or}
+use Rattle.std.specs.Prelude.{◌≡◌, ℕ, Bool, true, false, List, length, Option, None, Some, IfSome, IsSome, Vec, filter, slice_get, slice_index_or}
 use Rattle.indexmap.specs.IndexMap.{IndexMap, get}
 use Rattle.gx_base.specs.declared.type_name.TypeName.{TypeName}
 use Rattle.gx_base.specs.contracts.type_name.TypeNamePartialEq.TheImpl as type_names
 use Rattle.gx_types.specs.declared.declaration.Declared.{Declared}
-use Rattle.gx_types.specs.SchemaSet.{SchemaSet}
+use Rattle.gx_types.specs.SchemaSet.{SchemaSet, declared_types}
 use Rattle.gx_types.specs.Derivation.{is_derived}
 use Rattle.gx_include.specs.declared.lead.Lead.{Lead}
 use Rattle.gx_include.specs.declared.lead.Lead.TheVariants.{Answer, Base}
@@ -20,6 +20,10 @@ is_derived_declared schemas kind (Some declared) = is_derived schemas declared.n
 -- the declared type of a number is derived from a type
 abbrev pub is_derived_at : SchemaSet → TypeName → ℕ → Bool
 is_derived_at schemas kind number = is_derived_declared schemas kind (slice_get schemas.types number)
+
+-- the declared types that are derived from a type, in document order
+abbrev pub derived_types : SchemaSet → TypeName → List TypeName
+derived_types schemas kind = filter (λ t. is_derived schemas t kind) (declared_types schemas)
 
 -- a flag for each declared type: it is derived from a type
 pub record IsColumn (schemas : SchemaSet) (kind : TypeName) (flags : List Bool) : Type 0 where

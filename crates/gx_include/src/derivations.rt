@@ -3,7 +3,7 @@
 ghost use Rattle.std.specs.Prelude.{◌≡◌, ◌++◌, [], ◌∷◌, ◌<◌, if◌then◌else◌, ℕ, IfOk, OnOk, IfSome, Some, length, slice_get, slice_index_or, slice_set, true, false};
 ghost use Rattle.gx_types.specs.Derivation.{is_derived};
 ghost use Rattle.indexmap.specs.IndexMap.{get};
-ghost use Rattle.gx_include.specs.Derivations.{same_kind, is_derived_at, IsColumn, AreNumbers, AllAreNumbered, AreBases, AreKnown, IsNumberOf, IsLead, AreColumnsByKind};
+ghost use Rattle.gx_include.specs.Derivations.{same_kind, derived_types, is_derived_at, IsColumn, AreNumbers, AllAreNumbered, AreBases, AreKnown, IsNumberOf, IsLead, AreColumnsByKind};
 
 use crate::lead::Lead;
 use crate::places::fits;
@@ -197,6 +197,50 @@ fn add_if(types: &mut Vec<TypeName>, declared: &Declared, flag: bool) -> Result<
         types.push(declared.name.clone()?)?;
     }
     Ok(())
+}
+
+/// The declared types that are derived from a type, in document order. The work is linear in the number of declared types.
+pub fn derived_types(
+    alloc: Global,
+    schemas: &Schemas,
+    kind: &TypeName,
+) -> Result<Vec<TypeName>, AllocError>
+    ensures { IfOk result (λ types. types.items ≡ derived_types schemas.now kind.now) }
+{
+    let numbers = numbers_of(alloc, schemas)?;
+    let column = column_anew(alloc, schemas, &numbers, kind)?;
+    types_of_column(alloc, schemas, kind, column.as_slice())
+}
+
+// The column of a type, where no bases are known yet.
+fn column_anew(
+    alloc: Global,
+    schemas: &Schemas,
+    numbers: &IndexMap<TypeName, usize>,
+    kind: &TypeName,
+) -> Result<Vec<bool>, AllocError>
+    requires { AreNumbers schemas.now numbers.now }
+    ensures { IfOk result (λ column. IsColumn schemas.now kind.now column.items) }
+{
+    let bases = bases_of(alloc, schemas, numbers)?;
+    column_of(alloc, schemas, bases.as_slice(), kind)
+}
+
+// The declared types that a column has.
+fn types_of_column(
+    alloc: Global,
+    schemas: &Schemas,
+    _kind: &TypeName,
+    column: &[bool],
+) -> Result<Vec<TypeName>, AllocError>
+    requires { IsColumn schemas.now _kind.now column.now }
+    ensures { IfOk result (λ types. types.items ≡ derived_types schemas.now _kind.now) }
+{
+    let mut types = Vec::new(alloc);
+    for (number, declared) in schemas.types().iter().enumerate() {
+        add_if(&mut types, declared, is_set(column, number))?;
+    }
+    Ok(types)
 }
 
 // The number of each declared type, in document order.

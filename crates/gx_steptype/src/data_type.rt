@@ -2,7 +2,7 @@
 
 ghost use Rattle.std.specs.Prelude.{◌≡◌, [], ◌∷◌, IfOk, MatchResult};
 ghost use Rattle.std.specs.List.{list_all};
-ghost use Rattle.gx_types.specs.SchemaSet.{declaration_of, names_declared};
+ghost use Rattle.gx_types.specs.SchemaSet.{declaration_of};
 ghost use Rattle.gx_steptype.specs.DerivedTypes.{derived_among, listed_names};
 ghost use Rattle.gx_steptype.specs.DataType.{atomic_item, values_by_content as values_of_content, declared_values as values_of_declared, simple_values as values_of_simple, values_of_type, values_declared, content_values, has_value as values_exist, value_type, value_type_of as type_of_values, item_has_data as item_has_values, item_data as data_of_item, has_data as type_has_data, have_values, untyped_atomic as untyped_type, list_of_items};
 ghost use Rattle.gx_steptype.specs.StepAnswer.{HasDataType, RefusesData};
@@ -12,7 +12,8 @@ use crate::derived::{LISTED, OfType, over_derived};
 use crate::error::StepError;
 use crate::replace::{Replacement, replace};
 use gx_base::type_name::{Builtin, TypeName};
-use gx_types::declaration::{Content, Declared};
+use gx_include::derivations::derived_types;
+use gx_types::declaration::Content;
 use gx_types::derivation::derives;
 use gx_types::item_type::ItemType;
 use gx_types::schemas::Schemas;
@@ -25,7 +26,7 @@ use std::alloc::{AllocError, Global};
 pub fn data_type(alloc: Global, schemas: &Schemas, t: &Ty) -> Result<Ty, StepError>
     ensures { MatchResult result (HasDataType schemas.now t.now) (RefusesData schemas.now t.now) }
 {
-    if !has_data(schemas, t) {
+    if !has_data(alloc, schemas, t)? {
         return Err(StepError::NoTypedValue);
     }
     let values = replace(alloc, &Data { schemas }, t)?;
@@ -78,35 +79,42 @@ fn item_data(alloc: Global, schemas: &Schemas, item: &ItemType) -> Result<Ty, Al
 }
 
 // Whether each item type of a type has a typed value.
-fn has_data(schemas: &Schemas, t: &Ty) -> bool
-    ensures { result ≡ type_has_data schemas.now t.now }
+fn has_data(alloc: Global, schemas: &Schemas, t: &Ty) -> Result<bool, AllocError>
+    ensures { IfOk result (λ answer. answer ≡ type_has_data schemas.now t.now) }
 {
     match &t.node {
-        TyNode::Never | TyNode::Empty => true,
-        TyNode::Item(kind) => item_has_data(schemas, kind),
+        TyNode::Never | TyNode::Empty => Ok(true),
+        TyNode::Item(kind) => item_has_data(alloc, schemas, kind),
         TyNode::Seq(first, second) | TyNode::Alt(first, second) => {
-            has_data(schemas, first) && has_data(schemas, second)
+            Ok(has_data(alloc, schemas, first)? && has_data(alloc, schemas, second)?)
         }
-        TyNode::Optional(part) | TyNode::Star(part) | TyNode::Plus(part) => has_data(schemas, part),
+        TyNode::Optional(part) | TyNode::Star(part) | TyNode::Plus(part) => {
+            has_data(alloc, schemas, part)
+        }
     }
 }
 
-fn item_has_data(schemas: &Schemas, item: &ItemType) -> bool
-    ensures { result ≡ item_has_values schemas.now item.now }
+fn item_has_data(alloc: Global, schemas: &Schemas, item: &ItemType) -> Result<bool, AllocError>
+    ensures { IfOk result (λ answer. answer ≡ item_has_values schemas.now item.now) }
 {
     match item {
-        ItemType::Element { name: _, kind } => !is_any_type(kind) && all_have_values(schemas, kind),
-        ItemType::Attribute { name: _, kind } => has_value(schemas, kind),
-        ItemType::Text | ItemType::Document(_) | ItemType::Atom(_) => true,
+        ItemType::Element { name: _, kind } => {
+            Ok(!is_any_type(kind) && all_have_values(alloc, schemas, kind)?)
+        }
+        ItemType::Attribute { name: _, kind } => Ok(has_value(schemas, kind)),
+        ItemType::Text | ItemType::Document(_) | ItemType::Atom(_) => Ok(true),
     }
 }
 
 // Whether the nodes of a type and of all types that are derived from it have typed values.
-fn all_have_values(schemas: &Schemas, kind: &TypeName) -> bool
-    ensures { result ≡ have_values schemas.now kind.now }
+fn all_have_values(alloc: Global, schemas: &Schemas, kind: &TypeName) -> Result<bool, AllocError>
+    ensures { IfOk result (λ answer. answer ≡ have_values schemas.now kind.now) }
 {
-    builtins_have_values(schemas, kind, &LISTED)
-        && declared_have_values(schemas, kind, schemas.types())
+    if !builtins_have_values(schemas, kind, &LISTED) {
+        return Ok(false);
+    }
+    let derived = derived_types(alloc, schemas, kind)?;
+    Ok(each_has_value(schemas, derived.as_slice()))
 }
 
 fn builtins_have_values(schemas: &Schemas, kind: &TypeName, listed: &[Builtin]) -> bool
@@ -120,11 +128,12 @@ fn builtins_have_values(schemas: &Schemas, kind: &TypeName, listed: &[Builtin]) 
     true
 }
 
-fn declared_have_values(schemas: &Schemas, kind: &TypeName, declared: &[Declared]) -> bool
-    ensures { result ≡ list_all (λ t. values_exist (values_of_type schemas.now t)) (derived_among schemas.now kind.now (names_declared declared.now)) }
+// Whether the nodes of each of these types have typed values.
+fn each_has_value(schemas: &Schemas, kinds: &[TypeName]) -> bool
+    ensures { result ≡ list_all (λ t. values_exist (values_of_type schemas.now t)) kinds.now }
 {
-    for declaration in declared {
-        if !has_value_if_derived(schemas, kind, &declaration.name) {
+    for kind in kinds {
+        if !has_value(schemas, kind) {
             return false;
         }
     }

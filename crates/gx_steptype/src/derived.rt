@@ -3,11 +3,10 @@
 ghost use Rattle.std.specs.Prelude.{◌≡◌, ◌++◌, [], ◌∷◌, map, IfOk, OnOk};
 ghost use Rattle.gx_base.specs.declared.type_name.TypeName.{TypeName as NameOfType};
 ghost use Rattle.gx_types.specs.SequenceType.{SequenceType};
-ghost use Rattle.gx_types.specs.SchemaSet.{names_declared};
 ghost use Rattle.gx_steptype.specs.DerivedTypes.{over_derived as choice_over_derived, derived_among, listed_names};
 
 use gx_base::type_name::{Builtin, TypeName};
-use gx_types::declaration::Declared;
+use gx_include::derivations::derived_types;
 use gx_types::derivation::derives;
 use gx_types::schemas::Schemas;
 use gx_types::sequence_type::Ty;
@@ -57,9 +56,10 @@ pub(crate) fn over_derived<T: OfType>(
 ) -> Result<Ty, AllocError>
     ensures { IfOk result (λ t. t ≡ choice_over_derived schemas.now (T.of of.now) kind.now) }
 {
+    let derived = derived_types(alloc, schemas, kind)?;
     let mut types = Vec::new(alloc);
     add_builtins(alloc, schemas, of, kind, &LISTED, &mut types)?;
-    add_declared(alloc, schemas, of, kind, schemas.types(), &mut types)?;
+    add_each(alloc, of, derived.as_slice(), &mut types)?;
     choose(alloc, &types)
 }
 
@@ -80,18 +80,17 @@ fn add_builtins<T: OfType>(
     Ok(())
 }
 
-fn add_declared<T: OfType>(
+// Adds what stands for each of these types.
+fn add_each<T: OfType>(
     alloc: Global,
-    schemas: &Schemas,
     of: &T,
-    kind: &TypeName,
-    declared: &[Declared],
+    kinds: &[TypeName],
     types: &mut Vec<Ty>,
 ) -> Result<(), AllocError>
-    ensures { OnOk result (types.new.items ≡ types.old.items ++ map (T.of of.now) (derived_among schemas.now kind.now (names_declared declared.now))) }
+    ensures { OnOk result (types.new.items ≡ types.old.items ++ map (T.of of.now) kinds.now) }
 {
-    for declaration in declared {
-        add_if_derived(alloc, schemas, of, kind, &declaration.name, types)?;
+    for kind in kinds {
+        types.push(of.of_type(alloc, kind)?)?;
     }
     Ok(())
 }
