@@ -22,3 +22,15 @@ pub mod Refusals
 pub mod QueryLaws
 pub mod Continuing
 pub mod Declaring
+pub mod AtomicTypes
+pub mod SomeItems
+pub mod SomeLists
+pub mod DemandLemmas
+pub mod DemandLaws
+pub mod DemandRules
+pub mod NormalTypes
+pub mod NormalParts
+pub mod NormalData
+pub mod NormalSteps
+pub mod NormalRules
+pub mod NormalTyping

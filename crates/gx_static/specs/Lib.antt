@@ -5,3 +5,5 @@ pub mod Failure
 pub mod Laws
 pub mod QueryJudgement
 pub mod Typing
+pub mod NormalTypes
+pub mod Demands

@@ -1,6 +1,8 @@
 // Laws of typing: one for each operator, and the one that is joined of them.
 
 ghost use Rattle.gx_static.specs.Laws.{LiteralKeepsType, VariableKeepsType, EmptyKeepsType, SequenceKeepsType, ForKeepsType, LetKeepsType, StepKeepsType, NodesKeepType, OrderKeepsType, NoContextKeepsType, DataKeepsType, ArithmeticKeepsType, NegationKeepsType, ValueComparisonKeepsType, GeneralComparisonKeepsType, RangeKeepsType, ConditionalKeepsType, CastKeepsType, CastableKeepsType, CallKeepsType, TypingIsSound, RejectionNamesFailure, ScopedVariablesHaveTypes};
+ghost use Rattle.gx_static.specs.NormalTypes.{RulesGiveNormalTypes, TypingGivesNormalTypes};
+ghost use Rattle.gx_static.specs.Demands.{MetDemandsAreInclusion, DemandsAreInclusion, AllRulesDemandInclusion};
 ghost use Rattle.gx_static.specs.QueryJudgement.{QueryTypingIsSound, QueryRejectionNamesFailure, QueryVariablesHaveTypes};
 
 /// A literal has the type of its value.
@@ -140,4 +142,32 @@ pub fn query_rejection_names_a_failure()
 /// Where each variable of a query stands in the scope of its binder, typing rejects none.
 pub fn query_variables_have_types()
     ensures { QueryVariablesHaveTypes }
+{}
+
+/// A type that meets a demand for types of atomic values is included in the type that is demanded, whatever the type is.
+pub fn met_demands_are_inclusion()
+    ensures { MetDemandsAreInclusion }
+{}
+
+/// A type as typing makes it meets a demand exactly where it is included in the type that is demanded. The types of the schemas end
+/// at built-in ones.
+pub fn demands_are_inclusion()
+    ensures { DemandsAreInclusion }
+{}
+
+/// A rule that tests item types gives a type exactly where those of its operands are included in the types that the standard names.
+/// The types of the schemas end at built-in ones.
+pub fn rules_demand_inclusion()
+    ensures { AllRulesDemandInclusion }
+{}
+
+/// An operator has a type in which `none` and the empty sequence stand by themselves alone, and its item types are of known types,
+/// where its parts have such. The declarations of the schemas keep to what each schema set keeps to.
+pub fn rules_give_normal_types()
+    ensures { RulesGiveNormalTypes }
+{}
+
+/// Each expression of a typed one has such a type, where the variables in scope do and each cast names an atomic type.
+pub fn typing_gives_normal_types()
+    ensures { TypingGivesNormalTypes }
 {}

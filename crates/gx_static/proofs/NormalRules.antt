@@ -1,0 +1,161 @@
+-- Each rule gives a normal type where the parts have such.
+use Rattle.std.proofs.Common.{◌≡◌, ℕ, ◌+◌, Bool, true, false, ◌&&◌, List, [], ◌∷◌, None, Some, refl, if◌then◌else◌}
+use Rattle.gx_base.specs.declared.type_name.Builtin.TheVariants.{AnyAtomic, Boolean, Decimal, Integer}
+use Rattle.gx_base.specs.declared.type_name.Builtin.TheVariants as builtins
+use Rattle.gx_base.specs.declared.type_name.TypeName.TheVariants as names
+use Rattle.gx_base.specs.declared.code.Code.{Code}
+use Rattle.gx_base.specs.declared.code.Code.TheVariants.{XPST0003, XPTY0004, XPTY0018, XPTY0019, XPTY0020, FOTY0012}
+use Rattle.gx_facets.specs.declared.Atomic.{Atomic}
+use Rattle.gx_facets.specs.declared.AtomValue.{AtomValue}
+use Rattle.gx_facets.specs.declared.AtomValue.TheVariants.{Untyped, Str, Truth, Num}
+use Rattle.gx_num.specs.declared.Number.TheVariants.{Int, Dec}
+use Rattle.gx_types.specs.declared.item_type.ItemType.TheVariants as items
+use Rattle.gx_types.specs.SameItemType.{same_type_name}
+use Rattle.gx_types.specs.SameType.{same_type}
+use Rattle.gx_types.specs.SchemaSet.{SchemaSet}
+use Rattle.gx_types.specs.SchemaInvariant.{IsSchemaSet}
+use Rattle.gx_types.specs.Occurrence.{occurrence_of}
+use Rattle.gx_types.specs.Prime.{prime_of}
+use Rattle.gx_types.specs.SequenceType.{SequenceType, never, item, star}
+use Rattle.gx_types.specs.TypeRules.{choice_of, times_of}
+use Rattle.gx_types.specs.Derivation.{DerivesFrom}
+use Rattle.gx_types.proofs.PublicLaws.{derivation_is_a_preorder}
+use Rattle.gx_include.specs.Decision.{is_included}
+use Rattle.gx_steptype.specs.DataType.{has_data, type_of_data}
+use Rattle.gx_steptype.specs.StepType.{is_near, node_type, step_type}
+use Rattle.gx_funcs.specs.declared.function.Function.{Function}
+use Rattle.gx_funcs.specs.declared.function.Function.TheVariants as functions
+use Rattle.gx_funcs.specs.declared.function.Parameter.{Parameter}
+use Rattle.gx_funcs.specs.Function.{parameters_of, answer_type_of}
+use Rattle.gx_core.specs.declared.expression.ArithmeticOp.{ArithmeticOp}
+use Rattle.gx_core.specs.declared.expression.ArithmeticOp.TheVariants.{Div, IDiv}
+use Rattle.gx_core.specs.declared.expression.BinaryClass.{BinaryClass}
+use Rattle.gx_core.specs.declared.expression.BinaryClass.TheVariants.{Arithmetic, Value, General, Range}
+use Rattle.gx_core.specs.declared.operator.Operator.TheVariants as operators
+use Rattle.gx_core.specs.BinaryOperators.{class_of}
+use Rattle.gx_static.specs.Rule.{Ruling, has_type, has_none, type_if, atomic, all_items, is_atomic, is_all_in, is_optional_in, is_at_most_one, is_at_least_one, both_occur, integer_if, number_type, arithmetic_type, compared_occur, are_of_one_family, value_comparison_type, are_comparable_types, shown_type, literal_rule, is_as_written, data_rule, nodes_type, order_rule, takes_argument, arguments_rule, answer_rule, call_rule, binary_rule}
+use Rattle.gx_static.specs.NormalTypes.{IsNormalType, GivesNormalType, RulesGiveNormalTypes}
+use Rattle.gx_static.proofs.NormalTypes.{times_is_normal, prime_is_normal, sequence_is_normal, choice_of_two_is_normal}
+use Rattle.gx_static.proofs.AtomicTypes.{untyped_is_atomic, boolean_is_atomic, integer_is_atomic, nameable_is_atomic}
+use Rattle.gx_static.proofs.NormalData.{data_is_normal}
+use Rattle.gx_static.proofs.NormalSteps.{step_is_normal}
+
+type_if_normal : (s : SchemaSet) (test : Bool) (t : SequenceType) → IsNormalType s t → GivesNormalType s (type_if test t)
+type_if_normal s true t n = n
+type_if_normal s false t n = tt
+
+either_given : (s : SchemaSet) (test : Bool) (t : SequenceType) (other : Ruling) → IsNormalType s t → GivesNormalType s other → GivesNormalType s (if test then has_type t else other)
+either_given s true t other n m = n
+either_given s false t other n m = m
+
+never_or : (s : SchemaSet) (test : Bool) (t : SequenceType) → IsNormalType s t → IsNormalType s (if test then never else t)
+never_or s true t n = tt
+never_or s false t n = n
+
+-- ---- literals
+
+shown_is_atomic : (s : SchemaSet) (v : AtomValue) → DerivesFrom s (names.Builtin (shown_type v)) (names.Builtin AnyAtomic)
+shown_is_atomic s (Untyped text) = untyped_is_atomic s
+shown_is_atomic s (Str text) = nameable_is_atomic s builtins.Str refl
+shown_is_atomic s (Truth truth) = boolean_is_atomic s
+shown_is_atomic s (Num (Int i)) = integer_is_atomic s
+shown_is_atomic s (Num (Dec d)) = nameable_is_atomic s Decimal refl
+
+literal_is_normal : (s : SchemaSet) (value : Atomic) → GivesNormalType s (literal_rule value)
+literal_is_normal s value =
+    elim (same_type_name value.kind (names.Builtin (shown_type value.value))) as
+    (λ (b : Bool). same_type_name value.kind (names.Builtin (shown_type value.value)) ≡ b → GivesNormalType s (if b then has_type (item (items.Atom value.kind)) else has_none XPTY0004 None)) [
+      | true ↦ λ e. derivation_is_a_preorder.transitive s value.kind (names.Builtin (shown_type value.value)) (names.Builtin AnyAtomic) (0, e) (shown_is_atomic s value.value)
+      | false ↦ λ _. tt
+    ] refl
+
+-- ---- arithmetic and comparisons
+
+whole_is_atomic : (s : SchemaSet) (whole : Bool) → IsNormalType s (atomic (integer_if whole))
+whole_is_atomic s true = integer_is_atomic s
+whole_is_atomic s false = nameable_is_atomic s Decimal refl
+
+number_is_atomic : (s : SchemaSet) (operation : ArithmeticOp) (left right : SequenceType) → IsNormalType s (atomic (number_type s operation left right))
+number_is_atomic s Div left right = nameable_is_atomic s Decimal refl
+number_is_atomic s IDiv left right = integer_is_atomic s
+number_is_atomic s _ left right = whole_is_atomic s (is_all_in s Integer left && is_all_in s Integer right)
+
+binary_is_normal : (s : SchemaSet) (class : BinaryClass) (left right : SequenceType) → GivesNormalType s (binary_rule s class left right)
+binary_is_normal s (Arithmetic operation) left right =
+    type_if_normal s (is_optional_in s Decimal left && is_optional_in s Decimal right) (arithmetic_type s operation left right)
+    (never_or s (same_type never left) (times_of (atomic (number_type s operation left right)) (both_occur left right))
+    (times_is_normal s (atomic (number_type s operation left right)) (both_occur left right) (number_is_atomic s operation left right)))
+binary_is_normal s (Value op) left right =
+    type_if_normal s (is_at_most_one left && is_at_most_one right && are_of_one_family s left right) (value_comparison_type left right)
+    (never_or s (same_type never left) (times_of (atomic Boolean) (compared_occur left right)) (times_is_normal s (atomic Boolean) (compared_occur left right) (boolean_is_atomic s)))
+binary_is_normal s (General op) left right =
+    type_if_normal s (are_comparable_types s left right) (if same_type never left then never else atomic Boolean) (never_or s (same_type never left) (atomic Boolean) (boolean_is_atomic s))
+binary_is_normal s Range left right = type_if_normal s (is_optional_in s Integer left && is_optional_in s Integer right) (star (atomic Integer)) (integer_is_atomic s)
+
+-- ---- paths
+
+near_step : (s : SchemaSet) (near within : Bool) (t : SequenceType) (far outside : Code) → IsNormalType s t → GivesNormalType s (if near then (if within then has_type t else has_none outside None) else has_none far None)
+near_step s true within t far outside n = either_given s within t (has_none outside None) n tt
+near_step s false within t far outside n = tt
+
+order_is_normal : (s : SchemaSet) (operand : SequenceType) → IsNormalType s operand → GivesNormalType s (order_rule s operand)
+order_is_normal s operand n =
+    either_given s (is_included s operand nodes_type) (times_of (prime_of operand) (occurrence_of operand)) (if all_items is_atomic operand then has_type operand else has_none XPTY0018 None)
+    (times_is_normal s (prime_of operand) (occurrence_of operand) (prime_is_normal s operand n)) (either_given s (all_items is_atomic operand) operand (has_none XPTY0018 None) n tt)
+
+atomized_is_normal : (s : SchemaSet) (operand : SequenceType) → IsSchemaSet s → IsNormalType s operand → GivesNormalType s (data_rule s operand)
+unfolding data_rule
+atomized_is_normal s operand is n = either_given s (has_data s operand) (type_of_data s operand) (has_none FOTY0012 None) (data_is_normal s operand is n) tt
+
+-- ---- calls
+
+answer_is_normal : (s : SchemaSet) (function : Function) → GivesNormalType s (answer_rule (answer_type_of function))
+answer_is_normal s functions.Data = tt
+answer_is_normal s functions.Count = integer_is_atomic s
+answer_is_normal s functions.String = nameable_is_atomic s builtins.Str refl
+answer_is_normal s _ = boolean_is_atomic s
+
+if_taken : (s : SchemaSet) (takes : Bool) (given refused : Ruling) → GivesNormalType s given → GivesNormalType s refused → GivesNormalType s (if takes then given else refused)
+if_taken s true given refused n m = n
+if_taken s false given refused n m = m
+
+arguments_are_normal : (s : SchemaSet) (parameters : List Parameter) (arguments : List SequenceType) (number : ℕ) (ruling : Ruling) → GivesNormalType s ruling → GivesNormalType s (arguments_rule s parameters arguments number ruling)
+arguments_are_normal s [] [] number ruling n = n
+arguments_are_normal s (parameter ∷ others) (argument ∷ arguments) number ruling n =
+    if_taken s (takes_argument s parameter.takes argument) (arguments_rule s others arguments (number + 1) ruling) (has_none parameter.code (Some number)) (arguments_are_normal s others arguments (number + 1) ruling n) tt
+arguments_are_normal s _ _ number ruling n = tt
+
+call_is_normal : (s : SchemaSet) (function : Function) (arguments : List SequenceType) → GivesNormalType s (call_rule s function arguments)
+unfolding call_rule
+call_is_normal s function arguments = arguments_are_normal s (parameters_of function) arguments 0 (answer_rule (answer_type_of function)) (answer_is_normal s function)
+
+-- ---- operators
+
+pub rules_give_normal_types : RulesGiveNormalTypes
+rules_give_normal_types s (operators.Lit value) [] is c n = literal_is_normal s value
+rules_give_normal_types s (operators.Var number) (bound ∷ []) is c n = n.0
+rules_give_normal_types s operators.Empty [] is c n = tt
+rules_give_normal_types s operators.Seq (first ∷ second ∷ []) is c n = sequence_is_normal s first second n.0 n.1.0
+rules_give_normal_types s (operators.For binder) (source ∷ body ∷ []) is c n =
+    type_if_normal s (is_as_written s binder.kind (prime_of source)) (times_of body (occurrence_of source)) (times_is_normal s body (occurrence_of source) n.1.0)
+rules_give_normal_types s (operators.Step axis asks number) (context ∷ []) is c n =
+    near_step s (is_near axis) (is_included s context node_type) (step_type s axis asks context) XPST0003 XPTY0020 (step_is_normal s axis asks context is n.0)
+rules_give_normal_types s operators.Nodes (operand ∷ []) is c n = either_given s (is_included s operand nodes_type) operand (has_none XPTY0019 None) n.0 tt
+rules_give_normal_types s operators.Order (operand ∷ []) is c n = order_is_normal s operand n.0
+rules_give_normal_types s operators.NoContext [] is c n = tt
+rules_give_normal_types s (operators.Let binder) (value ∷ body ∷ []) is c n = type_if_normal s (is_as_written s binder.kind value) body n.1.0
+rules_give_normal_types s operators.DataOf (operand ∷ []) is c n = atomized_is_normal s operand is n.0
+rules_give_normal_types s operators.If (condition ∷ chosen ∷ otherwise ∷ []) is c n =
+    type_if_normal s (is_at_least_one condition && is_optional_in s Boolean condition) (choice_of chosen otherwise) (choice_of_two_is_normal s chosen otherwise n.1.0 n.1.1.0)
+rules_give_normal_types s (operators.Cast kind true) (operand ∷ []) is c n =
+    type_if_normal s (is_at_most_one operand && all_items is_atomic operand) (times_of (item (items.Atom kind)) (occurrence_of operand)) (times_is_normal s (item (items.Atom kind)) (occurrence_of operand) c)
+rules_give_normal_types s (operators.Cast kind false) (operand ∷ []) is c n =
+    type_if_normal s (is_at_least_one operand && is_at_most_one operand && all_items is_atomic operand) (times_of (item (items.Atom kind)) (occurrence_of operand)) (times_is_normal s (item (items.Atom kind)) (occurrence_of operand) c)
+rules_give_normal_types s (operators.Castable kind allows_empty) (operand ∷ []) is c n =
+    type_if_normal s (is_at_most_one operand && all_items is_atomic operand) (atomic Boolean) (boolean_is_atomic s)
+rules_give_normal_types s (operators.Call function) arguments is c n = call_is_normal s function arguments
+rules_give_normal_types s operators.Neg (operand ∷ []) is c n =
+    type_if_normal s (is_optional_in s Decimal operand) (times_of (atomic (integer_if (is_all_in s Integer operand))) (occurrence_of operand))
+    (times_is_normal s (atomic (integer_if (is_all_in s Integer operand))) (occurrence_of operand) (whole_is_atomic s (is_all_in s Integer operand)))
+rules_give_normal_types s (operators.Binary operator) (left ∷ right ∷ []) is c n = binary_is_normal s (class_of operator) left right
+rules_give_normal_types s _ _ is c n = tt
