@@ -2,8 +2,8 @@
 use Rattle.std.specs.Prelude.{◌≡◌, ℕ, List, [], ◌∷◌, Option, Some, None, nat_eq, if◌then◌else◌, length, map, get_or}
 use Rattle.gx_core.specs.declared.scope.Binding.{Binding}
 
-abbrev pub pairs_of : {T : Type 0} → List (Binding T) → List (ℕ × T)
-pairs_of bindings = map (λ binding. (binding.variable, binding.bound)) bindings
+abbrev pub bound_pairs : {T : Type 0} → List (Binding T) → List (ℕ × T)
+bound_pairs bindings = map (λ binding. (binding.variable, binding.bound)) bindings
 
 -- the innermost first, and counted from the outermost
 abbrev pub innermost_slot : {T : Type 0} → List (Binding T) → ℕ → Option ℕ

@@ -23,11 +23,11 @@ pub struct Scope<T> {
 
 impl<T> Model for Scope<T> {
     ghost use Rattle.std.specs.Prelude.{List, ℕ, reverse};
-    ghost use Rattle.gx_core.specs.Slots.{HasSlots, pairs_of};
+    ghost use Rattle.gx_core.specs.Slots.{HasSlots, bound_pairs};
 
     ghost Value = { List (ℕ × T) };
 
-    ghost view = { λ s. pairs_of (reverse s.bindings.items) };
+    ghost view = { λ s. bound_pairs (reverse s.bindings.items) };
 
     ghost invariant = { λ s. HasSlots s.innermost.items (reverse s.bindings.items) };
 }

@@ -31,7 +31,7 @@ use Rattle.gx_validate.specs.Valid.{IsAnnotation, IsTypedTree, IsValidTree}
 use Rattle.gx_validate.proofs.Outcomes as validation
 use Rattle.gx_validate.proofs.HonestTrees.{valid_trees_are_honest}
 use Rattle.gx_documents.specs.Documents.{Files, Asked, HoldsKept, HoldsTree, IsKept, IsGlobal, item_asked, tree_request}
-use Rattle.gx_documents.specs.Laws.{TreesAreThoseAsked, HeldTreesAreKept, FaultsExcludeTrees, DocumentsAreAsAsked, DocumentsAreHonest}
+use Rattle.gx_documents.specs.Laws.{TreesAreThoseAsked, HeldTreesAreKept, RefusedDocumentsHaveNoTrees, DocumentsAreAsAsked, DocumentsAreHonest}
 
 untyped_document_is_honest : (schemas : SchemaSet) (bytes : List ℕ) (root : SourceTree) → IsDocumentOf bytes root → IsHonestTree schemas (untyped_document root)
 untyped_document_is_honest schemas bytes root h = record {
@@ -64,10 +64,10 @@ held_trees_are_kept schemas files (asked ∷ others) (t ∷ forest) is global =
     let rest = held_trees_are_kept schemas files others forest is global.1 in
     (λ h. (one.0 h.0, rest.0 h.1), λ h. (one.1 h.0, rest.1 h.1))
 
-pub faults_exclude_trees : FaultsExcludeTrees
-faults_exclude_trees schemas (file, None) root is global sound =
+pub refused_documents_have_no_trees : RefusedDocumentsHaveNoTrees
+refused_documents_have_no_trees schemas (file, None) root is global sound =
     (λ h. let e = h.1 in absurd (cc), λ none. absurd (none (untyped_document root) refl))
-faults_exclude_trees schemas (file, Some name) root is global sound = validation.faults_exclude_trees schemas name root is global sound
+refused_documents_have_no_trees schemas (file, Some name) root is global sound = validation.faults_exclude_trees schemas name root is global sound
 
 -- ---- the types of document nodes
 

@@ -26,8 +26,8 @@ HeldTreesAreKept =
     → HoldTrees schemas files asked forest ↔ HoldKept files (tree_requests schemas asked) forest
 
 -- a document has a fault exactly where there is no such tree
-abbrev pub FaultsExcludeTrees : Type 0
-FaultsExcludeTrees =
+abbrev pub RefusedDocumentsHaveNoTrees : Type 0
+RefusedDocumentsHaveNoTrees =
     (schemas : SchemaSet) (asked : Asked) (root : SourceTree) → IsSchemaSet schemas → IsGlobal schemas asked → IsSoundSource root
     → ((fault : Fault) × (tree_asked schemas asked.1 root ≡ Err fault)) ↔ ((t : PlainTree) → IsTreeAsked schemas asked.1 root t → ⊥)
 

@@ -35,11 +35,11 @@ Lacks files request (Invalid rule path) =
     (root : SourceTree) × HoldsDocument files request.file root × (request.outcome root ≡ Err (record { rule = rule; path = path }))
 
 -- a file cannot be read only where a count of faults rose in its load, and a rule of validity is broken only where this is asked for
-abbrev pub HasCause : {T : Type 0} → Request T → DocumentFault → (Rose : Type 0) → Type 0
-HasCause request Unread Rose = Rose
-HasCause request TooLong Rose = Unit {0}
-HasCause request (Refused rule place) Rose = Unit {0}
-HasCause request (Invalid rule path) Rose = Breaks request rule path
+abbrev pub IsCaused : {T : Type 0} → Request T → DocumentFault → (Rose : Type 0) → Type 0
+IsCaused request Unread Rose = Rose
+IsCaused request TooLong Rose = Unit {0}
+IsCaused request (Refused rule place) Rose = Unit {0}
+IsCaused request (Invalid rule path) Rose = Breaks request rule path
 
 -- the documents in front of the file of this request were read, and its load was the last one
 pub record StopsAt {T : Type 0} (files : Files) (requests : List (Request T)) (loads : List (List ℕ)) (request : Request T) : Type 0 where
@@ -112,7 +112,7 @@ ReadSources library names result = ReadsFiles library (map source_request names)
 -- the reading ended at the file of this request, whose load was the last one
 abbrev pub EndsAt : {T : Type 0} → Option Files → Request T → (Rose : Type 0) → DocumentsError → Type 0
 EndsAt told request Rose Memory = Unit {0}
-EndsAt told request Rose (Failed name fault) = (string_bytes name ≡ request.file) × IfSome told (λ files. Lacks files request fault) × HasCause request fault Rose
+EndsAt told request Rose (Failed name fault) = (string_bytes name ≡ request.file) × IfSome told (λ files. Lacks files request fault) × IsCaused request fault Rose
 
 abbrev pub EndedAt : {T : Type 0} → Option Files → Request T → (Rose : Type 0) → Result (List T) DocumentsError → Type 0
 EndedAt told request Rose (Ok all) = ⊥
@@ -140,7 +140,7 @@ HasReason file fault (Failed name told) = (string_bytes name ≡ file) × (told 
 HasReason file fault Memory = Unit {0}
 
 abbrev pub TreeReason : {T : Type 0} → Option Files → Request T → (Rose : Type 0) → TreeError → Type 0
-TreeReason told request Rose (tree.Fault fault) = IfSome told (λ files. Lacks files request fault) × HasCause request fault Rose
+TreeReason told request Rose (tree.Fault fault) = IfSome told (λ files. Lacks files request fault) × IsCaused request fault Rose
 TreeReason told request Rose tree.Memory = Unit {0}
 
 -- a rule refuses the bytes, or the document that they hold

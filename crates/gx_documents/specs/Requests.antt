@@ -6,12 +6,12 @@ use Rattle.gx_documents.specs.declared.documents.DocumentForm.TheVariants.{Untyp
 use Rattle.gx_documents.specs.declared.documents.DocumentRequest.{DocumentRequest}
 use Rattle.gx_documents.specs.Documents.{Asked}
 
-abbrev pub name_asked : DocumentForm → Option Name
-name_asked Untyped = None
-name_asked (Valid name) = Some name.now
+abbrev pub name_of_form : DocumentForm → Option Name
+name_of_form Untyped = None
+name_of_form (Valid name) = Some name.now
 
-abbrev pub asked : DocumentRequest → Asked
-asked request = (request.file.now, name_asked request.form)
+abbrev pub asked_by : DocumentRequest → Asked
+asked_by request = (request.file.now, name_of_form request.form)
 
 abbrev pub all_asked : List DocumentRequest → List Asked
-all_asked requests = map asked requests
+all_asked requests = map asked_by requests

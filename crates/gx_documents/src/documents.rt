@@ -157,11 +157,11 @@ impl<'s> Kept for Trees<'s> {
     type Form = Tree;
 
     ghost use Rattle.gx_documents.specs.Documents.{IsGlobal, tree_request};
-    ghost use Rattle.gx_documents.specs.Requests.{asked};
+    ghost use Rattle.gx_documents.specs.Requests.{asked_by};
 
-    ghost asks = { λ trees request. tree_request trees.schemas.now (asked request) };
+    ghost asks = { λ trees request. tree_request trees.schemas.now (asked_by request) };
 
-    ghost can_ask = { λ trees request. IsGlobal trees.schemas.now (asked request) };
+    ghost can_ask = { λ trees request. IsGlobal trees.schemas.now (asked_by request) };
 
     fn file<'r>(&self, request: &'r DocumentRequest<'s>) -> &'r str {
         request.file

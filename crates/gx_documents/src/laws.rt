@@ -1,6 +1,6 @@
 // Laws over the definitions.
 
-ghost use Rattle.gx_documents.specs.Laws.{DocumentsAreAsAsked, DocumentsAreHonest, FaultsExcludeTrees, HeldTreesAreKept, TreesAreThoseAsked};
+ghost use Rattle.gx_documents.specs.Laws.{DocumentsAreAsAsked, DocumentsAreHonest, RefusedDocumentsHaveNoTrees, HeldTreesAreKept, TreesAreThoseAsked};
 
 /// A tree is kept of a document exactly where it is the tree without types, or, where the name of a global element is asked for, the
 /// tree that is valid with a root of this name (XML Schema 1.0 part 1, sections 3.3.4 and 3.4.4).
@@ -14,8 +14,8 @@ pub fn held_trees_are_kept()
 {}
 
 /// A document breaks a rule of validity exactly where no such tree is valid.
-pub fn faults_exclude_trees()
-    ensures { FaultsExcludeTrees }
+pub fn refused_documents_have_no_trees()
+    ensures { RefusedDocumentsHaveNoTrees }
 {}
 
 /// The document node of the tree of a document is of the type that is asked for: one over an element without types, or over an element

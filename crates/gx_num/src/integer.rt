@@ -35,8 +35,8 @@ impl Model for Integer {
     ghost inverse_ok = { λ a h i.
         let same = of_z-to_z w128 (a.high * 2 ^ 64 + a.low) (omega (arith, h.0, h.1)) in
         record {
-            high = (ap (λ n. n / 2 ^ 64) same ∙ div-mul-add a.high (2 ^ 64) a.low h.1) i;
-            low = (ap (λ n. n % 2 ^ 64) same ∙ mod-mul-add a.high (2 ^ 64) a.low h.1) i;
+          high = (ap (λ n. n / 2 ^ 64) same ∙ div-mul-add a.high (2 ^ 64) a.low h.1) i;
+          low = (ap (λ n. n % 2 ^ 64) same ∙ mod-mul-add a.high (2 ^ 64) a.low h.1) i;
         } };
 }
 

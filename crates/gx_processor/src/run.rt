@@ -7,7 +7,7 @@ ghost use Rattle.gx_core.specs.Refusal.{Fails};
 ghost use Rattle.gx_documents.specs.BindingView.{word_bytes};
 ghost use Rattle.gx_documents.specs.Bindings.{files_bound, misbound, word_of_name};
 ghost use Rattle.gx_documents.specs.Documents.{document_nodes};
-ghost use Rattle.gx_documents.specs.Requests.{all_asked, asked};
+ghost use Rattle.gx_documents.specs.Requests.{all_asked, asked_by};
 ghost use Rattle.gx_include.specs.Decision.{is_included};
 ghost use Rattle.gx_io.specs.LibraryUse.{library_use};
 ghost use Rattle.gx_types.specs.SchemaInvariant.{IsSchemaSet};
@@ -181,7 +181,7 @@ fn document_requests<'a>(
 
 // What is asked of the file of a variable of this type.
 fn document_request<'a>(file: &'a str, kind: &'a Option<Ty>) -> DocumentRequest<'a>
-    ensures { asked result ≡ (file.now, root_asked kind.now) }
+    ensures { asked_by result ≡ (file.now, root_asked kind.now) }
 {
     let form = match root_asked(kind) {
         Some(root) => DocumentForm::Valid(root),

@@ -29,5 +29,5 @@ pub record PartialAnswer : Type 0 where
   pub follows_value : Bool
 
 -- the text that it becomes with the items that come
-abbrev pub with_items : PartialAnswer → List SerialItem → List ℕ
-with_items answer items = answer.text ++ left_after answer.follows_value items
+abbrev pub text_with : PartialAnswer → List SerialItem → List ℕ
+text_with answer items = answer.text ++ left_after answer.follows_value items

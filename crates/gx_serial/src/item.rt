@@ -4,7 +4,7 @@ ghost use Rattle.std.specs.Str.{encode_utf8_all};
 ghost use Rattle.gx_io.specs.Faults.{Rose};
 ghost use Rattle.gx_io.specs.Put.{GrowsBy, GrowsByPrefix};
 ghost use Rattle.gx_serial.specs.declared.item.SerialItem.{SerialItem};
-ghost use Rattle.gx_serial.specs.Answer.{answer_text, with_items};
+ghost use Rattle.gx_serial.specs.Answer.{answer_text, text_with};
 ghost use Rattle.gx_serial.specs.Markup.{spelled_markup};
 ghost use Rattle.gx_serial.specs.Marked.{marked};
 ghost use Rattle.gx_serial.specs.Binding.{outermost_scope};
@@ -73,7 +73,7 @@ impl Model for AnswerText {
 impl AnswerText {
     /// The answer without items.
     pub fn new(alloc: Global) -> AnswerText
-        ensures { (items : List SerialItem) → with_items result items ≡ answer_text items }
+        ensures { (items : List SerialItem) → text_with result items ≡ answer_text items }
     {
         AnswerText {
             text: TextBuilder::new(alloc),
@@ -83,7 +83,7 @@ impl AnswerText {
 
     /// Adds an item, with a space before an atomic value that follows another one.
     pub fn add(&mut self, alloc: Global, item: &SerialItem) -> Result<(), AllocError>
-        ensures { OnOk result ((rest : List SerialItem) → with_items self.new rest ≡ with_items self.old (item.now ∷ rest)) }
+        ensures { OnOk result ((rest : List SerialItem) → text_with self.new rest ≡ text_with self.old (item.now ∷ rest)) }
     {
         match item {
             SerialItem::Text(text) => {
@@ -102,7 +102,7 @@ impl AnswerText {
 
     /// The text of the items that were added.
     pub fn into_text(self) -> TextBuilder
-        ensures { result ≡ with_items self [] }
+        ensures { result ≡ text_with self [] }
     {
         self.text
     }

@@ -16,5 +16,5 @@ numbered_type types None = None
 numbered_type types (Some number) = slice_get types number
 
 -- a table leads from each name to its declaration
-abbrev pub IsIndexOf : {S : Type 0} → List Declared → IndexMap TypeName ℕ S → Type 0
-IsIndexOf types numbers = (t : TypeName) → numbered_type types (get equal_kinds numbers t) ≡ declaration_among types t
+abbrev pub IsTypeIndexOf : {S : Type 0} → List Declared → IndexMap TypeName ℕ S → Type 0
+IsTypeIndexOf types numbers = (t : TypeName) → numbered_type types (get equal_kinds numbers t) ≡ declaration_among types t

@@ -2,7 +2,7 @@
 
 ghost use Rattle.std.specs.Prelude.{◌≡◌, IfOk, option_copied, slice_get, length};
 ghost use Rattle.gx_types.specs.SchemaSet.{declaration_among};
-ghost use Rattle.gx_types.specs.TypeIndex.{IsIndexOf};
+ghost use Rattle.gx_types.specs.TypeIndex.{IsTypeIndexOf};
 
 use crate::declaration::Declared;
 use gx_base::type_name::TypeName;
@@ -23,7 +23,7 @@ impl Model for DeclaredTypes {
     ghost use Rattle.gx_types.specs.declared.declaration.Declared.{Declared};
     ghost use Rattle.gx_types.specs.contracts.sequence_type.Ty as kinds;
     ghost use Rattle.std.specs.Coded.{codes};
-    ghost use Rattle.gx_types.specs.TypeIndex.{IsIndexOf};
+    ghost use Rattle.gx_types.specs.TypeIndex.{IsTypeIndexOf};
 
     ghost Value = { List Declared };
 
@@ -31,7 +31,7 @@ impl Model for DeclaredTypes {
 
     ghost view = { λ types. types.items.items };
 
-    ghost invariant = { λ types. IsIndexOf types.items.items types.numbers };
+    ghost invariant = { λ types. IsTypeIndexOf types.items.items types.numbers };
 }
 
 impl DeclaredTypes {
@@ -70,7 +70,7 @@ impl DeclaredTypes {
 
 // The number of the first declaration of each name.
 fn numbers_of(alloc: Global, types: &[Declared]) -> Result<IndexMap<TypeName, usize>, AllocError>
-    ensures { IfOk result (λ numbers. IsIndexOf types.now numbers) }
+    ensures { IfOk result (λ numbers. IsTypeIndexOf types.now numbers) }
 {
     let mut numbers = IndexMap::new(alloc);
     for number in (0..types.len()).rev() {

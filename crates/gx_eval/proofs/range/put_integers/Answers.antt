@@ -29,6 +29,6 @@ loop-offset-preserved c =
     let sum : cast_signed w128 (cast_unsigned w128 (cast_signed w128 (cast_unsigned w128 c.args.first) +ℤ cast_signed w128 (cast_unsigned w128 c.from.result))) ≡ c.args.first +ℤ pos c.loop-offset.offset =
     ap (λ (z : ℤ). cast_signed w128 (cast_unsigned w128 (cast_signed w128 (cast_unsigned w128 c.args.first) +ℤ cast_signed w128 (cast_unsigned w128 z)))) widened ∙ sum_back c.args.first c.loop-offset.offset c.ranges.first small fits in
     let made : c.number_atom.result ≡ number_atom (Int (c.args.first +ℤ pos c.loop-offset.offset)) =
-    c.number_atom.ensures ∙ ap (λ (z : ℤ). number_atom (Int z)) sum in
+    c.number_atom.ensures ∙ ap number_atom c.int.ensures ∙ ap (λ (z : ℤ). number_atom (Int z)) sum in
     subst (λ (z : ℤ). c.push.new.self.items ≡ c.args.values.now.items ++ atoms (integers_from z (c.loop-offset.offset + 1))) (sym same)
     (c.in_ok-push.ensures.items ∙ ap (λ (x : Item). c.loop-offset.values.items ++ x ∷ []) c.atom.ensures ∙ integers_pushed c.loop-offset.values.items c.args.values.now.items c.args.first c.loop-offset.offset c.number_atom.result before made)

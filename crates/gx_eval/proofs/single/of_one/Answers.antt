@@ -8,6 +8,11 @@ use Rattle.gx_eval.specs.Operators.{single_operator}
 use Rattle.gx_eval.specs.Resume.{context_over}
 use Rattle.gx_eval.proofs.single.of_one.Goals as goal
 
+pub returns-in-Neg-clause-value : goal.returns-in-Neg-clause-value
+returns-in-Neg-clause-value c =
+    let k : Context = context_over c.args.schemas.now in
+    subst (λ (o : Single). IfOk c.negation.result (λ r. acts k (single_operator o) (c.args.operand.now ∷ []) c.args.forest.now ≡ gives (answer_items r) c.args.forest.now)) (sym c.in-Neg.is) (c.negation.ensures.value c.args.forest.now)
+
 pub returns-in-Neg-clause-failed : goal.returns-in-Neg-clause-failed
 returns-in-Neg-clause-failed c =
     let k : Context = context_over c.args.schemas.now in
