@@ -113,7 +113,7 @@ pub both_known : (a b : SequenceType) → AreKnown (with_names (with_names [] a)
 both_known a b = (all_known_more (with_names [] a) (with_names (with_names [] a) b) (grows_all (with_names [] a) b) a (all_known [] a), all_known (with_names [] a) b)
 
 -- a name that is not in the list fits no name of it
-unlike : (names : List Name) (name known : Name) → is_named names name ≡ false → is_named names known ≡ true → same_name known name ≡ false
+pub unlike : (names : List Name) (name known : Name) → is_named names name ≡ false → is_named names known ≡ true → same_name known name ≡ false
 unlike names name known lacks has =
     elim (same_name known name) as (λ (b : Bool). same_name known name ≡ b → b ≡ false) [
       | true ↦ λ e. let same = any_alike (same_name known) (same_name name) (λ m. names_are_equivalent.congr known name m e) names in cc

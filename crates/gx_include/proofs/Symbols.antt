@@ -1,5 +1,5 @@
--- Equal symbols are taken by the same item types.
-use Rattle.std.proofs.Common.{◌≡◌, true, ◌&&◌, Option, None, Some, refl, sym, ◌∙◌, ap, nat_eq, length, ◌+◌, rules}
+-- Equal symbols are read by the same item types, and the symbol of a shape by those that take the shape.
+use Rattle.std.proofs.Common.{◌≡◌, Bool, true, false, ◌&&◌, List, [], ◌∷◌, ◌++◌, Option, None, Some, refl, sym, ◌∙◌, ap, subst, if◌then◌else◌, nat_eq, length, ◌+◌, rules}
 use Rattle.std.specs.Cmp.Rules.{comparing}
 use Rattle.std.proofs.lemmas.Bool.{and_parts, eqb-true}
 use Rattle.gx_base.specs.Name.{same_name}
@@ -11,47 +11,116 @@ use Rattle.gx_types.specs.SameItemType.{same_type_name}
 use Rattle.gx_types.specs.SchemaSet.{SchemaSet}
 use Rattle.gx_types.specs.Derivation.{bases_of, is_derived}
 use Rattle.gx_types.specs.ItemTakes.{name_fits}
+use Rattle.gx_types.specs.SequenceType.{SequenceType, never, nothing, item, both, either, optional, star, plus}
+use Rattle.gx_types.specs.declared.shape.Shape.{Shape}
+use Rattle.gx_types.specs.declared.shape.Shape.TheVariants as shapes
 use Rattle.gx_types.proofs.EqualNames.{names_are_equivalent}
+use Rattle.gx_include.specs.declared.reading.Feature.{Feature}
+use Rattle.gx_include.specs.declared.reading.Feature.TheVariants as features
 use Rattle.gx_include.specs.declared.reading.Reading.{Reading}
 use Rattle.gx_include.specs.declared.reading.Symbol.{Symbol}
-use Rattle.gx_include.specs.declared.reading.Symbol.TheVariants as symbols
 use Rattle.gx_include.specs.Derivations.{same_kind}
+use Rattle.gx_include.specs.Features.{accepts, is_read, is_typed, may_take, known_name, HalvesAreTheTest, IsSymbolOf}
+use Rattle.gx_include.specs.ItemIndex.{name_given, may_fit}
+use Rattle.gx_include.specs.Positions.{tests_of}
+use Rattle.gx_include.specs.Step.{all_tests}
 use Rattle.gx_include.specs.Test.{is_taken}
-use Rattle.gx_include.specs.Transitions.{same_reading, same_symbol, shape_read}
-use Rattle.gx_include.proofs.Stand.{derived_alike}
+use Rattle.gx_include.specs.Transitions.{same_feature, same_reading, same_symbol}
+use Rattle.gx_include.specs.Trials.{name_of, is_named, with_names}
+use Rattle.gx_include.proofs.Stand.{IsKnown, AreKnown, all_known, derived_alike, unlike}
 
 pub same_kind_is : (t u : TypeName) → same_kind t u ≡ same_type_name t u
 same_kind_is t u = search (comparing, rules)
 
-fits_alike : (wanted : Option Name) (n m : Name) → same_name n m ≡ true → name_fits wanted n ≡ name_fits wanted m
+fits_alike : (asked : Option Name) (n m : Name) → same_name n m ≡ true → may_fit asked (Some n) ≡ may_fit asked (Some m)
 fits_alike None n m e = refl
-fits_alike (Some wanted) n m e = names_are_equivalent.symm wanted n ∙ names_are_equivalent.congr n m wanted e ∙ names_are_equivalent.symm m wanted
+fits_alike (Some asked) n m e = names_are_equivalent.symm asked n ∙ names_are_equivalent.congr n m asked e ∙ names_are_equivalent.symm m asked
 
 module _ (s : SchemaSet) where
   pub derived_equally : (t u kind : TypeName) → same_kind t u ≡ true → is_derived s t kind ≡ is_derived s u kind
   derived_equally t u kind e = sym (derived_alike (bases_of s) (length (bases_of s) + 23) t u kind (sym (same_kind_is t u) ∙ e))
 
-  named_alike : (wanted : Option Name) (n m : Name) (t u kind : TypeName) → same_name n m && same_kind t u ≡ true
-      → (name_fits wanted n && is_derived s t kind) ≡ (name_fits wanted m && is_derived s u kind)
-  named_alike wanted n m t u kind e =
-      let p = and_parts (same_name n m) (same_kind t u) e in
-      ap (λ b. b && is_derived s t kind) (fits_alike wanted n m p.0) ∙ ap (λ b. name_fits wanted m && b) (derived_equally t u kind p.1)
+  pub features_alike : (f g : Feature) → same_feature f g ≡ true → (kind : ItemType) → accepts f s kind ≡ accepts g s kind
+  features_alike (features.Named n) (features.Named m) e kind = fits_alike (name_of kind) n.now m.now e
+  features_alike features.Unnamed features.Unnamed e kind = refl
+  features_alike (features.Element t) (features.Element u) e (items.Element wanted kind) = derived_equally t.now u.now kind e
+  features_alike (features.Element t) (features.Element u) e _ = refl
+  features_alike (features.Attribute t) (features.Attribute u) e (items.Attribute wanted kind) = derived_equally t.now u.now kind e
+  features_alike (features.Attribute t) (features.Attribute u) e _ = refl
+  features_alike features.Text features.Text e kind = refl
+  features_alike features.Document features.Document e kind = refl
+  features_alike (features.DocumentOf t) (features.DocumentOf u) e (items.Document (Some element)) = derived_equally t.now u.now element.1 e
+  features_alike (features.DocumentOf t) (features.DocumentOf u) e (items.Document None) = refl
+  features_alike (features.DocumentOf t) (features.DocumentOf u) e _ = refl
+  features_alike (features.Atom t) (features.Atom u) e (items.Atom kind) = derived_equally t.now u.now kind e
+  features_alike (features.Atom t) (features.Atom u) e _ = refl
+  features_alike _ _ e kind = absurd (cc)
 
-  pub symbols_alike : (r q : Symbol) → same_symbol r q ≡ true → (kind : ItemType) → is_taken s (shape_read r) kind ≡ is_taken s (shape_read q) kind
-  symbols_alike (symbols.Element n t) (symbols.Element m u) e (items.Element wanted kind) = named_alike wanted n.now m.now t.now u.now kind e
-  symbols_alike (symbols.Element n t) (symbols.Element m u) e _ = refl
-  symbols_alike (symbols.Attribute n t) (symbols.Attribute m u) e (items.Attribute wanted kind) = named_alike wanted n.now m.now t.now u.now kind e
-  symbols_alike (symbols.Attribute n t) (symbols.Attribute m u) e _ = refl
-  symbols_alike symbols.Text symbols.Text e kind = refl
-  symbols_alike symbols.Document symbols.Document e kind = refl
-  symbols_alike (symbols.DocumentOf n t) (symbols.DocumentOf m u) e (items.Document (Some element)) = named_alike element.0 n.now m.now t.now u.now element.1 e
-  symbols_alike (symbols.DocumentOf n t) (symbols.DocumentOf m u) e (items.Document None) = refl
-  symbols_alike (symbols.DocumentOf n t) (symbols.DocumentOf m u) e _ = refl
-  symbols_alike (symbols.Atom t) (symbols.Atom u) e (items.Atom kind) = derived_equally t.now u.now kind e
-  symbols_alike (symbols.Atom t) (symbols.Atom u) e _ = refl
-  symbols_alike _ _ e kind = absurd (cc)
+  symbols_alike : (r q : Symbol) → same_symbol r q ≡ true → (kind : ItemType) → is_read r s kind ≡ is_read q s kind
+  symbols_alike r q e kind =
+      let p = and_parts (same_feature r.name q.name) (same_feature r.kind q.kind) e in
+      ap (λ b. b && accepts r.kind s kind) (features_alike r.name q.name p.0 kind) ∙ ap (λ b. accepts q.name s kind && b) (features_alike r.kind q.kind p.1 kind)
 
-  pub readings_alike : (r q : Reading) → same_reading r q ≡ true → (r.state ≡ q.state) × ((kind : ItemType) → is_taken s (shape_read r.symbol) kind ≡ is_taken s (shape_read q.symbol) kind)
+  pub readings_alike : (r q : Reading) → same_reading r q ≡ true → (r.state ≡ q.state) × ((kind : ItemType) → is_read r.symbol s kind ≡ is_read q.symbol s kind)
   readings_alike r q e =
       let p = and_parts (nat_eq r.state q.state) (same_symbol r.symbol q.symbol) e in
       (eqb-true r.state q.state p.0, symbols_alike r.symbol q.symbol p.1)
+
+-- the halves of the test
+
+neither : (b : Bool) → false ≡ (b && false)
+neither true = refl
+neither false = refl
+
+fits_given : (wanted : Option Name) (name : Name) → name_fits wanted name ≡ may_fit wanted (Some name)
+fits_given None name = refl
+fits_given (Some wanted) name = refl
+
+pub halves_are_the_test : HalvesAreTheTest
+halves_are_the_test s (shapes.Elem name t) (items.Element wanted kind) = ap (λ b. b && is_derived s t kind) (fits_given wanted name)
+halves_are_the_test s (shapes.Elem name t) kind = neither (may_fit (name_of kind) (Some name))
+halves_are_the_test s (shapes.Attr name t) (items.Attribute wanted kind) = ap (λ b. b && is_derived s t kind) (fits_given wanted name)
+halves_are_the_test s (shapes.Attr name t) kind = neither (may_fit (name_of kind) (Some name))
+halves_are_the_test s shapes.Text items.Text = refl
+halves_are_the_test s shapes.Text kind = neither (may_fit (name_of kind) None)
+halves_are_the_test s (shapes.Doc None) (items.Document None) = refl
+halves_are_the_test s (shapes.Doc None) kind = neither (may_fit (name_of kind) None)
+halves_are_the_test s (shapes.Doc (Some child)) (items.Document None) = refl
+halves_are_the_test s (shapes.Doc (Some child)) (items.Document (Some element)) = ap (λ b. b && is_derived s child.1 element.1) (fits_given element.0 child.0)
+halves_are_the_test s (shapes.Doc (Some child)) kind = neither (may_fit (name_of kind) (Some child.0))
+halves_are_the_test s (shapes.Atom t) (items.Atom kind) = refl
+halves_are_the_test s (shapes.Atom t) kind = neither (may_fit (name_of kind) None)
+
+-- a name that no item type asks for is as none
+other_fits : (names : List Name) (asked : Option Name) (name : Name) (b : Bool) → is_named names name ≡ b → IsKnown names asked
+    → may_fit asked (if b then Some name else None) ≡ may_fit asked (Some name)
+other_fits names asked name true e k = refl
+other_fits names None name false e k = refl
+other_fits names (Some asked) name false e k = sym (unlike names name asked e k)
+
+known_fits : (names : List Name) (asked given : Option Name) → IsKnown names asked → may_fit asked (known_name names given) ≡ may_fit asked given
+known_fits names asked None k = refl
+known_fits names asked (Some name) k = other_fits names asked name (is_named names name) refl k
+
+module _ (s : SchemaSet) (names : List Name) (x : Shape) (symbol : Symbol) (is : IsSymbolOf names x symbol) where
+  one_read : (kind : ItemType) → IsKnown names (name_of kind) → is_read symbol s kind ≡ is_taken s x kind
+  one_read kind k =
+      ap (λ (f : SchemaSet → ItemType → Bool). f s kind && accepts symbol.kind s kind) is.by_name
+      ∙ ap (λ (f : SchemaSet → ItemType → Bool). may_take (known_name names (name_given x)) s kind && f s kind) is.by_kind
+      ∙ ap (λ b. b && is_typed x s kind) (known_fits names (name_of kind) (name_given x) k)
+      ∙ sym (halves_are_the_test s x kind)
+
+  all_read : (t : SequenceType) → AreKnown names t → tests_of t (is_read symbol s) ≡ tests_of t (is_taken s x)
+  all_read never k = refl
+  all_read nothing k = refl
+  all_read (item kind) k = ap (λ b. b ∷ []) (one_read kind k)
+  all_read (both a b) k = ap (λ ts. ts ++ tests_of b (is_read symbol s)) (all_read a k.0) ∙ ap (λ ts. tests_of a (is_taken s x) ++ ts) (all_read b k.1)
+  all_read (either a b) k = ap (λ ts. ts ++ tests_of b (is_read symbol s)) (all_read a k.0) ∙ ap (λ ts. tests_of a (is_taken s x) ++ ts) (all_read b k.1)
+  all_read (optional a) k = all_read a k
+  all_read (star a) k = all_read a k
+  all_read (plus a) k = all_read a k
+
+-- the item types of a type that read the symbol of a shape are those that take the shape
+pub symbol_read : (s : SchemaSet) (names : List Name) (x : Shape) (symbol : Symbol) (t : SequenceType) → names ≡ with_names [] t → IsSymbolOf names x symbol
+    → all_tests t (is_read symbol s) ≡ all_tests t (is_taken s x)
+symbol_read s names x symbol t e is = ap (λ ts. false ∷ ts) (all_read s names x symbol is t (subst (λ ns. AreKnown ns t) (sym e) (all_known [] t)))

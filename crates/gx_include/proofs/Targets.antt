@@ -1,22 +1,23 @@
 -- Targets that are kept stay those of their readings.
 use Rattle.std.proofs.Common.{◌≡◌, ℕ, zero, suc, ◌<◌, Bool, true, false, cond, List, [], ◌∷◌, Option, None, Some, refl, sym, ◌∙◌, ap, subst, get_or, map, length, slice_get, ◌↔◌, arith}
-use Rattle.std.specs.Prelude.{IfSome, Vec}
+use Rattle.std.specs.Prelude.{◌&&◌, IfSome, Vec}
+use Rattle.std.proofs.lemmas.Bool.{and_from, and_parts}
 use Rattle.std.proofs.lemmas.Option.{slice_get_within}
 use Rattle.indexmap.specs.IndexMap.{IndexMap, get}
 use Rattle.gx_types.specs.declared.item_type.ItemType.{ItemType}
-use Rattle.gx_types.specs.declared.shape.Shape.{Shape}
 use Rattle.gx_types.specs.SchemaSet.{SchemaSet}
 use Rattle.gx_types.specs.SequenceType.{SequenceType}
 use Rattle.gx_include.specs.declared.reading.Reading.{Reading}
-use Rattle.gx_include.specs.declared.reading.Symbol.{Symbol}
+use Rattle.gx_include.specs.declared.reading.Feature.{Feature}
 use Rattle.gx_include.specs.Bits.{has_bit}
+use Rattle.gx_include.specs.Features.{accepts, is_read}
 use Rattle.gx_include.specs.Following.{AreComing, IsMask, FollowsMember}
 use Rattle.gx_include.specs.ItemIndex.{items_of}
+use Rattle.gx_include.specs.Positions.{tests_of}
 use Rattle.gx_include.specs.Step.{all_tests}
-use Rattle.gx_include.specs.Test.{is_taken}
-use Rattle.gx_include.specs.Transitions.{same_reading, same_symbol, shape_read, places_of, places_at, IsTransition, AreTransitions, AreMasks, AreNumberedAlike, IsAnew}
+use Rattle.gx_include.specs.Transitions.{same_reading, same_feature, places_of, places_at, IsTransition, AreTransitions, AreMasks, AreNumberedAlike, IsAnew}
 use Rattle.gx_include.proofs.Listed.{tests_are}
-use Rattle.gx_include.proofs.Symbols.{readings_alike, symbols_alike}
+use Rattle.gx_include.proofs.Symbols.{readings_alike, features_alike}
 
 map_alike : {X Y : Type 0} (one other : X → Y) → ((x : X) → one x ≡ other x) → (xs : List X) → map one xs ≡ map other xs
 map_alike one other f [] = refl
@@ -66,68 +67,92 @@ module _ {A B : Type 0} (t : SequenceType) (rows : List (Vec ℕ A)) where
 
   module _ (s : SchemaSet) where
     abbrev IsKept : List (Vec ℕ B) → Reading → Option ℕ → Type 0
-    IsKept states reading found = IfSome found (λ target. IsTransition t rows (is_taken s (shape_read reading.symbol)) states reading.state target)
+    IsKept states reading found = IfSome found (λ target. IsTransition t rows (is_read reading.symbol s) states reading.state target)
 
     some_stays : (states more : List (Vec ℕ B)) → AreNumberedAlike states more → (reading : Reading) (found : Option ℕ) → IsKept states reading found → IsKept more reading found
     some_stays states more alike reading None h = h
-    some_stays states more alike reading (Some target) h = transition_stays (is_taken s (shape_read reading.symbol)) states more reading.state target alike h
+    some_stays states more alike reading (Some target) h = transition_stays (is_read reading.symbol s) states more reading.state target alike h
 
 module _ {A B S : Type 0} (t : SequenceType) (rows : List (Vec ℕ A)) (s : SchemaSet) where
-  -- what is looked up is the transition of the shape
-  pub next_is : (states : List (Vec ℕ B)) (targets : IndexMap Reading ℕ S) (reading : Reading) (shape : Shape) (target : ℕ) → AreTransitions t rows s states targets
-      → get same_reading targets reading ≡ Some target → shape_read reading.symbol ≡ shape → IsTransition t rows (is_taken s shape) states reading.state target
-  next_is states targets reading shape target kept found e =
-      subst (λ x. IsTransition t rows (is_taken s x) states reading.state target) e (subst (IsKept t rows s states reading) found (kept reading))
+  -- what is looked up is the transition of the symbol
+  pub next_is : (states : List (Vec ℕ B)) (targets : IndexMap Reading ℕ S) (reading : Reading) (target : ℕ) → AreTransitions t rows s states targets
+      → get same_reading targets reading ≡ Some target → IsTransition t rows (is_read reading.symbol s) states reading.state target
+  next_is states targets reading target kept found = subst (IsKept t rows s states reading) found (kept reading)
 
   -- nothing is kept that is wrong where nothing is kept
-  pub anew_kept : {Z : Type 0} (places : List ℕ) (states : List (Vec ℕ B)) (targets : IndexMap Reading ℕ S) (masks : IndexMap Symbol (Vec ℕ A) Z) → IsAnew places states targets masks
+  pub anew_kept : {Z : Type 0} (places : List ℕ) (states : List (Vec ℕ B)) (targets : IndexMap Reading ℕ S) (masks : IndexMap Feature (Vec ℕ A) Z) → IsAnew places states targets masks
       → AreTransitions t rows s states targets
   anew_kept places states targets masks is reading = subst (IsKept t rows s states reading) (sym (is.none reading)) tt
 
   -- one target more
-  pub kept_more : (states more : List (Vec ℕ B)) (old new : IndexMap Reading ℕ S) (key : Reading) (shape : Shape) (target : ℕ) (places : List ℕ) → AreTransitions t rows s states old
-      → AreNumberedAlike states more → key.state < length states → target < length more → shape_read key.symbol ≡ shape → places_at more target ≡ places
-      → AreComing t rows (is_taken s shape) (places_at states key.state) places
+  pub kept_more : (states more : List (Vec ℕ B)) (old new : IndexMap Reading ℕ S) (key : Reading) (target : ℕ) (places : List ℕ) → AreTransitions t rows s states old
+      → AreNumberedAlike states more → key.state < length states → target < length more → places_at more target ≡ places
+      → AreComing t rows (is_read key.symbol s) (places_at states key.state) places
       → ((other : Reading) → get same_reading new other ≡ cond (same_reading key other) (Some target) (get same_reading old other)) → AreTransitions t rows s more new
-  kept_more states more old new key shape target places kept alike within target_within e f coming updates other =
+  kept_more states more old new key target places kept alike within target_within f coming updates other =
       subst (IsKept t rows s more other) (sym (updates other)) (by (same_reading key other) refl)
     where
-      here : IsTransition t rows (is_taken s (shape_read key.symbol)) more key.state target
+      here : IsTransition t rows (is_read key.symbol s) more key.state target
       here =
           let p = place_stays states more alike key.state within in
           record {
             origin_within = p.0;
             target_within = target_within;
             coming =
-                subst (λ x. AreComing t rows (is_taken s x) (places_at more key.state) (places_at more target)) (sym e)
-                (subst (λ ps. AreComing t rows (is_taken s shape) ps (places_at more target)) (sym p.1) (subst (AreComing t rows (is_taken s shape) (places_at states key.state)) (sym f) coming));
+                subst (λ ps. AreComing t rows (is_read key.symbol s) ps (places_at more target)) (sym p.1)
+                (subst (AreComing t rows (is_read key.symbol s) (places_at states key.state)) (sym f) coming);
           }
 
       by : (b : Bool) → same_reading key other ≡ b → IsKept t rows s more other (cond b (Some target) (get same_reading old other))
       by true g =
           let p = readings_alike s key other g in
-          subst (λ n. IsTransition t rows (is_taken s (shape_read other.symbol)) more n target) p.0
-          (transition_alike t rows (is_taken s (shape_read key.symbol)) (is_taken s (shape_read other.symbol)) p.1 more key.state target here)
+          subst (λ n. IsTransition t rows (is_read other.symbol s) more n target) p.0
+          (transition_alike t rows (is_read key.symbol s) (is_read other.symbol s) p.1 more key.state target here)
       by false g = some_stays t rows s states more alike other (get same_reading old other) (kept other)
 
-abbrev IsKeptMask : {A : Type 0} → SequenceType → SchemaSet → Symbol → Option (Vec ℕ A) → Type 0
-IsKeptMask {A} t s symbol found = IfSome found (λ (mask : Vec ℕ A). IsMask t (is_taken s (shape_read symbol)) mask.items)
+abbrev IsKeptMask : {A : Type 0} → SequenceType → SchemaSet → Feature → Option (Vec ℕ A) → Type 0
+IsKeptMask {A} t s feature found = IfSome found (λ (mask : Vec ℕ A). IsMask t (accepts feature s) mask.items)
 
 module _ {A Z : Type 0} (t : SequenceType) (s : SchemaSet) where
-  pub no_masks : {B S : Type 0} (places : List ℕ) (states : List (Vec ℕ B)) (targets : IndexMap Reading ℕ S) (masks : IndexMap Symbol (Vec ℕ A) Z) → IsAnew places states targets masks → AreMasks t s masks
-  no_masks places states targets masks is symbol = subst (IsKeptMask t s symbol) (sym (is.no_mask symbol)) tt
+  pub no_masks : {B S : Type 0} (places : List ℕ) (states : List (Vec ℕ B)) (targets : IndexMap Reading ℕ S) (masks : IndexMap Feature (Vec ℕ A) Z) → IsAnew places states targets masks → AreMasks t s masks
+  no_masks places states targets masks is feature = subst (IsKeptMask t s feature) (sym (is.no_mask feature)) tt
 
   -- one mask more
-  pub masks_more : (old new : IndexMap Symbol (Vec ℕ A) Z) (key : Symbol) (shape : Shape) (mask : Vec ℕ A) → AreMasks t s old → shape_read key ≡ shape → IsMask t (is_taken s shape) mask.items
-      → ((other : Symbol) → get same_symbol new other ≡ cond (same_symbol key other) (Some mask) (get same_symbol old other)) → AreMasks t s new
-  masks_more old new key shape mask all e is updates other = subst (IsKeptMask t s other) (sym (updates other)) (by (same_symbol key other) refl)
+  pub masks_more : (old new : IndexMap Feature (Vec ℕ A) Z) (key : Feature) (mask : Vec ℕ A) → AreMasks t s old → IsMask t (accepts key s) mask.items
+      → ((other : Feature) → get same_feature new other ≡ cond (same_feature key other) (Some mask) (get same_feature old other)) → AreMasks t s new
+  masks_more old new key mask all is updates other = subst (IsKeptMask t s other) (sym (updates other)) (by (same_feature key other) refl)
     where
-      by : (b : Bool) → same_symbol key other ≡ b → IsKeptMask t s other (cond b (Some mask) (get same_symbol old other))
-      by true g = λ place.
-          is place ∙ ap (λ x. get_or (all_tests t (is_taken s x)) place false) (sym e)
-          ∙ ap (λ ts. get_or ts place false) (tests_alike t (is_taken s (shape_read key)) (is_taken s (shape_read other)) (symbols_alike s key other g))
+      by : (b : Bool) → same_feature key other ≡ b → IsKeptMask t s other (cond b (Some mask) (get same_feature old other))
+      by true g = λ place. is place ∙ ap (λ ts. get_or ts place false) (tests_alike t (accepts key s) (accepts other s) (features_alike s key other g))
       by false g = all other
 
-  pub mask_is : (masks : IndexMap Symbol (Vec ℕ A) Z) (symbol : Symbol) (shape : Shape) (mask : Vec ℕ A) → AreMasks t s masks → get same_symbol masks symbol ≡ Some mask → shape_read symbol ≡ shape
-      → IsMask t (is_taken s shape) mask.items
-  mask_is masks symbol shape mask all found e = subst (λ x. IsMask t (is_taken s x) mask.items) e (subst (IsKeptMask t s symbol) found (all symbol))
+  pub mask_is : (masks : IndexMap Feature (Vec ℕ A) Z) (feature : Feature) (mask : Vec ℕ A) → AreMasks t s masks → get same_feature masks feature ≡ Some mask → IsMask t (accepts feature s) mask.items
+  mask_is masks feature mask all found = subst (IsKeptMask t s feature) found (all feature)
+
+-- both halves
+
+passed_both : (one other : ItemType → Bool) (kinds : List ItemType) (n : ℕ) → get_or (map (λ kind. one kind && other kind) kinds) n false ≡ (get_or (map one kinds) n false && get_or (map other kinds) n false)
+passed_both one other [] n = refl
+passed_both one other (kind ∷ kinds) zero = refl
+passed_both one other (kind ∷ kinds) (suc n) = passed_both one other kinds n
+
+accepted_both : (t : SequenceType) (one other : ItemType → Bool) (place : ℕ)
+    → get_or (all_tests t (λ kind. one kind && other kind)) place false ≡ (get_or (all_tests t one) place false && get_or (all_tests t other) place false)
+accepted_both t one other zero = refl
+accepted_both t one other (suc n) =
+    ap (λ ts. get_or ts n false) (tests_are t (λ kind. one kind && other kind)) ∙ passed_both one other (items_of t) n
+    ∙ ap (λ ts. get_or ts n false && get_or (map other (items_of t)) n false) (sym (tests_are t one))
+    ∙ ap (λ ts. get_or (tests_of t one) n false && get_or ts n false) (sym (tests_are t other))
+
+-- the places that pass one half are met with those that pass the other
+pub coming_of_both : {A : Type 0} (t : SequenceType) (rows : List (Vec ℕ A)) (one other : ItemType → Bool) (before after kept : List ℕ) → AreComing t rows other before after
+    → ((place : ℕ) → has_bit kept place ≡ (has_bit after place && get_or (all_tests t one) place false)) → AreComing t rows (λ kind. one kind && other kind) before kept
+coming_of_both t rows one other before after kept coming keeps place = (
+  λ h.
+      let p = and_parts (has_bit after place) (get_or (all_tests t one) place false) (sym (keeps place) ∙ h) in
+      let q = (coming place).0 p.0 in
+      (q.0, accepted_both t one other place ∙ and_from (get_or (all_tests t one) place false) (get_or (all_tests t other) place false) p.1 q.1),
+  λ q.
+      let p = and_parts (get_or (all_tests t one) place false) (get_or (all_tests t other) place false) (sym (accepted_both t one other place) ∙ q.1) in
+      keeps place ∙ and_from (has_bit after place) (get_or (all_tests t one) place false) ((coming place).1 (q.0, p.1)) p.0,
+)

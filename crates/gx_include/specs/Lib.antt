@@ -11,6 +11,7 @@ pub mod Runs
 pub mod Inclusion
 pub mod ItemIndex
 pub mod Bits
+pub mod Features
 pub mod Following
 pub mod Transitions
 pub mod Derivations

@@ -2,17 +2,16 @@
 use Rattle.std.specs.Prelude.{◌≡◌, ℕ, ◌<◌, Bool, List, [], length, Option, None, Some, IfSome, Vec, slice_get}
 use Rattle.indexmap.specs.IndexMap.{IndexMap, get}
 use Rattle.gx_types.specs.declared.item_type.ItemType.{ItemType}
-use Rattle.gx_types.specs.declared.shape.Shape.{Shape}
-use Rattle.gx_types.specs.declared.shape.Shape.TheVariants as shapes
 use Rattle.gx_types.specs.SchemaSet.{SchemaSet}
 use Rattle.gx_types.specs.SequenceType.{SequenceType}
 use Rattle.gx_include.specs.declared.reading.Reading.{Reading}
 use Rattle.gx_include.specs.declared.reading.Symbol.{Symbol}
-use Rattle.gx_include.specs.declared.reading.Symbol.TheVariants as symbols
+use Rattle.gx_include.specs.declared.reading.Feature.{Feature}
 use Rattle.gx_include.specs.contracts.reading.ReadingPartialEq.TheImpl as readings
 use Rattle.gx_include.specs.contracts.reading.SymbolPartialEq.TheImpl as same_symbols
+use Rattle.gx_include.specs.contracts.reading.FeaturePartialEq.TheImpl as same_features
+use Rattle.gx_include.specs.Features.{accepts, is_read}
 use Rattle.gx_include.specs.Following.{AreComing, IsMask}
-use Rattle.gx_include.specs.Test.{is_taken}
 
 -- what `==` says of two readings
 abbrev pub same_reading : Reading → Reading → Bool
@@ -22,14 +21,9 @@ same_reading = (readings.ghosts).eq
 abbrev pub same_symbol : Symbol → Symbol → Bool
 same_symbol = (same_symbols.ghosts).eq
 
--- the shape that a symbol is read for
-abbrev pub shape_read : Symbol → Shape
-shape_read (symbols.Element name kind) = shapes.Elem name.now kind.now
-shape_read (symbols.Attribute name kind) = shapes.Attr name.now kind.now
-shape_read symbols.Text = shapes.Text
-shape_read symbols.Document = shapes.Doc None
-shape_read (symbols.DocumentOf name kind) = shapes.Doc (Some (name.now, kind.now))
-shape_read (symbols.Atom kind) = shapes.Atom kind.now
+-- what `==` says of two features
+abbrev pub same_feature : Feature → Feature → Bool
+same_feature = (same_features.ghosts).eq
 
 -- the places of a state, none where there is no state
 abbrev pub places_of : {B : Type 0} → Option (Vec ℕ B) → List ℕ
@@ -49,19 +43,19 @@ pub record IsTransition {A B : Type 0} (t : SequenceType) (rows : List (Vec ℕ 
 -- each target that is kept is that of its reading
 abbrev pub AreTransitions : {A B S : Type 0} → SequenceType → List (Vec ℕ A) → SchemaSet → List (Vec ℕ B) → IndexMap Reading ℕ S → Type 0
 AreTransitions t rows schemas states targets =
-    (reading : Reading) → IfSome (get same_reading targets reading) (λ target. IsTransition t rows (is_taken schemas (shape_read reading.symbol)) states reading.state target)
+    (reading : Reading) → IfSome (get same_reading targets reading) (λ target. IsTransition t rows (is_read reading.symbol schemas) states reading.state target)
 
--- each mask that is kept is that of its symbol
-abbrev pub AreMasks : {A S : Type 0} → SequenceType → SchemaSet → IndexMap Symbol (Vec ℕ A) S → Type 0
-AreMasks t schemas masks = (symbol : Symbol) → IfSome (get same_symbol masks symbol) (λ mask. IsMask t (is_taken schemas (shape_read symbol)) mask.items)
+-- each mask that is kept is that of its feature
+abbrev pub AreMasks : {A S : Type 0} → SequenceType → SchemaSet → IndexMap Feature (Vec ℕ A) S → Type 0
+AreMasks t schemas masks = (feature : Feature) → IfSome (get same_feature masks feature) (λ mask. IsMask t (accepts feature schemas) mask.items)
 
 -- states keep their numbers
 abbrev pub AreNumberedAlike : {B : Type 0} → List (Vec ℕ B) → List (Vec ℕ B) → Type 0
 AreNumberedAlike {B} states more = (number : ℕ) (places : Vec ℕ B) → slice_get states number ≡ Some places → slice_get more number ≡ Some places
 
 -- one state, of these places, and no target and no mask
-pub record IsAnew {A B S Z : Type 0} (places : List ℕ) (states : List (Vec ℕ B)) (targets : IndexMap Reading ℕ S) (masks : IndexMap Symbol (Vec ℕ A) Z) : Type 0 where
+pub record IsAnew {A B S Z : Type 0} (places : List ℕ) (states : List (Vec ℕ B)) (targets : IndexMap Reading ℕ S) (masks : IndexMap Feature (Vec ℕ A) Z) : Type 0 where
   pub one : length states ≡ 1
   pub state : places_at states 0 ≡ places
   pub none : (reading : Reading) → get same_reading targets reading ≡ None
-  pub no_mask : (symbol : Symbol) → get same_symbol masks symbol ≡ None
+  pub no_mask : (feature : Feature) → get same_feature masks feature ≡ None

@@ -2,15 +2,12 @@
 
 ghost use Rattle.std.specs.Prelude.{◌≡◌, ◌+◌, ◌*◌, ◌^◌, ◌<◌, ◌≤◌, ◌/◌, ◌&&◌, ◌||◌, ℕ, IfOk, OnOk, IsTrue, ◌↔◌, true, false, length, slice_index_or};
 ghost use Rattle.gx_include.specs.Bits.{has_bit};
-ghost use Rattle.gx_include.specs.Following.{AreFollowing, IsMask, FollowsMember, follows_block, members_in};
+ghost use Rattle.gx_include.specs.Following.{AreFollowing, FollowsMember, follows_block, members_in};
 ghost use Rattle.gx_include.specs.Step.{single, all_next, is_end};
-ghost use Rattle.gx_include.specs.Test.{is_taken};
 
 use crate::bits::{has, intersect, packed, union, unite, word_at};
-use crate::step::{ends_at, next_positions, only, taking_positions};
-use gx_types::schemas::Schemas;
+use crate::step::{ends_at, next_positions, only};
 use gx_types::sequence_type::Ty;
-use gx_types::shape::Shape;
 use std::alloc::{AllocError, Global};
 
 // The positions that may come next behind each choice of places of each block of four, for so many places: the start of a type
@@ -76,20 +73,6 @@ fn row_of(alloc: Global, t: &Ty, origin: usize) -> Result<Vec<u64>, AllocError>
     let next = next_positions(alloc, t, set.as_slice())?;
     let row = packed(alloc, next.as_slice())?;
     Ok(row)
-}
-
-// The positions whose item type takes a shape.
-pub(crate) fn mask_of(
-    alloc: Global,
-    schemas: &Schemas,
-    t: &Ty,
-    shape: &Shape,
-) -> Result<Vec<u64>, AllocError>
-    ensures { IfOk result (λ mask. IsMask t.now (is_taken schemas.now shape.now) mask.items) }
-{
-    let tests = taking_positions(alloc, schemas, t, shape)?;
-    let mask = packed(alloc, tests.as_slice())?;
-    Ok(mask)
 }
 
 // The places of a mask that may come next behind those of a set.

@@ -127,7 +127,7 @@ fn add_items(items: &mut Vec<ItemType>, t: &Ty) -> Result<(), AllocError>
 }
 
 // The name that an item type asks for.
-fn name_asked(item: &ItemType) -> Option<&Name>
+pub(crate) fn name_asked(item: &ItemType) -> Option<&Name>
     ensures { option_copied result ≡ name_of item.now }
 {
     match item {
@@ -139,7 +139,7 @@ fn name_asked(item: &ItemType) -> Option<&Name>
 }
 
 // Whether an item type may take a shape of a name, or of none.
-fn may_take(item: &ItemType, given: Option<&Name>) -> bool
+pub(crate) fn may_take(item: &ItemType, given: Option<&Name>) -> bool
     ensures { result ≡ may_fit (name_of item.now) (option_copied given.entry) }
 {
     match (name_asked(item), given) {

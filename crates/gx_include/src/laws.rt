@@ -2,6 +2,7 @@
 
 ghost use Rattle.gx_include.specs.Decision.{InclusionIsDecided};
 ghost use Rattle.gx_include.specs.Existence.{AnAnswerOfTypesExists};
+ghost use Rattle.gx_include.specs.Features.{HalvesAreTheTest};
 ghost use Rattle.gx_include.specs.Laws.{AnswersAreOne, PastIsNotWithin, FewPairsAreReached, NoExcludesInclusion};
 
 /// The pairs that are reached are not both past a limit and within it, so `TooManyPairs` comes exactly where they are past it.
@@ -33,4 +34,9 @@ pub fn answers_are_one()
 /// Two types have an answer under each limit on the pairs.
 pub fn an_answer_exists()
     ensures { AnAnswerOfTypesExists }
+{}
+
+/// An item type takes a shape exactly where it does not exclude the name of the shape and takes a shape of that sort and type.
+pub fn halves_are_the_test()
+    ensures { HalvesAreTheTest }
 {}

@@ -6,6 +6,7 @@ mod bits;
 mod decide;
 pub mod decision;
 pub mod derivations;
+mod feature;
 mod following;
 pub mod include;
 mod item_index;

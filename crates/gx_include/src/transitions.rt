@@ -1,15 +1,18 @@
 // The transitions of a type over a list of shapes, which are kept as they are found.
 
-ghost use Rattle.std.specs.Prelude.{◌≡◌, ◌<◌, ◌⊎◌, length, IfOk, OnOk};
+ghost use Rattle.std.specs.Prelude.{◌≡◌, ◌<◌, ◌⊎◌, ◌&&◌, ℕ, false, length, slice_index_or, IfOk, OnOk};
+ghost use Rattle.gx_include.specs.Bits.{has_bit};
+ghost use Rattle.gx_include.specs.Features.{accepts, is_read};
 ghost use Rattle.gx_include.specs.Following.{AreComing};
-ghost use Rattle.gx_include.specs.Test.{is_taken};
-ghost use Rattle.gx_include.specs.Transitions.{shape_read, places_at, AreTransitions, AreMasks, AreNumberedAlike, IsAnew};
+ghost use Rattle.gx_include.specs.Step.{all_tests};
+ghost use Rattle.gx_include.specs.Transitions.{places_at, AreTransitions, AreMasks, AreNumberedAlike, IsAnew};
 
-use crate::following::{mask_of, places_coming};
-use crate::reading::{Reading, Symbol};
+use crate::bits::intersect;
+use crate::feature::mask_of;
+use crate::following::places_coming;
+use crate::reading::{Feature, Reading, Symbol};
 use gx_types::schemas::Schemas;
 use gx_types::sequence_type::Ty;
-use gx_types::shape::Shape;
 use indexmap::{IndexMap, IndexSet};
 use std::alloc::{AllocError, Global};
 
@@ -19,12 +22,12 @@ const TARGET_LIMIT: usize = 65_536;
 const WORD_LIMIT: usize = 4_194_304;
 
 // The sets of places that were come to, by number, the number of the next one for each symbol that was read in one of them, and
-// for each symbol the positions whose item type takes its shape.
+// for each feature the positions whose item type accepts it.
 #[derive(Drop)]
 pub struct Transitions<'a> {
     pub states: IndexSet<Vec<u64>>,
     pub targets: IndexMap<Reading<'a>, usize>,
-    pub masks: IndexMap<Symbol<'a>, Vec<u64>>,
+    pub masks: IndexMap<Feature<'a>, Vec<u64>>,
 }
 
 impl<'a> Transitions<'a> {
@@ -49,7 +52,7 @@ impl<'a> Transitions<'a> {
         self.states[state].as_slice()
     }
 
-    // The state that a shape leads to from a state.
+    // The state that a symbol leads to from a state.
     pub(crate) fn next(
         &mut self,
         alloc: Global,
@@ -57,7 +60,7 @@ impl<'a> Transitions<'a> {
         t: &Ty,
         rows: &[Vec<u64>],
         state: usize,
-        shape: &'a Shape,
+        symbol: Symbol<'a>,
     ) -> Result<usize, AllocError>
         requires kept { AreTransitions t.now rows.now schemas.now self.old.states.keys self.old.targets }
         requires masks { AreMasks t.now schemas.now self.old.masks }
@@ -65,12 +68,11 @@ impl<'a> Transitions<'a> {
         ensures kept { OnOk result (AreTransitions t.now rows.now schemas.now self.new.states.keys self.new.targets) }
         ensures masks { OnOk result (AreMasks t.now schemas.now self.new.masks) }
         ensures within { IfOk result (λ next. next < length self.new.states.keys) }
-        ensures next { IfOk result (λ next. AreComing t.now rows.now (is_taken schemas.now shape.now) (places_at self.old.states.keys state) (places_at self.new.states.keys next)) }
+        ensures next { IfOk result (λ next. AreComing t.now rows.now (is_read symbol.entry schemas.now) (places_at self.old.states.keys state) (places_at self.new.states.keys next)) }
     {
-        let symbol = symbol_of(shape);
         match self.targets.get(&Reading { state, symbol }) {
             Some(next) => Ok(*next),
-            None => self.add_next(alloc, schemas, t, rows, state, shape),
+            None => self.add_next(alloc, schemas, t, rows, state, symbol),
         }
     }
 
@@ -82,7 +84,7 @@ impl<'a> Transitions<'a> {
         t: &Ty,
         rows: &[Vec<u64>],
         state: usize,
-        shape: &'a Shape,
+        symbol: Symbol<'a>,
     ) -> Result<usize, AllocError>
         requires kept { AreTransitions t.now rows.now schemas.now self.old.states.keys self.old.targets }
         requires masks { AreMasks t.now schemas.now self.old.masks }
@@ -90,18 +92,17 @@ impl<'a> Transitions<'a> {
         ensures kept { OnOk result (AreTransitions t.now rows.now schemas.now self.new.states.keys self.new.targets) }
         ensures masks { OnOk result (AreMasks t.now schemas.now self.new.masks) }
         ensures within { IfOk result (λ next. next < length self.new.states.keys) }
-        ensures next { IfOk result (λ next. AreComing t.now rows.now (is_taken schemas.now shape.now) (places_at self.old.states.keys state) (places_at self.new.states.keys next)) }
+        ensures next { IfOk result (λ next. AreComing t.now rows.now (is_read symbol.entry schemas.now) (places_at self.old.states.keys state) (places_at self.new.states.keys next)) }
     {
         let state = self.make_room(alloc, state)?;
-        add_mask(alloc, schemas, t, shape, &mut self.masks)?;
-        let places = self.places_behind(alloc, schemas, t, rows, state, shape)?;
+        add_masks(alloc, schemas, t, symbol, &mut self.masks)?;
+        let places = self.places_behind(alloc, schemas, t, rows, state, symbol)?;
         let next = number_of(&mut self.states, places)?;
-        let symbol = symbol_of(shape);
         self.targets.insert(Reading { state, symbol }, next)?;
         Ok(next)
     }
 
-    // The places that those of a state come to behind a shape.
+    // The places that those of a state come to behind a symbol.
     fn places_behind(
         &self,
         alloc: Global,
@@ -109,23 +110,64 @@ impl<'a> Transitions<'a> {
         t: &Ty,
         rows: &[Vec<u64>],
         state: usize,
-        shape: &Shape,
+        symbol: Symbol<'a>,
     ) -> Result<Vec<u64>, AllocError>
         requires masks { AreMasks t.now schemas.now self.now.masks }
         requires within { state < length self.now.states.keys }
-        ensures { IfOk result (λ places. AreComing t.now rows.now (is_taken schemas.now shape.now) (places_at self.now.states.keys state) places.items) }
+        ensures { IfOk result (λ places. AreComing t.now rows.now (is_read symbol.entry schemas.now) (places_at self.now.states.keys state) places.items) }
     {
-        match self.masks.get(&symbol_of(shape)) {
+        let mut places = self.places_accepting(alloc, schemas, t, rows, state, symbol.kind)?;
+        self.keep_accepting(alloc, schemas, t, symbol.name, &mut places)?;
+        Ok(places)
+    }
+
+    // The places that may come next behind those of a state and that accept a feature.
+    fn places_accepting(
+        &self,
+        alloc: Global,
+        schemas: &Schemas,
+        t: &Ty,
+        rows: &[Vec<u64>],
+        state: usize,
+        feature: Feature<'a>,
+    ) -> Result<Vec<u64>, AllocError>
+        requires masks { AreMasks t.now schemas.now self.now.masks }
+        requires within { state < length self.now.states.keys }
+        ensures { IfOk result (λ places. AreComing t.now rows.now (accepts feature.entry schemas.now) (places_at self.now.states.keys state) places.items) }
+    {
+        match self.masks.get(&feature) {
             Some(mask) => {
                 let after = places_coming(alloc, rows, mask.as_slice(), self.places(state))?;
                 Ok(after)
             }
             None => {
-                let mask = mask_of(alloc, schemas, t, shape)?;
+                let mask = mask_of(alloc, schemas, t, feature)?;
                 let after = places_coming(alloc, rows, mask.as_slice(), self.places(state))?;
                 Ok(after)
             }
         }
+    }
+
+    // Keeps those places that accept a feature.
+    fn keep_accepting(
+        &self,
+        alloc: Global,
+        schemas: &Schemas,
+        t: &Ty,
+        feature: Feature<'a>,
+        places: &mut Vec<u64>,
+    ) -> Result<(), AllocError>
+        requires { AreMasks t.now schemas.now self.now.masks }
+        ensures { OnOk result ((place : ℕ) → has_bit places.new.items place ≡ has_bit places.old.items place && slice_index_or (all_tests t.now (accepts feature.entry schemas.now)) place false) }
+    {
+        match self.masks.get(&feature) {
+            Some(mask) => intersect(places, mask.as_slice()),
+            None => {
+                let mask = mask_of(alloc, schemas, t, feature)?;
+                intersect(places, mask.as_slice());
+            }
+        }
+        Ok(())
     }
 
     // The number of a state behind which a target has room: all is given up but that state where there is none.
@@ -144,23 +186,37 @@ impl<'a> Transitions<'a> {
     }
 }
 
-// Puts the mask of a shape among those that are kept, unless it is there.
-fn add_mask<'a>(
+// Puts the masks of the features of a symbol among those that are kept.
+fn add_masks<'a>(
     alloc: Global,
     schemas: &Schemas,
     t: &Ty,
-    shape: &'a Shape,
-    masks: &mut IndexMap<Symbol<'a>, Vec<u64>>,
+    symbol: Symbol<'a>,
+    masks: &mut IndexMap<Feature<'a>, Vec<u64>>,
 ) -> Result<(), AllocError>
     requires { AreMasks t.now schemas.now masks.old }
     ensures { OnOk result (AreMasks t.now schemas.now masks.new) }
 {
-    let symbol = symbol_of(shape);
-    if masks.contains_key(&symbol) {
+    add_mask(alloc, schemas, t, symbol.name, masks)?;
+    add_mask(alloc, schemas, t, symbol.kind, masks)
+}
+
+// Puts the mask of a feature among those that are kept, unless it is there.
+fn add_mask<'a>(
+    alloc: Global,
+    schemas: &Schemas,
+    t: &Ty,
+    feature: Feature<'a>,
+    masks: &mut IndexMap<Feature<'a>, Vec<u64>>,
+) -> Result<(), AllocError>
+    requires { AreMasks t.now schemas.now masks.old }
+    ensures { OnOk result (AreMasks t.now schemas.now masks.new) }
+{
+    if masks.contains_key(&feature) {
         return Ok(());
     }
-    let mask = mask_of(alloc, schemas, t, shape)?;
-    masks.insert(symbol, mask)?;
+    let mask = mask_of(alloc, schemas, t, feature)?;
+    masks.insert(feature, mask)?;
     Ok(())
 }
 
@@ -172,18 +228,4 @@ fn number_of(states: &mut IndexSet<Vec<u64>>, places: Vec<u64>) -> Result<usize,
 {
     let (number, _) = states.insert_full(places)?;
     Ok(number)
-}
-
-// The symbol of a shape.
-fn symbol_of(shape: &Shape) -> Symbol<'_>
-    ensures { shape_read result ≡ shape.now }
-{
-    match shape {
-        Shape::Elem(name, kind) => Symbol::Element(name, kind),
-        Shape::Attr(name, kind) => Symbol::Attribute(name, kind),
-        Shape::Text => Symbol::Text,
-        Shape::Doc(None) => Symbol::Document,
-        Shape::Doc(Some((name, kind))) => Symbol::DocumentOf(name, kind),
-        Shape::Atom(kind) => Symbol::Atom(kind),
-    }
 }

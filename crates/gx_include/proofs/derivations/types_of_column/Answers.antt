@@ -1,4 +1,4 @@
-use Rattle.std.proofs.Common.{◌≡◌, ◌∙◌, ◌++◌, ◌∷◌, [], ◌≤◌, ap, subst, List, length, if◌then◌else◌}
+use Rattle.std.proofs.Common.{◌∙◌, ◌++◌, ◌∷◌, [], ◌≤◌, ap, subst, List, length, if◌then◌else◌}
 use Rattle.gx_types.specs.declared.declaration.Declared.{Declared}
 use Rattle.gx_include.proofs.DerivedTypes.{names_more, all_names}
 use Rattle.gx_include.proofs.derivations.types_of_column.Goals as goal

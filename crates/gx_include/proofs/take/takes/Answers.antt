@@ -5,8 +5,8 @@ use Rattle.gx_include.specs.Step.{has_start}
 use Rattle.gx_include.proofs.Bound.{next_length}
 use Rattle.gx_include.proofs.take.takes.Goals as goal
 
-pub takes_by_rows-requires : goal.takes_by_rows-requires
-takes_by_rows-requires c =
+pub takes_by_rows-requires-clause-rows : goal.takes_by_rows-requires-clause-rows
+takes_by_rows-requires-clause-rows c =
     let t = c.args.t.now in
     let count : c.len-count.result ≡ positions_of t + 1 =
     omega (arith, c.len-count.ensures, ap (λ (fs : List Bool). length fs) c.in_ok-next_positions.ensures, next_length t (drop 1 c.as_slice.result.now) (has_start c.as_slice.result.now)) in

@@ -4,5 +4,5 @@ use Rattle.gx_include.proofs.transitions.add_mask.Goals as goal
 
 pub returns : goal.returns
 returns c =
-    masks_more c.args.t.now c.args.schemas.now c.args.masks.now c.insert.new.self c.symbol_of-symbol.result c.args.shape.now c.in_ok-mask.mask c.requires c.symbol_of-symbol.ensures c.in_ok-mask.ensures
+    masks_more c.args.t.now c.args.schemas.now c.args.masks.now c.insert.new.self c.args.feature c.in_ok-mask.mask c.requires c.in_ok-mask.ensures
     (λ other. search rules)

@@ -3,8 +3,8 @@ use Rattle.gx_include.specs.Transitions.{AreTransitions, AreMasks}
 use Rattle.gx_include.proofs.Targets.{anew_kept, no_masks, kept_more}
 use Rattle.gx_include.proofs.transitions.Transitions.add_next.Goals as goal
 
-pub add_mask-requires : goal.add_mask-requires
-add_mask-requires c =
+pub add_masks-requires : goal.add_masks-requires
+add_masks-requires c =
     let t = c.args.t.now in
     let s = c.args.schemas.now in
     elim c.in_ok-state.ensures [
@@ -22,6 +22,6 @@ returns-clause-kept c =
       | inr p ↦ anew_kept t rows s _ c.make_room.new.self.states.keys c.make_room.new.self.targets c.make_room.new.self.masks p.1
     ] in
     kept_more t rows s c.make_room.new.self.states.keys c.number_of.new.states.keys c.make_room.new.self.targets c.insert.new.self
-    (record { state = c.in_ok-state.state; symbol = c.symbol_of-symbol.result }) c.args.shape.now c.in_ok-next.next c.in_ok-places.places.items room c.in_ok-next.ensures.kept (search rules) c.in_ok-next.ensures.within
-    c.symbol_of-symbol.ensures c.in_ok-next.ensures.number c.in_ok-places.ensures
+    (record { state = c.in_ok-state.state; symbol = c.args.symbol }) c.in_ok-next.next c.in_ok-places.places.items room c.in_ok-next.ensures.kept (search rules) c.in_ok-next.ensures.within
+    c.in_ok-next.ensures.number c.in_ok-places.ensures
     (λ other. search rules)

@@ -1,25 +1,10 @@
-use Rattle.std.proofs.Common.{sym, ◌∙◌, ap, subst, List, ℕ}
-use Rattle.gx_include.specs.Bits.{has_bit}
-use Rattle.gx_include.specs.Following.{AreComing}
-use Rattle.gx_include.specs.Test.{is_taken}
-use Rattle.gx_include.proofs.PlaceSets.{coming_of_mask}
-use Rattle.gx_include.proofs.Targets.{mask_is}
+use Rattle.gx_include.specs.Features.{accepts}
+use Rattle.gx_include.specs.Transitions.{places_at}
+use Rattle.gx_include.proofs.Targets.{coming_of_both}
 use Rattle.gx_include.proofs.transitions.Transitions.places_behind.Goals as goal
 
-pub returns-in_ok-after-in-Some : goal.returns-in_ok-after-in-Some
-returns-in_ok-after-in-Some c =
-    let t = c.args.t.now in
-    let x = is_taken c.args.schemas.now c.args.shape.now in
-    subst (λ (ps : List ℕ). AreComing t c.args.rows.now x ps c.in_ok-after-in-Some.after.items) c.places.ensures
-    (coming_of_mask t x c.args.rows.now c.as_slice.result.now c.places.result.now c.in_ok-after-in-Some.after.items
-    (λ place. ap (λ ws. has_bit ws place) c.as_slice.ensures.value
-    ∙ mask_is t c.args.schemas.now c.args.self.now.masks c.symbol_of.result c.args.shape.now c.in-Some.mask.now c.requires.masks (sym c.in-Some.ensures.value) c.symbol_of.ensures place)
-    c.in_ok-after-in-Some.ensures)
-
-pub returns-in_ok-after-in-None : goal.returns-in_ok-after-in-None
-returns-in_ok-after-in-None c =
-    let t = c.args.t.now in
-    let x = is_taken c.args.schemas.now c.args.shape.now in
-    subst (λ (ps : List ℕ). AreComing t c.args.rows.now x ps c.in_ok-after-in-None.after.items) c.places-in-None.ensures
-    (coming_of_mask t x c.args.rows.now c.as_slice-in-None.result.now c.places-in-None.result.now c.in_ok-after-in-None.after.items
-    (λ place. ap (λ ws. has_bit ws place) c.as_slice-in-None.ensures.value ∙ c.in_ok-mask-in-None.ensures place) c.in_ok-after-in-None.ensures)
+pub returns : goal.returns
+returns c =
+    let s = c.args.schemas.now in
+    coming_of_both c.args.t.now c.args.rows.now (accepts c.args.symbol.name s) (accepts c.args.symbol.kind s) (places_at c.args.self.now.states.keys c.args.state) c.in_ok-places.places.items
+    c.keep_accepting.new.places.items c.in_ok-places.ensures c.in_ok-keep_accepting.ensures
