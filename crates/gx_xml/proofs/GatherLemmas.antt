@@ -34,6 +34,11 @@ put_all-append [] ys cs = refl
 put_all-append (Element t ∷ xs) ys cs = ap (a_child t) (put_all-append xs ys cs)
 put_all-append (Text x ∷ xs) ys cs = ap (a_text x) (put_all-append xs ys cs)
 
+-- characters, of which there are some, make a text
+pub part_of_some : (x : List ℕ) → (x ≡ [] → ⊥) → text_part x ≡ Text x ∷ []
+part_of_some [] h = absurd (h refl)
+part_of_some (c ∷ x) h = refl
+
 part_before : (p : List ℕ) (t : SourceTree) (cs : SourceContents) → put_all (text_part p) (a_child t cs) ≡ put_characters p (a_child t cs)
 part_before [] t cs = refl
 part_before (c ∷ p) t cs = refl

@@ -1,5 +1,6 @@
 -- What stands between tags, as far as it was read.
-use Rattle.std.specs.Prelude.{◌≡◌, ℕ, List, [], ◌∷◌}
+use Rattle.std.specs.Prelude.{◌≡◌, ℕ, List, [], ◌∷◌, string_bytes}
+use Rattle.std.specs.Str.{chars}
 use Rattle.gx_grammar.specs.Ran.{Standing}
 use Rattle.gx_tree.specs.Binding.{Binding}
 use Rattle.gx_xml.specs.declared.source.SourceChild.{SourceChild}
@@ -21,7 +22,7 @@ put_all (Text x ∷ xs) cs = a_text x (put_all xs cs)
 
 -- with characters that stand behind them
 abbrev pub children_with : Children → SourceContents → SourceContents
-children_with c cs = put_all c.done.items (put_characters c.pending.items cs)
+children_with c cs = put_all c.done.items (put_characters (chars (string_bytes c.pending)) cs)
 
 -- the child of these characters, if there are any
 abbrev pub text_part : List ℕ → List SourceChild

@@ -5,18 +5,21 @@ ghost use Rattle.gx_xml.specs.Nodes.{put_characters, section_text};
 ghost use Rattle.gx_xml.specs.Runs.{text_normalised};
 ghost use Rattle.gx_xml.specs.SourceTree.{SourceContents, a_child, no_content};
 ghost use Rattle.gx_xml.specs.SourceView.{contents_of};
-ghost use Rattle.std.specs.Prelude.{◌≡◌, ◌++◌, ◌∷◌, [], IfOk, OnOk};
+ghost use Rattle.std.specs.Prelude.{◌≡◌, ◌++◌, ◌∷◌, [], ◌↔◌, IfOk, IsTrue, OnOk, string_bytes};
+ghost use Rattle.std.specs.Str.{chars};
 
 use crate::source::{SourceChild, SourceElement};
-use crate::tag::text_of;
-use crate::value::push_normalised;
+use crate::tag::push_character;
+use crate::value::push_normalised_text;
+use gx_base::text::Text;
 use std::alloc::{AllocError, Global};
+use std::mem::replace;
 
 /// The children so far, and the characters behind the last of them.
 #[derive(Drop)]
 pub struct Children {
     pub done: Vec<SourceChild>,
-    pub pending: Vec<char>,
+    pub pending: String,
 }
 
 impl Children {
@@ -25,43 +28,45 @@ impl Children {
     {
         Children {
             done: Vec::new(alloc),
-            pending: Vec::new(alloc),
+            pending: String::new(alloc),
         }
     }
 
     /// Adds the characters of a run, with line ends as line feeds.
+    #[tactic(auto, using(crate::proofs::GatherLemmas::put_both))]
     pub fn push_text(&mut self, run: &[char]) -> Result<(), AllocError>
         ensures { OnOk result ((cs : SourceContents) → children_with self.new cs ≡ children_with self.old (put_characters (text_normalised run.now) cs)) }
     {
-        push_normalised(&mut self.pending, run, false)
+        push_normalised_text(&mut self.pending, run)
     }
 
     /// Adds the characters of a CDATA section, behind which its two brackets stand.
+    #[tactic(auto, using(crate::proofs::GatherLemmas::put_both))]
     pub fn push_section(&mut self, run: &[char]) -> Result<(), AllocError>
         ensures { OnOk result ((cs : SourceContents) → children_with self.new cs ≡ children_with self.old (put_characters (section_text run.now) cs)) }
     {
         let length = run.len().saturating_sub(2);
-        push_normalised(&mut self.pending, &run[..length], false)
+        push_normalised_text(&mut self.pending, &run[..length])
     }
 
     /// Adds a character.
     pub fn push_character(&mut self, character: char) -> Result<(), AllocError>
         ensures { OnOk result ((cs : SourceContents) → children_with self.new cs ≡ children_with self.old (put_characters (character ∷ []) cs)) }
     {
-        Ok(self.pending.push(character)?)
+        push_character(&mut self.pending, character)
     }
 
     // Makes a text of the characters behind the last child, if there are any.
     fn flush(&mut self, alloc: Global) -> Result<(), AllocError>
-        ensures done { OnOk result (self.new.done.items ≡ self.old.done.items ++ text_part self.old.pending.items) }
-        ensures pending { OnOk result (self.new.pending.items ≡ []) }
+        ensures done { OnOk result (self.new.done.items ≡ self.old.done.items ++ text_part (chars (string_bytes self.old.pending))) }
+        ensures pending { OnOk result (chars (string_bytes self.new.pending) ≡ []) }
     {
-        if self.pending.is_empty() {
+        if is_empty(&self.pending) {
             return Ok(());
         }
-        let text = text_of(alloc, &self.pending)?;
+        let text = taken(alloc, &mut self.pending)?;
+        make_room(&mut self.done)?;
         self.done.push(SourceChild::Text(text))?;
-        self.pending.clear();
         Ok(())
     }
 
@@ -86,4 +91,30 @@ impl Children {
         done.shrink_to_fit();
         Ok(done)
     }
+}
+
+// Whether a string has no character.
+fn is_empty(text: &String) -> bool
+    ensures { IsTrue result ↔ (chars (string_bytes text.now) ≡ []) }
+{
+    text.as_str().is_empty()
+}
+
+// The text of the characters of a string, which is empty then.
+fn taken(alloc: Global, pending: &mut String) -> Result<Text, AllocError>
+    ensures text { IfOk result (λ t. t ≡ chars (string_bytes pending.old)) }
+    ensures empty { string_bytes pending.new ≡ [] }
+{
+    let characters = replace(pending, String::new(alloc));
+    Text::from_string(alloc, characters)
+}
+
+// Makes room for a child, and for one alone where it is the first.
+fn make_room(done: &mut Vec<SourceChild>) -> Result<(), AllocError>
+    ensures { done.new.items ≡ done.old.items }
+{
+    if done.is_empty() {
+        done.reserve_exact(1)?;
+    }
+    Ok(())
 }

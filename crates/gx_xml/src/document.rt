@@ -17,6 +17,7 @@ use crate::phrases::{comment, instruction, space};
 use crate::reader::{End, Reader};
 use crate::refusal::{XmlRefusal, XmlRule};
 use crate::runs::Run;
+use crate::shared_texts::SharedTexts;
 use crate::source::{Source, SourceElement};
 use gx_base::limits::{FILE_BYTES, FILE_DEPTH};
 use gx_grammar::decode::{DecodeError, decode};
@@ -83,8 +84,9 @@ fn read_text(alloc: Global, reader: &mut Reader<'_>) -> Result<SourceElement, Al
 {
     start(reader);
     before_root(reader);
+    let mut texts = SharedTexts::new(alloc)?;
     let mut bindings = Bindings::outermost(alloc)?;
-    let root = element(alloc, reader, &mut bindings, FILE_DEPTH)?;
+    let root = element(alloc, reader, &mut texts, &mut bindings, FILE_DEPTH)?;
     behind_root(reader);
     Ok(root)
 }

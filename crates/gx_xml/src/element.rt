@@ -21,6 +21,7 @@ use crate::reader::Reader;
 use crate::refusal::XmlRule;
 use crate::resolve;
 use crate::runs::Run;
+use crate::shared_texts::SharedTexts;
 use crate::source::{SourceAttribute, SourceChild, SourceElement};
 use crate::tag::{StartTag, attributes, begun};
 use std::alloc::{AllocError, Global};
@@ -68,6 +69,7 @@ fn fault(
 pub fn element(
     alloc: Global,
     reader: &mut Reader<'_>,
+    texts: &mut SharedTexts,
     bindings: &mut Bindings,
     room: u32,
 ) -> Result<SourceElement, AllocError>
@@ -77,11 +79,11 @@ pub fn element(
 {
     let first = reader.run(Run::Name, 0);
     let name = element_name(reader, first);
-    let mut tag = begun(alloc, name)?;
-    attributes(alloc, reader, &mut tag)?;
+    let mut tag = begun(alloc, texts, name)?;
+    attributes(alloc, reader, texts, &mut tag)?;
     let outer = bindings.len();
     resolve::declare(bindings, &tag.declarations)?;
-    let element = declared(alloc, reader, bindings, room, name, tag)?;
+    let element = declared(alloc, reader, texts, bindings, room, name, tag)?;
     bindings.truncate(outer);
     Ok(element)
 }
@@ -91,6 +93,7 @@ pub fn element(
 fn declared(
     alloc: Global,
     reader: &mut Reader<'_>,
+    texts: &mut SharedTexts,
     bindings: &mut Bindings,
     room: u32,
     name: QName<'_>,
@@ -107,7 +110,7 @@ fn declared(
     let fault = fault(alloc, bindings, room, &tag, &attributes)?;
     let mark = reader.tag_end(fault);
     let name_of = resolve::element_name(alloc, bindings, &tag)?;
-    let children = children(alloc, reader, bindings, room, name, mark)?;
+    let children = children(alloc, reader, texts, bindings, room, name, mark)?;
     let StartTag {
         prefix: _,
         local: _,
@@ -127,6 +130,7 @@ fn declared(
 fn children(
     alloc: Global,
     reader: &mut Reader<'_>,
+    texts: &mut SharedTexts,
     bindings: &mut Bindings,
     room: u32,
     name: QName<'_>,
@@ -140,7 +144,7 @@ fn children(
     if room == 0 || !mark.is_open() {
         return Ok(Vec::new(alloc));
     }
-    let children = content(alloc, reader, bindings, room - 1)?;
+    let children = content(alloc, reader, texts, bindings, room - 1)?;
     end_name(reader, name);
     space(reader);
     reader.symbol(&['>']);
@@ -152,6 +156,7 @@ fn children(
 fn content(
     alloc: Global,
     reader: &mut Reader<'_>,
+    texts: &mut SharedTexts,
     bindings: &mut Bindings,
     room: u32,
 ) -> Result<Vec<SourceChild>, AllocError>
@@ -167,7 +172,7 @@ fn content(
         if reader.has_ended() || !mark.is_item() {
             return children.finish(alloc);
         }
-        item(alloc, reader, bindings, room, &mut children, mark)?;
+        item(alloc, reader, texts, bindings, room, &mut children, mark)?;
     }
 }
 
@@ -176,6 +181,7 @@ fn content(
 fn item(
     alloc: Global,
     reader: &mut Reader<'_>,
+    texts: &mut SharedTexts,
     bindings: &mut Bindings,
     room: u32,
     children: &mut Children,
@@ -199,7 +205,7 @@ fn item(
             children.push_character(character)?;
         }
         Mark::StartTag => {
-            let child = element(alloc, reader, bindings, room)?;
+            let child = element(alloc, reader, texts, bindings, room)?;
             children.push_element(alloc, child)?;
         }
         _ => {}

@@ -14,6 +14,7 @@ pub mod refusal;
 mod resolve;
 mod runs;
 mod scan;
+mod shared_texts;
 pub mod source;
 mod tag;
 pub mod untyped;

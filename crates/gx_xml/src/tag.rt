@@ -2,15 +2,16 @@
 
 ghost use Rattle.gx_grammar.specs.Ran.{IsDone, left_of};
 ghost use Rattle.gx_xml.specs.TagView.{HasAdded, ReadAttribute, ReadAttributes};
-ghost use Rattle.std.specs.Prelude.{◌≡◌, ◌≤◌, ◌<◌, ◌⊎◌, [], IfOk, OnOk};
+ghost use Rattle.std.specs.Prelude.{◌≡◌, ◌≤◌, ◌<◌, ◌⊎◌, [], ◌∷◌, ◌++◌, IfOk, OnOk, OnErr, string_bytes};
+ghost use Rattle.std.specs.Str.{chars};
 
 use crate::phrases::{QName, equals, qualified, quote, space};
 use crate::reader::Reader;
 use crate::runs::Run;
+use crate::shared_texts::SharedTexts;
 use crate::source::Declaration;
 use crate::value::{Purpose, purpose_of, value};
 use gx_base::text::Text;
-use gx_base::text_builder::TextBuilder;
 use std::alloc::{AllocError, Global};
 
 /// An attribute as it is written, with its normalised value.
@@ -30,26 +31,39 @@ pub struct StartTag {
     pub attributes: Vec<TagAttribute>,
 }
 
+/// Adds a character to a string. An `Err` leaves the string as it was.
+#[tactic(auto, using(gx_base::proofs::TextLemmas::string_rules))]
+pub fn push_character(out: &mut String, character: char) -> Result<(), AllocError>
+    ensures ok { OnOk result (chars (string_bytes out.new) ≡ chars (string_bytes out.old) ++ character ∷ []) }
+    ensures err { OnErr result (string_bytes out.new ≡ string_bytes out.old) }
+{
+    Ok(out.push(character)?)
+}
+
 /// The text of characters.
 pub fn text_of(alloc: Global, characters: &[char]) -> Result<Text, AllocError>
     ensures { IfOk result (λ t. t ≡ characters.now) }
 {
-    let mut builder = TextBuilder::new(alloc);
+    let mut text = String::with_capacity(alloc, characters.len())?;
     for c in characters {
-        builder.push(*c)?;
+        push_character(&mut text, *c)?;
     }
-    builder.finish()
+    Text::from_string(alloc, text)
 }
 
 /// A start tag behind its name.
-pub fn begun(alloc: Global, name: QName<'_>) -> Result<StartTag, AllocError>
+pub fn begun(
+    alloc: Global,
+    texts: &mut SharedTexts,
+    name: QName<'_>,
+) -> Result<StartTag, AllocError>
     ensures prefix { IfOk result (λ t. t.prefix ≡ name.entry.prefix.now) }
     ensures local { IfOk result (λ t. t.local ≡ name.entry.local.now) }
     ensures declarations { IfOk result (λ t. t.declarations.items ≡ []) }
     ensures attributes { IfOk result (λ t. t.attributes.items ≡ []) }
 {
-    let prefix = text_of(alloc, name.prefix)?;
-    let local = text_of(alloc, name.local)?;
+    let prefix = texts.text_of(alloc, name.prefix)?;
+    let local = texts.text_of(alloc, name.local)?;
     Ok(StartTag {
         prefix,
         local,
@@ -59,7 +73,13 @@ pub fn begun(alloc: Global, name: QName<'_>) -> Result<StartTag, AllocError>
 }
 
 // Adds an attribute to a tag.
-fn add(alloc: Global, tag: &mut StartTag, name: QName<'_>, value: &[char]) -> Result<(), AllocError>
+fn add(
+    alloc: Global,
+    texts: &mut SharedTexts,
+    tag: &mut StartTag,
+    name: QName<'_>,
+    value: &[char],
+) -> Result<(), AllocError>
     ensures added { OnOk result (HasAdded name.entry.prefix.now name.entry.local.now value.now tag.old tag.new) }
     ensures prefix { OnOk result (tag.new.prefix ≡ tag.old.prefix) }
     ensures local { OnOk result (tag.new.local ≡ tag.old.local) }
@@ -67,18 +87,18 @@ fn add(alloc: Global, tag: &mut StartTag, name: QName<'_>, value: &[char]) -> Re
     let value = text_of(alloc, value)?;
     match purpose_of(name) {
         Purpose::Default => {
-            let prefix = Text::empty(alloc)?;
+            let prefix = texts.text_of(alloc, &[])?;
             let uri = value;
             tag.declarations.push(Declaration { prefix, uri })?;
         }
         Purpose::Prefix(prefix) => {
-            let prefix = text_of(alloc, prefix)?;
+            let prefix = texts.text_of(alloc, prefix)?;
             let uri = value;
             tag.declarations.push(Declaration { prefix, uri })?;
         }
         Purpose::Ordinary => {
-            let prefix = text_of(alloc, name.prefix)?;
-            let local = text_of(alloc, name.local)?;
+            let prefix = texts.text_of(alloc, name.prefix)?;
+            let local = texts.text_of(alloc, name.local)?;
             tag.attributes.push(TagAttribute {
                 prefix,
                 local,
@@ -93,6 +113,7 @@ fn add(alloc: Global, tag: &mut StartTag, name: QName<'_>, value: &[char]) -> Re
 fn attribute<'a>(
     alloc: Global,
     reader: &mut Reader<'a>,
+    texts: &mut SharedTexts,
     tag: &mut StartTag,
     first: &'a [char],
 ) -> Result<(), AllocError>
@@ -106,13 +127,14 @@ fn attribute<'a>(
     equals(reader);
     let quote = quote(reader);
     let value = value(alloc, reader, name, quote)?;
-    add(alloc, tag, name, &value)
+    add(alloc, texts, tag, name, &value)
 }
 
 /// Reads the attributes of a tag, up to its end (XML 1.0, section 3.1).
 pub fn attributes(
     alloc: Global,
     reader: &mut Reader<'_>,
+    texts: &mut SharedTexts,
     tag: &mut StartTag,
 ) -> Result<(), AllocError>
     ensures read { OnOk result (ReadAttributes tag.old tag.new reader.old reader.new) }
@@ -128,7 +150,7 @@ pub fn attributes(
         if first.is_empty() {
             return Ok(());
         }
-        attribute(alloc, reader, tag, first)?;
+        attribute(alloc, reader, texts, tag, first)?;
         if reader.has_ended() {
             return Ok(());
         }

@@ -6,16 +6,18 @@ ghost use Rattle.gx_grammar.specs.Value.{characters};
 ghost use Rattle.gx_tree.specs.Binding.{xml, xml_uri, xmlns_uri};
 ghost use Rattle.gx_xml.specs.Grammar.{expected_at, may_refer, value, value_run};
 ghost use Rattle.gx_xml.specs.Names.{purpose_as};
-ghost use Rattle.gx_xml.specs.Runs.{character_kept, normalised};
+ghost use Rattle.gx_xml.specs.Runs.{character_kept, normalised, text_normalised};
 ghost use Rattle.gx_xml.specs.Standings.{Did, ReadValue, read_document_token};
 ghost use Rattle.gx_xml.specs.Tags.{declares_xml, is_reserved_namespace, may_close, purpose_of};
-ghost use Rattle.std.specs.Prelude.{◌≡◌, ◌≤◌, ◌<◌, ◌⊎◌, ◌++◌, [], IfOk, OnOk, bytes_eq, false, slice_get, List, ℕ, ◌∷◌};
+ghost use Rattle.std.specs.Prelude.{◌≡◌, ◌≤◌, ◌<◌, ◌⊎◌, ◌++◌, [], IfOk, OnOk, bytes_eq, false, slice_get, List, ℕ, ◌∷◌, string_bytes};
+ghost use Rattle.std.specs.Str.{chars};
 ghost use Rattle.std.specs.Option.{option_to_list};
 
 use crate::marks::{Choice, Mark};
 use crate::phrases::{QName, reference};
 use crate::reader::{Reader, is_xmlns};
 use crate::runs::{Quote, Run, XML_URI};
+use crate::tag::push_character;
 use std::alloc::{AllocError, Global};
 
 /// What an attribute is for.
@@ -172,10 +174,34 @@ fn push_kept(out: &mut Vec<char>, kept: Option<char>) -> Result<(), AllocError>
 pub fn push_normalised(out: &mut Vec<char>, run: &[char], spaces: bool) -> Result<(), AllocError>
     ensures { OnOk result (out.new.items ≡ out.old.items ++ normalised spaces false run.now) }
 {
+    out.reserve(run.len())?;
     let mut behind_return = false;
     for c in run {
         let (kept, returned) = normalised_step(spaces, behind_return, *c);
         push_kept(out, kept)?;
+        behind_return = returned;
+    }
+    Ok(())
+}
+
+fn push_kept_text(out: &mut String, kept: Option<char>) -> Result<(), AllocError>
+    ensures { OnOk result (chars (string_bytes out.new) ≡ chars (string_bytes out.old) ++ option_to_list kept) }
+{
+    if let Some(c) = kept {
+        push_character(out, c)?;
+    }
+    Ok(())
+}
+
+/// Adds the characters of a run of a text, with line ends as line feeds.
+pub fn push_normalised_text(out: &mut String, run: &[char]) -> Result<(), AllocError>
+    ensures { OnOk result (chars (string_bytes out.new) ≡ chars (string_bytes out.old) ++ text_normalised run.now) }
+{
+    out.reserve(run.len())?;
+    let mut behind_return = false;
+    for c in run {
+        let (kept, returned) = normalised_step(false, behind_return, *c);
+        push_kept_text(out, kept)?;
         behind_return = returned;
     }
     Ok(())
