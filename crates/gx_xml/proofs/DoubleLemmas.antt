@@ -1,5 +1,5 @@
 -- A search for two equal keys, with a set of those before.
-use Rattle.std.proofs.Common.{◌≡◌, ℕ, suc, ◌+◌, ◌<◌, ◌≤◌, Bool, true, false, cond, List, [], ◌∷◌, ◌++◌, length, take, drop, get_or, map, refl, sym, ap, ◌∙◌, subst, add-one, drop-cons}
+use Rattle.std.proofs.Common.{◌≡◌, ℕ, suc, ◌+◌, ◌<◌, ◌≤◌, Bool, true, false, cond, List, [], ◌∷◌, ◌++◌, length, take, drop, get_or, map, refl, sym, ap, ◌∙◌, subst, add-one, drop-cons, arith}
 use Rattle.std.specs.Prelude.{◌||◌, ◌&&◌, bytes_eq}
 use Rattle.std.specs.List.{list_any}
 use Rattle.std.specs.declared.cmp.Ordering.{Ordering}
@@ -77,3 +77,9 @@ module _ {K X : Type 0} (cmp : K → K → Ordering) (eq : K → K → Bool) (ag
 
   pub searched_all : (xs : List X) (i : ℕ) (set : BTreeSet K) → length xs ≤ i → Searched xs i set → repeats_behind eq [] (map key xs) ≡ false
   searched_all xs i set past s = sym s.rest ∙ ap (λ r. repeats_behind eq (map key (take i xs)) (map key r)) (drop_all i xs past)
+
+-- one name repeats none
+pub few_repeat_not : {A B : Type 0} (same : B → B → Bool) (f : A → B) (xs : List A) → length xs < 2 → repeats_behind same [] (map f xs) ≡ false
+few_repeat_not same f [] h = refl
+few_repeat_not same f (x ∷ []) h = refl
+few_repeat_not same f (x ∷ y ∷ xs) h = absurd (omega arith)

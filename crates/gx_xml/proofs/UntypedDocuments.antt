@@ -2,7 +2,6 @@
 use Rattle.std.proofs.Common.{◌≡◌, ℕ, Bool, true, false, ◌||◌, List, [], ◌∷◌, map, refl, ◌∙◌, ap, if◌then◌else◌}
 use Rattle.std.specs.List.{list_any}
 use Rattle.gx_base.specs.Name.{same_name}
-use Rattle.gx_base.specs.declared.name.Name.{Name}
 use Rattle.gx_tree.specs.PlainTree.{IsContent, AreContent, IsProper}
 use Rattle.gx_tree.specs.Erasure.{IsUntyped, AreUntyped, AreUntypedAtomic}
 use Rattle.gx_tree.specs.OwnNames.{has_attribute, HaveOwnNames, HasOwnNames, AllHaveOwnNames}

@@ -72,7 +72,7 @@ fn attribute_uri_of(alloc: Global, bindings: &Bindings, prefix: &Text) -> Result
     ensures { IfOk result (λ t. t ≡ unwrap_or (attribute_uri_read bindings.now prefix.now) []) }
 {
     if prefix.is_empty() {
-        return Text::empty(alloc);
+        return prefix.clone();
     }
     uri_of(alloc, bindings, prefix)
 }
@@ -143,9 +143,13 @@ fn has_doubled_prefix(alloc: Global, declarations: &[Declaration]) -> Result<boo
 }
 
 // Whether two attributes have one expanded name.
+#[tactic(auto, using(crate::proofs::DoubleLemmas::few_repeat_not))]
 fn has_doubled_name(alloc: Global, attributes: &[SourceAttribute]) -> Result<bool, AllocError>
     ensures { IfOk result (λ b. b ≡ repeats_behind same_name [] (map (λ a. a.name) attributes.now)) }
 {
+    if attributes.len() < 2 {
+        return Ok(false);
+    }
     let mut seen = BTreeSet::new(alloc);
     for attribute in attributes {
         if seen.contains(&attribute.name) {
