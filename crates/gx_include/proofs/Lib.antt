@@ -22,6 +22,7 @@ pub mod Searching
 pub mod Deciding
 pub mod SomeAlphabet
 pub mod SomeAnswer
+mod Passing
 mod Symbols
 mod Targets
 mod Derived

@@ -1,4 +1,5 @@
 pub mod Positions
+pub mod Passing
 pub mod Test
 pub mod Step
 pub mod Walk

@@ -3,6 +3,7 @@
 ghost use Rattle.std.specs.Prelude.{◌&&◌, ◌||◌, ◌≡◌, ◌++◌, IfOk, OnOk, IsTrue, ◌↔◌, drop, true, slice_index_or, false};
 ghost use Rattle.gx_types.specs.ItemTakes.{ItemTakes, name_fits};
 ghost use Rattle.gx_types.specs.TypeRules.{positions_of};
+ghost use Rattle.gx_include.specs.Passing.{next_passing};
 ghost use Rattle.gx_include.specs.Positions.{is_nullable, may_end, next_of, tests_of, both_set};
 ghost use Rattle.gx_include.specs.Test.{is_taken, IsDecided};
 
@@ -209,6 +210,53 @@ pub(crate) fn follow<'a>(
         TyNode::Plus(part) => {
             let again = begins || end_of(part, marks).ends;
             follow(part, again, marks, next)
+        }
+    }
+}
+
+// Puts behind `next` which positions of a type may come next and have an item type that takes a shape, in one walk.
+pub(crate) fn follow_taking<'a>(
+    schemas: &Schemas,
+    shape: &Shape,
+    t: &Ty,
+    begins: bool,
+    marks: &'a [bool],
+    next: &mut Vec<bool>,
+) -> Result<Ending<'a>, AllocError>
+    ensures next { OnOk result (next.new.items ≡ next.old.items ++ next_passing t.now (is_taken schemas.now shape.now) begins marks.now) }
+    ensures nullable { IfOk result (λ e. e.nullable ≡ is_nullable t.now) }
+    ensures ends { IfOk result (λ e. e.ends ≡ may_end t.now marks.now) }
+    ensures rest { IfOk result (λ e. e.rest.now ≡ drop (positions_of t.now) marks.now) }
+{
+    match &t.node {
+        TyNode::Never | TyNode::Empty => Ok(end_of(t, marks)),
+        TyNode::Item(kind) => {
+            next.push(begins && takes_shape(schemas, shape, kind))?;
+            Ok(end_of(t, marks))
+        }
+        TyNode::Seq(first, second) => {
+            let first = follow_taking(schemas, shape, first, begins, marks, next)?;
+            let behind = (begins && first.nullable) || first.ends;
+            let second = follow_taking(schemas, shape, second, behind, first.rest, next)?;
+            Ok(in_sequence(first, second))
+        }
+        TyNode::Alt(first, second) => {
+            let first = follow_taking(schemas, shape, first, begins, marks, next)?;
+            let second = follow_taking(schemas, shape, second, begins, first.rest, next)?;
+            Ok(in_choice(first, second))
+        }
+        TyNode::Optional(part) => {
+            let part = follow_taking(schemas, shape, part, begins, marks, next)?;
+            Ok(optional(part))
+        }
+        TyNode::Star(part) => {
+            let again = begins || end_of(part, marks).ends;
+            let part = follow_taking(schemas, shape, part, again, marks, next)?;
+            Ok(optional(part))
+        }
+        TyNode::Plus(part) => {
+            let again = begins || end_of(part, marks).ends;
+            follow_taking(schemas, shape, part, again, marks, next)
         }
     }
 }

@@ -2,10 +2,10 @@
 
 ghost use Rattle.std.specs.Prelude.{◌≡◌, [], ◌∷◌, IfOk, OnOk, true, drop, slice_index_or, false};
 ghost use Rattle.gx_include.specs.Positions.{both_set};
-ghost use Rattle.gx_include.specs.Step.{single, has_start, all_next, all_tests, is_end};
+ghost use Rattle.gx_include.specs.Step.{single, has_start, all_next, all_tests, step_over, is_end};
 ghost use Rattle.gx_include.specs.Test.{is_taken, IsDecided};
 
-use crate::places::{end_of, follow, test_positions};
+use crate::places::{end_of, follow, follow_taking, test_positions};
 use gx_types::schemas::Schemas;
 use gx_types::sequence_type::Ty;
 use gx_types::shape::Shape;
@@ -56,6 +56,24 @@ pub(crate) fn taking_positions(
     tests.push(false)?;
     test_positions(schemas, shape, t, &mut tests)?;
     Ok(tests)
+}
+
+// The positions that a set comes to behind a shape.
+#[tactic(auto, using(crate::proofs::Passing::passing_is))]
+pub(crate) fn behind(
+    alloc: Global,
+    schemas: &Schemas,
+    t: &Ty,
+    shape: &Shape,
+    set: &[bool],
+) -> Result<Vec<bool>, AllocError>
+    ensures { IfOk result (λ next. next.items ≡ step_over t.now (is_taken schemas.now shape.now) set.now) }
+{
+    let mut next = Vec::with_capacity(alloc, set.len())?;
+    next.push(false)?;
+    let (start, positions) = split(set);
+    follow_taking(schemas, shape, t, start, positions, &mut next)?;
+    Ok(next)
 }
 
 // Whether a list of the type may end at a member of a set.

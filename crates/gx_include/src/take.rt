@@ -12,8 +12,7 @@ ghost use Rattle.gx_include.specs.Trials.{with_names};
 use crate::bits::packed;
 use crate::feature::{names_of, symbol_of};
 use crate::following::{ends_at_one, following};
-use crate::places::meet;
-use crate::step::{ends_at, next_positions, only, taking_positions};
+use crate::step::{behind, ends_at, next_positions, only};
 use crate::transitions::Transitions;
 use gx_base::name::Name;
 use gx_types::schemas::Schemas;
@@ -22,17 +21,20 @@ use gx_types::shape::Shape;
 use indexmap::IndexSet;
 use std::alloc::{AllocError, Global};
 
-// A table is worth its time for no list that is shorter than this, however small the type is.
-const SHORT_LENGTH: usize = 14;
+// A list of fewer shapes is short for each type.
+const SHORT: usize = 32;
 
 /// Whether a type takes a list of shapes (XQuery 1.0 and XPath 2.0 Formal Semantics, section 8.3). The work is linear in the
 /// length of the list.
 pub fn takes(alloc: Global, schemas: &Schemas, t: &Ty, list: &[Shape]) -> Result<bool, AllocError>
     ensures { IfOk result (λ answer. IsTrue answer ↔ Takes schemas.now t.now list.now) }
 {
+    if list.len() < SHORT {
+        return takes_by_sets(alloc, schemas, t, list);
+    }
     let start = only(alloc, 0)?;
     let count = next_positions(alloc, t, start.as_slice())?.len();
-    if list.len() < count.max(SHORT_LENGTH) {
+    if list.len() < count {
         return takes_by_sets(alloc, schemas, t, list);
     }
     let rows = following(alloc, t, count)?;
@@ -50,6 +52,7 @@ fn takes_by_sets(
 ) -> Result<bool, AllocError>
     ensures { IfOk result (λ answer. IsTrue answer ↔ Takes schemas.now t.now list.now) }
 {
+    let _declarations = schemas.types();
     let mut set = only(alloc, 0)?;
     for shape in list {
         set = behind(alloc, schemas, t, shape, set.as_slice())?;
@@ -87,20 +90,4 @@ fn start_alone(alloc: Global) -> Result<Vec<u64>, AllocError>
     let start = only(alloc, 0)?;
     let places = packed(alloc, start.as_slice())?;
     Ok(places)
-}
-
-// The positions that a set comes to behind a shape.
-fn behind(
-    alloc: Global,
-    schemas: &Schemas,
-    t: &Ty,
-    shape: &Shape,
-    set: &[bool],
-) -> Result<Vec<bool>, AllocError>
-    ensures step { IfOk result (λ next. next.items ≡ step_over t.now (is_taken schemas.now shape.now) set.now) }
-    ensures decided { OnOk result (IsDecided schemas.now shape.now t.now) }
-{
-    let next = next_positions(alloc, t, set)?;
-    let taking = taking_positions(alloc, schemas, t, shape)?;
-    meet(alloc, next.as_slice(), taking.as_slice())
 }

@@ -4,6 +4,7 @@ use Rattle.std.proofs.lemmas.List.{drop_more}
 use Rattle.std.proofs.Math.ListN.{drop_of_length-le}
 use Rattle.gx_include.specs.Step.{step_over, is_end}
 use Rattle.gx_include.specs.Test.{is_taken}
+use Rattle.gx_include.proofs.Decided.{decided}
 use Rattle.gx_include.proofs.SetReads.{starts, goes_on, comes_to}
 use Rattle.gx_include.proofs.take.takes_by_sets.Goals as goal
 
@@ -16,8 +17,8 @@ loop-shape-preserved c =
     ∙ ap (λ x. x ∷ drop (c.loop-shape.shape-index + 1) c.args.list.now) (sym c.shape-item.is) in
     goes_on c.args.schemas.now c.args.t.now c.loop-shape.set.items c.in_ok-set-2.set.items c.args.list.now (drop c.loop-shape.shape-index c.args.list.now)
     (drop (c.loop-shape.shape-index + 1) c.args.list.now) c.shape-item.result front
-    (c.in_ok-set-2.ensures.step ∙ ap (λ (xs : List Bool). step_over c.args.t.now (is_taken c.args.schemas.now c.shape-item.result) xs) c.as_slice.ensures.value)
-    c.in_ok-set-2.ensures.decided c.loop-shape.invariant
+    (c.in_ok-set-2.ensures ∙ ap (λ (xs : List Bool). step_over c.args.t.now (is_taken c.args.schemas.now c.shape-item.result) xs) c.as_slice.ensures.value)
+    (decided c.args.schemas.now c.types-declarations.ensures.invariant.grounded c.shape-item.result c.args.t.now) c.loop-shape.invariant
 
 pub returns : goal.returns
 returns c =
