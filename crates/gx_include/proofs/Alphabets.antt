@@ -12,7 +12,7 @@ use Rattle.gx_include.specs.declared.letter.Letter.{Letter}
 use Rattle.gx_include.specs.Step.{all_tests}
 use Rattle.gx_include.specs.Test.{is_taken}
 use Rattle.gx_include.specs.Inclusion.{plain_types, IsWellFormedShape}
-use Rattle.gx_include.specs.Letters.{IsLetter, AreLetters, StandsFor, ServeAll}
+use Rattle.gx_include.specs.Letters.{IsLetter, AreLetters, HasLetterFor, ServeAll}
 use Rattle.gx_include.specs.Trials.{with_names, trial_shapes}
 use Rattle.gx_include.specs.Alphabet.{LetterEntry, entry_of_letter, entry_if, entries_at, entries_below, IsAlphabet}
 use Rattle.gx_include.proofs.SetReads.{length_tests}
@@ -85,7 +85,7 @@ module _ (s : SchemaSet) (a b : SequenceType) where
         (entry_is (trial_shapes (plain_types s) (with_names (with_names [] a) b ++ is.other ∷ [])) (positions_of a + 1) (entry_of_letter l)
         (subst (In (entry_of_letter l)) is.are (in_map entry_of_letter l letters (got_in letters number l e))))
 
-    stands : (x : Shape) → IsWellFormedShape s x → (place : ℕ) → get_or (all_tests a (is_taken s x)) place false ≡ true → StandsFor s a b letters place x
+    stands : (x : Shape) → IsWellFormedShape s x → (place : ℕ) → get_or (all_tests a (is_taken s x)) place false ≡ true → HasLetterFor s a b letters place x
     stands x w place h =
         let q = shape_stands s (with_names (with_names [] a) b) is.other is.fresh.new x w in
         let known = both_known a b in

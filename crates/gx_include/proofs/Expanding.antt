@@ -7,7 +7,7 @@ use Rattle.gx_include.specs.declared.walk.Origin.{Origin}
 use Rattle.gx_include.specs.Step.{single, all_next}
 use Rattle.gx_include.specs.Pairs.{start_pair, moved, moved_by, pair_step}
 use Rattle.gx_include.specs.Origins.{AreRuns, IsNoted, IsNotedIfFound}
-use Rattle.gx_include.specs.Walk.{StateAt, IsKept, run_at, Walked}
+use Rattle.gx_include.specs.Walk.{StateAt, StayInPlace, run_at, Walked}
 use Rattle.gx_include.specs.Traced.{Traced}
 use Rattle.gx_include.proofs.Walks.{walk_begins, goes_on, was_found, finds, walks_on, get_or_front, get_or_end, at_front, at_either, one_state}
 
@@ -57,7 +57,7 @@ pub record Expanding (a b : SequenceType) (letters : List Letter) (old : List (�
   pub left_is : left ≡ all_next a (single pair.0)
   pub right_is : right ≡ all_next b pair.1
   pub traced : Traced a b letters pairs origins at bound
-  pub kept : IsKept old pairs
+  pub kept : StayInPlace old pairs
 
 pub expand_begins : (a b : SequenceType) (letters : List Letter) (pairs : List (ℕ × List Bool)) (origins : List Origin) (at : ℕ) (left right : List Bool) (pair : ℕ × List Bool)
     → slice_get pairs at ≡ Some pair → left ≡ all_next a (single pair.0) → right ≡ all_next b pair.1 → Traced a b letters pairs origins at 0

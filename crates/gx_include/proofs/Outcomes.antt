@@ -7,7 +7,7 @@ use Rattle.gx_include.specs.declared.letter.Letter.{Letter}
 use Rattle.gx_include.specs.declared.walk.Origin.{Origin}
 use Rattle.gx_include.specs.declared.walk.Outcome.{Outcome}
 use Rattle.gx_include.specs.Pairs.{start_pair, is_bad}
-use Rattle.gx_include.specs.Walk.{StateAt, IsKept}
+use Rattle.gx_include.specs.Walk.{StateAt, StayInPlace}
 use Rattle.gx_include.specs.Traced.{Traced}
 use Rattle.gx_include.specs.Outcome.{outcome_at, first_bad_place, is_settled, AreGoodBelow, IsBadBelow, HasWalked, IsOutcome}
 use Rattle.gx_include.proofs.Walks.{one_state}
@@ -36,13 +36,13 @@ module _ (a b : SequenceType) where
       (judge_one pairs at pair bad (is_bad a b pair) (slice_get_within pairs at pair e, get_or_from_slice_get pairs at pair pair e) refl h)
 
   -- where pairs are added, the first ones stay good
-  stay_good : (pairs pairs2 : List (ℕ × List Bool)) (bound : ℕ) → IsKept pairs pairs2 → bound ≤ length pairs → AreGoodBelow a b pairs bound → AreGoodBelow a b pairs2 bound
+  stay_good : (pairs pairs2 : List (ℕ × List Bool)) (bound : ℕ) → StayInPlace pairs pairs2 → bound ≤ length pairs → AreGoodBelow a b pairs bound → AreGoodBelow a b pairs2 bound
   stay_good pairs pairs2 bound kept within good i p h k =
       let old = get_or pairs i p in
       let there : StateAt pairs i old = (omega arith, get_or_from_slice_get pairs i old old (slice_get-get_or pairs i p (omega arith))) in
       ap (λ q. is_bad a b q) (one_state pairs2 p old i k (kept i old there)) ∙ good i old h there
 
-  pub stay_judged : (pairs pairs2 : List (ℕ × List Bool)) (bound : ℕ) (bad : Option ℕ) → IsKept pairs pairs2 → bound ≤ length pairs → IsBadBelow a b pairs bound bad → IsBadBelow a b pairs2 bound bad
+  pub stay_judged : (pairs pairs2 : List (ℕ × List Bool)) (bound : ℕ) (bad : Option ℕ) → StayInPlace pairs pairs2 → bound ≤ length pairs → IsBadBelow a b pairs bound bad → IsBadBelow a b pairs2 bound bad
   stay_judged pairs pairs2 bound None kept within good = stay_good pairs pairs2 bound kept within good
   stay_judged pairs pairs2 bound (Some place) kept within (l, f) =
       (l, record { pair = f.pair; here = kept place f.pair f.here; bad = f.bad; good = stay_good pairs pairs2 place kept (omega arith) f.good })

@@ -24,7 +24,7 @@ use Rattle.gx_include.specs.Runs.{shapes_of_letter, shapes_of}
 use Rattle.gx_include.specs.Step.{single, all_next}
 use Rattle.gx_include.specs.Traced.{Traced}
 use Rattle.gx_include.specs.Verdict.{IsVerdictOver}
-use Rattle.gx_include.specs.Walk.{IsKept, run_at}
+use Rattle.gx_include.specs.Walk.{StayInPlace, run_at}
 use Rattle.gx_include.proofs.Alphabets.{are_letters, serve_all}
 use Rattle.gx_include.proofs.Expanding.{Expanding, expand_begins, expand_by, expand_ends}
 use Rattle.gx_include.proofs.Outcomes.{judge_next, stay_judged, none_below, walked_none, ended}
@@ -104,7 +104,7 @@ module _ (a b : SequenceType) (letters : List Letter) where
     pub pairs2 : List (ℕ × List Bool)
     pub origins2 : List Origin
     pub traced : Traced a b letters pairs2 origins2 (at + 1) 0
-    pub kept : IsKept pairs pairs2
+    pub kept : StayInPlace pairs pairs2
     pub different : IsDistinct same_pair pairs2
 
   grow : (pairs : List (ℕ × List Bool)) (origins : List Origin) (at : ℕ) (pair : ℕ × List Bool) → slice_get pairs at ≡ Some pair → Traced a b letters pairs origins at 0 → IsDistinct same_pair pairs

@@ -19,7 +19,7 @@ abbrev pub AreLetters : SchemaSet → (a b : SequenceType) → List Letter → T
 AreLetters schemas a b letters = (number : ℕ) (letter : Letter) → slice_get letters number ≡ Some letter → IsLetter schemas a b letter
 
 -- a letter stands for a shape at a position: it is of that position, and the same positions of the right type take both
-pub record StandsFor (schemas : SchemaSet) (a b : SequenceType) (letters : List Letter) (place : ℕ) (shape : Shape) : Type 0 where
+pub record HasLetterFor (schemas : SchemaSet) (a b : SequenceType) (letters : List Letter) (place : ℕ) (shape : Shape) : Type 0 where
   pub number : ℕ
   pub letter : Letter
   pub here : slice_get letters number ≡ Some letter
@@ -31,4 +31,4 @@ pub record ServeAll (schemas : SchemaSet) (a b : SequenceType) (letters : List L
   pub left : (shape : Shape) → IsWellFormedShape schemas shape → IsDecided schemas shape a
   pub right : (shape : Shape) → IsWellFormedShape schemas shape → IsDecided schemas shape b
   pub stands : (shape : Shape) → IsWellFormedShape schemas shape → (place : ℕ) → slice_index_or (all_tests a (is_taken schemas shape)) place false ≡ true
-      → StandsFor schemas a b letters place shape
+      → HasLetterFor schemas a b letters place shape

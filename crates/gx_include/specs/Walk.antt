@@ -28,8 +28,8 @@ abbrev pub StateAt : {X : Type 0} → List X → ℕ → X → Type 0
 StateAt xs i x = (i < length xs) × (slice_index_or xs i x ≡ x)
 
 -- the states of a list stand where they stood
-abbrev pub IsKept : {X : Type 0} → List X → List X → Type 0
-IsKept {X} xs ys = (i : ℕ) (x : X) → StateAt xs i x → StateAt ys i x
+abbrev pub StayInPlace : {X : Type 0} → List X → List X → Type 0
+StayInPlace {X} xs ys = (i : ℕ) (x : X) → StateAt xs i x → StateAt ys i x
 
 -- the run by which the state at a place was found
 abbrev pub run_at : List (List ℕ) → ℕ → List ℕ

@@ -6,7 +6,7 @@ ghost use Rattle.gx_include.specs.Pairs.{start_pair, moved, is_bad};
 ghost use Rattle.gx_include.specs.Origins.{AreRuns, IsNoted, IsNotedIfFound};
 ghost use Rattle.gx_include.specs.Traced.{Traced};
 ghost use Rattle.gx_include.specs.Outcome.{IsOutcome, outcome_at, exceeds, first_bad_place, is_settled};
-ghost use Rattle.gx_include.specs.Walk.{IsKept};
+ghost use Rattle.gx_include.specs.Walk.{StayInPlace};
 
 use crate::letter::Letter;
 use crate::pair::Pair;
@@ -120,7 +120,7 @@ fn expand(
     requires traced { Traced left.now right.now letters.now pairs.old.keys origins.old.items at 0 }
     requires within { at < length pairs.old.keys }
     ensures traced { OnOk result (Traced left.now right.now letters.now pairs.new.keys origins.new.items (at + 1) 0) }
-    ensures kept { OnOk result (IsKept pairs.old.keys pairs.new.keys) }
+    ensures kept { OnOk result (StayInPlace pairs.old.keys pairs.new.keys) }
 {
     let (next_left, next_right) = nexts(alloc, left, right, &pairs[at])?;
     for (number, letter) in letters.iter().enumerate() {

@@ -24,7 +24,7 @@ use Rattle.gx_processor.specs.declared.status.Status.{Status}
 use Rattle.gx_processor.specs.declared.refusal.Refusal.{Refusal}
 use Rattle.gx_processor.specs.declared.refusal.Refusal.TheVariants as refusal
 use Rattle.gx_processor.specs.Answer.{writes, refuses, AnswersFile}
-use Rattle.gx_processor.specs.Command.{Command, run_file, check_file, query_file, IsRun}
+use Rattle.gx_processor.specs.Command.{Command, run_file, check_file, query_file, IsRunCommand}
 use Rattle.gx_processor.specs.FaultLines.{read_fault_line}
 use Rattle.gx_processor.specs.Loading.{RunLoads, QueryLoads, HoldsTypedQuery, BehindQuery, CommandLoads, AreFirstOf, MayLoad}
 use Rattle.gx_processor.specs.NamedQuery.{NamedQuery, named_query, unknown_name, query_named}
@@ -319,7 +319,7 @@ run_loads single library between name bindings query result same counted q j r =
   failed = run_fails library between name q.loads r.names result q.loaded counted r.own r.failed;
 }
 
-pub run_cause : {Z : Type 0} (name : List ℕ) (bindings : List (List ℕ)) (result : Result (String Z) Refusal) → IsOfRun result → IfErr result (HasCause (IsRun (run_file name bindings)))
+pub run_cause : {Z : Type 0} (name : List ℕ) (bindings : List (List ℕ)) (result : Result (String Z) Refusal) → IsOfRun result → IfErr result (HasCause (IsRunCommand (run_file name bindings)))
 run_cause name bindings (Ok text) own = tt
 run_cause name bindings (Err refusal.ReadFault) own = tt
 run_cause name bindings (Err refusal.TooLong) own = tt

@@ -12,7 +12,7 @@ use Rattle.gx_documents.specs.Documents.{Files}
 use Rattle.gx_processor.specs.declared.status.Status.{Status}
 use Rattle.gx_processor.specs.declared.refusal.Refusal.{Refusal}
 use Rattle.gx_processor.specs.declared.refusal.Refusal.TheVariants as refusal
-use Rattle.gx_processor.specs.Command.{Command, query_file, command_of, texts_to_compare, IsRun}
+use Rattle.gx_processor.specs.Command.{Command, query_file, command_of, texts_to_compare, IsRunCommand}
 use Rattle.gx_processor.specs.Replies.{RefusesSo, HasCause, RepliesSo, IsMisuse, IsWellFormed, IsUsageOrStarved, IsFaultOrStarved, IsReplyOf, IsQueryForm, IsQueryReply, IsComparison}
 use Rattle.gx_processor.specs.FaultLines.{read_fault_line, code_line, placed_line, binding_line, long_document_line, document_line, invalid_line, import_line}
 use Rattle.gx_processor.proofs.AnswerLemmas.{no_texts, asked_answer, same_parts}
@@ -175,7 +175,7 @@ fault_formed command told line (Fault here text) h k =
     subst (λ (z : Status). IsQueryForm command z (string_bytes text)) (sym h.0) (subst (λ (xs : List ℕ). IsQueryForm command told xs) (sym h.1) k)
 fault_formed command told line Starved h k = tt
 
-pub refusal_formed : (command : Command) (e : Refusal) (r : Reply) → IsReplyOf (query_file command) e r → HasCause (IsRun command) e → IsQueryReply command r
+pub refusal_formed : (command : Command) (e : Refusal) (r : Reply) → IsReplyOf (query_file command) e r → HasCause (IsRunCommand command) e → IsQueryReply command r
 refusal_formed command refusal.ReadFault r h k = fault_formed command status.ReadFault (read_fault_line (query_file command)) r h tt
 refusal_formed command refusal.TooLong r h k = fault_formed command status.Query (code_line GLXS0001) r h (inl refl)
 refusal_formed command (refusal.Query code place) r h k = fault_formed command status.Query (placed_line code place) r h (inr (code, place, refl))

@@ -11,7 +11,7 @@ use Rattle.gx_schema.specs.Laws.{ImportsAreOne}
 use Rattle.gx_processor.specs.declared.refusal.Refusal.{Refusal}
 use Rattle.gx_processor.specs.declared.refusal.Refusal.TheVariants as refusal
 use Rattle.gx_processor.specs.Answer.{writes, AnswersRun, AnswersTyped}
-use Rattle.gx_processor.specs.Command.{Command, run_file, check_file, query_file, IsRun}
+use Rattle.gx_processor.specs.Command.{Command, run_file, check_file, query_file, IsRunCommand}
 use Rattle.gx_processor.specs.declared.query.TypedQuery.{TypedQuery}
 use Rattle.gx_processor.specs.QueryReplies.{QuerySo}
 use Rattle.gx_processor.specs.Replies.{HasCause, OutputLoads}
@@ -73,6 +73,6 @@ typed_answers_so library between (run_file name bindings) schemas t result same 
 typed_answers_so library between (check_file name) schemas t result same h =
     told_always (library.files library.before) (λ files. AnswersSo (AnswersTyped files (check_file name) schemas (plain_query t) t) result) (λ files. check_answers files name schemas t result h.0)
 
-pub typed_cause : {Z : Type 0} (library : LibraryUse) (between : library.Library) (command : Command) (schemas : SchemaSet) (t : TypedCore) (result : Result (String Z) Refusal) → TypedSo (behind library between) command schemas t result → IfErr result (HasCause (IsRun command))
+pub typed_cause : {Z : Type 0} (library : LibraryUse) (between : library.Library) (command : Command) (schemas : SchemaSet) (t : TypedCore) (result : Result (String Z) Refusal) → TypedSo (behind library between) command schemas t result → IfErr result (HasCause (IsRunCommand command))
 typed_cause library between (run_file name bindings) schemas t result h = run_cause name bindings result h.own
-typed_cause library between (check_file name) schemas t result h = check_cause (IsRun (check_file name)) t result h.0
+typed_cause library between (check_file name) schemas t result h = check_cause (IsRunCommand (check_file name)) t result h.0

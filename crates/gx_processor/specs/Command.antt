@@ -41,8 +41,8 @@ abbrev pub command_of : List (List ℕ) → Option Command
 command_of (name ∷ file ∷ others) = if is_operand file then command_named name file others else None
 command_of _ = None
 
-abbrev pub IsRun : Command → Type 0
-IsRun command = (name : List ℕ) × (bindings : List (List ℕ)) × (command ≡ run_file name bindings)
+abbrev pub IsRunCommand : Command → Type 0
+IsRunCommand command = (name : List ℕ) × (bindings : List (List ℕ)) × (command ≡ run_file name bindings)
 
 -- the words are `run FILE NAME=FILE ..`
 abbrev pub AskToRun : List (List ℕ) → Type 0

@@ -16,7 +16,7 @@ use Rattle.gx_documents.specs.declared.documents.DocumentFault.TheVariants as fa
 use Rattle.gx_documents.specs.Bindings.{Misbound}
 use Rattle.gx_documents.specs.BindingView.{plain_fault}
 use Rattle.gx_io.specs.LibraryUse.{LibraryUse, LoadsOnly, LibraryFailed, LastLoadFailed}
-use Rattle.gx_processor.specs.Command.{Command, query_file, command_of, texts_to_compare, NameNoCommand, AskToRun, IsRun}
+use Rattle.gx_processor.specs.Command.{Command, query_file, command_of, texts_to_compare, NameNoCommand, AskToRun, IsRunCommand}
 use Rattle.gx_processor.specs.Loading.{CommandLoads, LoadsAsked, AreFirstOf, MayLoad}
 use Rattle.gx_processor.specs.FaultLines.{usage_line, read_fault_line, code_line, placed_line, binding_line, long_document_line, document_line, invalid_line, import_line, IsQueryLine, IsSchemaLine, IsDocumentLine}
 
@@ -172,9 +172,9 @@ IsReplyOf file refusal.Memory reply = reply ≡ Starved
 abbrev pub IsQueryForm : Command → Status → List ℕ → Type 0
 IsQueryForm command status.ReadFault line = Unit {0}
 IsQueryForm command status.Query line = IsQueryLine line
-IsQueryForm command status.Usage line = IsRun command × ((fault : Misbound) × (line ≡ binding_line fault))
-IsQueryForm command status.Document line = IsRun command × IsDocumentLine line
-IsQueryForm command status.Dynamic line = IsRun command × ((code : Code) × (line ≡ code_line code))
+IsQueryForm command status.Usage line = IsRunCommand command × ((fault : Misbound) × (line ≡ binding_line fault))
+IsQueryForm command status.Document line = IsRunCommand command × IsDocumentLine line
+IsQueryForm command status.Dynamic line = IsRunCommand command × ((code : Code) × (line ≡ code_line code))
 IsQueryForm command status.Done line = ⊥
 IsQueryForm command status.Schema line = IsSchemaLine line
 IsQueryForm command status.WriteFault line = ⊥

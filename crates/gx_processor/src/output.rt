@@ -7,7 +7,7 @@ ghost use Rattle.gx_processor.specs.ExternalDocuments.{ExternalsAreDocuments};
 ghost use Rattle.gx_processor.specs.RunReplies.{TypedSo};
 ghost use Rattle.gx_io.specs.LibraryUse.{library_use};
 ghost use Rattle.gx_processor.specs.Answer.{writes, AnswersCommand};
-ghost use Rattle.gx_processor.specs.Command.{IsRun};
+ghost use Rattle.gx_processor.specs.Command.{IsRunCommand};
 ghost use Rattle.gx_processor.specs.CommandView.{plain_command};
 ghost use Rattle.gx_processor.specs.Replies.{RefusesSo, HasCause, OutputLoads};
 ghost use Rattle.gx_processor.specs.TypeBytes.{type_bytes};
@@ -36,7 +36,7 @@ pub fn output<L: Library>(
         (λ text. AnswersCommand files (Some (plain_command command.entry)) (writes (string_bytes text)))) }
     ensures refused { IfSome (L.files library.old) (λ files. IfErr result
         (λ refusal. RefusesSo refusal (AnswersCommand files (Some (plain_command command.entry))))) }
-    ensures cause { IfErr result (HasCause (IsRun (plain_command command.entry))) }
+    ensures cause { IfErr result (HasCause (IsRunCommand (plain_command command.entry))) }
 {
     imports_are_one();
     match typed_query(alloc, command.file(), library) {

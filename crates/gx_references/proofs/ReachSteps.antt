@@ -11,7 +11,7 @@ use Rattle.std.proofs.lemmas.List.Elements.{Contains-append_left, Contains-appen
 use Rattle.std.proofs.lemmas.Option.{slice_get_past, slice_get_within}
 use Rattle.gx_references.specs.References.{numbers_named, named_by, ends, AreMeanings, AreEndless}
 use Rattle.gx_references.specs.Circles.{RefersTo, directly, through, refers_within, is_circular_among}
-use Rattle.gx_references.specs.Reach.{count_marked, IsFound, IsReach}
+use Rattle.gx_references.specs.Reach.{count_marked, IsAccountedFor, IsReach}
 use Rattle.gx_references.specs.Search.{work}
 use Rattle.gx_references.specs.Laws.{WaysBackAreShort}
 use Rattle.gx_references.proofs.Tables.{unopened_work-set, empty_by_length}
@@ -81,7 +81,7 @@ reach_begins references bodies start marks pending sized unmarked begun = record
 
 -- the last pending number is that of no declaration, or of one that is marked
 found_when_passed : (marks : List Bool) (rest : List ℕ) (number : ℕ) → (length marks ≤ number) ⊎ (get_or marks number false ≡ true) →
-    (other : ℕ) → IsFound marks (rest ++ number ∷ []) other → IsFound marks rest other
+    (other : ℕ) → IsAccountedFor marks (rest ++ number ∷ []) other → IsAccountedFor marks rest other
 found_when_passed marks rest number done other (inl outside) = inl outside
 found_when_passed marks rest number done other (inr (inl marked)) = inr (inl marked)
 found_when_passed marks rest number done other (inr (inr here)) = elim (Contains-append_cases rest (number ∷ []) other here) [
@@ -104,7 +104,7 @@ reach_passes references bodies start marks rest number done r = record {
 
 -- the last pending number is marked, and what it names is pending
 found_when_marked : (marks : List Bool) (rest named : List ℕ) (number : ℕ) → number < length marks →
-    (other : ℕ) → IsFound marks (rest ++ number ∷ []) other → IsFound (set marks number true) (rest ++ named) other
+    (other : ℕ) → IsAccountedFor marks (rest ++ number ∷ []) other → IsAccountedFor (set marks number true) (rest ++ named) other
 found_when_marked marks rest named number within other (inl outside) = let same = length-set marks number true in inl (omega arith)
 found_when_marked marks rest named number within other (inr (inl marked)) = elim (eqb_tells other number) [
   | inl (_, same) ↦ inr (inl (ap (λ (n : ℕ). get_or (set marks number true) n false) same ∙ get_or-set_same marks number true false within))

@@ -17,7 +17,7 @@ use Rattle.gx_include.specs.Inclusion.{IsWellFormedShape}
 use Rattle.gx_static.specs.declared.comparison.Family.TheVariants as families
 use Rattle.gx_static.specs.Rule.{all_items, is_at_most_one, is_at_least_one}
 use Rattle.gx_static.specs.NormalTypes.{IsOfKnownType, IsMadeOfItems, IsNormalType}
-use Rattle.gx_static.specs.Demands.{Demand, of_type, of_family, of_atomic, of_any, meets_demand, demanded_type, NamesTypes, IsIncludedIfMet, IsMetIfIncluded, MetDemandsAreInclusion, DemandsAreInclusion}
+use Rattle.gx_static.specs.Demands.{Demand, of_type, of_family, of_atomic, of_any, meets_demand, demanded_type, NamesAtomicTypes, IsIncludedIfMet, IsMetIfIncluded, MetDemandsAreInclusion, DemandsAreInclusion}
 use Rattle.gx_static.proofs.SomeLists.{two_shapes, empty_taken, each_passes}
 use Rattle.gx_static.proofs.DemandLemmas.{IsDemanded, type_demanded, family_demanded, taken_is_demanded, demand_is_met}
 
@@ -159,7 +159,7 @@ included_if_met s demand t P f p =
           single_taken s u list (no_fewer_than_one s t list o.0 h) (no_more_than_one s t list o.1 h) (each list q.1 h);
     }
 
-named_demanded : (s : SchemaSet) (demand : Demand) (kind : ItemType) (shape : Shape) → NamesTypes demand → meets_demand s demand kind ≡ true → ItemTakes s kind shape → IsDemanded s demand shape
+named_demanded : (s : SchemaSet) (demand : Demand) (kind : ItemType) (shape : Shape) → NamesAtomicTypes demand → meets_demand s demand kind ≡ true → ItemTakes s kind shape → IsDemanded s demand shape
 named_demanded s (of_type b) kind shape n e h = type_demanded s b kind shape e h
 named_demanded s (of_family f) kind shape n e h = family_demanded s f kind shape e h
 named_demanded s of_atomic kind shape n e h = absurd n

@@ -49,11 +49,11 @@ demanded_type of_atomic = atomic AnyAtomic
 demanded_type of_any = any_item
 
 -- a demand that names the types of atomic values
-abbrev pub NamesTypes : Demand → Type 0
-NamesTypes (of_type builtin) = Unit {0}
-NamesTypes (of_family family) = Unit {0}
-NamesTypes of_atomic = ⊥
-NamesTypes of_any = ⊥
+abbrev pub NamesAtomicTypes : Demand → Type 0
+NamesAtomicTypes (of_type builtin) = Unit {0}
+NamesAtomicTypes (of_family family) = Unit {0}
+NamesAtomicTypes of_atomic = ⊥
+NamesAtomicTypes of_any = ⊥
 
 -- a type that meets a demand is included in the demanded type, with each indicator
 pub record IsIncludedIfMet (schemas : SchemaSet) (demand : Demand) (t : SequenceType) : Type 0 where
@@ -69,7 +69,7 @@ pub record IsMetIfIncluded (schemas : SchemaSet) (demand : Demand) (t : Sequence
 
 -- whatever the type is, where the demand names types
 abbrev pub MetDemandsAreInclusion : Type 0
-MetDemandsAreInclusion = (schemas : SchemaSet) (demand : Demand) (t : SequenceType) → NamesTypes demand → IsIncludedIfMet schemas demand t
+MetDemandsAreInclusion = (schemas : SchemaSet) (demand : Demand) (t : SequenceType) → NamesAtomicTypes demand → IsIncludedIfMet schemas demand t
 
 -- each demand on a type as typing makes it is inclusion, exactly
 abbrev pub DemandsAreInclusion : Type 0
