@@ -1,6 +1,6 @@
 // Runs of characters.
 
-ghost use Rattle.gx_base.specs.NameCharacters.{lies_between};
+ghost use Rattle.gx_base.specs.NameCharacters.{is_ncname_character, lies_between};
 ghost use Rattle.std.specs.Prelude.{◌≡◌, ◌≤◌, ◌<◌, true};
 ghost use Rattle.gx_xml.specs.Runs.{digit_of, is_digit_of, is_front_of, is_text_character, may_become, quote_character, radix, run_goes, run_next, spells_at};
 ghost use Rattle.gx_xml.specs.declared.runs.Run.TheVariants.{Numeral, Text};
@@ -180,6 +180,26 @@ fn is_text(c: char) -> bool
     is_char(c) && c != '<' && c != '&'
 }
 
+// Whether a character of ASCII may stand in a name behind its first one.
+#[tactic(auto, unfolding(gx_base::specs::NameCharacters::is_ncname_start, gx_base::specs::NameCharacters::is_ncname_character))]
+fn is_ascii_name_character(c: char) -> bool
+    requires { c < 128 }
+    ensures { result ≡ is_ncname_character c }
+{
+    lies(97, 122, c) || lies(65, 90, c) || lies(48, 57, c) || c == '_' || c == '-' || c == '.'
+}
+
+// Whether a character may stand in a name behind its first one. Those of ASCII, which most names have alone, need fewer tests.
+fn may_stand_in_name(c: char) -> bool
+    ensures { result ≡ is_ncname_character c }
+{
+    if c <= '\u{7f}' {
+        is_ascii_name_character(c)
+    } else {
+        is_name_character(c)
+    }
+}
+
 // How many brackets stand behind a character, two at most.
 fn brackets(before: u32, c: char) -> u32
     ensures { result ≡ run_next Text before c }
@@ -205,7 +225,7 @@ impl Run {
                 if state == 0 {
                     is_name_start(c)
                 } else {
-                    is_name_character(c)
+                    may_stand_in_name(c)
                 }
             }
             Run::Colon => state == 0 && c == ':',
