@@ -6,5 +6,6 @@ pub mod Annotations
 pub mod Models
 pub mod TypedAttributes
 pub mod TypedChildren
+pub mod StringValues
 pub mod Outcomes
 pub mod HonestTrees

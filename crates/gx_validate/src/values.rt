@@ -1,6 +1,8 @@
 // Simple values of elements and attributes.
 
-ghost use Rattle.std.specs.Prelude.{◌≡◌, ◌||◌, IfOk, option_copied};
+ghost use Rattle.std.specs.Prelude.{◌≡◌, ◌||◌, ◌↔◌, IfOk, IsTrue, option_copied};
+ghost use Rattle.gx_base.specs.declared.type_name.Builtin.TheVariants.{Str};
+ghost use Rattle.gx_base.specs.declared.type_name.TypeName.TheVariants as names;
 ghost use Rattle.gx_model.specs.DeclaredContent.{is_valued};
 ghost use Rattle.gx_validate.specs.Rules.{has_bad_attribute, has_bad_text, is_bad_attribute};
 ghost use Rattle.gx_xml.specs.SourceView.{contents_of};
@@ -9,7 +11,7 @@ use crate::attributes::{counts, type_of_attribute};
 use crate::children::text_in;
 use crate::content::has_values;
 use gx_base::text::Text;
-use gx_base::type_name::TypeName;
+use gx_base::type_name::{Builtin, TypeName};
 use gx_facets::ValueRead;
 use gx_types::declaration::{AttributeUse, Declared};
 use gx_types::schemas::Schemas;
@@ -17,7 +19,15 @@ use gx_types::simple_value::read_simple;
 use gx_xml::source::{SourceAttribute, SourceChild};
 use std::alloc::{AllocError, Global};
 
+// Whether a type is xs:string, of which each text is a value.
+fn is_string(t: &TypeName) -> bool
+    ensures { IsTrue result ↔ (t.now ≡ names.Builtin Str) }
+{
+    matches!(t, TypeName::Builtin(Builtin::Str))
+}
+
 // Whether a text stands for simple values of a type (XML Schema 1.0 part 1, section 3.14.4).
+#[tactic(auto, using(crate::proofs::StringValues::strings_are_values))]
 fn is_valued(
     alloc: Global,
     schemas: &Schemas,
@@ -26,6 +36,9 @@ fn is_valued(
 ) -> Result<bool, AllocError>
     ensures { IfOk result (λ answer. answer ≡ is_valued schemas.now t.now text.now) }
 {
+    if is_string(t) {
+        return Ok(true);
+    }
     match read_simple(alloc, schemas, t, text) {
         Ok(_) => Ok(true),
         Err(ValueRead::Memory) => Err(AllocError),
