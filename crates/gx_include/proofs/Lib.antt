@@ -25,6 +25,7 @@ pub mod SomeAnswer
 mod Passing
 mod Symbols
 mod Targets
+mod KnownSteps
 mod Derived
 mod DerivedTypes
 pub mod Asked

@@ -32,7 +32,7 @@ use Rattle.gx_include.proofs.Stand.{IsKnown, AreKnown, all_known, derived_alike,
 pub same_kind_is : (t u : TypeName) → same_kind t u ≡ same_type_name t u
 same_kind_is t u = search (comparing, rules)
 
-fits_alike : (asked : Option Name) (n m : Name) → same_name n m ≡ true → may_fit asked (Some n) ≡ may_fit asked (Some m)
+pub fits_alike : (asked : Option Name) (n m : Name) → same_name n m ≡ true → may_fit asked (Some n) ≡ may_fit asked (Some m)
 fits_alike None n m e = refl
 fits_alike (Some asked) n m e = names_are_equivalent.symm asked n ∙ names_are_equivalent.congr n m asked e ∙ names_are_equivalent.symm m asked
 
@@ -72,7 +72,7 @@ neither : (b : Bool) → false ≡ (b && false)
 neither true = refl
 neither false = refl
 
-fits_given : (wanted : Option Name) (name : Name) → name_fits wanted name ≡ may_fit wanted (Some name)
+pub fits_given : (wanted : Option Name) (name : Name) → name_fits wanted name ≡ may_fit wanted (Some name)
 fits_given None name = refl
 fits_given (Some wanted) name = refl
 

@@ -23,12 +23,12 @@ map_alike : {X Y : Type 0} (one other : X → Y) → ((x : X) → one x ≡ othe
 map_alike one other f [] = refl
 map_alike one other f (x ∷ xs) = ap (λ y. y ∷ map one xs) (f x) ∙ ap (λ ys. other x ∷ ys) (map_alike one other f xs)
 
-get_there : {X : Type 0} (xs : List X) (i : ℕ) → i < length xs → (x : X) × (slice_get xs i ≡ Some x)
+pub get_there : {X : Type 0} (xs : List X) (i : ℕ) → i < length xs → (x : X) × (slice_get xs i ≡ Some x)
 get_there [] i h = absurd (omega arith)
 get_there (x ∷ xs) zero h = (x, refl)
 get_there (x ∷ xs) (suc i) h = get_there xs i (omega arith)
 
-tests_alike : (t : SequenceType) (one other : ItemType → Bool) → ((kind : ItemType) → one kind ≡ other kind) → all_tests t one ≡ all_tests t other
+pub tests_alike : (t : SequenceType) (one other : ItemType → Bool) → ((kind : ItemType) → one kind ≡ other kind) → all_tests t one ≡ all_tests t other
 tests_alike t one other f = ap (λ ts. false ∷ ts) (tests_are t one ∙ map_alike one other f (items_of t) ∙ sym (tests_are t other))
 
 module _ {A : Type 0} (t : SequenceType) (rows : List (Vec ℕ A)) where

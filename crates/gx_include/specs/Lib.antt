@@ -15,6 +15,8 @@ pub mod Bits
 pub mod Features
 pub mod Following
 pub mod Transitions
+pub mod Automaton
+pub mod Tried
 pub mod Derivations
 pub mod Asked
 pub mod Letters

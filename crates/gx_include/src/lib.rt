@@ -2,6 +2,7 @@
 #![tactic(auto)]
 
 mod alphabet;
+mod automaton;
 mod bits;
 mod decide;
 pub mod decision;
@@ -16,8 +17,10 @@ mod letter;
 mod pair;
 mod places;
 mod reading;
+mod shape_key;
 mod step;
 pub mod take;
+pub mod taker;
 mod transitions;
 mod trial;
 pub mod verdict;

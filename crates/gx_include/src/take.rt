@@ -22,7 +22,7 @@ use indexmap::IndexSet;
 use std::alloc::{AllocError, Global};
 
 // A list of fewer shapes is short for each type.
-const SHORT: usize = 32;
+pub(crate) const SHORT: usize = 32;
 
 /// Whether a type takes a list of shapes (XQuery 1.0 and XPath 2.0 Formal Semantics, section 8.3). The work is linear in the
 /// length of the list.
