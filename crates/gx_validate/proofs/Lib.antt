@@ -2,6 +2,7 @@ pub mod Tests
 pub mod ScopeLemmas
 pub mod CharacterLemmas
 pub mod Takings
+pub mod ModelsKept
 pub mod Annotations
 pub mod Models
 pub mod TypedAttributes

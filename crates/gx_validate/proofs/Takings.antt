@@ -48,7 +48,7 @@ answer_is_tested : (s : SchemaSet) (t : SequenceType) (shapes : List Shape) (ans
 answer_is_tested s t shapes answer g e =
     agree answer (takes_shapes s t shapes) e.0 e.1 (takes_where_tested s t shapes g) (tested_where_takes s t shapes g)
 
-exact_result : {E : Type 0} (s : SchemaSet) (t : SequenceType) (shapes : List Shape) (r : Result Bool E) → Grounded (bases_of s)
+pub exact_result : {E : Type 0} (s : SchemaSet) (t : SequenceType) (shapes : List Shape) (r : Result Bool E) → Grounded (bases_of s)
     → IfOk r (λ answer. IsTrue answer ↔ Takes s t shapes) → IfOk r (λ answer. answer ≡ takes_shapes s t shapes)
 exact_result s t shapes (Ok answer) g h = answer_is_tested s t shapes answer g h
 exact_result s t shapes (Err e) g h = h

@@ -3,6 +3,7 @@ pub mod Annotation
 pub mod ElementContent
 pub mod ChildKinds
 pub mod Taking
+pub mod Takers
 pub mod Rules
 pub mod Outcome
 pub mod Valid

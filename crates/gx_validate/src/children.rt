@@ -2,20 +2,22 @@
 
 ghost use Rattle.std.specs.Prelude.{◌≡◌, ◌++◌, ◌∷◌, [], IfOk, OnOk, option_copied};
 ghost use Rattle.gx_tree.specs.StringValue.{texts_joined};
+ghost use Rattle.gx_types.specs.SchemaSet.{declaration_of};
 ghost use Rattle.gx_model.specs.DeclaredContent.{content_model};
 ghost use Rattle.gx_validate.specs.ElementContent.{child_shape, child_shapes, text_shapes, texts_allowed};
 ghost use Rattle.gx_validate.specs.Rules.{child_texts, has_stray_text};
 ghost use Rattle.gx_validate.specs.ScopeView.{scope_declarations};
-ghost use Rattle.gx_validate.specs.Taking.{is_text_at_most, takes_shapes};
+ghost use Rattle.gx_validate.specs.Taking.{takes_shapes};
 ghost use Rattle.gx_xml.specs.SourceView.{contents_of};
 
 use crate::annotation::type_in_content;
 use crate::child_kinds::ChildKinds;
-use crate::content::{Texts, complex_model, is_ignored, is_stray, texts_allowed};
+use crate::content::{Texts, is_ignored, is_stray, texts_allowed};
 use crate::scope::Scope;
+use crate::takers::Takers;
 use gx_base::text::Text;
 use gx_base::text_builder::TextBuilder;
-use gx_include::take::takes;
+use gx_base::type_name::TypeName;
 use gx_types::declaration::Declared;
 use gx_types::schemas::Schemas;
 use gx_types::shape::Shape;
@@ -38,10 +40,13 @@ pub fn has_stray_text(texts: Texts, children: &[SourceChild]) -> bool
     false
 }
 
-/// The texts, one after another.
+/// The texts, one after another; one alone is shared.
 pub fn text_in(alloc: Global, children: &[SourceChild]) -> Result<Text, AllocError>
     ensures { IfOk result (λ text. text ≡ texts_joined (child_texts (contents_of children.now))) }
 {
+    if let [SourceChild::Text(text)] = children {
+        return text.clone();
+    }
     let mut text = TextBuilder::new(alloc);
     let mut left = children;
     while let Some((child, others)) = left.split_first() {
@@ -103,38 +108,20 @@ fn add_text(shapes: &mut Vec<Shape>, texts: Texts, text: &Text) -> Result<(), Al
     Ok(())
 }
 
-/// Whether the content of a type takes the children (XML Schema 1.0 part 1, section 3.4.4, Element Locally Valid (Complex Type),
-/// clauses 2.2 to 2.4).
+/// Whether the content of a type, which has this declaration, takes the children (XML Schema 1.0 part 1, section 3.4.4, Element Locally
+/// Valid (Complex Type), clauses 2.2 to 2.4).
 pub fn has_content<'a>(
     alloc: Global,
-    schemas: &Schemas,
+    takers: &mut Takers<'_>,
     scope: &Scope<'a>,
+    kind: &TypeName,
     holder: Option<&Declared>,
     children: &'a [SourceChild],
 ) -> Result<bool, AllocError>
-    ensures { IfOk result (λ taken. taken ≡ takes_shapes schemas.entry.now (content_model (option_copied holder.entry)) (child_shapes schemas.entry.now (scope_declarations scope.entry.now) (option_copied holder.entry) (contents_of children.entry.now))) }
+    requires { option_copied holder ≡ declaration_of takers.old kind.now }
+    ensures same { takers.new ≡ takers.old }
+    ensures taken { IfOk result (λ taken. taken ≡ takes_shapes takers.old (content_model (option_copied holder.entry)) (child_shapes takers.old (scope_declarations scope.entry.now) (option_copied holder.entry) (contents_of children.entry.now))) }
 {
-    let shapes = child_shapes(alloc, schemas, scope, holder, children)?;
-    model_takes(alloc, schemas, holder, &shapes)
-}
-
-fn model_takes(
-    alloc: Global,
-    schemas: &Schemas,
-    holder: Option<&Declared>,
-    shapes: &[Shape],
-) -> Result<bool, AllocError>
-    ensures { IfOk result (λ taken. taken ≡ takes_shapes schemas.entry.now (content_model (option_copied holder.entry)) shapes.entry.now) }
-{
-    let _declarations = schemas.types();
-    match complex_model(holder) {
-        Some(model) => takes(alloc, schemas, model, shapes),
-        None => Ok(is_text_at_most(shapes)),
-    }
-}
-
-fn is_text_at_most(shapes: &[Shape]) -> bool
-    ensures { result ≡ is_text_at_most shapes.now }
-{
-    matches!(shapes, [] | [Shape::Text])
+    let shapes = child_shapes(alloc, takers.schemas(), scope, holder, children)?;
+    takers.takes(alloc, kind, holder, &shapes)
 }

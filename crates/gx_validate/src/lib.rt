@@ -12,5 +12,6 @@ mod path;
 mod qname;
 mod rules;
 mod scope;
+mod takers;
 pub mod validate;
 mod values;

@@ -1,6 +1,7 @@
 // The rules that an element keeps to.
 
 ghost use Rattle.std.specs.Prelude.{◌≡◌, IfOk, option_copied};
+ghost use Rattle.gx_types.specs.SchemaSet.{declaration_of};
 ghost use Rattle.gx_validate.specs.Rules.{broken_rule};
 ghost use Rattle.gx_validate.specs.ScopeView.{scope_declarations};
 ghost use Rattle.gx_xml.specs.SourceView.{contents_of};
@@ -11,24 +12,26 @@ use crate::children::{has_content, has_stray_text};
 use crate::content::texts_allowed;
 use crate::invalid::InvalidRule;
 use crate::scope::Scope;
+use crate::takers::Takers;
 use crate::values::has_bad_value;
 use gx_base::type_name::TypeName;
 use gx_types::declaration::Declared;
-use gx_types::schemas::Schemas;
 use gx_xml::source::{SourceAttribute, SourceChild};
 use std::alloc::{AllocError, Global};
 
 /// The first rule that an element of a type breaks (XML Schema 1.0 part 1, sections 3.3.4, 3.4.4 and 3.14.4).
 pub fn broken_rule<'a>(
     alloc: Global,
-    schemas: &Schemas,
+    takers: &mut Takers<'_>,
     scope: &Scope<'a>,
     kind: &TypeName,
     holder: Option<&Declared>,
     attributes: &[SourceAttribute],
     children: &'a [SourceChild],
 ) -> Result<Option<InvalidRule>, AllocError>
-    ensures { IfOk result (λ rule. rule ≡ broken_rule schemas.entry.now (scope_declarations scope.entry.now) kind.entry.now (option_copied holder.entry) attributes.entry.now (contents_of children.entry.now)) }
+    requires { option_copied holder ≡ declaration_of takers.old kind.now }
+    ensures same { takers.new ≡ takers.old }
+    ensures rule { IfOk result (λ rule. rule ≡ broken_rule takers.old (scope_declarations scope.entry.now) kind.entry.now (option_copied holder.entry) attributes.entry.now (contents_of children.entry.now)) }
 {
     let uses = uses_allowed(holder);
     if has_nil(attributes) {
@@ -43,9 +46,10 @@ pub fn broken_rule<'a>(
     if has_stray_text(texts_allowed(holder), children) {
         return Ok(Some(InvalidRule::TextInElementContent));
     }
-    if !has_content(alloc, schemas, scope, holder, children)? {
+    if !has_content(alloc, takers, scope, kind, holder, children)? {
         return Ok(Some(InvalidRule::WrongContent));
     }
+    let schemas = takers.schemas();
     if has_bad_value(alloc, schemas, kind, holder, uses, attributes, children)? {
         return Ok(Some(InvalidRule::BadSimpleValue));
     }

@@ -16,6 +16,7 @@ use crate::invalid::{Invalid, InvalidRule};
 use crate::path::{number_among_siblings, within_step};
 use crate::rules::broken_rule;
 use crate::scope::{Scope, outermost, within};
+use crate::takers::Takers;
 use gx_base::name::Name;
 use gx_base::text::Text;
 use gx_base::type_name::{Builtin, TypeName};
@@ -68,7 +69,8 @@ fn typed_root(
         return Err(broken_here(alloc, InvalidRule::WrongRoot));
     }
     let declared = root_type(schemas, root)?;
-    typed_element(alloc, schemas, &outermost(alloc), &declared, element)
+    let mut takers = Takers::new(alloc, schemas);
+    typed_element(alloc, &mut takers, &outermost(alloc), &declared, element)
 }
 
 // The declared type of a root of a name.
@@ -94,27 +96,28 @@ fn broken_here(alloc: Global, rule: InvalidRule) -> Invalid
 #[cycle(validate)]
 fn typed_element<'a>(
     alloc: Global,
-    schemas: &Schemas,
+    takers: &mut Takers<'_>,
     scope: &Scope<'a>,
     declared: &TypeName,
     element: &'a SourceElement,
 ) -> Result<Tree, Invalid>
-    ensures tree { IfOk result (λ t. typed_element schemas.entry.now (scope_declarations scope.entry.now) declared.entry.now element.entry.now ≡ Ok t) }
-    ensures fault { IfErr result (λ e. IsInvalid e (typed_element schemas.entry.now (scope_declarations scope.entry.now) declared.entry.now element.entry.now)) }
+    ensures same { takers.new ≡ takers.old }
+    ensures tree { IfOk result (λ t. typed_element takers.old (scope_declarations scope.entry.now) declared.entry.now element.entry.now ≡ Ok t) }
+    ensures fault { IfErr result (λ e. IsInvalid e (typed_element takers.old (scope_declarations scope.entry.now) declared.entry.now element.entry.now)) }
 {
     let scope = within(alloc, scope, &element.declarations)?;
     let kind = element_judged(
         alloc,
-        schemas,
+        takers,
         &scope,
         declared,
         &element.attributes,
         &element.children,
     )?;
-    let holder = schemas.declared(&kind);
+    let holder = takers.schemas().declared(&kind);
     let name = element.name.clone()?;
     let attributes = typed_attributes(alloc, uses_allowed(holder), &element.attributes)?;
-    let children = typed_contents(alloc, schemas, &scope, holder, &element.children)?;
+    let children = typed_contents(alloc, takers, &scope, holder, &element.children)?;
     Ok(Tree {
         node: TreeNode::Element {
             name,
@@ -128,20 +131,21 @@ fn typed_element<'a>(
 // The type of an element, or the first rule that it breaks.
 fn element_judged<'a>(
     alloc: Global,
-    schemas: &Schemas,
+    takers: &mut Takers<'_>,
     scope: &Scope<'a>,
     declared: &TypeName,
     attributes: &[SourceAttribute],
     children: &'a [SourceChild],
 ) -> Result<TypeName, Invalid>
-    ensures kind { IfOk result (λ t. element_judged schemas.entry.now (scope_declarations scope.entry.now) declared.entry.now attributes.entry.now (contents_of children.entry.now) ≡ Ok t) }
-    ensures fault { IfErr result (λ e. IsInvalid e (at_itself (element_judged schemas.entry.now (scope_declarations scope.entry.now) declared.entry.now attributes.entry.now (contents_of children.entry.now)))) }
+    ensures same { takers.new ≡ takers.old }
+    ensures kind { IfOk result (λ t. element_judged takers.old (scope_declarations scope.entry.now) declared.entry.now attributes.entry.now (contents_of children.entry.now) ≡ Ok t) }
+    ensures fault { IfErr result (λ e. IsInvalid e (at_itself (element_judged takers.old (scope_declarations scope.entry.now) declared.entry.now attributes.entry.now (contents_of children.entry.now)))) }
 {
-    let Some(kind) = annotation(alloc, schemas, scope, declared, attributes)? else {
+    let Some(kind) = annotation(alloc, takers.schemas(), scope, declared, attributes)? else {
         return Err(broken_here(alloc, InvalidRule::BadXsiType));
     };
-    let holder = schemas.declared(&kind);
-    match broken_rule(alloc, schemas, scope, &kind, holder, attributes, children)? {
+    let holder = takers.schemas().declared(&kind);
+    match broken_rule(alloc, takers, scope, &kind, holder, attributes, children)? {
         Some(rule) => Err(broken_here(alloc, rule)),
         None => Ok(kind),
     }
@@ -150,13 +154,14 @@ fn element_judged<'a>(
 #[cycle(validate)]
 fn typed_contents<'a>(
     alloc: Global,
-    schemas: &Schemas,
+    takers: &mut Takers<'_>,
     scope: &Scope<'a>,
     holder: Option<&Declared>,
     children: &'a [SourceChild],
 ) -> Result<Vec<Tree>, Invalid>
-    ensures trees { IfOk result (λ ts. typed_contents schemas.entry.now (scope_declarations scope.entry.now) (option_copied holder.entry) [] (contents_of children.entry.now) ≡ Ok ts.items) }
-    ensures fault { IfErr result (λ e. IsInvalid e (typed_contents schemas.entry.now (scope_declarations scope.entry.now) (option_copied holder.entry) [] (contents_of children.entry.now))) }
+    ensures same { takers.new ≡ takers.old }
+    ensures trees { IfOk result (λ ts. typed_contents takers.old (scope_declarations scope.entry.now) (option_copied holder.entry) [] (contents_of children.entry.now) ≡ Ok ts.items) }
+    ensures fault { IfErr result (λ e. IsInvalid e (typed_contents takers.old (scope_declarations scope.entry.now) (option_copied holder.entry) [] (contents_of children.entry.now))) }
 {
     let texts = texts_allowed(holder);
     let kinds = ChildKinds::new(alloc, holder, children.len())?;
@@ -165,7 +170,7 @@ fn typed_contents<'a>(
     while let Some((child, others)) = left.split_first() {
         match child {
             SourceChild::Element(element) => {
-                let tree = typed_child(alloc, schemas, scope, &kinds, &done, element)?;
+                let tree = typed_child(alloc, takers, scope, &kinds, &done, element)?;
                 add_tree(&mut done, tree)?;
             }
             SourceChild::Text(text) => add_text(&mut done, texts, text)?,
@@ -179,17 +184,18 @@ fn typed_contents<'a>(
 #[cycle(validate)]
 fn typed_child<'a>(
     alloc: Global,
-    schemas: &Schemas,
+    takers: &mut Takers<'_>,
     scope: &Scope<'a>,
     kinds: &ChildKinds<'_>,
     done: &Vec<Tree>,
     element: &'a SourceElement,
 ) -> Result<Tree, Invalid>
-    ensures tree { IfOk result (λ t. typed_child schemas.entry.now (scope_declarations scope.entry.now) kinds.entry.now done.entry.now.items element.entry.now ≡ Ok t) }
-    ensures fault { IfErr result (λ e. IsInvalid e (typed_child schemas.entry.now (scope_declarations scope.entry.now) kinds.entry.now done.entry.now.items element.entry.now)) }
+    ensures same { takers.new ≡ takers.old }
+    ensures tree { IfOk result (λ t. typed_child takers.old (scope_declarations scope.entry.now) kinds.entry.now done.entry.now.items element.entry.now ≡ Ok t) }
+    ensures fault { IfErr result (λ e. IsInvalid e (typed_child takers.old (scope_declarations scope.entry.now) kinds.entry.now done.entry.now.items element.entry.now)) }
 {
     let declared = kinds.kind_of(&element.name)?;
-    match typed_element(alloc, schemas, scope, &declared, element) {
+    match typed_element(alloc, takers, scope, &declared, element) {
         Ok(tree) => Ok(tree),
         Err(invalid) => {
             let number = number_among_siblings(done, &element.name);

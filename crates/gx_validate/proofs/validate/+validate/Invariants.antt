@@ -9,8 +9,9 @@ use Rattle.gx_validate.proofs.validate.+validate.Given as goal
 -- the trees that are done and the children that are left
 abbrev pub invariant-typed_contents-loop-child : goal.invariant-typed_contents-loop-child
 invariant-typed_contents-loop-child l = record {
-  outcome : typed_contents l.schemas (scope_declarations l.scope) (option_copied l.holder) l.done.items (contents_of l.left)
-      ≡ typed_contents l.schemas (scope_declarations l.scope) (option_copied l.holder) [] (contents_of l.fn.children);
+  same : l.takers ≡ l.fn.takers;
+  outcome : typed_contents l.fn.takers (scope_declarations l.scope) (option_copied l.holder) l.done.items (contents_of l.left)
+      ≡ typed_contents l.fn.takers (scope_declarations l.scope) (option_copied l.holder) [] (contents_of l.fn.children);
   smaller : contents_size (contents_of l.left) ≤ contents_size (contents_of l.fn.children);
 }
 
