@@ -1,5 +1,5 @@
 -- The test whether a type takes a list of shapes is exact.
-use Rattle.std.proofs.Common.{◌≡◌, Bool, true, false, List, [], ◌∷◌, inl, inr, refl, sym, ◌∙◌, ap, ◌↔◌, Result, Ok, Err, IfOk, Option, Some, None, subst}
+use Rattle.std.proofs.Common.{◌≡◌, ℕ, ◌≤◌, ◌++◌, length, arith, Bool, true, false, List, [], ◌∷◌, inl, inr, refl, sym, ◌∙◌, ap, ◌↔◌, Result, Ok, Err, IfOk, Option, Some, None, subst}
 use Rattle.std.specs.Prelude.{unwrap_or}
 use Rattle.std.specs.Bool.{IsTrue}
 use Rattle.gx_types.specs.declared.shape.Shape.{Shape}
@@ -16,8 +16,18 @@ use Rattle.gx_include.specs.Step.{single, step_over, is_end}
 use Rattle.gx_include.specs.Test.{is_taken}
 use Rattle.gx_include.proofs.SetReads.{Reads, reads_forward, reads_back, end_reads, reads_end, start_reads, reads_start}
 use Rattle.gx_include.proofs.Decided.{decided}
+use Rattle.gx_types.specs.declared.declaration.Content.{Content}
+use Rattle.gx_types.specs.declared.declaration.Content.TheVariants as contents
+use Rattle.gx_xml.specs.SourceTree.{SourceContents, no_content, a_child, a_text}
+use Rattle.gx_xml.specs.SourceView.{contents_of}
+use Rattle.gx_xml.specs.declared.source.SourceChild.{SourceChild}
+use Rattle.gx_xml.specs.declared.source.SourceChild.TheVariants as children
+use Rattle.gx_xml.specs.declared.source.Declaration.{Declaration}
+use Rattle.gx_validate.specs.ElementContent.{child_shapes, is_text_alone, text_shapes, texts_allowed, texts_allowed_in}
 use Rattle.gx_validate.specs.Taking.{set_behind, takes_shapes, is_text_at_most}
-use Rattle.gx_model.specs.DeclaredContent.{text_model, complex_model, content_model}
+use Rattle.gx_validate.specs.declared.content.Texts.{Texts}
+use Rattle.gx_validate.specs.declared.content.Texts.TheVariants.{Kept}
+use Rattle.gx_model.specs.DeclaredContent.{text_model, complex_model, content_model, model_in}
 
 -- from a set of positions the list leads to one where the type may end, exactly where the set reads the list
 walk_reads : (s : SchemaSet) (t : SequenceType) → Grounded (bases_of s) → (shapes : List Shape) (set : List Bool)
@@ -86,3 +96,42 @@ pub text_is_tested : (s : SchemaSet) (holder : Option Declared) (shapes : List S
 text_is_tested s holder shapes g e =
     agree (is_text_at_most shapes) (takes_shapes s text_model shapes) (text_takes s shapes) (takes_text s shapes) (takes_where_tested s text_model shapes g) (tested_where_takes s text_model shapes g)
     ∙ ap (λ o. takes_shapes s (unwrap_or o text_model) shapes) (sym e)
+
+-- ---- children of an element whose type has no model
+
+kept_in : (content : Content) → model_in content ≡ None → texts_allowed_in content ≡ Kept
+kept_in (contents.Complex mixed model) e = absurd (cc)
+kept_in (contents.Atomic facets) e = refl
+kept_in (contents.List item facets) e = refl
+kept_in (contents.Simple kind facets) e = refl
+
+texts_are_kept : (holder : Option Declared) → complex_model holder ≡ None → texts_allowed holder ≡ Kept
+texts_are_kept None e = refl
+texts_are_kept (Some declared) e = kept_in declared.content e
+
+alone_behind : (s : SchemaSet) (scope : List Declaration) (holder : Option Declared) (x : List ℕ) (cs : SourceContents) → texts_allowed holder ≡ Kept
+    → is_text_alone (a_text x cs) ≡ is_text_at_most (shapes.Text ∷ child_shapes s scope holder cs)
+alone_behind s scope holder x no_content e = refl
+alone_behind s scope holder x (a_child t cs) e = refl
+alone_behind s scope holder x (a_text y cs) e = sym (ap (λ (texts : Texts). is_text_at_most (shapes.Text ∷ (text_shapes texts y ++ child_shapes s scope holder cs))) e)
+
+alone_is_at_most : (s : SchemaSet) (scope : List Declaration) (holder : Option Declared) (cs : SourceContents) → texts_allowed holder ≡ Kept
+    → is_text_alone cs ≡ is_text_at_most (child_shapes s scope holder cs)
+alone_is_at_most s scope holder no_content e = refl
+alone_is_at_most s scope holder (a_child t cs) e = refl
+alone_is_at_most s scope holder (a_text x cs) e =
+    alone_behind s scope holder x cs e ∙ sym (ap (λ (texts : Texts). is_text_at_most (text_shapes texts x ++ child_shapes s scope holder cs)) e)
+
+-- the children are a text alone or nothing exactly where the model of a text takes them
+pub alone_is_tested : (s : SchemaSet) (scope : List Declaration) (holder : Option Declared) (cs : SourceContents) → Grounded (bases_of s) → complex_model holder ≡ None
+    → is_text_alone cs ≡ takes_shapes s (content_model holder) (child_shapes s scope holder cs)
+alone_is_tested s scope holder cs g e =
+    alone_is_at_most s scope holder cs (texts_are_kept holder e) ∙ text_is_tested s holder (child_shapes s scope holder cs) g e
+
+-- two children or more are not a text alone
+pub two_are_not_alone : (children : List SourceChild) → 2 ≤ length children → false ≡ is_text_alone (contents_of children)
+two_are_not_alone [] h = absurd (omega (arith, h))
+two_are_not_alone (children.Element t ∷ others) h = refl
+two_are_not_alone (children.Text x ∷ []) h = absurd (omega (arith, h))
+two_are_not_alone (children.Text x ∷ (children.Element t ∷ others)) h = refl
+two_are_not_alone (children.Text x ∷ (children.Text y ∷ others)) h = refl

@@ -84,3 +84,9 @@ abbrev pub child_shapes : SchemaSet → List Declaration → Option Declared →
 child_shapes schemas scope holder no_content = []
 child_shapes schemas scope holder (a_child t cs) = child_shape schemas scope holder t ∷ child_shapes schemas scope holder cs
 child_shapes schemas scope holder (a_text x cs) = text_shapes (texts_allowed holder) x ++ child_shapes schemas scope holder cs
+
+-- there is one text, or nothing
+abbrev pub is_text_alone : SourceContents → Bool
+is_text_alone no_content = true
+is_text_alone (a_text x no_content) = true
+is_text_alone _ = false

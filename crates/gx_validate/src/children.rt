@@ -4,7 +4,7 @@ ghost use Rattle.std.specs.Prelude.{◌≡◌, ◌++◌, ◌∷◌, [], IfOk, On
 ghost use Rattle.gx_tree.specs.StringValue.{texts_joined};
 ghost use Rattle.gx_types.specs.SchemaSet.{declaration_of};
 ghost use Rattle.gx_model.specs.DeclaredContent.{content_model};
-ghost use Rattle.gx_validate.specs.ElementContent.{child_shape, child_shapes, text_shapes, texts_allowed};
+ghost use Rattle.gx_validate.specs.ElementContent.{child_shape, child_shapes, is_text_alone, text_shapes, texts_allowed};
 ghost use Rattle.gx_validate.specs.Rules.{child_texts, has_stray_text};
 ghost use Rattle.gx_validate.specs.ScopeView.{scope_declarations};
 ghost use Rattle.gx_validate.specs.Taking.{takes_shapes};
@@ -12,7 +12,7 @@ ghost use Rattle.gx_xml.specs.SourceView.{contents_of};
 
 use crate::annotation::type_in_content;
 use crate::child_kinds::ChildKinds;
-use crate::content::{Texts, is_ignored, is_stray, texts_allowed};
+use crate::content::{Texts, complex_model, is_ignored, is_stray, texts_allowed};
 use crate::scope::Scope;
 use crate::takers::Takers;
 use gx_base::text::Text;
@@ -110,6 +110,7 @@ fn add_text(shapes: &mut Vec<Shape>, texts: Texts, text: &Text) -> Result<(), Al
 
 /// Whether the content of a type, which has this declaration, takes the children (XML Schema 1.0 part 1, section 3.4.4, Element Locally
 /// Valid (Complex Type), clauses 2.2 to 2.4).
+#[tactic(auto, using(crate::proofs::Takings::alone_is_tested))]
 pub fn has_content<'a>(
     alloc: Global,
     takers: &mut Takers<'_>,
@@ -122,6 +123,18 @@ pub fn has_content<'a>(
     ensures same { takers.new ≡ takers.old }
     ensures taken { IfOk result (λ taken. taken ≡ takes_shapes takers.old (content_model (option_copied holder.entry)) (child_shapes takers.old (scope_declarations scope.entry.now) (option_copied holder.entry) (contents_of children.entry.now))) }
 {
+    let _declarations = takers.schemas().types();
+    if complex_model(holder).is_none() {
+        return Ok(is_text_alone(children));
+    }
     let shapes = child_shapes(alloc, takers.schemas(), scope, holder, children)?;
     takers.takes(alloc, kind, holder, &shapes)
+}
+
+// Whether there is one text, or nothing.
+#[tactic(auto, using(crate::proofs::Takings::two_are_not_alone))]
+fn is_text_alone(children: &[SourceChild]) -> bool
+    ensures { result ≡ is_text_alone (contents_of children.now) }
+{
+    matches!(children, [] | [SourceChild::Text(_)])
 }

@@ -2,10 +2,11 @@
 
 ghost use Rattle.std.specs.Prelude.{◌≡◌, [], ◌∷◌, ◌++◌, IfErr, IfOk, IsSome, OnOk, Ok, option_copied};
 ghost use Rattle.gx_tree.specs.PlainTree.{a_tree, document, no_trees};
-ghost use Rattle.gx_types.specs.SchemaSet.{global_type};
+ghost use Rattle.gx_types.specs.SchemaSet.{declaration_of, global_type};
 ghost use Rattle.gx_validate.specs.Outcome.{IsInvalid, IsRefusedHere, at_itself, root_type, typed_child, typed_contents, typed_element, typed_root, validated, with_kept_text};
 ghost use Rattle.gx_validate.specs.Rules.{element_judged};
 ghost use Rattle.gx_validate.specs.ScopeView.{scope_declarations};
+ghost use Rattle.gx_xml.specs.SourceTree.{source};
 ghost use Rattle.gx_xml.specs.SourceView.{contents_of};
 
 use crate::annotation::annotation;
@@ -105,19 +106,38 @@ fn typed_element<'a>(
     ensures tree { IfOk result (λ t. typed_element takers.old (scope_declarations scope.entry.now) declared.entry.now element.entry.now ≡ Ok t) }
     ensures fault { IfErr result (λ e. IsInvalid e (typed_element takers.old (scope_declarations scope.entry.now) declared.entry.now element.entry.now)) }
 {
-    let scope = within(alloc, scope, &element.declarations)?;
-    let kind = element_judged(
-        alloc,
-        takers,
-        &scope,
-        declared,
-        &element.attributes,
-        &element.children,
-    )?;
-    let holder = takers.schemas().declared(&kind);
-    let name = element.name.clone()?;
-    let attributes = typed_attributes(alloc, uses_allowed(holder), &element.attributes)?;
-    let children = typed_contents(alloc, takers, &scope, holder, &element.children)?;
+    let SourceElement {
+        name,
+        declarations,
+        attributes,
+        children,
+    } = element;
+    if declarations.is_empty() {
+        return typed_in_scope(alloc, takers, scope, declared, name, attributes, children);
+    }
+    let inner = within(alloc, scope, declarations)?;
+    typed_in_scope(alloc, takers, &inner, declared, name, attributes, children)
+}
+
+// The tree of an element with these parts, whose own declarations are in scope.
+#[cycle(validate)]
+fn typed_in_scope<'a>(
+    alloc: Global,
+    takers: &mut Takers<'_>,
+    scope: &Scope<'a>,
+    declared: &TypeName,
+    name: &Name,
+    attributes: &[SourceAttribute],
+    children: &'a [SourceChild],
+) -> Result<Tree, Invalid>
+    ensures same { takers.new ≡ takers.old }
+    ensures tree { IfOk result (λ t. typed_element takers.old (scope_declarations scope.entry.now) declared.entry.now (source name.entry.now [] attributes.entry.now (contents_of children.entry.now)) ≡ Ok t) }
+    ensures fault { IfErr result (λ e. IsInvalid e (typed_element takers.old (scope_declarations scope.entry.now) declared.entry.now (source name.entry.now [] attributes.entry.now (contents_of children.entry.now)))) }
+{
+    let (kind, holder) = element_judged(alloc, takers, scope, declared, attributes, children)?;
+    let name = name.clone()?;
+    let attributes = typed_attributes(alloc, uses_allowed(holder), attributes)?;
+    let children = typed_contents(alloc, takers, scope, holder, children)?;
     Ok(Tree {
         node: TreeNode::Element {
             name,
@@ -128,17 +148,18 @@ fn typed_element<'a>(
     })
 }
 
-// The type of an element, or the first rule that it breaks.
-fn element_judged<'a>(
+// The type of an element with its declaration, or the first rule that it breaks.
+fn element_judged<'a, 's>(
     alloc: Global,
-    takers: &mut Takers<'_>,
+    takers: &mut Takers<'s>,
     scope: &Scope<'a>,
     declared: &TypeName,
     attributes: &[SourceAttribute],
     children: &'a [SourceChild],
-) -> Result<TypeName, Invalid>
+) -> Result<(TypeName, Option<&'s Declared>), Invalid>
     ensures same { takers.new ≡ takers.old }
-    ensures kind { IfOk result (λ t. element_judged takers.old (scope_declarations scope.entry.now) declared.entry.now attributes.entry.now (contents_of children.entry.now) ≡ Ok t) }
+    ensures kind { IfOk result (λ judged. element_judged takers.old (scope_declarations scope.entry.now) declared.entry.now attributes.entry.now (contents_of children.entry.now) ≡ Ok judged.0) }
+    ensures holder { IfOk result (λ judged. option_copied judged.1 ≡ declaration_of takers.old judged.0) }
     ensures fault { IfErr result (λ e. IsInvalid e (at_itself (element_judged takers.old (scope_declarations scope.entry.now) declared.entry.now attributes.entry.now (contents_of children.entry.now)))) }
 {
     let Some(kind) = annotation(alloc, takers.schemas(), scope, declared, attributes)? else {
@@ -147,7 +168,7 @@ fn element_judged<'a>(
     let holder = takers.schemas().declared(&kind);
     match broken_rule(alloc, takers, scope, &kind, holder, attributes, children)? {
         Some(rule) => Err(broken_here(alloc, rule)),
-        None => Ok(kind),
+        None => Ok((kind, holder)),
     }
 }
 

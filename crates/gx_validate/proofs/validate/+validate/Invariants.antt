@@ -19,10 +19,13 @@ abbrev pub decreases-typed_contents-loop-child : goal.decreases-typed_contents-l
 decreases-typed_contents-loop-child l = length l.left
 
 abbrev pub decreases-typed_element : goal.decreases-typed_element
-decreases-typed_element l = 3 * source_size l.element.now
+decreases-typed_element l = 4 * source_size l.element.now
 
 abbrev pub decreases-typed_child : goal.decreases-typed_child
-decreases-typed_child l = 3 * source_size l.element.now + 1
+decreases-typed_child l = 4 * source_size l.element.now + 1
 
 abbrev pub decreases-typed_contents : goal.decreases-typed_contents
-decreases-typed_contents l = 3 * contents_size (contents_of l.children.now) + 2
+decreases-typed_contents l = 4 * contents_size (contents_of l.children.now) + 2
+
+abbrev pub decreases-typed_in_scope : goal.decreases-typed_in_scope
+decreases-typed_in_scope l = 4 * contents_size (contents_of l.children.now) + 3
