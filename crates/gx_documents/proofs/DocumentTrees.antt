@@ -23,7 +23,7 @@ use Rattle.gx_types.specs.ItemTakes.{ItemTakes}
 use Rattle.gx_types.proofs.EqualNames.{names_are_equivalent}
 use Rattle.gx_types.proofs.PublicLaws.{derivation_is_a_preorder}
 use Rattle.gx_model.specs.Belongs.{shape_of}
-use Rattle.gx_profile.specs.Contents.{tree_name}
+use Rattle.gx_schema_syntax.specs.Contents.{tree_name}
 use Rattle.gx_xml.specs.declared.source.Declaration.{Declaration}
 use Rattle.gx_xml.specs.declared.source.SourceAttribute.{SourceAttribute}
 use Rattle.gx_validate.specs.Outcome.{root_type}

@@ -10,26 +10,26 @@ use Rattle.gx_grammar.specs.Value.{nothing, node, pair}
 use Rattle.gx_grammar.specs.Grammar.{token, empty, ◌&◌, keyed, choose, rule, made}
 use Rattle.gx_grammar.specs.Ran.{Standing, Ran, Looked, IsDone, Loses, left_of}
 use Rattle.gx_grammar.proofs.PublicLaws.{ran_idle}
-use Rattle.gx_syntax.specs.declared.word.Word.{Word}
-use Rattle.gx_syntax.specs.declared.word.Word.TheVariants as word
-use Rattle.gx_syntax.specs.declared.word.WordSet.TheVariants as set
-use Rattle.gx_syntax.specs.declared.word.ClauseWord.{ClauseWord}
-use Rattle.gx_syntax.specs.declared.word.Opening.{Opening}
-use Rattle.gx_syntax.specs.declared.word.Opening.TheVariants as opening_is
-use Rattle.gx_syntax.specs.declared.word.Binder.{Binder}
-use Rattle.gx_syntax.specs.declared.word.Binder.TheVariants as binder
-use Rattle.gx_syntax.specs.Words.{clause_word_of, binder_in, binding_word, is_keyword}
-use Rattle.gx_syntax.specs.Nodes.{Made, Found, BindingClause, WhereClause, second_value, name_length, tree}
-use Rattle.gx_syntax.specs.Tokens.{one_of, gap, gap_then_dollar, barred_words, word_end}
-use Rattle.gx_syntax.specs.Basics.{word_gap}
-use Rattle.gx_syntax.specs.Grammar.{Phrase, single, word_of, lexeme, keyword, at_tokens, place_in}
-use Rattle.gx_scan.specs.Reading.{call, read_in, read_one}
-use Rattle.gx_syntax.specs.Types.{written_name}
-use Rattle.gx_syntax.specs.Bound.{bound_value, position_made, bound, bound_type, position}
-use Rattle.gx_syntax.specs.Keys.{key_made, order_clause_made, is_stable, clause_keys, order_clause}
+use Rattle.gx_parse_grammar.specs.declared.word.Word.{Word}
+use Rattle.gx_parse_grammar.specs.declared.word.Word.TheVariants as word
+use Rattle.gx_parse_grammar.specs.declared.word.WordSet.TheVariants as set
+use Rattle.gx_parse_grammar.specs.declared.word.ClauseWord.{ClauseWord}
+use Rattle.gx_parse_grammar.specs.declared.word.Opening.{Opening}
+use Rattle.gx_parse_grammar.specs.declared.word.Opening.TheVariants as opening_is
+use Rattle.gx_parse_grammar.specs.declared.word.Binder.{Binder}
+use Rattle.gx_parse_grammar.specs.declared.word.Binder.TheVariants as binder
+use Rattle.gx_parse_grammar.specs.Words.{clause_word_of, binder_in, binding_word, is_keyword}
+use Rattle.gx_parse_grammar.specs.Nodes.{Made, Found, BindingClause, WhereClause, second_value, name_length, tree}
+use Rattle.gx_parse_grammar.specs.Tokens.{one_of, gap, gap_then_dollar, barred_words, word_end}
+use Rattle.gx_parse_grammar.specs.Basics.{word_gap}
+use Rattle.gx_parse_grammar.specs.Grammar.{Phrase, single, word_of, lexeme, keyword, at_tokens, place_in}
+use Rattle.gx_parse_tokens.specs.Reading.{call, read_in, read_one}
+use Rattle.gx_parse_grammar.specs.Types.{written_name}
+use Rattle.gx_parse_grammar.specs.Bound.{bound_value, position_made, bound, bound_type, position}
+use Rattle.gx_parse_grammar.specs.Keys.{key_made, order_clause_made, is_stable, clause_keys, order_clause}
 use Rattle.gx_parse.specs.Lists.{items_before, Grown, OneMore, binding_made, clause_made}
-use Rattle.gx_scan.specs.Reading.{Added}
-use Rattle.gx_syntax.specs.Binding.{head_value, bindings_in, word_found, clause_before, clauses_in, clause_value, where_value, flwor_value, quantified_value, first_bound, position_of, has_levels, bound_to, head, binding, further_binding, more_bindings, bindings, clause, last_clause, more_clauses, flwor, quantified, opened}
+use Rattle.gx_parse_tokens.specs.Reading.{Added}
+use Rattle.gx_parse_grammar.specs.Binding.{head_value, bindings_in, word_found, clause_before, clauses_in, clause_value, where_value, flwor_value, quantified_value, first_bound, position_of, has_levels, bound_to, head, binding, further_binding, more_bindings, bindings, clause, last_clause, more_clauses, flwor, quantified, opened}
 use Rattle.gx_parse.proofs.Chains.{ran_any}
 use Rattle.gx_parse.proofs.Phrases.{in_token, in_both, in_keyed, in_empty, in_left, in_right, in_made, in_rule, ended_reads, loses_done, loses_ran, stays_done}
 use Rattle.gx_parse.proofs.TypesPhrases.{ran_loses}

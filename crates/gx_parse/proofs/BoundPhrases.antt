@@ -6,15 +6,15 @@ use Rattle.gx_grammar.specs.Grammar.{empty, ◌&◌, made}
 use Rattle.gx_grammar.specs.Ran.{Standing, Ran, Looked, left_of}
 use Rattle.gx_grammar.specs.Apart.{is}
 use Rattle.gx_grammar.specs.First.{by_character}
-use Rattle.gx_syntax.specs.declared.word.Word.{Word}
-use Rattle.gx_syntax.specs.declared.word.Word.TheVariants as word
-use Rattle.gx_syntax.specs.declared.word.WordSet.TheVariants as set
-use Rattle.gx_syntax.specs.Nodes.{Made, Found}
-use Rattle.gx_syntax.specs.Tokens.{one_of}
-use Rattle.gx_syntax.specs.Grammar.{Phrase, word_of, lexeme, at_tokens, place_in}
-use Rattle.gx_scan.specs.Reading.{read_in}
-use Rattle.gx_syntax.specs.Types.{written_name, sequence_type}
-use Rattle.gx_syntax.specs.Bound.{position_made, kind_made, bound_value, kind_behind, bound_behind, bound_before, direction_made, extreme_made, order_value, bound, bound_type, position, case_variable, default_variable, direction, extreme, key_order}
+use Rattle.gx_parse_grammar.specs.declared.word.Word.{Word}
+use Rattle.gx_parse_grammar.specs.declared.word.Word.TheVariants as word
+use Rattle.gx_parse_grammar.specs.declared.word.WordSet.TheVariants as set
+use Rattle.gx_parse_grammar.specs.Nodes.{Made, Found}
+use Rattle.gx_parse_grammar.specs.Tokens.{one_of}
+use Rattle.gx_parse_grammar.specs.Grammar.{Phrase, word_of, lexeme, at_tokens, place_in}
+use Rattle.gx_parse_tokens.specs.Reading.{read_in}
+use Rattle.gx_parse_grammar.specs.Types.{written_name, sequence_type}
+use Rattle.gx_parse_grammar.specs.Bound.{position_made, kind_made, bound_value, kind_behind, bound_behind, bound_before, direction_made, extreme_made, order_value, bound, bound_type, position, case_variable, default_variable, direction, extreme, key_order}
 use Rattle.gx_parse.proofs.Phrases.{in_both, in_empty, in_left, in_right, in_made}
 
 module _ (text : List ℕ) (n : ℕ) where

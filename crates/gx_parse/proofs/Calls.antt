@@ -9,12 +9,12 @@ use Rattle.gx_grammar.specs.First.{by_character}
 use Rattle.gx_grammar.specs.Reading.{State, Reading}
 use Rattle.gx_grammar.specs.Ran.{Standing, Going, GaveUp, Lost, Ran, Looked, Loses, left_of}
 use Rattle.gx_grammar.proofs.PublicLaws.{ran_full, ran_idle, ran_item, ran_none}
-use Rattle.gx_syntax.specs.declared.word.Word.TheVariants as word
-use Rattle.gx_syntax.specs.Nodes.{Made, Arguments, arguments_value, second_value, trees_in, tree}
-use Rattle.gx_syntax.specs.Grammar.{Phrase, word_of, lexeme, at_tokens, single, arguments, arguments_in, more_arguments, place_in}
-use Rattle.gx_scan.specs.Reading.{call, read_in}
+use Rattle.gx_parse_grammar.specs.declared.word.Word.TheVariants as word
+use Rattle.gx_parse_grammar.specs.Nodes.{Made, Arguments, arguments_value, second_value, trees_in, tree}
+use Rattle.gx_parse_grammar.specs.Grammar.{Phrase, word_of, lexeme, at_tokens, single, arguments, arguments_in, more_arguments, place_in}
+use Rattle.gx_parse_tokens.specs.Reading.{call, read_in}
 use Rattle.gx_parse.specs.Parsing.{Listed, Passed, trees_before, read_item, read_items}
-use Rattle.gx_scan.specs.Reading.{Added}
+use Rattle.gx_parse_tokens.specs.Reading.{Added}
 use Rattle.gx_parse.proofs.Chains.{ran_any}
 use Rattle.gx_parse.proofs.Phrases.{in_both, in_empty, in_left, in_right, in_made, in_rule, loses_done, loses_ran}
 

@@ -6,18 +6,18 @@ use Rattle.gx_grammar.specs.Value.{nothing, node, pair}
 use Rattle.gx_grammar.specs.Grammar.{empty, ◌&◌, choose, made}
 use Rattle.gx_grammar.specs.Ran.{Standing, Ran, Looked, IsDone}
 use Rattle.gx_grammar.proofs.PublicLaws.{ran_idle}
-use Rattle.gx_syntax.specs.declared.word.Word.{Word}
-use Rattle.gx_syntax.specs.declared.word.Word.TheVariants as word
-use Rattle.gx_syntax.specs.declared.word.WordSet.{WordSet}
-use Rattle.gx_syntax.specs.declared.word.WordSet.TheVariants as set
-use Rattle.gx_syntax.specs.declared.casts.TypeTest.{TypeTest}
-use Rattle.gx_syntax.specs.declared.casts.CastTest.{CastTest}
-use Rattle.gx_syntax.specs.Nodes.{Made, Operator, tree}
-use Rattle.gx_syntax.specs.Tokens.{one_of}
-use Rattle.gx_syntax.specs.Grammar.{Phrase, word_of, lexeme, at_tokens, operator, place_in}
-use Rattle.gx_scan.specs.Reading.{read_in}
-use Rattle.gx_syntax.specs.Types.{sequence_type, single_type}
-use Rattle.gx_syntax.specs.Casts.{test_word, test_second, cast_word, test_value, cast_value, type_test, cast_test}
+use Rattle.gx_parse_grammar.specs.declared.word.Word.{Word}
+use Rattle.gx_parse_grammar.specs.declared.word.Word.TheVariants as word
+use Rattle.gx_parse_grammar.specs.declared.word.WordSet.{WordSet}
+use Rattle.gx_parse_grammar.specs.declared.word.WordSet.TheVariants as set
+use Rattle.gx_parse_grammar.specs.declared.casts.TypeTest.{TypeTest}
+use Rattle.gx_parse_grammar.specs.declared.casts.CastTest.{CastTest}
+use Rattle.gx_parse_grammar.specs.Nodes.{Made, Operator, tree}
+use Rattle.gx_parse_grammar.specs.Tokens.{one_of}
+use Rattle.gx_parse_grammar.specs.Grammar.{Phrase, word_of, lexeme, at_tokens, operator, place_in}
+use Rattle.gx_parse_tokens.specs.Reading.{read_in}
+use Rattle.gx_parse_grammar.specs.Types.{sequence_type, single_type}
+use Rattle.gx_parse_grammar.specs.Casts.{test_word, test_second, cast_word, test_value, cast_value, type_test, cast_test}
 use Rattle.gx_parse.proofs.Chains.{ran_any}
 use Rattle.gx_parse.proofs.Phrases.{in_both, in_empty, in_left, in_right, in_made}
 

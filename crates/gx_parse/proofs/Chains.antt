@@ -7,13 +7,13 @@ use Rattle.gx_grammar.specs.Grammar.{Guard, empty, ◌&◌, choose, made}
 use Rattle.gx_grammar.specs.Reading.{State, Refusal, Reading, go_on, notes, read_with}
 use Rattle.gx_grammar.specs.Ran.{Standing, Going, GaveUp, Lost, Ran, Looked, IsDone, Loses}
 use Rattle.gx_grammar.proofs.PublicLaws.{ran_empty, ran_looked, ran_map, ran_right}
-use Rattle.gx_syntax.specs.declared.word.Word.{Word}
+use Rattle.gx_parse_grammar.specs.declared.word.Word.{Word}
 use Rattle.gx_parse.specs.declared.members.Members.{Members}
 use Rattle.gx_parse.specs.declared.members.Members.TheVariants.{Operands}
-use Rattle.gx_syntax.specs.Nodes.{Node, Made, Tree, Operator, Join, tree, joined_to, chain_value}
-use Rattle.gx_syntax.specs.Tokens.{one_of}
-use Rattle.gx_syntax.specs.Grammar.{Phrase, at_tokens, infix_operator, more, query_language, place_in}
-use Rattle.gx_scan.specs.Reading.{call, read_in}
+use Rattle.gx_parse_grammar.specs.Nodes.{Node, Made, Tree, Operator, Join, tree, joined_to, chain_value}
+use Rattle.gx_parse_grammar.specs.Tokens.{one_of}
+use Rattle.gx_parse_grammar.specs.Grammar.{Phrase, at_tokens, infix_operator, more, query_language, place_in}
+use Rattle.gx_parse_tokens.specs.Reading.{call, read_in}
 use Rattle.gx_parse.specs.Parsing.{set_of, join_of, member_of, last_of, most_of, read_chain, KeepsTree}
 
 -- a step, and what depends on its value

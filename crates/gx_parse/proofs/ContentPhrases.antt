@@ -9,15 +9,15 @@ use Rattle.gx_ast.specs.declared.expression.Part.TheVariants as part
 use Rattle.gx_grammar.specs.Grammar.{rule}
 use Rattle.gx_grammar.specs.Value.{node, no_item}
 use Rattle.gx_grammar.specs.Ran.{Standing, Going, GaveUp, Lost, Ran, Looked, Loses, IsDone, left_of}
-use Rattle.gx_syntax.specs.declared.pieces.Piece.{Piece}
-use Rattle.gx_syntax.specs.declared.pieces.Piece.TheVariants.{Literal, Kept, Element, Enclosed}
-use Rattle.gx_syntax.specs.declared.pieces.Pending.{Pending}
-use Rattle.gx_syntax.specs.declared.pieces.Pending.TheVariants as pending
-use Rattle.gx_syntax.specs.Basics.{Phrase, nested, within, at_tokens}
-use Rattle.gx_syntax.specs.Direct.{content, content_piece, content_pieces, content_pieces_of, piece_made, start_of}
-use Rattle.gx_syntax.specs.Nodes.{Made, PartsAre}
-use Rattle.gx_syntax.specs.Pieces.{content_behind, content_from, content_of, pending_parts}
-use Rattle.gx_scan.specs.Reading.{read_in}
+use Rattle.gx_parse_grammar.specs.declared.pieces.Piece.{Piece}
+use Rattle.gx_parse_grammar.specs.declared.pieces.Piece.TheVariants.{Literal, Kept, Element, Enclosed}
+use Rattle.gx_parse_grammar.specs.declared.pieces.Pending.{Pending}
+use Rattle.gx_parse_grammar.specs.declared.pieces.Pending.TheVariants as pending
+use Rattle.gx_parse_grammar.specs.Basics.{Phrase, nested, within, at_tokens}
+use Rattle.gx_parse_grammar.specs.Direct.{content, content_piece, content_pieces, content_pieces_of, piece_made, start_of}
+use Rattle.gx_parse_grammar.specs.Nodes.{Made, PartsAre}
+use Rattle.gx_parse_grammar.specs.Pieces.{content_behind, content_from, content_of, pending_parts}
+use Rattle.gx_parse_tokens.specs.Reading.{read_in}
 use Rattle.gx_parse.specs.DirectReading.{MadeOrLost, OnePiece, StandsFor, ends_text}
 use Rattle.gx_parse.specs.Lists.{Grown}
 use Rattle.gx_parse.specs.Repeated.{listed_before}

@@ -13,27 +13,27 @@ use Rattle.gx_grammar.specs.First.{by_character}
 use Rattle.gx_grammar.specs.Apart.{is}
 use Rattle.gx_grammar.specs.Reading.{State, Reading}
 use Rattle.gx_grammar.specs.Ran.{Standing, Ran, Looked, Loses, IsDone, left_of}
-use Rattle.gx_syntax.specs.declared.word.Word.{Word}
-use Rattle.gx_syntax.specs.declared.word.Word.TheVariants as word
-use Rattle.gx_syntax.specs.declared.word.Barrier.TheVariants as barrier
-use Rattle.gx_syntax.specs.declared.runs.Quote.{Quote}
-use Rattle.gx_syntax.specs.declared.runs.Quote.TheVariants as quote
-use Rattle.gx_syntax.specs.declared.runs.Run.{Run}
-use Rattle.gx_syntax.specs.declared.runs.Run.TheVariants as run
-use Rattle.gx_syntax.specs.declared.pieces.Piece.{Piece}
-use Rattle.gx_syntax.specs.declared.pieces.Piece.TheVariants.{Literal, Kept, Element, Enclosed}
+use Rattle.gx_parse_grammar.specs.declared.word.Word.{Word}
+use Rattle.gx_parse_grammar.specs.declared.word.Word.TheVariants as word
+use Rattle.gx_parse_grammar.specs.declared.word.Barrier.TheVariants as barrier
+use Rattle.gx_parse_grammar.specs.declared.runs.Quote.{Quote}
+use Rattle.gx_parse_grammar.specs.declared.runs.Quote.TheVariants as quote
+use Rattle.gx_parse_grammar.specs.declared.runs.Run.{Run}
+use Rattle.gx_parse_grammar.specs.declared.runs.Run.TheVariants as run
+use Rattle.gx_parse_grammar.specs.declared.pieces.Piece.{Piece}
+use Rattle.gx_parse_grammar.specs.declared.pieces.Piece.TheVariants.{Literal, Kept, Element, Enclosed}
 use Rattle.gx_base.specs.NameCharacters.{is_ncname_start}
-use Rattle.gx_syntax.specs.Nodes.{Made, Found, Name, ValueIs, AttributesAre, PartsAre, first_value, name_at, name_value, tree}
-use Rattle.gx_syntax.specs.Tokens.{Token, text_run, reference, gap, qname, white, blank, no_attribute as no_more, no_element, barred, tag_name, cdata_text}
-use Rattle.gx_syntax.specs.References.{quote_of}
-use Rattle.gx_syntax.specs.Grammar.{Production, Phrase, within, nested, word_of, at_tokens, name, rules, expression, place_in}
-use Rattle.gx_scan.specs.Reading.{Added}
-use Rattle.gx_syntax.specs.Pieces.{content_of, attribute_value_of}
-use Rattle.gx_scan.specs.Reading.{call, read_in, read_one}
+use Rattle.gx_parse_grammar.specs.Nodes.{Made, Found, Name, ValueIs, AttributesAre, PartsAre, first_value, name_at, name_value, tree}
+use Rattle.gx_parse_grammar.specs.Tokens.{Token, text_run, reference, gap, qname, white, blank, no_attribute as no_more, no_element, barred, tag_name, cdata_text}
+use Rattle.gx_parse_grammar.specs.References.{quote_of}
+use Rattle.gx_parse_grammar.specs.Grammar.{Production, Phrase, within, nested, word_of, at_tokens, name, rules, expression, place_in}
+use Rattle.gx_parse_tokens.specs.Reading.{Added}
+use Rattle.gx_parse_grammar.specs.Pieces.{content_of, attribute_value_of}
+use Rattle.gx_parse_tokens.specs.Reading.{call, read_in, read_one}
 use Rattle.gx_parse.specs.Repeated.{listed_before}
-use Rattle.gx_syntax.specs.Strings.{opening_of, closing_of, doubled_of}
+use Rattle.gx_parse_grammar.specs.Strings.{opening_of, closing_of, doubled_of}
 use Rattle.gx_parse.specs.TextReading.{Pushes}
-use Rattle.gx_syntax.specs.Direct.{letters_in, piece_made, literal_piece, kept_piece, cdata_piece, element_piece, enclosed_piece, pieces_in, symbol_piece, text_piece, reference_piece, cdata, enclosed, brace_piece, plain_piece, value_piece, value_pieces_of, value_pieces, value_made, value_in, attribute_value, behind_attribute, attribute_is, attributes_in, attributes_are, content_piece, content_pieces_of, content_pieces, content_made, content, end_tag, filled_value, no_content, filled, content_if_any, element_value, attribute, attributes, behind_tag, element_of, start_of, element_at, direct_step}
+use Rattle.gx_parse_grammar.specs.Direct.{letters_in, piece_made, literal_piece, kept_piece, cdata_piece, element_piece, enclosed_piece, pieces_in, symbol_piece, text_piece, reference_piece, cdata, enclosed, brace_piece, plain_piece, value_piece, value_pieces_of, value_pieces, value_made, value_in, attribute_value, behind_attribute, attribute_is, attributes_in, attributes_are, content_piece, content_pieces_of, content_pieces, content_made, content, end_tag, filled_value, no_content, filled, content_if_any, element_value, attribute, attributes, behind_tag, element_of, start_of, element_at, direct_step}
 use Rattle.gx_parse.specs.DirectReading.{attribute_made, MadeOrLost}
 use Rattle.gx_grammar.proofs.PublicLaws.{ran_idle}
 use Rattle.gx_parse.proofs.Chains.{ran_any}

@@ -10,22 +10,22 @@ use Rattle.gx_grammar.specs.Text.{AtEnd, Nowhere, IsVerdict, read_text, whole_on
 use Rattle.gx_grammar.specs.Ran.{Standing, Going, GaveUp, Lost, Ran}
 use Rattle.gx_grammar.specs.Reading.{Refusal, Unfit, Faulty, TooDeep, Reading, start}
 use Rattle.gx_grammar.proofs.PublicLaws.{exact_text, never_too_deep, same_verdict, unique}
-use Rattle.gx_scan.specs.Reading.{call, read_in, refusal_of, Ended}
-use Rattle.gx_syntax.specs.Levels.{more_than}
-use Rattle.gx_syntax.specs.Fronts.{fronts}
-use Rattle.gx_syntax.specs.declared.refusal.SyntaxRule.TheVariants.{NotUtf8, Syntax, TooNested, LiteralTooLarge, BadReference}
-use Rattle.gx_syntax.specs.declared.refusal.SyntaxRefusal.{SyntaxRefusal}
-use Rattle.gx_syntax.specs.declared.refusal.SyntaxRefusal.TheVariants.{Refused as RefusedBy, Memory}
-use Rattle.gx_scan.specs.declared.reader.Refused.{Refused}
-use Rattle.gx_scan.specs.declared.reader.Refused.TheVariants as refused_by
-use Rattle.gx_scan.specs.declared.reader.End.{End}
-use Rattle.gx_scan.specs.declared.reader.End.TheVariants as ended
-use Rattle.gx_syntax.specs.Nodes.{Made, Whole}
-use Rattle.gx_syntax.specs.Grammar.{query_language, place_in}
-use Rattle.gx_syntax.specs.Prolog.{query}
-use Rattle.gx_syntax.specs.Query.{IsQuery, IsText, Parses, parsed, RefusesText, RefusesBytes}
+use Rattle.gx_parse_tokens.specs.Reading.{call, read_in, refusal_of, Ended}
+use Rattle.gx_parse_grammar.specs.Levels.{more_than}
+use Rattle.gx_parse_grammar.specs.Fronts.{fronts}
+use Rattle.gx_parse_grammar.specs.declared.refusal.SyntaxRule.TheVariants.{NotUtf8, Syntax, TooNested, LiteralTooLarge, BadReference}
+use Rattle.gx_parse_grammar.specs.declared.refusal.SyntaxRefusal.{SyntaxRefusal}
+use Rattle.gx_parse_grammar.specs.declared.refusal.SyntaxRefusal.TheVariants.{Refused as RefusedBy, Memory}
+use Rattle.gx_parse_tokens.specs.declared.reader.Refused.{Refused}
+use Rattle.gx_parse_tokens.specs.declared.reader.Refused.TheVariants as refused_by
+use Rattle.gx_parse_tokens.specs.declared.reader.End.{End}
+use Rattle.gx_parse_tokens.specs.declared.reader.End.TheVariants as ended
+use Rattle.gx_parse_grammar.specs.Nodes.{Made, Whole}
+use Rattle.gx_parse_grammar.specs.Grammar.{query_language, place_in}
+use Rattle.gx_parse_grammar.specs.Prolog.{query}
+use Rattle.gx_parse_grammar.specs.Query.{IsQuery, IsText, Parses, parsed, RefusesText, RefusesBytes}
 use Rattle.gx_parse.specs.Outcome.{refusal_at}
-use Rattle.gx_syntax.proofs.Verdict.{verdict}
+use Rattle.gx_parse_grammar.proofs.Verdict.{verdict}
 
 -- what the reading of a whole text says, where it ended so
 abbrev pub Says : List ℕ → Query → Option End → Type 0

@@ -6,16 +6,16 @@ use Rattle.gx_ast.specs.declared.expression.Key.{Key}
 use Rattle.gx_grammar.specs.Value.{nothing, node, pair}
 use Rattle.gx_grammar.specs.Grammar.{token, empty, ◌&◌, choose, rule, made}
 use Rattle.gx_grammar.specs.Ran.{Standing, Ran, Looked, IsDone}
-use Rattle.gx_syntax.specs.declared.word.Barrier.TheVariants as barrier
-use Rattle.gx_syntax.specs.declared.word.Word.TheVariants as word
-use Rattle.gx_syntax.specs.Nodes.{Made, second_value, tree}
-use Rattle.gx_syntax.specs.Tokens.{barred}
-use Rattle.gx_syntax.specs.Grammar.{Phrase, single, word_of, lexeme, keyword, at_tokens, place_in}
-use Rattle.gx_scan.specs.Reading.{call, read_in, read_one}
-use Rattle.gx_syntax.specs.Bound.{key_order}
+use Rattle.gx_parse_grammar.specs.declared.word.Barrier.TheVariants as barrier
+use Rattle.gx_parse_grammar.specs.declared.word.Word.TheVariants as word
+use Rattle.gx_parse_grammar.specs.Nodes.{Made, second_value, tree}
+use Rattle.gx_parse_grammar.specs.Tokens.{barred}
+use Rattle.gx_parse_grammar.specs.Grammar.{Phrase, single, word_of, lexeme, keyword, at_tokens, place_in}
+use Rattle.gx_parse_tokens.specs.Reading.{call, read_in, read_one}
+use Rattle.gx_parse_grammar.specs.Bound.{key_order}
 use Rattle.gx_parse.specs.Lists.{items_before, OneMore}
-use Rattle.gx_syntax.specs.Keys.{key_made, keys_in, order_clause_made, is_stable, clause_keys, key, further_key, more_keys, ordered, order_clause}
-use Rattle.gx_scan.specs.Reading.{Added}
+use Rattle.gx_parse_grammar.specs.Keys.{key_made, keys_in, order_clause_made, is_stable, clause_keys, key, further_key, more_keys, ordered, order_clause}
+use Rattle.gx_parse_tokens.specs.Reading.{Added}
 use Rattle.gx_parse.proofs.Chains.{ran_any}
 use Rattle.gx_parse.proofs.Phrases.{in_token, in_both, in_empty, in_left, in_right, in_made, in_rule, stays_done}
 

@@ -8,10 +8,10 @@ use Rattle.gx_ast.specs.SyntaxView.{bindings_of, clauses_of}
 use Rattle.gx_grammar.specs.Value.{nothing, pair}
 use Rattle.gx_grammar.specs.Reading.{State, Reading}
 use Rattle.gx_grammar.specs.Ran.{Standing, Ran, IsDone, Loses}
-use Rattle.gx_syntax.specs.Nodes.{Made, tree}
-use Rattle.gx_scan.specs.Reading.{Added}
+use Rattle.gx_parse_grammar.specs.Nodes.{Made, tree}
+use Rattle.gx_parse_tokens.specs.Reading.{Added}
 use Rattle.gx_parse.specs.Lists.{items_before, Grown, OneMore, Gone, binding_made, clause_made}
-use Rattle.gx_syntax.specs.Binding.{bindings_in, clauses_in}
+use Rattle.gx_parse_grammar.specs.Binding.{bindings_in, clauses_in}
 use Rattle.gx_parse.proofs.Chains.{ran_any}
 use Rattle.gx_parse.proofs.Phrases.{loses_done, stays_done}
 use Rattle.gx_parse.proofs.TypesPhrases.{ran_loses}

@@ -11,17 +11,17 @@ use Rattle.gx_grammar.specs.Apart.{is}
 use Rattle.gx_grammar.specs.First.{by_character}
 use Rattle.gx_grammar.specs.Reading.{State, Reading}
 use Rattle.gx_grammar.specs.Ran.{Standing, Loses, Ran, Looked, IsDone, left_of}
-use Rattle.gx_syntax.specs.declared.word.Word.TheVariants as word
-use Rattle.gx_syntax.specs.declared.kind_words.KindWord.{KindWord}
-use Rattle.gx_syntax.specs.declared.kind_words.TestContent.{TestContent}
+use Rattle.gx_parse_grammar.specs.declared.word.Word.TheVariants as word
+use Rattle.gx_parse_grammar.specs.declared.kind_words.KindWord.{KindWord}
+use Rattle.gx_parse_grammar.specs.declared.kind_words.TestContent.{TestContent}
 use Rattle.gx_base.specs.NameCharacters.{is_ncname_start}
-use Rattle.gx_syntax.specs.Nodes.{Made, name_at, name_length, has_prefix, second_value, tree}
-use Rattle.gx_syntax.specs.Tokens.{one_of, qname, ncname, local_wildcard, gap}
-use Rattle.gx_syntax.specs.declared.word.WordSet.{WordSet}
-use Rattle.gx_syntax.specs.Grammar.{Phrase, word_of, lexeme, at_tokens, literal, test_or_literal, place_in}
-use Rattle.gx_scan.specs.Reading.{read_in, read_one}
-use Rattle.gx_syntax.specs.Types.{Gave, kind_word, content, content_made}
-use Rattle.gx_syntax.specs.NodeTests.{test_of, step_tree, test_made, maybe_content, local_value, any_value, test_value, step_made, wildcard_made, in_namespace, if_wildcard, wildcard_or, wildcard, kind_content, behind_test, any_test, any_step, node_test, axis_test, attribute_step, wildcard_step}
+use Rattle.gx_parse_grammar.specs.Nodes.{Made, name_at, name_length, has_prefix, second_value, tree}
+use Rattle.gx_parse_grammar.specs.Tokens.{one_of, qname, ncname, local_wildcard, gap}
+use Rattle.gx_parse_grammar.specs.declared.word.WordSet.{WordSet}
+use Rattle.gx_parse_grammar.specs.Grammar.{Phrase, word_of, lexeme, at_tokens, literal, test_or_literal, place_in}
+use Rattle.gx_parse_tokens.specs.Reading.{read_in, read_one}
+use Rattle.gx_parse_grammar.specs.Types.{Gave, kind_word, content, content_made}
+use Rattle.gx_parse_grammar.specs.NodeTests.{test_of, step_tree, test_made, maybe_content, local_value, any_value, test_value, step_made, wildcard_made, in_namespace, if_wildcard, wildcard_or, wildcard, kind_content, behind_test, any_test, any_step, node_test, axis_test, attribute_step, wildcard_step}
 use Rattle.gx_parse.specs.Parsing.{KeepsTest}
 use Rattle.gx_parse.proofs.Chains.{ran_any}
 use Rattle.gx_parse.proofs.Phrases.{in_token, in_both, in_keyed, in_empty, in_left, in_right, in_made}

@@ -8,22 +8,22 @@ use Rattle.gx_grammar.specs.Reading.{State, Reading, go_on, read_with}
 use Rattle.gx_grammar.specs.Ran.{Standing, Going, GaveUp, Lost, Ran, Looked, IsDone, Loses, Makes, left_of}
 use Rattle.gx_grammar.proofs.PublicLaws.{ran_both, ran_empty, ran_keyed, ran_left, ran_made, ran_map, ran_right}
 use Rattle.gx_num.specs.declared.Number.{Number}
-use Rattle.gx_syntax.specs.declared.word.Barrier.{Barrier}
-use Rattle.gx_syntax.specs.declared.word.Word.{Word}
-use Rattle.gx_syntax.specs.declared.word.Barrier.TheVariants as barrier
-use Rattle.gx_syntax.specs.declared.word.Word.TheVariants as word
-use Rattle.gx_syntax.specs.declared.word.WordSet.{WordSet}
-use Rattle.gx_syntax.specs.declared.word.WordSet.TheVariants as set
+use Rattle.gx_parse_grammar.specs.declared.word.Barrier.{Barrier}
+use Rattle.gx_parse_grammar.specs.declared.word.Word.{Word}
+use Rattle.gx_parse_grammar.specs.declared.word.Barrier.TheVariants as barrier
+use Rattle.gx_parse_grammar.specs.declared.word.Word.TheVariants as word
+use Rattle.gx_parse_grammar.specs.declared.word.WordSet.{WordSet}
+use Rattle.gx_parse_grammar.specs.declared.word.WordSet.TheVariants as set
 use Rattle.gx_parse.specs.declared.parts.Sign.{Sign}
 use Rattle.gx_parse.specs.declared.members.Members.{Members}
-use Rattle.gx_syntax.specs.Nodes.{Node, Made, Found, Operator, Name, operator_value, number_value, name_value, name_at, variable_value, dots_value, signed_by, is_minus, tree}
-use Rattle.gx_syntax.specs.Words.{is_keyword}
-use Rattle.gx_syntax.specs.Tokens.{Token, one_of, gap, barred, number, number_end, qname, word_end}
-use Rattle.gx_syntax.specs.Basics.{word_gap, keyword_found}
-use Rattle.gx_syntax.specs.Grammar.{Phrase, word_of, lexeme, at_tokens, keyword, operator, infix_operator, stop, numeral, name, variable_step, dots, more_signs, single, query_language, place_in}
-use Rattle.gx_scan.specs.Reading.{call, read_in, read_one, read_number}
+use Rattle.gx_parse_grammar.specs.Nodes.{Node, Made, Found, Operator, Name, operator_value, number_value, name_value, name_at, variable_value, dots_value, signed_by, is_minus, tree}
+use Rattle.gx_parse_grammar.specs.Words.{is_keyword}
+use Rattle.gx_parse_grammar.specs.Tokens.{Token, one_of, gap, barred, number, number_end, qname, word_end}
+use Rattle.gx_parse_grammar.specs.Basics.{word_gap, keyword_found}
+use Rattle.gx_parse_grammar.specs.Grammar.{Phrase, word_of, lexeme, at_tokens, keyword, operator, infix_operator, stop, numeral, name, variable_step, dots, more_signs, single, query_language, place_in}
+use Rattle.gx_parse_tokens.specs.Reading.{call, read_in, read_one, read_number}
 use Rattle.gx_parse.specs.Parsing.{set_of, last_of, is_pair, barrier_of, signs_before, wrapped, KeepsTree}
-use Rattle.gx_syntax.specs.Numeral.{number_in}
+use Rattle.gx_parse_grammar.specs.Numeral.{number_in}
 use Rattle.gx_parse.proofs.Chains.{ran_any, ran_bind, go_on_twice}
 
 module _ (text : List ℕ) (n : ℕ) where

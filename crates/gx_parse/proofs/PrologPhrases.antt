@@ -16,27 +16,27 @@ use Rattle.gx_grammar.specs.First.{by_character}
 use Rattle.gx_grammar.specs.Reading.{State, Reading}
 use Rattle.gx_grammar.specs.Ran.{Standing, Ran, Looked, IsDone, Loses, left_of}
 use Rattle.gx_grammar.proofs.PublicLaws.{ran_idle}
-use Rattle.gx_syntax.specs.declared.word.Word.{Word}
-use Rattle.gx_syntax.specs.declared.word.Word.TheVariants as word
-use Rattle.gx_syntax.specs.declared.word.WordSet.TheVariants as set
-use Rattle.gx_syntax.specs.declared.word.Setter.{Setter}
-use Rattle.gx_syntax.specs.declared.word.Definer.{Definer}
-use Rattle.gx_syntax.specs.declared.runs.Quote.{Quote}
-use Rattle.gx_syntax.specs.declared.runs.Quote.TheVariants as quote
-use Rattle.gx_syntax.specs.Words.{setter_of, definer_of}
-use Rattle.gx_syntax.specs.Nodes.{Made, Found, MaybeVersion, Imports, Says, Gives, Whole, tree}
-use Rattle.gx_syntax.specs.Tokens.{one_of, ncname, gap}
-use Rattle.gx_syntax.specs.Grammar.{Phrase, single, word_of, lexeme, at_tokens, expression, place_in}
-use Rattle.gx_scan.specs.Reading.{call, read_in, read_one}
-use Rattle.gx_syntax.specs.Types.{Gave, named, written_name}
-use Rattle.gx_syntax.specs.Bound.{bound, bound_type}
-use Rattle.gx_syntax.specs.Strings.{text_in, quoted}
+use Rattle.gx_parse_grammar.specs.declared.word.Word.{Word}
+use Rattle.gx_parse_grammar.specs.declared.word.Word.TheVariants as word
+use Rattle.gx_parse_grammar.specs.declared.word.WordSet.TheVariants as set
+use Rattle.gx_parse_grammar.specs.declared.word.Setter.{Setter}
+use Rattle.gx_parse_grammar.specs.declared.word.Definer.{Definer}
+use Rattle.gx_parse_grammar.specs.declared.runs.Quote.{Quote}
+use Rattle.gx_parse_grammar.specs.declared.runs.Quote.TheVariants as quote
+use Rattle.gx_parse_grammar.specs.Words.{setter_of, definer_of}
+use Rattle.gx_parse_grammar.specs.Nodes.{Made, Found, MaybeVersion, Imports, Says, Gives, Whole, tree}
+use Rattle.gx_parse_grammar.specs.Tokens.{one_of, ncname, gap}
+use Rattle.gx_parse_grammar.specs.Grammar.{Phrase, single, word_of, lexeme, at_tokens, expression, place_in}
+use Rattle.gx_parse_tokens.specs.Reading.{call, read_in, read_one}
+use Rattle.gx_parse_grammar.specs.Types.{Gave, named, written_name}
+use Rattle.gx_parse_grammar.specs.Bound.{bound, bound_type}
+use Rattle.gx_parse_grammar.specs.Strings.{text_in, quoted}
 use Rattle.gx_parse.specs.TextReading.{TextRead}
-use Rattle.gx_scan.specs.Reading.{Added}
+use Rattle.gx_parse_tokens.specs.Reading.{Added}
 use Rattle.gx_parse.specs.Lists.{Grown, OneMore}
 use Rattle.gx_parse.specs.Repeated.{listed_before}
-use Rattle.gx_syntax.specs.Prolog.{text_value, prefix_value, namespace_value, default_namespace_value, empty_order_value, boundary_space_value, schema_prefix_value, texts_listed, import_value, setting_value, setter_found, initialiser_value, variable_definition, parameter_value, parameters_listed, parameters_in, function_definition, definition_value, definer_found, encoding_value, version_value, settings_in, definitions_in, query_in, text_of, text_literal, prefix, namespace_setter, default_namespace, empty_order_setter, default_setter, boundary_space_setter, construction_setter, ordering_setter, copy_setter, setter, named_schema, default_schema, schema_prefix, more_locations, schema_import, setting, initialiser, variable_definer, parameter, more_parameters, parameters, function_definer, definer, definition, encoding, version, maybe_version, settings, definitions, query}
-use Rattle.gx_syntax.specs.Tokens.{version_words, setter_words, import_words, definer_words}
+use Rattle.gx_parse_grammar.specs.Prolog.{text_value, prefix_value, namespace_value, default_namespace_value, empty_order_value, boundary_space_value, schema_prefix_value, texts_listed, import_value, setting_value, setter_found, initialiser_value, variable_definition, parameter_value, parameters_listed, parameters_in, function_definition, definition_value, definer_found, encoding_value, version_value, settings_in, definitions_in, query_in, text_of, text_literal, prefix, namespace_setter, default_namespace, empty_order_setter, default_setter, boundary_space_setter, construction_setter, ordering_setter, copy_setter, setter, named_schema, default_schema, schema_prefix, more_locations, schema_import, setting, initialiser, variable_definer, parameter, more_parameters, parameters, function_definer, definer, definition, encoding, version, maybe_version, settings, definitions, query}
+use Rattle.gx_parse_grammar.specs.Tokens.{version_words, setter_words, import_words, definer_words}
 use Rattle.gx_parse.specs.PrologParts.{gapped, prefix_made, imports_made, says_made, setting_made, starts_made, parameter_made, gives_made, definition_made, encoding_made, version_made, location_item, parameter_item, setting_item, definition_item, locations_made, parameters_made, further_location, locations, declared_setting, imported_setting, further_parameter, closed_setting, closed_definition, HasFirst}
 use Rattle.gx_parse.proofs.Chains.{ran_any}
 use Rattle.gx_parse.proofs.Phrases.{in_token, in_both, in_keyed, in_empty, in_left, in_right, in_made, in_rule, lexeme_reads, loses_done, stays_done}

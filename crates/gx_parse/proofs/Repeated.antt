@@ -5,10 +5,10 @@ use Rattle.gx_grammar.specs.Value.{nothing, no_item, an_item}
 use Rattle.gx_grammar.specs.Reading.{State, Reading}
 use Rattle.gx_grammar.specs.Ran.{Standing, Going, GaveUp, Lost, Ran, Looked, IsDone, left_of}
 use Rattle.gx_grammar.proofs.PublicLaws.{ran_full, ran_item, ran_none}
-use Rattle.gx_syntax.specs.Nodes.{Made}
-use Rattle.gx_syntax.specs.Basics.{Phrase}
-use Rattle.gx_scan.specs.Reading.{read_in}
-use Rattle.gx_scan.specs.Reading.{Added}
+use Rattle.gx_parse_grammar.specs.Nodes.{Made}
+use Rattle.gx_parse_grammar.specs.Basics.{Phrase}
+use Rattle.gx_parse_tokens.specs.Reading.{read_in}
+use Rattle.gx_parse_tokens.specs.Reading.{Added}
 use Rattle.gx_parse.specs.Lists.{OneMore}
 use Rattle.gx_parse.specs.Repeated.{listed_before, read_many, Listing}
 use Rattle.gx_parse.proofs.Chains.{ran_any}

@@ -11,18 +11,18 @@ use Rattle.gx_grammar.specs.Apart.{is}
 use Rattle.gx_grammar.specs.First.{by_character}
 use Rattle.gx_grammar.specs.Reading.{State, Reading}
 use Rattle.gx_grammar.specs.Ran.{Standing, Ran, Looked, left_of}
-use Rattle.gx_syntax.specs.declared.word.Barrier.TheVariants as barrier
-use Rattle.gx_syntax.specs.declared.word.Word.TheVariants as word
-use Rattle.gx_syntax.specs.declared.kind_words.KindWord.{KindWord}
-use Rattle.gx_syntax.specs.declared.kind_words.TestContent.{TestContent}
-use Rattle.gx_scan.specs.declared.names.ReadName.{ReadName}
-use Rattle.gx_scan.specs.Names.{name_made, part_made}
-use Rattle.gx_syntax.specs.Nodes.{Made, Arguments, name_at, name_length, predicate_value, predicates_in, filtered_value, place_of, tree}
-use Rattle.gx_syntax.specs.Tokens.{gap, barred}
-use Rattle.gx_syntax.specs.Types.{kind_word}
-use Rattle.gx_syntax.specs.NodeTests.{axis_word, test_of, step_tree, maybe_content, kind_content, axis_test}
-use Rattle.gx_syntax.specs.Grammar.{Phrase, word_of, lexeme, at_tokens, is_reserved, expression, arguments, after_name, after_axis, step_of, step_value, behind_any_name, predicate, more_predicates, filtered_step, place_in}
-use Rattle.gx_scan.specs.Reading.{read_in, read_one}
+use Rattle.gx_parse_grammar.specs.declared.word.Barrier.TheVariants as barrier
+use Rattle.gx_parse_grammar.specs.declared.word.Word.TheVariants as word
+use Rattle.gx_parse_grammar.specs.declared.kind_words.KindWord.{KindWord}
+use Rattle.gx_parse_grammar.specs.declared.kind_words.TestContent.{TestContent}
+use Rattle.gx_parse_tokens.specs.declared.names.ReadName.{ReadName}
+use Rattle.gx_parse_tokens.specs.Names.{name_made, part_made}
+use Rattle.gx_parse_grammar.specs.Nodes.{Made, Arguments, name_at, name_length, predicate_value, predicates_in, filtered_value, place_of, tree}
+use Rattle.gx_parse_grammar.specs.Tokens.{gap, barred}
+use Rattle.gx_parse_grammar.specs.Types.{kind_word}
+use Rattle.gx_parse_grammar.specs.NodeTests.{axis_word, test_of, step_tree, maybe_content, kind_content, axis_test}
+use Rattle.gx_parse_grammar.specs.Grammar.{Phrase, word_of, lexeme, at_tokens, is_reserved, expression, arguments, after_name, after_axis, step_of, step_value, behind_any_name, predicate, more_predicates, filtered_step, place_in}
+use Rattle.gx_parse_tokens.specs.Reading.{read_in, read_one}
 use Rattle.gx_parse.specs.Parsing.{Passes, predicates_before, filtered_tree}
 use Rattle.gx_parse.proofs.Phrases.{in_token, in_both, in_empty, in_left, in_right, in_made}
 

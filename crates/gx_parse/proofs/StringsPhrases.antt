@@ -10,23 +10,23 @@ use Rattle.gx_grammar.specs.Reading.{State, Reading, taken}
 use Rattle.gx_grammar.specs.Ran.{Standing, Going, GaveUp, Lost, Ran, Looked, Loses, left_of}
 use Rattle.gx_grammar.proofs.PublicLaws.{ran_full, ran_item, ran_none}
 use Rattle.gx_grammar.specs.Words.{IsOneOf}
-use Rattle.gx_syntax.specs.declared.word.Word.{Word}
-use Rattle.gx_syntax.specs.declared.word.WordSet.TheVariants as set
+use Rattle.gx_parse_grammar.specs.declared.word.Word.{Word}
+use Rattle.gx_parse_grammar.specs.declared.word.WordSet.TheVariants as set
 use Rattle.gx_grammar.specs.Tokens.{seen_word}
-use Rattle.gx_syntax.specs.Words.{letters_of, words_of}
-use Rattle.gx_syntax.specs.declared.runs.Quote.{Quote}
-use Rattle.gx_syntax.specs.declared.runs.Quote.TheVariants as quote
-use Rattle.gx_syntax.specs.declared.runs.Run.TheVariants as run
-use Rattle.gx_syntax.specs.Nodes.{Made, Found, tree}
-use Rattle.gx_syntax.specs.References.{quote_of}
-use Rattle.gx_syntax.specs.Tokens.{text_run, reference, gap, entries, scan, seen, faults, reference_fault, reference_code}
-use Rattle.gx_syntax.specs.Grammar.{Phrase, word_of, at_tokens, numeral, literal, place_in}
-use Rattle.gx_scan.specs.Reading.{read_one, read_in}
+use Rattle.gx_parse_grammar.specs.Words.{letters_of, words_of}
+use Rattle.gx_parse_grammar.specs.declared.runs.Quote.{Quote}
+use Rattle.gx_parse_grammar.specs.declared.runs.Quote.TheVariants as quote
+use Rattle.gx_parse_grammar.specs.declared.runs.Run.TheVariants as run
+use Rattle.gx_parse_grammar.specs.Nodes.{Made, Found, tree}
+use Rattle.gx_parse_grammar.specs.References.{quote_of}
+use Rattle.gx_parse_grammar.specs.Tokens.{text_run, reference, gap, entries, scan, seen, faults, reference_fault, reference_code}
+use Rattle.gx_parse_grammar.specs.Grammar.{Phrase, word_of, at_tokens, numeral, literal, place_in}
+use Rattle.gx_parse_tokens.specs.Reading.{read_one, read_in}
 use Rattle.gx_parse.specs.Parsing.{KeepsTree}
-use Rattle.gx_scan.specs.Reading.{Added}
-use Rattle.gx_syntax.specs.Strings.{opening_of, closing_of, doubled_of, part_text, texts_in, text_in, string_value, string_part, parts_of, string_parts, quoted, string_of}
+use Rattle.gx_parse_tokens.specs.Reading.{Added}
+use Rattle.gx_parse_grammar.specs.Strings.{opening_of, closing_of, doubled_of, part_text, texts_in, text_in, string_value, string_part, parts_of, string_parts, quoted, string_of}
 use Rattle.gx_parse.specs.TextReading.{TextRead, read_part, read_parts, PartsRead, Pushes}
-use Rattle.gx_syntax.proofs.Tokens.{token_lawful}
+use Rattle.gx_parse_grammar.proofs.Tokens.{token_lawful}
 use Rattle.gx_parse.proofs.Chains.{ran_any, ran_keeps}
 use Rattle.gx_parse.proofs.Phrases.{in_token, in_both, in_left, in_right, in_made, loses_done}
 

@@ -9,16 +9,16 @@ use Rattle.gx_grammar.specs.First.{by_character}
 use Rattle.gx_grammar.specs.Reading.{State, Reading}
 use Rattle.gx_grammar.specs.Ran.{Standing, Going, GaveUp, Lost, Ran, Looked, IsDone, Loses, left_of}
 use Rattle.gx_grammar.proofs.PublicLaws.{ran_idle}
-use Rattle.gx_syntax.specs.declared.word.Word.{Word}
-use Rattle.gx_syntax.specs.declared.word.Word.TheVariants as word
-use Rattle.gx_syntax.specs.declared.kind_words.TypeWord.{TypeWord}
-use Rattle.gx_syntax.specs.declared.kind_words.TestContent.TheVariants as content_is
-use Rattle.gx_scan.specs.Indications.{found_made}
-use Rattle.gx_syntax.specs.Nodes.{Made, Found, name_value, name_at, name_length, first_value, second_value}
-use Rattle.gx_syntax.specs.Tokens.{qname, gap, indication}
-use Rattle.gx_syntax.specs.Grammar.{Phrase, word_of, lexeme, at_tokens, name, place_in}
-use Rattle.gx_scan.specs.Reading.{read_in, read_one}
-use Rattle.gx_syntax.specs.Types.{Gave, type_word, named, maybe_named, tested_made, content_made, type_made, some_name, name_behind, no_name, tested_value, enclosed_value, element_value, declared_value, document_value, as_content, bare_value, tail_value, no_items_value, type_value, casting_value, written_name, tested_name, behind_comma, tested, declared, nothing_inside, document_test, document, named_content, declared_content, bare_tail, item_tail, empty_tail, type_tail, behind_type, sequence_type, single_type}
+use Rattle.gx_parse_grammar.specs.declared.word.Word.{Word}
+use Rattle.gx_parse_grammar.specs.declared.word.Word.TheVariants as word
+use Rattle.gx_parse_grammar.specs.declared.kind_words.TypeWord.{TypeWord}
+use Rattle.gx_parse_grammar.specs.declared.kind_words.TestContent.TheVariants as content_is
+use Rattle.gx_parse_tokens.specs.Indications.{found_made}
+use Rattle.gx_parse_grammar.specs.Nodes.{Made, Found, name_value, name_at, name_length, first_value, second_value}
+use Rattle.gx_parse_grammar.specs.Tokens.{qname, gap, indication}
+use Rattle.gx_parse_grammar.specs.Grammar.{Phrase, word_of, lexeme, at_tokens, name, place_in}
+use Rattle.gx_parse_tokens.specs.Reading.{read_in, read_one}
+use Rattle.gx_parse_grammar.specs.Types.{Gave, type_word, named, maybe_named, tested_made, content_made, type_made, some_name, name_behind, no_name, tested_value, enclosed_value, element_value, declared_value, document_value, as_content, bare_value, tail_value, no_items_value, type_value, casting_value, written_name, tested_name, behind_comma, tested, declared, nothing_inside, document_test, document, named_content, declared_content, bare_tail, item_tail, empty_tail, type_tail, behind_type, sequence_type, single_type}
 use Rattle.gx_parse.proofs.Chains.{ran_any}
 use Rattle.gx_parse.proofs.Phrases.{in_token, in_both, in_keyed, in_empty, in_left, in_right, in_made}
 

@@ -9,19 +9,19 @@ use Rattle.gx_ast.specs.declared.sequence_type.DefaultHead.{DefaultHead}
 use Rattle.gx_grammar.specs.Value.{nothing, pair}
 use Rattle.gx_grammar.specs.Grammar.{token, empty, ◌&◌, rule}
 use Rattle.gx_grammar.specs.Ran.{Standing, Ran, Looked, left_of}
-use Rattle.gx_syntax.specs.declared.word.Word.TheVariants as word
-use Rattle.gx_syntax.specs.declared.word.WordSet.TheVariants as set
-use Rattle.gx_syntax.specs.declared.word.Branching.{Branching}
-use Rattle.gx_syntax.specs.declared.word.Branching.TheVariants as branching_is
-use Rattle.gx_syntax.specs.Nodes.{Made, name_length, tree}
-use Rattle.gx_syntax.specs.Tokens.{gap, gap_then_open, barred_words}
-use Rattle.gx_syntax.specs.Grammar.{Phrase, single, word_of, lexeme, keyword, at_tokens, branched, condition, expression, typeswitch, place_in}
-use Rattle.gx_scan.specs.Reading.{call, read_in, read_one}
-use Rattle.gx_syntax.specs.Types.{sequence_type}
-use Rattle.gx_syntax.specs.Bound.{case_variable, default_variable}
+use Rattle.gx_parse_grammar.specs.declared.word.Word.TheVariants as word
+use Rattle.gx_parse_grammar.specs.declared.word.WordSet.TheVariants as set
+use Rattle.gx_parse_grammar.specs.declared.word.Branching.{Branching}
+use Rattle.gx_parse_grammar.specs.declared.word.Branching.TheVariants as branching_is
+use Rattle.gx_parse_grammar.specs.Nodes.{Made, name_length, tree}
+use Rattle.gx_parse_grammar.specs.Tokens.{gap, gap_then_open, barred_words}
+use Rattle.gx_parse_grammar.specs.Grammar.{Phrase, single, word_of, lexeme, keyword, at_tokens, branched, condition, expression, typeswitch, place_in}
+use Rattle.gx_parse_tokens.specs.Reading.{call, read_in, read_one}
+use Rattle.gx_parse_grammar.specs.Types.{sequence_type}
+use Rattle.gx_parse_grammar.specs.Bound.{case_variable, default_variable}
 use Rattle.gx_parse.specs.Lists.{items_before, OneMore}
-use Rattle.gx_scan.specs.Reading.{Added}
-use Rattle.gx_syntax.specs.Typeswitch.{case_head_made, default_head_made, case_made, cases_in, case_head_value, default_head_value, typeswitch_value, case_head, case, more_cases, cases, default_head}
+use Rattle.gx_parse_tokens.specs.Reading.{Added}
+use Rattle.gx_parse_grammar.specs.Typeswitch.{case_head_made, default_head_made, case_made, cases_in, case_head_value, default_head_value, typeswitch_value, case_head, case, more_cases, cases, default_head}
 use Rattle.gx_parse.proofs.Chains.{ran_any}
 use Rattle.gx_parse.proofs.Phrases.{in_token, in_both, in_empty, in_left, in_right, in_made, in_rule, stays_done}
 

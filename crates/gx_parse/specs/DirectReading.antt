@@ -5,10 +5,10 @@ use Rattle.gx_ast.specs.declared.expression.Part.{Part}
 use Rattle.gx_ast.specs.SyntaxView.{attribute_parts_of}
 use Rattle.gx_grammar.specs.Value.{node}
 use Rattle.gx_grammar.specs.Ran.{Standing, Loses}
-use Rattle.gx_syntax.specs.declared.pieces.Piece.{Piece}
-use Rattle.gx_syntax.specs.declared.pieces.Piece.TheVariants.{Literal, Kept, Element, Enclosed}
-use Rattle.gx_syntax.specs.Nodes.{Made, AttributeIs}
-use Rattle.gx_syntax.specs.Pieces.{content_of}
+use Rattle.gx_parse_grammar.specs.declared.pieces.Piece.{Piece}
+use Rattle.gx_parse_grammar.specs.declared.pieces.Piece.TheVariants.{Literal, Kept, Element, Enclosed}
+use Rattle.gx_parse_grammar.specs.Nodes.{Made, AttributeIs}
+use Rattle.gx_parse_grammar.specs.Pieces.{content_of}
 
 abbrev pub attribute_made : DirectAttribute → Made
 attribute_made a = node (AttributeIs a.name (attribute_parts_of a.value.items))

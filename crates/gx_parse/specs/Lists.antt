@@ -8,9 +8,9 @@ use Rattle.gx_ast.specs.SyntaxView.{bindings_of}
 use Rattle.gx_grammar.specs.Value.{nothing, node, pair}
 use Rattle.gx_grammar.specs.Reading.{State, Reading}
 use Rattle.gx_grammar.specs.Ran.{Standing, Ran, IsDone, Loses}
-use Rattle.gx_syntax.specs.declared.word.ClauseWord.TheVariants as clause_word
-use Rattle.gx_syntax.specs.Nodes.{Made, Binds, BindingClause, WhereClause, tree}
-use Rattle.gx_scan.specs.Reading.{Added}
+use Rattle.gx_parse_grammar.specs.declared.word.ClauseWord.TheVariants as clause_word
+use Rattle.gx_parse_grammar.specs.Nodes.{Made, Binds, BindingClause, WhereClause, tree}
+use Rattle.gx_parse_tokens.specs.Reading.{Added}
 
 -- members, in front of what else was read
 abbrev pub items_before : {A : Type 0} → (A → Made) → List A → Made → Made

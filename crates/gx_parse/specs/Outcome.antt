@@ -1,14 +1,14 @@
 -- The refusal by which the reading of a query ends.
 use Rattle.std.specs.Prelude.{ℕ, List}
-use Rattle.gx_syntax.specs.declared.refusal.SyntaxRule.{SyntaxRule}
-use Rattle.gx_syntax.specs.declared.refusal.SyntaxRule.TheVariants.{Syntax, TooNested, LiteralTooLarge, BadReference}
-use Rattle.gx_syntax.specs.declared.refusal.SyntaxRefusal.{SyntaxRefusal}
-use Rattle.gx_syntax.specs.declared.refusal.SyntaxRefusal.TheVariants.{Refused, Memory}
-use Rattle.gx_scan.specs.declared.reader.Refused.{Refused as RefusedBy}
-use Rattle.gx_scan.specs.declared.reader.Refused.TheVariants as refused_by
-use Rattle.gx_scan.specs.declared.reader.End.{End}
-use Rattle.gx_scan.specs.declared.reader.End.TheVariants as ended
-use Rattle.gx_syntax.specs.Grammar.{place_in}
+use Rattle.gx_parse_grammar.specs.declared.refusal.SyntaxRule.{SyntaxRule}
+use Rattle.gx_parse_grammar.specs.declared.refusal.SyntaxRule.TheVariants.{Syntax, TooNested, LiteralTooLarge, BadReference}
+use Rattle.gx_parse_grammar.specs.declared.refusal.SyntaxRefusal.{SyntaxRefusal}
+use Rattle.gx_parse_grammar.specs.declared.refusal.SyntaxRefusal.TheVariants.{Refused, Memory}
+use Rattle.gx_parse_tokens.specs.declared.reader.Refused.{Refused as RefusedBy}
+use Rattle.gx_parse_tokens.specs.declared.reader.Refused.TheVariants as refused_by
+use Rattle.gx_parse_tokens.specs.declared.reader.End.{End}
+use Rattle.gx_parse_tokens.specs.declared.reader.End.TheVariants as ended
+use Rattle.gx_parse_grammar.specs.Grammar.{place_in}
 
 -- the rule by which a reader gave up, and how many characters are left there
 abbrev pub rule_of : RefusedBy → SyntaxRule

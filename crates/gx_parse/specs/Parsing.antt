@@ -11,17 +11,17 @@ use Rattle.gx_grammar.specs.Grammar.{empty, ◌&◌, rule, made as made_of}
 use Rattle.gx_grammar.specs.Value.{node, nothing, pair}
 use Rattle.gx_grammar.specs.Reading.{State, Reading, go_on, repeat}
 use Rattle.gx_grammar.specs.Ran.{Standing, Loses, Ran}
-use Rattle.gx_syntax.specs.declared.word.Barrier.{Barrier}
-use Rattle.gx_syntax.specs.declared.word.Barrier.TheVariants as barrier
-use Rattle.gx_syntax.specs.declared.word.Word.TheVariants as word
-use Rattle.gx_syntax.specs.declared.word.WordSet.{WordSet}
-use Rattle.gx_syntax.specs.declared.word.WordSet.TheVariants as set
+use Rattle.gx_parse_grammar.specs.declared.word.Barrier.{Barrier}
+use Rattle.gx_parse_grammar.specs.declared.word.Barrier.TheVariants as barrier
+use Rattle.gx_parse_grammar.specs.declared.word.Word.TheVariants as word
+use Rattle.gx_parse_grammar.specs.declared.word.WordSet.{WordSet}
+use Rattle.gx_parse_grammar.specs.declared.word.WordSet.TheVariants as set
 use Rattle.gx_parse.specs.declared.parts.Sign.{Sign}
 use Rattle.gx_parse.specs.declared.members.Members.{Members}
 use Rattle.gx_parse.specs.declared.members.Members.TheVariants.{Singles, Operands, Steps}
-use Rattle.gx_syntax.specs.Nodes.{Made, Operator, Join, join_binary, join_path, join_comma, joined_to, chain_value, is_minus, trees_in, tree, place_of}
-use Rattle.gx_syntax.specs.Grammar.{Phrase, word_of, lexeme, at_tokens, single, level_at, is_single, more, stop, step, filtered_step, signed_path, ladder, place_in}
-use Rattle.gx_scan.specs.Reading.{read_in}
+use Rattle.gx_parse_grammar.specs.Nodes.{Made, Operator, Join, join_binary, join_path, join_comma, joined_to, chain_value, is_minus, trees_in, tree, place_of}
+use Rattle.gx_parse_grammar.specs.Grammar.{Phrase, word_of, lexeme, at_tokens, single, level_at, is_single, more, stop, step, filtered_step, signed_path, ladder, place_in}
+use Rattle.gx_parse_tokens.specs.Reading.{read_in}
 
 -- of the members of a chain: the words between them, how they are joined, what each is, what stands behind the last
 -- one that may stand, and how many may stand behind the first

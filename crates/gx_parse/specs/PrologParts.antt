@@ -12,14 +12,14 @@ use Rattle.gx_ast.specs.declared.query.Definition.{Definition}
 use Rattle.gx_ast.specs.declared.query.DefinitionNode.{DefinitionNode}
 use Rattle.gx_grammar.specs.Value.{nothing, characters, node, pair, no_item}
 use Rattle.gx_grammar.specs.Grammar.{token, ◌&◌, keyed, made}
-use Rattle.gx_syntax.specs.declared.word.Word.{Word}
-use Rattle.gx_syntax.specs.declared.word.Word.TheVariants as word
-use Rattle.gx_syntax.specs.Nodes.{Made, Found, Encoding, MaybeVersion, Prefixes, Imports, Says, Sets, Starts, Takes, Gives, Defines}
-use Rattle.gx_syntax.specs.Tokens.{gap}
-use Rattle.gx_syntax.specs.Basics.{Phrase, word_of, lexeme}
+use Rattle.gx_parse_grammar.specs.declared.word.Word.{Word}
+use Rattle.gx_parse_grammar.specs.declared.word.Word.TheVariants as word
+use Rattle.gx_parse_grammar.specs.Nodes.{Made, Found, Encoding, MaybeVersion, Prefixes, Imports, Says, Sets, Starts, Takes, Gives, Defines}
+use Rattle.gx_parse_grammar.specs.Tokens.{gap}
+use Rattle.gx_parse_grammar.specs.Basics.{Phrase, word_of, lexeme}
 use Rattle.gx_parse.specs.Repeated.{listed_before}
-use Rattle.gx_syntax.specs.Prolog.{setter_found, setter, schema_import, setting_value, text_literal, more_locations, parameter, setting, definition}
-use Rattle.gx_syntax.specs.Tokens.{setter_words, import_words}
+use Rattle.gx_parse_grammar.specs.Prolog.{setter_found, setter, schema_import, setting_value, text_literal, more_locations, parameter, setting, definition}
+use Rattle.gx_parse_grammar.specs.Tokens.{setter_words, import_words}
 
 abbrev pub prefix_made : Prefix → Made
 prefix_made p = node (Prefixes p)

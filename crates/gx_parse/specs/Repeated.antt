@@ -4,10 +4,10 @@ use Rattle.gx_grammar.specs.Grammar.{Guard}
 use Rattle.gx_grammar.specs.Value.{an_item}
 use Rattle.gx_grammar.specs.Reading.{State, Reading, repeat}
 use Rattle.gx_grammar.specs.Ran.{Standing, Ran}
-use Rattle.gx_syntax.specs.Nodes.{Made}
-use Rattle.gx_syntax.specs.Basics.{Phrase}
-use Rattle.gx_scan.specs.Reading.{read_in}
-use Rattle.gx_scan.specs.Reading.{Added}
+use Rattle.gx_parse_grammar.specs.Nodes.{Made}
+use Rattle.gx_parse_grammar.specs.Basics.{Phrase}
+use Rattle.gx_parse_tokens.specs.Reading.{read_in}
+use Rattle.gx_parse_tokens.specs.Reading.{Added}
 
 -- items, in front of what else was read
 abbrev pub listed_before : {A : Type 0} → (A → Made) → List A → Made → Made

@@ -2,11 +2,11 @@
 use Rattle.std.specs.Prelude.{◌≡◌, ◌⊎◌, ℕ, List, [], ◌∷◌, ◌++◌}
 use Rattle.gx_grammar.specs.Reading.{State, Reading, repeat}
 use Rattle.gx_grammar.specs.Ran.{Standing, Ran, Loses}
-use Rattle.gx_syntax.specs.declared.runs.Quote.{Quote}
-use Rattle.gx_syntax.specs.Nodes.{Made}
-use Rattle.gx_syntax.specs.Basics.{Phrase, at_tokens}
-use Rattle.gx_scan.specs.Reading.{read_in}
-use Rattle.gx_syntax.specs.Strings.{texts_in, parts_of, string_part}
+use Rattle.gx_parse_grammar.specs.declared.runs.Quote.{Quote}
+use Rattle.gx_parse_grammar.specs.Nodes.{Made}
+use Rattle.gx_parse_grammar.specs.Basics.{Phrase, at_tokens}
+use Rattle.gx_parse_tokens.specs.Reading.{read_in}
+use Rattle.gx_parse_grammar.specs.Strings.{texts_in, parts_of, string_part}
 
 -- A part of the grammar was read, whose value stands for the text.
 pub record TextRead (A : Phrase) (stands_for : Made → List ℕ) (text : List ℕ) (before after : Standing) : Type 0 where

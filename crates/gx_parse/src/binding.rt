@@ -4,15 +4,15 @@ ghost use Rattle.std.specs.Prelude.{◌≡◌, ◌&&◌, ℕ, List, zero};
 ghost use Rattle.gx_ast.specs.SyntaxView.{bindings_of};
 ghost use Rattle.gx_grammar.specs.Value.{node, nothing};
 ghost use Rattle.gx_grammar.specs.Ran.{Ran, Standing};
-ghost use Rattle.gx_syntax.specs.Binding.{has_levels, bound_to, first_bound, head, more_bindings, position_of};
-ghost use Rattle.gx_syntax.specs.Bound.{bound, bound_made, bound_type, kind_made, position, position_made};
-ghost use Rattle.gx_syntax.specs.Grammar.{Phrase, place_in};
+ghost use Rattle.gx_parse_grammar.specs.Binding.{has_levels, bound_to, first_bound, head, more_bindings, position_of};
+ghost use Rattle.gx_parse_grammar.specs.Bound.{bound, bound_made, bound_type, kind_made, position, position_made};
+ghost use Rattle.gx_parse_grammar.specs.Grammar.{Phrase, place_in};
 ghost use Rattle.gx_parse.specs.Lists.{Grown, clause_made, head_made};
-ghost use Rattle.gx_syntax.specs.Nodes.{BindingClause};
-ghost use Rattle.gx_scan.specs.Reading.{read_in};
-ghost use Rattle.gx_syntax.specs.Types.{Gave};
-ghost use Rattle.gx_syntax.specs.Words.{is_keyword};
-ghost use Rattle.gx_syntax.specs.declared.word.Binder.{Binder as BinderOf};
+ghost use Rattle.gx_parse_grammar.specs.Nodes.{BindingClause};
+ghost use Rattle.gx_parse_tokens.specs.Reading.{read_in};
+ghost use Rattle.gx_parse_grammar.specs.Types.{Gave};
+ghost use Rattle.gx_parse_grammar.specs.Words.{is_keyword};
+ghost use Rattle.gx_parse_grammar.specs.declared.word.Binder.{Binder as BinderOf};
 
 use crate::bound::{bound, bound_type, position};
 use crate::parts::lexeme;
@@ -21,9 +21,9 @@ use gx_ast::expression::{Binding, Clause};
 use gx_ast::name::Variable;
 use gx_ast::sequence_type::{BoundVariable, SequenceType};
 use gx_base::place::Place;
-use gx_scan::reader::Reader;
-use gx_scan::source::Source;
-use gx_syntax::word::{Binder, ClauseWord, Word, WordSet};
+use gx_parse_tokens::reader::Reader;
+use gx_parse_tokens::source::Source;
+use gx_parse_grammar::word::{Binder, ClauseWord, Word, WordSet};
 
 // Reads a variable behind its `$`.
 fn first_bound(reader: &mut Reader<'_>, source: &Source<'_>) -> Option<Variable>

@@ -2,18 +2,18 @@
 
 ghost use Rattle.std.specs.Prelude.{◌≡◌, ℕ};
 ghost use Rattle.gx_grammar.specs.Ran.{Ran};
-ghost use Rattle.gx_syntax.specs.Bound.{bound, bound_made, bound_type, case_variable, default_variable, direction, direction_made, empty_of, extreme, extreme_made, is_descending, key_order, kind_made, order_made, position, position_made};
-ghost use Rattle.gx_syntax.specs.Grammar.{place_in};
-ghost use Rattle.gx_scan.specs.Reading.{read_in};
-ghost use Rattle.gx_syntax.specs.Types.{Gave};
+ghost use Rattle.gx_parse_grammar.specs.Bound.{bound, bound_made, bound_type, case_variable, default_variable, direction, direction_made, empty_of, extreme, extreme_made, is_descending, key_order, kind_made, order_made, position, position_made};
+ghost use Rattle.gx_parse_grammar.specs.Grammar.{place_in};
+ghost use Rattle.gx_parse_tokens.specs.Reading.{read_in};
+ghost use Rattle.gx_parse_grammar.specs.Types.{Gave};
 
 use crate::parts::lexeme;
 use crate::types::{sequence_type, written_name};
 use gx_ast::name::Variable;
 use gx_ast::sequence_type::{EmptyOrder, KeyOrder, SequenceType};
-use gx_scan::reader::Reader;
-use gx_scan::source::Source;
-use gx_syntax::word::{Word, WordSet};
+use gx_parse_tokens::reader::Reader;
+use gx_parse_tokens::source::Source;
+use gx_parse_grammar::word::{Word, WordSet};
 
 /// Reads a variable (XQuery 1.0, section 3.1.2).
 pub fn bound(reader: &mut Reader<'_>, source: &Source<'_>) -> Option<Variable>

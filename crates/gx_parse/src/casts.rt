@@ -3,20 +3,20 @@
 ghost use Rattle.std.specs.Prelude.{◌≡◌, ℕ, IfOk};
 ghost use Rattle.gx_ast.specs.SyntaxTree.{at};
 ghost use Rattle.gx_grammar.specs.Ran.{Ran, Standing};
-ghost use Rattle.gx_syntax.specs.Casts.{cast_form, cast_test, casts, test_form, type_test};
-ghost use Rattle.gx_syntax.specs.Grammar.{Phrase, place_in};
-ghost use Rattle.gx_syntax.specs.Nodes.{tree};
-ghost use Rattle.gx_scan.specs.Reading.{read_in};
+ghost use Rattle.gx_parse_grammar.specs.Casts.{cast_form, cast_test, casts, test_form, type_test};
+ghost use Rattle.gx_parse_grammar.specs.Grammar.{Phrase, place_in};
+ghost use Rattle.gx_parse_grammar.specs.Nodes.{tree};
+ghost use Rattle.gx_parse_tokens.specs.Reading.{read_in};
 
 use crate::parts::{keep, lexeme, operator};
 use crate::types::{sequence_type, single_type};
 use gx_ast::expression::{Expr, ExprNode};
 use gx_ast::sequence_type::{SequenceType, SingleType};
 use gx_base::place::Place;
-use gx_scan::reader::Reader;
-use gx_scan::source::Source;
-use gx_syntax::casts::{CastTest, TypeTest};
-use gx_syntax::word::{Word, WordSet};
+use gx_parse_tokens::reader::Reader;
+use gx_parse_tokens::source::Source;
+use gx_parse_grammar::casts::{CastTest, TypeTest};
+use gx_parse_grammar::word::{Word, WordSet};
 use std::alloc::{AllocError, Global};
 
 // The tree of an operator with a sequence type.

@@ -3,12 +3,12 @@
 ghost use Rattle.std.specs.Prelude.{◌≡◌, ◌+◌, ℕ};
 ghost use Rattle.gx_grammar.specs.Ran.{Ran, Standing, left_of};
 ghost use Rattle.gx_parse.specs.Parsing.{Passes};
-ghost use Rattle.gx_scan.specs.Names.{name_made};
-ghost use Rattle.gx_scan.specs.Reading.{read_in};
-ghost use Rattle.gx_scan.specs.declared.names.ReadName.{ReadName};
-ghost use Rattle.gx_syntax.specs.Grammar.{Phrase, computed, constructor_name, named_node, place_in, step_of};
-ghost use Rattle.gx_syntax.specs.Nodes.{name_length, tree};
-ghost use Rattle.gx_syntax.specs.Types.{Gave, named};
+ghost use Rattle.gx_parse_tokens.specs.Names.{name_made};
+ghost use Rattle.gx_parse_tokens.specs.Reading.{read_in};
+ghost use Rattle.gx_parse_tokens.specs.declared.names.ReadName.{ReadName};
+ghost use Rattle.gx_parse_grammar.specs.Grammar.{Phrase, computed, constructor_name, named_node, place_in, step_of};
+ghost use Rattle.gx_parse_grammar.specs.Nodes.{name_length, tree};
+ghost use Rattle.gx_parse_grammar.specs.Types.{Gave, named};
 
 use crate::operators::expression;
 use crate::parts::{keep, lexeme};
@@ -16,9 +16,9 @@ use crate::trees;
 use gx_ast::expression::Expr;
 use gx_ast::name::QName;
 use gx_base::place::Place;
-use gx_scan::reader::Reader;
-use gx_scan::source::Source;
-use gx_syntax::word::{ComputedNode, NamedNode, Word, WordSet};
+use gx_parse_tokens::reader::Reader;
+use gx_parse_tokens::source::Source;
+use gx_parse_grammar::word::{ComputedNode, NamedNode, Word, WordSet};
 
 /// Reads a computed document or text node behind the gap of its word, which stood at the place.
 #[cycle(parsing)]

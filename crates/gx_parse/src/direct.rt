@@ -5,17 +5,17 @@ ghost use Rattle.gx_ast.specs.SyntaxView.{attribute_parts_of, attributes_of, par
 ghost use Rattle.gx_grammar.specs.Grammar.{rule};
 ghost use Rattle.gx_grammar.specs.Ran.{Ran};
 ghost use Rattle.gx_grammar.specs.Value.{no_item, node, nothing};
-ghost use Rattle.gx_syntax.specs.Basics.{name, nested, within};
-ghost use Rattle.gx_syntax.specs.Direct.{attribute, attribute_value, attributes, behind_attribute, brace_piece, cdata, content, content_if_any, content_piece, direct_step, element_at, end_tag, piece_made, plain_piece, reference_piece, start_of, symbol_piece, text_piece, value_in, value_piece, value_pieces};
+ghost use Rattle.gx_parse_grammar.specs.Basics.{name, nested, within};
+ghost use Rattle.gx_parse_grammar.specs.Direct.{attribute, attribute_value, attributes, behind_attribute, brace_piece, cdata, content, content_if_any, content_piece, direct_step, element_at, end_tag, piece_made, plain_piece, reference_piece, start_of, symbol_piece, text_piece, value_in, value_piece, value_pieces};
 ghost use Rattle.gx_parse.specs.DirectReading.{MadeOrLost, OnePiece, attribute_made, ends_text};
-ghost use Rattle.gx_syntax.specs.Grammar.{place_in};
+ghost use Rattle.gx_parse_grammar.specs.Grammar.{place_in};
 ghost use Rattle.gx_parse.specs.Lists.{OneMore};
-ghost use Rattle.gx_scan.specs.Names.{name_made};
-ghost use Rattle.gx_syntax.specs.Nodes.{AttributesAre, Made, PartsAre, ValueIs, tree};
-ghost use Rattle.gx_syntax.specs.Pieces.{content_of, attribute_value_of};
-ghost use Rattle.gx_scan.specs.Reading.{call, read_in};
+ghost use Rattle.gx_parse_tokens.specs.Names.{name_made};
+ghost use Rattle.gx_parse_grammar.specs.Nodes.{AttributesAre, Made, PartsAre, ValueIs, tree};
+ghost use Rattle.gx_parse_grammar.specs.Pieces.{content_of, attribute_value_of};
+ghost use Rattle.gx_parse_tokens.specs.Reading.{call, read_in};
 ghost use Rattle.gx_parse.specs.Repeated.{listed_before};
-ghost use Rattle.gx_syntax.specs.Types.{Gave, named};
+ghost use Rattle.gx_parse_grammar.specs.Types.{Gave, named};
 
 use crate::operators::expression;
 use crate::parts::{keep, with_item};
@@ -24,12 +24,12 @@ use crate::trees::{self, fitted};
 use gx_ast::expression::{AttributePart, DirectAttribute, Expr, Part};
 use gx_ast::name::QName;
 use gx_base::text_builder::TextBuilder;
-use gx_scan::names::ReadName;
-use gx_scan::reader::Reader;
-use gx_scan::source::Source;
-use gx_syntax::pieces::{Piece, attribute_value_of, content_of};
-use gx_syntax::runs::{Quote, Run};
-use gx_syntax::word::{Barrier, Word, WordSet};
+use gx_parse_tokens::names::ReadName;
+use gx_parse_tokens::reader::Reader;
+use gx_parse_tokens::source::Source;
+use gx_parse_grammar::pieces::{Piece, attribute_value_of, content_of};
+use gx_parse_grammar::runs::{Quote, Run};
+use gx_parse_grammar::word::{Barrier, Word, WordSet};
 
 // The parts of the content that was read so far, and the pieces behind them, which come to no parts yet.
 #[derive(Drop)]

@@ -3,15 +3,15 @@
 ghost use Rattle.std.specs.Prelude.{ℕ, List, zero};
 ghost use Rattle.gx_grammar.specs.Value.{nothing};
 ghost use Rattle.gx_grammar.specs.Ran.{Ran};
-ghost use Rattle.gx_syntax.specs.Grammar.{place_in};
-ghost use Rattle.gx_syntax.specs.Keys.{more_keys};
+ghost use Rattle.gx_parse_grammar.specs.Grammar.{place_in};
+ghost use Rattle.gx_parse_grammar.specs.Keys.{more_keys};
 ghost use Rattle.gx_parse.specs.Lists.{Grown};
-ghost use Rattle.gx_scan.specs.Reading.{read_in};
+ghost use Rattle.gx_parse_tokens.specs.Reading.{read_in};
 
 use crate::parts::lexeme;
 use gx_ast::expression::Key;
-use gx_scan::reader::Reader;
-use gx_syntax::word::{Barrier, Word, WordSet};
+use gx_parse_tokens::reader::Reader;
+use gx_parse_grammar::word::{Barrier, Word, WordSet};
 
 /// Reads a comma behind as many sort keys as may stand, if one stands there.
 pub fn last_key(reader: &mut Reader<'_>)

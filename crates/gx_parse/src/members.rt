@@ -1,11 +1,11 @@
 // The members of chains.
 
 ghost use Rattle.std.specs.Prelude.{◌≡◌};
-ghost use Rattle.gx_syntax.specs.Grammar.{is_single, level_at};
+ghost use Rattle.gx_parse_grammar.specs.Grammar.{is_single, level_at};
 ghost use Rattle.gx_parse.specs.Parsing.{barrier_of, is_pair, most_of, set_of};
 
 use gx_base::limits::CHAIN_MEMBERS;
-use gx_syntax::word::{Barrier, Level, Word, WordSet};
+use gx_parse_grammar::word::{Barrier, Level, Word, WordSet};
 
 /// The members of a chain (XQuery 1.0, section 3).
 #[derive(Clone, Copy, Debug, PartialEq, Eq)]

@@ -3,13 +3,13 @@
 ghost use Rattle.std.specs.Prelude.{◌≡◌, ◌+◌, ℕ, IfOk};
 ghost use Rattle.gx_ast.specs.declared.sequence_type.NodeTest.TheVariants as node_test_is;
 ghost use Rattle.gx_grammar.specs.Ran.{Ran, left_of};
-ghost use Rattle.gx_syntax.specs.Grammar.{place_in, test_or_literal};
-ghost use Rattle.gx_scan.specs.Names.{name_made};
-ghost use Rattle.gx_syntax.specs.NodeTests.{any_step, any_test, attribute_step, axis_test, behind_test, in_namespace, kind_content, maybe_content, node_test, test_made, test_of, wildcard, wildcard_step};
+ghost use Rattle.gx_parse_grammar.specs.Grammar.{place_in, test_or_literal};
+ghost use Rattle.gx_parse_tokens.specs.Names.{name_made};
+ghost use Rattle.gx_parse_grammar.specs.NodeTests.{any_step, any_test, attribute_step, axis_test, behind_test, in_namespace, kind_content, maybe_content, node_test, test_made, test_of, wildcard, wildcard_step};
 ghost use Rattle.gx_parse.specs.Parsing.{KeepsTest};
-ghost use Rattle.gx_syntax.specs.Nodes.{name_at, name_length, tree};
-ghost use Rattle.gx_scan.specs.Reading.{read_in};
-ghost use Rattle.gx_syntax.specs.Types.{Gave};
+ghost use Rattle.gx_parse_grammar.specs.Nodes.{name_at, name_length, tree};
+ghost use Rattle.gx_parse_tokens.specs.Reading.{read_in};
+ghost use Rattle.gx_parse_grammar.specs.Types.{Gave};
 
 use crate::parts::lexeme;
 use crate::strings::literal;
@@ -20,12 +20,12 @@ use gx_ast::expression::Expr;
 use gx_ast::name::{Axis, NameTest, QName};
 use gx_ast::sequence_type::NodeTest;
 use gx_base::place::Place;
-use gx_scan::kind_words::{kind_test, kind_word};
-use gx_scan::names::ReadName;
-use gx_scan::reader::Reader;
-use gx_scan::source::Source;
-use gx_syntax::kind_words::{KindWord, TestContent};
-use gx_syntax::word::{Word, WordSet};
+use gx_parse_tokens::kind_words::{kind_test, kind_word};
+use gx_parse_tokens::names::ReadName;
+use gx_parse_tokens::reader::Reader;
+use gx_parse_tokens::source::Source;
+use gx_parse_grammar::kind_words::{KindWord, TestContent};
+use gx_parse_grammar::word::{Word, WordSet};
 use std::alloc::{AllocError, Global};
 
 /// The test that a name test is.

@@ -1,10 +1,10 @@
 // The operators of expressions.
 
 ghost use Rattle.gx_grammar.specs.Ran.{Ran, Standing};
-ghost use Rattle.gx_syntax.specs.Grammar.{Phrase, expression, ladder, other_operand, place_in, signed_path};
-ghost use Rattle.gx_syntax.specs.Nodes.{tree};
+ghost use Rattle.gx_parse_grammar.specs.Grammar.{Phrase, expression, ladder, other_operand, place_in, signed_path};
+ghost use Rattle.gx_parse_grammar.specs.Nodes.{tree};
 ghost use Rattle.gx_parse.specs.Parsing.{chain_of, member_of};
-ghost use Rattle.gx_scan.specs.Reading.{read_in};
+ghost use Rattle.gx_parse_tokens.specs.Reading.{read_in};
 
 use crate::casts::casts;
 use crate::members::Members;
@@ -13,9 +13,9 @@ use crate::paths::{filtered, other_step, path, step};
 use crate::singles::single;
 use crate::trees;
 use gx_ast::expression::Expr;
-use gx_scan::reader::Reader;
-use gx_scan::source::Source;
-use gx_syntax::word::WordSet;
+use gx_parse_tokens::reader::Reader;
+use gx_parse_tokens::source::Source;
+use gx_parse_grammar::word::WordSet;
 
 /// Reads an expression. So many singles may stand one inside another in it.
 #[cycle(parsing)]

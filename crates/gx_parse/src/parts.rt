@@ -3,21 +3,21 @@
 ghost use Rattle.std.specs.Prelude.{◌≡◌, ℕ, List, IfOk};
 ghost use Rattle.gx_grammar.specs.Value.{node, nothing, pair};
 ghost use Rattle.gx_grammar.specs.Ran.{Makes, Ran};
-ghost use Rattle.gx_syntax.specs.Grammar.{dots, infix_operator, keyword, lexeme, more_signs, numeral, operator, place_in, variable_step};
-ghost use Rattle.gx_syntax.specs.Nodes.{Found, Operator, tree};
+ghost use Rattle.gx_parse_grammar.specs.Grammar.{dots, infix_operator, keyword, lexeme, more_signs, numeral, operator, place_in, variable_step};
+ghost use Rattle.gx_parse_grammar.specs.Nodes.{Found, Operator, tree};
 ghost use Rattle.gx_parse.specs.Lists.{Grown};
 ghost use Rattle.gx_parse.specs.Parsing.{KeepsTree, join_of, last_of, signs_made, wrapped};
-ghost use Rattle.gx_scan.specs.Reading.{Added};
-ghost use Rattle.gx_scan.specs.Reading.{read_in};
-ghost use Rattle.gx_syntax.specs.Tokens.{one_of};
+ghost use Rattle.gx_parse_tokens.specs.Reading.{Added};
+ghost use Rattle.gx_parse_tokens.specs.Reading.{read_in};
+ghost use Rattle.gx_parse_grammar.specs.Tokens.{one_of};
 
 use crate::members::Members;
 use crate::trees;
 use gx_ast::expression::Expr;
 use gx_base::place::Place;
-use gx_scan::reader::Reader;
-use gx_scan::source::Source;
-use gx_syntax::word::{Barrier, Word, WordSet};
+use gx_parse_tokens::reader::Reader;
+use gx_parse_tokens::source::Source;
+use gx_parse_grammar::word::{Barrier, Word, WordSet};
 use std::alloc::AllocError;
 
 /// A sign at its place.

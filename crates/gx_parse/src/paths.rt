@@ -4,14 +4,14 @@ ghost use Rattle.std.specs.Prelude.{◌≡◌, ◌+◌, None};
 ghost use Rattle.gx_ast.specs.SyntaxView.{trees_of};
 ghost use Rattle.gx_grammar.specs.Value.{node, nothing};
 ghost use Rattle.gx_grammar.specs.Ran.{Ran, Standing, left_of};
-ghost use Rattle.gx_syntax.specs.Grammar.{Phrase, after_axis, after_name, arguments, arguments_in, behind_any_name, constructed, filtered_step, more_arguments, more_predicates, other_step, parenthesised_step, path_from, place_in, predicate, step, step_of};
-ghost use Rattle.gx_scan.specs.Names.{name_made};
-ghost use Rattle.gx_syntax.specs.Computed.{computed_named};
-ghost use Rattle.gx_syntax.specs.NodeTests.{axis_word};
-ghost use Rattle.gx_syntax.specs.Nodes.{Arguments, name_length, tree};
+ghost use Rattle.gx_parse_grammar.specs.Grammar.{Phrase, after_axis, after_name, arguments, arguments_in, behind_any_name, constructed, filtered_step, more_arguments, more_predicates, other_step, parenthesised_step, path_from, place_in, predicate, step, step_of};
+ghost use Rattle.gx_parse_tokens.specs.Names.{name_made};
+ghost use Rattle.gx_parse_grammar.specs.Computed.{computed_named};
+ghost use Rattle.gx_parse_grammar.specs.NodeTests.{axis_word};
+ghost use Rattle.gx_parse_grammar.specs.Nodes.{Arguments, name_length, tree};
 ghost use Rattle.gx_parse.specs.Parsing.{Listed, Passes, predicates_before};
-ghost use Rattle.gx_scan.specs.Reading.{Added};
-ghost use Rattle.gx_scan.specs.Reading.{read_in};
+ghost use Rattle.gx_parse_tokens.specs.Reading.{Added};
+ghost use Rattle.gx_parse_tokens.specs.Reading.{read_in};
 
 use crate::computed::{computed_constructor, named_constructor};
 use crate::direct::direct_step;
@@ -23,11 +23,11 @@ use crate::singles::single;
 use crate::trees;
 use gx_ast::expression::{Expr, ExprNode};
 use gx_base::place::Place;
-use gx_scan::kind_words::{axis_word, kind_word};
-use gx_scan::names::ReadName;
-use gx_scan::reader::Reader;
-use gx_scan::source::Source;
-use gx_syntax::word::{Barrier, Word, WordSet};
+use gx_parse_tokens::kind_words::{axis_word, kind_word};
+use gx_parse_tokens::names::ReadName;
+use gx_parse_tokens::reader::Reader;
+use gx_parse_tokens::source::Source;
+use gx_parse_grammar::word::{Barrier, Word, WordSet};
 
 // So many predicates may stand behind a step.
 const PREDICATES: u8 = 64;

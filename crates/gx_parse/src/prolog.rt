@@ -3,15 +3,15 @@
 ghost use Rattle.std.specs.Prelude.{◌≡◌, ℕ, List, IfSome, MatchOption};
 ghost use Rattle.gx_grammar.specs.Value.{characters, node, no_item};
 ghost use Rattle.gx_grammar.specs.Ran.{Loses, Ran};
-ghost use Rattle.gx_syntax.specs.Grammar.{lexeme, place_in, word_of};
+ghost use Rattle.gx_parse_grammar.specs.Grammar.{lexeme, place_in, word_of};
 ghost use Rattle.gx_parse.specs.Lists.{OneMore};
-ghost use Rattle.gx_syntax.specs.Nodes.{MaybeVersion, Whole};
-ghost use Rattle.gx_scan.specs.Reading.{Added};
-ghost use Rattle.gx_syntax.specs.Prolog.{boundary_space_setter, construction_setter, copy_setter, default_namespace, default_schema, default_setter, definer, definition, definitions, empty_order_setter, encoding, function_definer, initialiser, maybe_version, more_locations, more_parameters, named_schema, namespace_setter, empty_order_of, ordering_setter, parameter, parameters, prefix, preserves, query, schema_import, schema_prefix, setter, setting, settings, text_literal, text_of, variable_definer, version};
+ghost use Rattle.gx_parse_grammar.specs.Nodes.{MaybeVersion, Whole};
+ghost use Rattle.gx_parse_tokens.specs.Reading.{Added};
+ghost use Rattle.gx_parse_grammar.specs.Prolog.{boundary_space_setter, construction_setter, copy_setter, default_namespace, default_schema, default_setter, definer, definition, definitions, empty_order_setter, encoding, function_definer, initialiser, maybe_version, more_locations, more_parameters, named_schema, namespace_setter, empty_order_of, ordering_setter, parameter, parameters, prefix, preserves, query, schema_import, schema_prefix, setter, setting, settings, text_literal, text_of, variable_definer, version};
 ghost use Rattle.gx_parse.specs.PrologParts.{HasFirst, closed_definition, closed_setting, declared_setting, definition_item, definition_made, encoding_made, further_location, further_parameter, gapped, gives_made, imported_setting, imports_made, location_item, locations, locations_made, parameter_item, parameter_made, parameters_made, prefix_made, says_made, setting_item, setting_made, starts_made, version_made};
-ghost use Rattle.gx_scan.specs.Reading.{read_in};
+ghost use Rattle.gx_parse_tokens.specs.Reading.{read_in};
 ghost use Rattle.gx_parse.specs.Repeated.{listed_before};
-ghost use Rattle.gx_syntax.specs.Types.{Gave};
+ghost use Rattle.gx_parse_grammar.specs.Types.{Gave};
 
 use crate::binding::kind_of;
 use crate::bound::bound;
@@ -29,10 +29,10 @@ use gx_ast::sequence_type::EmptyOrder;
 use gx_base::limits::NESTING;
 use gx_base::text::Text;
 use gx_base::text_builder::TextBuilder;
-use gx_scan::reader::Reader;
-use gx_scan::source::Source;
-use gx_syntax::runs::Quote;
-use gx_syntax::word::{Definer, Setter, Word, WordSet};
+use gx_parse_tokens::reader::Reader;
+use gx_parse_tokens::source::Source;
+use gx_parse_grammar::runs::Quote;
+use gx_parse_grammar::word::{Definer, Setter, Word, WordSet};
 
 // Reads a word with the gap behind it.
 fn symbol(reader: &mut Reader<'_>, word: Word)

@@ -2,11 +2,11 @@
 
 ghost use Rattle.std.specs.Prelude.{◌≡◌, ◌+◌, suc};
 ghost use Rattle.gx_grammar.specs.Ran.{Ran, left_of};
-ghost use Rattle.gx_syntax.specs.Binding.{opened};
-ghost use Rattle.gx_syntax.specs.Grammar.{begun, behind_keyword, named_single, place_in, single};
-ghost use Rattle.gx_scan.specs.Names.{name_made};
-ghost use Rattle.gx_syntax.specs.Nodes.{Made, name_length, tree};
-ghost use Rattle.gx_scan.specs.Reading.{call, read_in};
+ghost use Rattle.gx_parse_grammar.specs.Binding.{opened};
+ghost use Rattle.gx_parse_grammar.specs.Grammar.{begun, behind_keyword, named_single, place_in, single};
+ghost use Rattle.gx_parse_tokens.specs.Names.{name_made};
+ghost use Rattle.gx_parse_grammar.specs.Nodes.{Made, name_length, tree};
+ghost use Rattle.gx_parse_tokens.specs.Reading.{call, read_in};
 
 use crate::branches::branched;
 use crate::flwor::{flwor, quantified};
@@ -17,10 +17,10 @@ use crate::paths::{arguments_in, named_step, path};
 use crate::trees;
 use gx_ast::expression::Expr;
 use gx_base::place::Place;
-use gx_scan::names::ReadName;
-use gx_scan::reader::Reader;
-use gx_scan::source::Source;
-use gx_syntax::word::{Barrier, Opening};
+use gx_parse_tokens::names::ReadName;
+use gx_parse_tokens::reader::Reader;
+use gx_parse_tokens::source::Source;
+use gx_parse_grammar::word::{Barrier, Opening};
 
 /// Reads a single, where so many may stand one inside another, itself among them.
 #[cycle(parsing)]

@@ -2,21 +2,21 @@
 
 ghost use Rattle.std.specs.Prelude.{◌≡◌, ℕ, List};
 ghost use Rattle.gx_grammar.specs.Ran.{Ran};
-ghost use Rattle.gx_syntax.specs.Grammar.{literal, place_in};
-ghost use Rattle.gx_syntax.specs.Nodes.{tree};
-ghost use Rattle.gx_scan.specs.Reading.{Added};
-ghost use Rattle.gx_scan.specs.Reading.{read_in};
-ghost use Rattle.gx_syntax.specs.Strings.{part_text, quoted, string_of, string_part, string_parts, text_in, texts_in};
+ghost use Rattle.gx_parse_grammar.specs.Grammar.{literal, place_in};
+ghost use Rattle.gx_parse_grammar.specs.Nodes.{tree};
+ghost use Rattle.gx_parse_tokens.specs.Reading.{Added};
+ghost use Rattle.gx_parse_tokens.specs.Reading.{read_in};
+ghost use Rattle.gx_parse_grammar.specs.Strings.{part_text, quoted, string_of, string_part, string_parts, text_in, texts_in};
 ghost use Rattle.gx_parse.specs.TextReading.{Pushes, TextRead};
 
 use crate::parts::{keep, numeral};
 use crate::trees;
 use gx_ast::expression::Expr;
 use gx_base::text_builder::TextBuilder;
-use gx_scan::reader::Reader;
-use gx_scan::source::Source;
-use gx_syntax::runs::{Quote, Run};
-use gx_syntax::word::WordSet;
+use gx_parse_tokens::reader::Reader;
+use gx_parse_tokens::source::Source;
+use gx_parse_grammar::runs::{Quote, Run};
+use gx_parse_grammar::word::WordSet;
 use std::alloc::Global;
 
 /// Adds a character.

@@ -2,11 +2,11 @@
 
 ghost use Rattle.std.specs.Prelude.{◌≡◌, IfOk, None, false};
 ghost use Rattle.gx_ast.specs.SyntaxTree.{at, binary as binary_form, comma, conditional, direct as direct_form, flwor as flwor_form, number as number_form, parenthesised as parenthesised_form, path as path_form, quantified as quantified_form, signed as signed_form, string as string_form, typeswitch as typeswitch_form, variable};
-ghost use Rattle.gx_syntax.specs.Nodes.{Found, binary_of, dots_value, is_minus, is_slashes, join_binary, join_comma, join_path, name_at, tree};
-ghost use Rattle.gx_syntax.specs.Computed.{computed_form, empty_form, named_form};
-ghost use Rattle.gx_syntax.specs.NodeTests.{step_tree, test_of};
+ghost use Rattle.gx_parse_grammar.specs.Nodes.{Found, binary_of, dots_value, is_minus, is_slashes, join_binary, join_comma, join_path, name_at, tree};
+ghost use Rattle.gx_parse_grammar.specs.Computed.{computed_form, empty_form, named_form};
+ghost use Rattle.gx_parse_grammar.specs.NodeTests.{step_tree, test_of};
 ghost use Rattle.gx_parse.specs.Parsing.{called_tree, filtered_tree, named_tree};
-ghost use Rattle.gx_scan.specs.Names.{name_made};
+ghost use Rattle.gx_parse_tokens.specs.Names.{name_made};
 ghost use Rattle.gx_grammar.specs.Value.{node, nothing, pair};
 ghost use Rattle.gx_ast.specs.SyntaxView.{attributes_of, bindings_of, cases_of, clauses_of, keys_of, parts_of, trees_of};
 
@@ -20,10 +20,10 @@ use gx_ast::sequence_type::{AxisStep, DefaultHead, NodeTest};
 use gx_base::place::Place;
 use gx_base::text_builder::TextBuilder;
 use gx_num::Number;
-use gx_scan::names::ReadName;
-use gx_scan::source::Source;
-use gx_syntax::kind_words::{KindWord, TestContent};
-use gx_syntax::word::{ComputedNode, NamedNode, Word};
+use gx_parse_tokens::names::ReadName;
+use gx_parse_tokens::source::Source;
+use gx_parse_grammar::kind_words::{KindWord, TestContent};
+use gx_parse_grammar::word::{ComputedNode, NamedNode, Word};
 use std::alloc::{AllocError, Global};
 
 /// The items in no more memory than they take, where that can be had.

@@ -2,22 +2,22 @@
 
 ghost use Rattle.std.specs.Prelude.{◌≡◌, ◌+◌, ℕ};
 ghost use Rattle.gx_grammar.specs.Ran.{Ran, left_of};
-ghost use Rattle.gx_syntax.specs.Grammar.{place_in};
-ghost use Rattle.gx_scan.specs.Names.{name_made};
-ghost use Rattle.gx_syntax.specs.Nodes.{name_length};
-ghost use Rattle.gx_scan.specs.Reading.{read_in};
-ghost use Rattle.gx_syntax.specs.Types.{Gave, bare_tail, behind_comma, behind_type, casting_made, content, content_made, declared, declared_content, document, document_test, empty_tail, item_tail, maybe_named, named, named_content, nothing_inside, sequence_type, single_type, tail_made, tested, tested_made, tested_name, type_made, type_tail, written_name};
+ghost use Rattle.gx_parse_grammar.specs.Grammar.{place_in};
+ghost use Rattle.gx_parse_tokens.specs.Names.{name_made};
+ghost use Rattle.gx_parse_grammar.specs.Nodes.{name_length};
+ghost use Rattle.gx_parse_tokens.specs.Reading.{read_in};
+ghost use Rattle.gx_parse_grammar.specs.Types.{Gave, bare_tail, behind_comma, behind_type, casting_made, content, content_made, declared, declared_content, document, document_test, empty_tail, item_tail, maybe_named, named, named_content, nothing_inside, sequence_type, single_type, tail_made, tested, tested_made, tested_name, type_made, type_tail, written_name};
 
 use crate::parts::lexeme;
 use gx_ast::name::QName;
 use gx_ast::sequence_type::{Indicator, SequenceType, SingleType, TestedName};
 use gx_base::place::Place;
-use gx_scan::kind_words::{indicator_of, type_of, type_word};
-use gx_scan::names::ReadName;
-use gx_scan::reader::Reader;
-use gx_scan::source::Source;
-use gx_syntax::kind_words::{KindWord, TestContent, TypeTail, TypeWord};
-use gx_syntax::word::{Word, WordSet};
+use gx_parse_tokens::kind_words::{indicator_of, type_of, type_word};
+use gx_parse_tokens::names::ReadName;
+use gx_parse_tokens::reader::Reader;
+use gx_parse_tokens::source::Source;
+use gx_parse_grammar::kind_words::{KindWord, TestContent, TypeTail, TypeWord};
+use gx_parse_grammar::word::{Word, WordSet};
 
 /// Reads a QName and its gap.
 pub fn written_name(reader: &mut Reader<'_>, source: &Source<'_>) -> Option<QName>

@@ -3,12 +3,12 @@
 ghost use Rattle.std.specs.Prelude.{ℕ, List, zero};
 ghost use Rattle.gx_grammar.specs.Value.{nothing};
 ghost use Rattle.gx_grammar.specs.Ran.{Ran};
-ghost use Rattle.gx_syntax.specs.Bound.{case_variable, default_variable, position_made};
-ghost use Rattle.gx_syntax.specs.Grammar.{place_in};
+ghost use Rattle.gx_parse_grammar.specs.Bound.{case_variable, default_variable, position_made};
+ghost use Rattle.gx_parse_grammar.specs.Grammar.{place_in};
 ghost use Rattle.gx_parse.specs.Lists.{Grown};
-ghost use Rattle.gx_scan.specs.Reading.{read_in};
-ghost use Rattle.gx_syntax.specs.Types.{sequence_type, type_made};
-ghost use Rattle.gx_syntax.specs.Typeswitch.{case_head, case_head_made, default_head, default_head_made, more_cases};
+ghost use Rattle.gx_parse_tokens.specs.Reading.{read_in};
+ghost use Rattle.gx_parse_grammar.specs.Types.{sequence_type, type_made};
+ghost use Rattle.gx_parse_grammar.specs.Typeswitch.{case_head, case_head_made, default_head, default_head_made, more_cases};
 
 use crate::bound::{case_variable, default_variable};
 use crate::parts::{keyword, lexeme};
@@ -17,9 +17,9 @@ use gx_ast::expression::Case;
 use gx_ast::name::Variable;
 use gx_ast::sequence_type::{CaseHead, DefaultHead, SequenceType};
 use gx_base::place::Place;
-use gx_scan::reader::Reader;
-use gx_scan::source::Source;
-use gx_syntax::word::{Word, WordSet};
+use gx_parse_tokens::reader::Reader;
+use gx_parse_tokens::source::Source;
+use gx_parse_grammar::word::{Word, WordSet};
 
 // Reads the variable of a case, if one stands there.
 fn variable_of_case(reader: &mut Reader<'_>, source: &Source<'_>) -> Option<Variable>

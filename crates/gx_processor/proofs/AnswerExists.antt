@@ -38,8 +38,8 @@ use Rattle.gx_types.specs.SequenceType.{SequenceType}
 use Rattle.gx_io.specs.Load.{file_of}
 use Rattle.gx_base.specs.declared.place.Place.{Place}
 use Rattle.gx_ast.specs.declared.query.Query.{Query as SyntaxQuery}
-use Rattle.gx_syntax.specs.Query.{Parsing, parsed, refused}
-use Rattle.gx_syntax.proofs.SomeParsing.{a_parsing_exists}
+use Rattle.gx_parse_grammar.specs.Query.{Parsing, parsed, refused}
+use Rattle.gx_parse_grammar.proofs.SomeParsing.{a_parsing_exists}
 use Rattle.gx_subtype.proofs.SomeText.{an_answer_text_exists}
 use Rattle.gx_processor.specs.RuleCode.{rule_code}
 use Rattle.gx_normal.specs.Unbuilt.{unbuilt_query}

@@ -28,8 +28,8 @@ use Rattle.gx_processor.specs.declared.status.Status.{Status}
 use Rattle.gx_processor.specs.declared.status.Status.TheVariants as status
 use Rattle.gx_base.specs.declared.place.Place.{Place}
 use Rattle.gx_ast.specs.declared.query.Query.{Query as SyntaxQuery}
-use Rattle.gx_syntax.specs.Query.{Parsing, parsed, refused}
-use Rattle.gx_syntax.proofs.OneParsing.{one_parsing}
+use Rattle.gx_parse_grammar.specs.Query.{Parsing, parsed, refused}
+use Rattle.gx_parse_grammar.proofs.OneParsing.{one_parsing}
 use Rattle.gx_normal.specs.Unbuilt.{unbuilt_query}
 use Rattle.gx_processor.specs.NamedQuery.{NamedQuery, named_query, unknown_name, query_named}
 use Rattle.gx_processor.specs.Command.{Command, run_file, check_file, query_file, command_of, command_named, is_operand, texts_to_compare}

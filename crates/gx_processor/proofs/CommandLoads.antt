@@ -9,7 +9,7 @@ use Rattle.gx_io.specs.Calls.{Loads}
 use Rattle.gx_io.specs.LibraryUse.{LibraryUse, LoadsOnly}
 use Rattle.gx_io.specs.Load.{file_of}
 use Rattle.gx_ast.specs.declared.query.Query.{Query as SyntaxQuery}
-use Rattle.gx_syntax.specs.Query.{parsed, Parses}
+use Rattle.gx_parse_grammar.specs.Query.{parsed, Parses}
 use Rattle.gx_xml.specs.Reading.{IsDocumentOf}
 use Rattle.gx_xml.specs.SourceTree.{SourceTree}
 use Rattle.gx_xml.proofs.OneReading.{one_document}

@@ -13,7 +13,7 @@ use Rattle.gx_core.specs.Expression.{outer_of}
 use Rattle.gx_static.specs.QueryJudgement.{QueryJudgement, query_typed, query_rejected, query_judged}
 use Rattle.gx_io.specs.Load.{file_of}
 use Rattle.gx_ast.specs.declared.query.Query.{Query as SyntaxQuery}
-use Rattle.gx_syntax.specs.Query.{Parsing, parsed, refused, Parses}
+use Rattle.gx_parse_grammar.specs.Query.{Parsing, parsed, refused, Parses}
 use Rattle.gx_normal.specs.Unbuilt.{unbuilt_query}
 use Rattle.gx_processor.specs.NamedQuery.{NamedQuery, named_query, unknown_name, query_named}
 use Rattle.gx_xml.specs.Reading.{IsDocumentOf}

@@ -11,9 +11,9 @@ use Rattle.gx_static.specs.QueryJudgement.{QueryJudgement, query_typed, query_ju
 use Rattle.gx_io.specs.Load.{file_of}
 use Rattle.gx_ast.specs.declared.query.Query.{Query as SyntaxQuery}
 use Rattle.gx_base.specs.declared.place.Place.{Place}
-use Rattle.gx_syntax.specs.Query.{Parsing, Parses, parsed, refused}
-use Rattle.gx_syntax.specs.declared.refusal.SyntaxRule.{SyntaxRule}
-use Rattle.gx_syntax.proofs.OneParsing.{one_parsing}
+use Rattle.gx_parse_grammar.specs.Query.{Parsing, Parses, parsed, refused}
+use Rattle.gx_parse_grammar.specs.declared.refusal.SyntaxRule.{SyntaxRule}
+use Rattle.gx_parse_grammar.proofs.OneParsing.{one_parsing}
 use Rattle.gx_normal.specs.Unbuilt.{unbuilt_query}
 use Rattle.gx_processor.specs.declared.refusal.Refusal.{Refusal}
 use Rattle.gx_processor.specs.declared.refusal.Refusal.TheVariants.{ReadFault, TooLong, Query, SchemaFile, Schema, Binding, Document, Dynamic, Memory}

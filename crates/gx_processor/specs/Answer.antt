@@ -29,7 +29,7 @@ use Rattle.gx_io.specs.Load.{file_of}
 use Rattle.gx_processor.specs.declared.status.Status.{Status}
 use Rattle.gx_processor.specs.declared.status.Status.TheVariants as status
 use Rattle.gx_ast.specs.declared.query.Query.{Query}
-use Rattle.gx_syntax.specs.Query.{Parsing, parsed, refused, Parses}
+use Rattle.gx_parse_grammar.specs.Query.{Parsing, parsed, refused, Parses}
 use Rattle.gx_processor.specs.RuleCode.{rule_code}
 use Rattle.gx_normal.specs.Unbuilt.{unbuilt_query}
 use Rattle.gx_processor.specs.NamedQuery.{NamedQuery, named_query, unknown_name, query_named}

@@ -6,7 +6,7 @@ use Rattle.gx_core.specs.Queries.{Core}
 use Rattle.gx_documents.specs.Documents.{Files, HoldKept}
 use Rattle.gx_io.specs.Load.{file_of}
 use Rattle.gx_ast.specs.declared.query.Query.{Query}
-use Rattle.gx_syntax.specs.Query.{Parses, parsed}
+use Rattle.gx_parse_grammar.specs.Query.{Parses, parsed}
 use Rattle.gx_xml.specs.declared.source.Source.{Source}
 use Rattle.gx_schema.specs.Import.{IsImported, declares}
 use Rattle.gx_normal.specs.Unbuilt.{unbuilt_query}

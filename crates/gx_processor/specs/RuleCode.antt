@@ -1,8 +1,8 @@
 -- The codes of the rules of syntax (XQuery 1.0, appendix F).
 use Rattle.gx_base.specs.declared.code.Code.{Code}
 use Rattle.gx_base.specs.declared.code.Code.TheVariants.{XPST0003, XQST0090, GLXS0002, GLXS0003}
-use Rattle.gx_syntax.specs.declared.refusal.SyntaxRule.{SyntaxRule}
-use Rattle.gx_syntax.specs.declared.refusal.SyntaxRule.TheVariants.{NotUtf8, Syntax, TooNested, LiteralTooLarge, BadReference}
+use Rattle.gx_parse_grammar.specs.declared.refusal.SyntaxRule.{SyntaxRule}
+use Rattle.gx_parse_grammar.specs.declared.refusal.SyntaxRule.TheVariants.{NotUtf8, Syntax, TooNested, LiteralTooLarge, BadReference}
 
 abbrev pub rule_code : SyntaxRule → Code
 rule_code NotUtf8 = XPST0003

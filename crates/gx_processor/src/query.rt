@@ -7,7 +7,7 @@ ghost use Rattle.gx_io.specs.Calls.{Loads};
 ghost use Rattle.gx_io.specs.Faults.{Rose};
 ghost use Rattle.gx_io.specs.LibraryUse.{library_use};
 ghost use Rattle.gx_io.specs.Load.{file_of};
-ghost use Rattle.gx_syntax.specs.Query.{Parses, parsed};
+ghost use Rattle.gx_parse_grammar.specs.Query.{Parses, parsed};
 ghost use Rattle.gx_processor.specs.Answer.{AnswersFile, AnswersBytes, AnswersBuilt, AnswersNamed, AnswersJudged};
 ghost use Rattle.gx_documents.specs.Documents.{Files};
 ghost use Rattle.gx_types.specs.SchemaInvariant.{IsSchemaSet};
@@ -35,7 +35,7 @@ use gx_normal::unbuilt::unbuilt_query;
 use gx_parse::parser::parse;
 use gx_static::error::InferError;
 use gx_static::infer::infer;
-use gx_syntax::refusal::{SyntaxRefusal, SyntaxRule};
+use gx_parse_grammar::refusal::{SyntaxRefusal, SyntaxRule};
 use gx_types::schemas::Schemas;
 use std::alloc::{AllocError, Global};
 

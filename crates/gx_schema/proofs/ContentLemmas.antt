@@ -4,15 +4,15 @@ use Rattle.std.proofs.Common.{◌≡◌, ◌∙◌, ℕ, zero, suc, ◌<◌, ◌
 use Rattle.std.proofs.lemmas.Bool.Decides.{leb_tells}
 use Rattle.std.proofs.lemmas.List.{get_or_past}
 use Rattle.std.proofs.lemmas.Option.{get_or_from_slice_get, slice_get_past}
-use Rattle.gx_components.specs.declared.component.ModelGroup.{ModelGroup}
-use Rattle.gx_components.specs.declared.component.TypeComponent.{TypeComponent}
+use Rattle.gx_schema_components.specs.declared.component.ModelGroup.{ModelGroup}
+use Rattle.gx_schema_components.specs.declared.component.TypeComponent.{TypeComponent}
 use Rattle.gx_references.specs.References.{meaning_in, meaning_within}
-use Rattle.gx_contents.specs.declared.effective.Effective.{Effective}
-use Rattle.gx_contents.specs.ContentKnots.{content_of_group, content_of_type, fitting_type}
-use Rattle.gx_contents.specs.Knots.{IsListBelow, all_end}
-use Rattle.gx_contents.specs.PositionKnots.{counted_type, positions_of_group, positions_of_type}
-use Rattle.gx_contents.specs.Sources.{extended_types}
-use Rattle.gx_contents.specs.TypeContents.{unknown_content}
+use Rattle.gx_schema_content.specs.declared.effective.Effective.{Effective}
+use Rattle.gx_schema_content.specs.ContentKnots.{content_of_group, content_of_type, fitting_type}
+use Rattle.gx_schema_content.specs.Knots.{IsListBelow, all_end}
+use Rattle.gx_schema_content.specs.PositionKnots.{counted_type, positions_of_group, positions_of_type}
+use Rattle.gx_schema_content.specs.Sources.{extended_types}
+use Rattle.gx_schema_content.specs.TypeContents.{unknown_content}
 use Rattle.gx_schema.specs.MeaningsView.{effective_at, is_past_limit}
 use Rattle.gx_schema.specs.SeenComponents.{SeenComponents}
 use Rattle.gx_schema.specs.TooLarge.{has_too_many, is_too_large}

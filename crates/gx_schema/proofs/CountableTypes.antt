@@ -3,17 +3,17 @@ use Rattle.std.proofs.Common.{ℕ, suc, ◌<◌, ◌^◌, List, [], ◌∷◌, a
 use Rattle.gx_base.specs.declared.type_name.TypeName.{TypeName}
 use Rattle.gx_facets.specs.declared.restriction.Facets.{Facets}
 use Rattle.gx_types.specs.TypeRules.{positions_of}
-use Rattle.gx_profile.specs.DocumentTree.{DocumentTree}
-use Rattle.gx_components.specs.DeclaredNames.{type_names_in}
-use Rattle.gx_contents.specs.Laws.{ContentsAreBounded}
-use Rattle.gx_contents.specs.MixedContents.{model_of}
-use Rattle.gx_restriction.specs.Laws.{AreCountable}
-use Rattle.gx_restriction.specs.Restriction.{children_in}
-use Rattle.gx_varieties.specs.declared.type_form.TypeForm.{TypeForm}
-use Rattle.gx_varieties.specs.declared.type_form.TypeForm.TheVariants as forms
-use Rattle.gx_varieties.specs.declared.variety.TypeVariety.{TypeVariety}
-use Rattle.gx_varieties.specs.declared.variety.TypeVariety.TheVariants.{Hidden, NoValues, Atomic, List as ListOf}
-use Rattle.gx_varieties.specs.Meanings.{own_facets_over}
+use Rattle.gx_schema_syntax.specs.DocumentTree.{DocumentTree}
+use Rattle.gx_schema_components.specs.DeclaredNames.{type_names_in}
+use Rattle.gx_schema_content.specs.Laws.{ContentsAreBounded}
+use Rattle.gx_schema_content.specs.MixedContents.{model_of}
+use Rattle.gx_schema_restriction.specs.Laws.{AreCountable}
+use Rattle.gx_schema_restriction.specs.Restriction.{children_in}
+use Rattle.gx_schema_simple.specs.declared.type_form.TypeForm.{TypeForm}
+use Rattle.gx_schema_simple.specs.declared.type_form.TypeForm.TheVariants as forms
+use Rattle.gx_schema_simple.specs.declared.variety.TypeVariety.{TypeVariety}
+use Rattle.gx_schema_simple.specs.declared.variety.TypeVariety.TheVariants.{Hidden, NoValues, Atomic, List as ListOf}
+use Rattle.gx_schema_simple.specs.Meanings.{own_facets_over}
 use Rattle.gx_schema.specs.SchemaTypes.{TypeMeanings, content_declared, meanings_seen, schema_types_from, schemas_written, simple_content, type_forms}
 use Rattle.gx_schema.specs.SeenComponents.{seen_components}
 

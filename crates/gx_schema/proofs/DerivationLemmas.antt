@@ -1,23 +1,23 @@
 -- Types without faulty derivations.
 use Rattle.std.proofs.Common.{◌≡◌, ◌∙◌, ℕ, zero, suc, ◌+◌, Bool, true, false, not, List, [], ◌∷◌, slice_get, nat_le, Option, None, Some, refl, sym, ap, subst, arith, if◌then◌else◌}
 use Rattle.std.proofs.lemmas.Bool.{true≢false}
-use Rattle.gx_profile.specs.declared.written.ContentKind.{ContentKind}
-use Rattle.gx_profile.specs.declared.written.ContentKind.TheVariants as contents
-use Rattle.gx_profile.specs.declared.written.WrittenFacet.{WrittenFacet}
-use Rattle.gx_components.specs.declared.component.Base.{Base}
-use Rattle.gx_components.specs.declared.component.Base.TheVariants.{Builtin, Declared}
-use Rattle.gx_components.specs.declared.component.ComplexType.{ComplexType}
-use Rattle.gx_components.specs.declared.component.Derivation.{Derivation}
-use Rattle.gx_components.specs.declared.component.Derivation.TheVariants as derivations
-use Rattle.gx_components.specs.declared.component.SimpleType.{SimpleType}
-use Rattle.gx_components.specs.declared.component.SimpleType.TheVariants as simple
-use Rattle.gx_components.specs.declared.component.TypeComponent.{TypeComponent}
-use Rattle.gx_components.specs.declared.component.TypeForm.{TypeForm as ComponentForm}
-use Rattle.gx_components.specs.declared.component.TypeForm.TheVariants as components
-use Rattle.gx_varieties.specs.declared.faults.Fault.{Fault}
-use Rattle.gx_varieties.specs.declared.type_form.TypeForm.{TypeForm}
-use Rattle.gx_varieties.specs.declared.type_form.TypeForm.TheVariants as forms
-use Rattle.gx_varieties.specs.Faults.{earlier_fault}
+use Rattle.gx_schema_syntax.specs.declared.written.ContentKind.{ContentKind}
+use Rattle.gx_schema_syntax.specs.declared.written.ContentKind.TheVariants as contents
+use Rattle.gx_schema_syntax.specs.declared.written.WrittenFacet.{WrittenFacet}
+use Rattle.gx_schema_components.specs.declared.component.Base.{Base}
+use Rattle.gx_schema_components.specs.declared.component.Base.TheVariants.{Builtin, Declared}
+use Rattle.gx_schema_components.specs.declared.component.ComplexType.{ComplexType}
+use Rattle.gx_schema_components.specs.declared.component.Derivation.{Derivation}
+use Rattle.gx_schema_components.specs.declared.component.Derivation.TheVariants as derivations
+use Rattle.gx_schema_components.specs.declared.component.SimpleType.{SimpleType}
+use Rattle.gx_schema_components.specs.declared.component.SimpleType.TheVariants as simple
+use Rattle.gx_schema_components.specs.declared.component.TypeComponent.{TypeComponent}
+use Rattle.gx_schema_components.specs.declared.component.TypeForm.{TypeForm as ComponentForm}
+use Rattle.gx_schema_components.specs.declared.component.TypeForm.TheVariants as components
+use Rattle.gx_schema_simple.specs.declared.faults.Fault.{Fault}
+use Rattle.gx_schema_simple.specs.declared.type_form.TypeForm.{TypeForm}
+use Rattle.gx_schema_simple.specs.declared.type_form.TypeForm.TheVariants as forms
+use Rattle.gx_schema_simple.specs.Faults.{earlier_fault}
 use Rattle.gx_schema.specs.DerivationFaults.{derivation_fault, derivation_place, first_derivation_fault, has_complex_content, has_derivation_fault, kind_fits_base}
 use Rattle.gx_schema.specs.SeenComponents.{is_circular_base, seen_derivation, seen_form, seen_type, seen_types}
 use Rattle.gx_schema.specs.TypeForms.{form_of_content, form_of_derivation, form_of_simple_type, form_of_type, forms_of}

@@ -4,19 +4,19 @@ use Rattle.gx_base.specs.declared.name.Name.{Name}
 use Rattle.gx_base.specs.declared.type_name.Builtin.TheVariants as builtins
 use Rattle.gx_base.specs.declared.type_name.TypeName.TheVariants as names
 use Rattle.gx_typetext.specs.NameText.{type_name_text}
-use Rattle.gx_profile.specs.declared.role.Compositor.TheVariants.{Sequence}
-use Rattle.gx_profile.specs.declared.written.AttributeMember.{AttributeMember}
-use Rattle.gx_profile.specs.declared.written.AttributeMember.TheVariants as members
-use Rattle.gx_profile.specs.declared.written.Bounds.{Bounds}
-use Rattle.gx_profile.specs.declared.written.ComplexTypeDefinition.{ComplexTypeDefinition}
-use Rattle.gx_profile.specs.declared.written.GlobalDeclaration.TheVariants as globals
-use Rattle.gx_profile.specs.declared.written.LocalDeclaration.TheVariants as locals
-use Rattle.gx_profile.specs.declared.written.TypeDefinition.TheVariants as definitions
-use Rattle.gx_profile.specs.declared.written.TypeReference.{TypeReference}
-use Rattle.gx_profile.specs.declared.written.TypeReference.TheVariants as types
-use Rattle.gx_profile.specs.declared.written.Usage.TheVariants as usages
-use Rattle.gx_profile.specs.DocumentTree.{DocumentTree}
-use Rattle.gx_profile.specs.ParticleTree.{ParticleTree, an_element, a_model_group, no_particles, a_particle}
+use Rattle.gx_schema_syntax.specs.declared.role.Compositor.TheVariants.{Sequence}
+use Rattle.gx_schema_syntax.specs.declared.written.AttributeMember.{AttributeMember}
+use Rattle.gx_schema_syntax.specs.declared.written.AttributeMember.TheVariants as members
+use Rattle.gx_schema_syntax.specs.declared.written.Bounds.{Bounds}
+use Rattle.gx_schema_syntax.specs.declared.written.ComplexTypeDefinition.{ComplexTypeDefinition}
+use Rattle.gx_schema_syntax.specs.declared.written.GlobalDeclaration.TheVariants as globals
+use Rattle.gx_schema_syntax.specs.declared.written.LocalDeclaration.TheVariants as locals
+use Rattle.gx_schema_syntax.specs.declared.written.TypeDefinition.TheVariants as definitions
+use Rattle.gx_schema_syntax.specs.declared.written.TypeReference.{TypeReference}
+use Rattle.gx_schema_syntax.specs.declared.written.TypeReference.TheVariants as types
+use Rattle.gx_schema_syntax.specs.declared.written.Usage.TheVariants as usages
+use Rattle.gx_schema_syntax.specs.DocumentTree.{DocumentTree}
+use Rattle.gx_schema_syntax.specs.ParticleTree.{ParticleTree, an_element, a_model_group, no_particles, a_particle}
 use Rattle.gx_schema.specs.AttributeTypes.{complex_attribute_type}
 use Rattle.gx_schema.specs.DeclarationCount.{count_in_front, declarations_counted, places_counted}
 use Rattle.gx_schema.specs.Occurrences.{disordered_bounds, past_occurrence_limit}

@@ -4,7 +4,7 @@ use Rattle.std.specs.List.{list_all}
 use Rattle.gx_base.specs.declared.type_name.TypeName.{TypeName}
 use Rattle.gx_types.specs.SameItemType.{same_type_name}
 use Rattle.gx_types.specs.SchemaInvariant.{HoldsOfEach}
-use Rattle.gx_varieties.specs.declared.type_form.TypeForm.{TypeForm}
+use Rattle.gx_schema_simple.specs.declared.type_form.TypeForm.{TypeForm}
 use Rattle.gx_schema.specs.NamedKinds.{first_failing, is_simple_form, is_simple_number}
 use Rattle.gx_schema.specs.TypeNumbers.{type_number_from}
 

@@ -6,12 +6,12 @@ use Rattle.gx_types.specs.Grounded.{Grounded}
 use Rattle.gx_types.specs.SchemaSet.{SchemaSet}
 use Rattle.gx_types.specs.declared.shape.Shape.{Shape}
 use Rattle.gx_xml.specs.declared.source.Source.{Source}
-use Rattle.gx_profile.specs.DocumentTree.{DocumentTree}
-use Rattle.gx_profile.specs.Profile.{outside_files}
-use Rattle.gx_contents.specs.Laws.{ContentsAreBounded}
-use Rattle.gx_restriction.specs.declared.restrictions.Restrictions.{Restrictions}
-use Rattle.gx_restriction.specs.declared.restrictions.Restrictions.TheVariants.{Sound, Unsound, Undecided}
-use Rattle.gx_restriction.specs.Laws.{AJudgementExists, AreCountable, IsSameJudgement, JudgementsAreOne}
+use Rattle.gx_schema_syntax.specs.DocumentTree.{DocumentTree}
+use Rattle.gx_schema_syntax.specs.Profile.{outside_files}
+use Rattle.gx_schema_content.specs.Laws.{ContentsAreBounded}
+use Rattle.gx_schema_restriction.specs.declared.restrictions.Restrictions.{Restrictions}
+use Rattle.gx_schema_restriction.specs.declared.restrictions.Restrictions.TheVariants.{Sound, Unsound, Undecided}
+use Rattle.gx_schema_restriction.specs.Laws.{AJudgementExists, AreCountable, IsSameJudgement, JudgementsAreOne}
 use Rattle.gx_schema.specs.declared.found.Found.{Found}
 use Rattle.gx_schema.specs.declared.refusal.SchemaRefusal.{SchemaRefusal}
 use Rattle.gx_schema.specs.declared.refusal.SchemaRule.TheVariants.{NotARestriction, NotInProfile}

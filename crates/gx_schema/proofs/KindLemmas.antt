@@ -1,7 +1,7 @@
 -- The kinds of documents, by what is read of them.
 use Rattle.std.proofs.Common.{◌≡◌, ◌∙◌, ℕ, List, Option, Some, None, refl, sym, ap}
 use Rattle.gx_base.specs.declared.type_name.TypeName.{TypeName}
-use Rattle.gx_varieties.specs.declared.type_form.TypeForm.{TypeForm}
+use Rattle.gx_schema_simple.specs.declared.type_form.TypeForm.{TypeForm}
 use Rattle.gx_schema.specs.NamedKinds.{unnamed_kind, unsimple_kind}
 use Rattle.gx_schema.specs.SeenComponents.{SeenComponents}
 

@@ -3,8 +3,8 @@ use Rattle.std.proofs.Common.{◌≡◌, ℕ, List, map, sym, subst}
 use Rattle.gx_types.specs.SchemaInvariant.{IsSchemaSet}
 use Rattle.gx_types.specs.declared.declaration.Declared.{Declared}
 use Rattle.gx_types.specs.declared.declaration.GlobalElement.{GlobalElement}
-use Rattle.gx_profile.specs.DocumentTree.{DocumentTree}
-use Rattle.gx_components.specs.Components.{globals_of}
+use Rattle.gx_schema_syntax.specs.DocumentTree.{DocumentTree}
+use Rattle.gx_schema_components.specs.Components.{globals_of}
 use Rattle.gx_schema.specs.SchemaTypes.{schema_element, schemas_written}
 
 pub set_made : (documents : List DocumentTree) (types : List Declared) (elements : List GlobalElement) (targets : List (List ℕ)) →

@@ -2,8 +2,8 @@
 use mathlib.Core.Path.{fun_ext}
 use Rattle.std.proofs.Common.{◌≡◌, ◌∙◌, ℕ, List, ap}
 use Rattle.gx_types.specs.declared.declaration.AttributeUse.{AttributeUse}
-use Rattle.gx_contents.specs.declared.effective.Effective.{Effective}
-use Rattle.gx_varieties.specs.declared.variety.TypeVariety.{TypeVariety}
+use Rattle.gx_schema_content.specs.declared.effective.Effective.{Effective}
+use Rattle.gx_schema_simple.specs.declared.variety.TypeVariety.{TypeVariety}
 use Rattle.gx_schema.specs.MeaningsView.{SameMeanings}
 use Rattle.gx_schema.specs.SchemaTypes.{TypeMeanings}
 

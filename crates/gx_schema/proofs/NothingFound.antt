@@ -5,13 +5,13 @@ use Rattle.std.specs.List.{flat_map}
 use Rattle.gx_base.specs.declared.type_name.TypeName.{TypeName}
 use Rattle.gx_types.specs.SchemaInvariant.{HoldsOfEach}
 use Rattle.gx_types.specs.SchemaSet.{SchemaSet}
-use Rattle.gx_profile.specs.declared.written.GlobalDeclaration.{GlobalDeclaration}
-use Rattle.gx_profile.specs.declared.written.TypeDeclaration.{TypeDeclaration}
-use Rattle.gx_profile.specs.DocumentTree.{DocumentTree}
-use Rattle.gx_components.specs.declared.mention.Mention.{Mention}
-use Rattle.gx_components.specs.DeclaredNames.{declarations_in, declared_number, type_names_in, types_in}
-use Rattle.gx_components.specs.Mentions.{document_mentions, global_mentions, type_declaration_mentions}
-use Rattle.gx_components.specs.Unknown.{Numbering, earlier_mention, earliest, earliest_unknown, refers, unknown_from, unknown_name, unknown_shown}
+use Rattle.gx_schema_syntax.specs.declared.written.GlobalDeclaration.{GlobalDeclaration}
+use Rattle.gx_schema_syntax.specs.declared.written.TypeDeclaration.{TypeDeclaration}
+use Rattle.gx_schema_syntax.specs.DocumentTree.{DocumentTree}
+use Rattle.gx_schema_components.specs.declared.mention.Mention.{Mention}
+use Rattle.gx_schema_components.specs.DeclaredNames.{declarations_in, declared_number, type_names_in, types_in}
+use Rattle.gx_schema_components.specs.Mentions.{document_mentions, global_mentions, type_declaration_mentions}
+use Rattle.gx_schema_components.specs.Unknown.{Numbering, earlier_mention, earliest, earliest_unknown, refers, unknown_from, unknown_name, unknown_shown}
 use Rattle.gx_schema.specs.declared.refusal.SchemaRule.{SchemaRule}
 use Rattle.gx_schema.specs.declared.unread.Unread.{Unread}
 use Rattle.gx_schema.specs.Import.{Imported, declares, unless_broken}

@@ -8,8 +8,8 @@ use Rattle.gx_types.specs.SameItemType.{same_type_name}
 use Rattle.gx_types.specs.SchemaInvariant.{AreDistinctBy}
 use Rattle.gx_types.specs.SchemaSet.{declaration_among, names_declared}
 use Rattle.gx_types.specs.declared.declaration.Declared.{Declared as DeclaredType}
-use Rattle.gx_components.specs.declared.component.Base.TheVariants.{Declared}
-use Rattle.gx_varieties.specs.declared.type_form.TypeForm.{TypeForm}
+use Rattle.gx_schema_components.specs.declared.component.Base.TheVariants.{Declared}
+use Rattle.gx_schema_simple.specs.declared.type_form.TypeForm.{TypeForm}
 use Rattle.gx_schema.specs.SchemaTypes.{base_name, schema_type}
 use Rattle.gx_schema.proofs.Declarations.{declared_there, number_of_declaration}
 use Rattle.gx_schema.proofs.TypesByNumber.{names_of_types, type_at, type_of_number}

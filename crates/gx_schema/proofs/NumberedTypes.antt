@@ -6,33 +6,33 @@ use Rattle.gx_base.specs.declared.name.Name.{Name}
 use Rattle.gx_base.specs.declared.type_name.TypeName.{TypeName}
 use Rattle.gx_base.specs.declared.type_name.TypeName.TheVariants as names
 use Rattle.gx_types.specs.SchemaInvariant.{HoldsOfEach, is_built_in}
-use Rattle.gx_profile.specs.declared.reference.Reference.{Reference}
-use Rattle.gx_profile.specs.declared.written.ContentKind.{ContentKind}
-use Rattle.gx_profile.specs.declared.written.ContentKind.TheVariants as contents
-use Rattle.gx_profile.specs.declared.written.Derivation.{Derivation as WrittenDerivation}
-use Rattle.gx_profile.specs.declared.written.DerivationMethod.{DerivationMethod}
-use Rattle.gx_profile.specs.declared.written.DerivationMethod.TheVariants as methods
-use Rattle.gx_profile.specs.declared.written.SimpleTypeDefinition.{SimpleTypeDefinition}
-use Rattle.gx_profile.specs.declared.written.SimpleTypeDefinition.TheVariants as simple
-use Rattle.gx_profile.specs.declared.written.TypeDeclaration.{TypeDeclaration}
-use Rattle.gx_profile.specs.declared.written.TypeDefinition.{TypeDefinition}
-use Rattle.gx_profile.specs.declared.written.TypeDefinition.TheVariants.{Simple, Complex}
-use Rattle.gx_profile.specs.declared.written.TypeReference.{TypeReference}
-use Rattle.gx_profile.specs.declared.written.TypeReference.TheVariants as types
-use Rattle.gx_profile.specs.declared.written.WrittenFacet.{WrittenFacet}
-use Rattle.gx_profile.specs.DocumentTree.{DocumentTree}
-use Rattle.gx_profile.specs.Words.{is_schema_uri}
-use Rattle.gx_components.specs.declared.component.Base.{Base}
-use Rattle.gx_components.specs.declared.component.DerivedFrom.{DerivedFrom}
-use Rattle.gx_components.specs.declared.component.ModelGroup.{ModelGroup}
-use Rattle.gx_components.specs.declared.mention.ComponentKind.{ComponentKind}
-use Rattle.gx_components.specs.declared.mention.ComponentKind.TheVariants as kinds
-use Rattle.gx_components.specs.Components.{definitions_by, first_inner, globals_of}
-use Rattle.gx_components.specs.DeclaredNames.{declared_number, first_type_from, has_type_name, type_names_in, types_in}
-use Rattle.gx_components.specs.Mentions.{base_mentions, content_mentions, definition_mentions, members_mentions, simple_type_mentions, type_declaration_mentions, type_mentions}
-use Rattle.gx_components.specs.Referred.{Globals, base_of_number, base_referred}
-use Rattle.gx_components.specs.TypeComponents.{derivation_by, derivation_of, derived_from, form_placed, simple_type_of, types_placed}
-use Rattle.gx_components.specs.Unknown.{Numbering, refers}
+use Rattle.gx_schema_syntax.specs.declared.reference.Reference.{Reference}
+use Rattle.gx_schema_syntax.specs.declared.written.ContentKind.{ContentKind}
+use Rattle.gx_schema_syntax.specs.declared.written.ContentKind.TheVariants as contents
+use Rattle.gx_schema_syntax.specs.declared.written.Derivation.{Derivation as WrittenDerivation}
+use Rattle.gx_schema_syntax.specs.declared.written.DerivationMethod.{DerivationMethod}
+use Rattle.gx_schema_syntax.specs.declared.written.DerivationMethod.TheVariants as methods
+use Rattle.gx_schema_syntax.specs.declared.written.SimpleTypeDefinition.{SimpleTypeDefinition}
+use Rattle.gx_schema_syntax.specs.declared.written.SimpleTypeDefinition.TheVariants as simple
+use Rattle.gx_schema_syntax.specs.declared.written.TypeDeclaration.{TypeDeclaration}
+use Rattle.gx_schema_syntax.specs.declared.written.TypeDefinition.{TypeDefinition}
+use Rattle.gx_schema_syntax.specs.declared.written.TypeDefinition.TheVariants.{Simple, Complex}
+use Rattle.gx_schema_syntax.specs.declared.written.TypeReference.{TypeReference}
+use Rattle.gx_schema_syntax.specs.declared.written.TypeReference.TheVariants as types
+use Rattle.gx_schema_syntax.specs.declared.written.WrittenFacet.{WrittenFacet}
+use Rattle.gx_schema_syntax.specs.DocumentTree.{DocumentTree}
+use Rattle.gx_schema_syntax.specs.Words.{is_schema_uri}
+use Rattle.gx_schema_components.specs.declared.component.Base.{Base}
+use Rattle.gx_schema_components.specs.declared.component.DerivedFrom.{DerivedFrom}
+use Rattle.gx_schema_components.specs.declared.component.ModelGroup.{ModelGroup}
+use Rattle.gx_schema_components.specs.declared.mention.ComponentKind.{ComponentKind}
+use Rattle.gx_schema_components.specs.declared.mention.ComponentKind.TheVariants as kinds
+use Rattle.gx_schema_components.specs.Components.{definitions_by, first_inner, globals_of}
+use Rattle.gx_schema_components.specs.DeclaredNames.{declared_number, first_type_from, has_type_name, type_names_in, types_in}
+use Rattle.gx_schema_components.specs.Mentions.{base_mentions, content_mentions, definition_mentions, members_mentions, simple_type_mentions, type_declaration_mentions, type_mentions}
+use Rattle.gx_schema_components.specs.Referred.{Globals, base_of_number, base_referred}
+use Rattle.gx_schema_components.specs.TypeComponents.{derivation_by, derivation_of, derived_from, form_placed, simple_type_of, types_placed}
+use Rattle.gx_schema_components.specs.Unknown.{Numbering, refers}
 use Rattle.gx_schema.specs.declared.unread.DeclarationKind.{DeclarationKind}
 use Rattle.gx_schema.specs.declared.unread.DeclarationKind.TheVariants as declared_kinds
 use Rattle.gx_schema.specs.SchemaTypes.{type_forms}

@@ -3,7 +3,7 @@ use Rattle.std.proofs.Common.{◌≡◌, ◌∙◌, Bool, List, refl, sym, subst
 use Rattle.std.specs.Prelude.{IfErr, IsErrAnd, Result}
 use Rattle.std.proofs.lemmas.Result.{err_from_is_err_and}
 use Rattle.gx_types.specs.SchemaSet.{SchemaSet}
-use Rattle.gx_profile.specs.DocumentTree.{DocumentTree}
+use Rattle.gx_schema_syntax.specs.DocumentTree.{DocumentTree}
 use Rattle.gx_schema.specs.declared.refusal.SchemaRefusal.{SchemaRefusal}
 use Rattle.gx_schema.specs.declared.refusal.SchemaRefusal.TheVariants.{Refused, Memory}
 use Rattle.gx_schema.specs.Found.{types_found}

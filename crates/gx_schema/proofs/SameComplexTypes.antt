@@ -4,13 +4,13 @@ use Rattle.std.proofs.lemmas.List.{map-append}
 use Rattle.std.proofs.lemmas.Option.{slice_get-map}
 use Rattle.std.specs.Option.{option_map, option_map_or}
 use Rattle.std.specs.Prelude.{unwrap_or}
-use Rattle.gx_profile.specs.declared.written.TypeDeclaration.{TypeDeclaration}
-use Rattle.gx_profile.specs.declared.written.TypeReference.{TypeReference}
-use Rattle.gx_profile.specs.declared.written.TypeReference.TheVariants as types
-use Rattle.gx_profile.specs.DocumentTree.{DocumentTree}
-use Rattle.gx_components.specs.declared.mention.ComponentKind.TheVariants as kinds
-use Rattle.gx_components.specs.DeclaredNames.{types_in}
-use Rattle.gx_components.specs.NamesView.{number_in_tables}
+use Rattle.gx_schema_syntax.specs.declared.written.TypeDeclaration.{TypeDeclaration}
+use Rattle.gx_schema_syntax.specs.declared.written.TypeReference.{TypeReference}
+use Rattle.gx_schema_syntax.specs.declared.written.TypeReference.TheVariants as types
+use Rattle.gx_schema_syntax.specs.DocumentTree.{DocumentTree}
+use Rattle.gx_schema_components.specs.declared.mention.ComponentKind.TheVariants as kinds
+use Rattle.gx_schema_components.specs.DeclaredNames.{types_in}
+use Rattle.gx_schema_components.specs.NamesView.{number_in_tables}
 use Rattle.gx_schema.specs.declared.attribute_types.ComplexTypes.{ComplexTypes}
 use Rattle.gx_schema.specs.AttributeTypes.{complex_attribute_type, complex_from, is_complex_declaration, is_complex_number, is_complex_type}
 use Rattle.gx_schema.specs.ComplexTypesView.{is_complex_in_table, is_marked, AreComplexTypes}

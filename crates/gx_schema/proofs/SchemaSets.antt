@@ -17,32 +17,32 @@ use Rattle.gx_types.specs.declared.declaration.AttributeUse.{AttributeUse}
 use Rattle.gx_types.specs.declared.item_type.ItemType.{ItemType}
 use Rattle.gx_types.specs.declared.item_type.ItemType.TheVariants as items
 use Rattle.gx_types.specs.declared.declaration.GlobalElement.{GlobalElement}
-use Rattle.gx_profile.specs.declared.written.GlobalDeclaration.{GlobalDeclaration}
-use Rattle.gx_profile.specs.declared.written.GlobalDeclaration.TheVariants.{Element, Attribute, Group, AttributeGroup}
-use Rattle.gx_profile.specs.declared.written.TypeReference.{TypeReference}
-use Rattle.gx_profile.specs.declared.written.TypeReference.TheVariants as types
-use Rattle.gx_profile.specs.declared.written.TypeDeclaration.{TypeDeclaration}
-use Rattle.gx_profile.specs.DocumentTree.{DocumentTree}
-use Rattle.gx_components.specs.declared.mention.ComponentKind.TheVariants as kinds
-use Rattle.gx_components.specs.Components.{declared_element}
-use Rattle.gx_components.specs.DeclaredNames.{declarations_in, declared_number, first_type_from, names_of_kind, type_names_in, types_in}
-use Rattle.gx_components.specs.Mentions.{global_mentions, type_declaration_mentions, type_mentions}
-use Rattle.gx_components.specs.Referred.{type_numbered, type_referred, unknown_type}
-use Rattle.gx_components.specs.Unknown.{unknown_name}
-use Rattle.gx_attributes.specs.AttributeKinds.{attribute_kinds}
-use Rattle.gx_attributes.specs.Doubled.{first_doubled}
-use Rattle.gx_attributes.specs.Laws.{KindsAreWritten, UsesAreDistinct}
-use Rattle.gx_attributes.specs.TypeUses.{uses_of_type}
-use Rattle.gx_contents.specs.ContentKnots.{content_of_type}
-use Rattle.gx_contents.specs.Disagreement.{first_disagreement}
-use Rattle.gx_contents.specs.ElementKinds.{element_kinds}
-use Rattle.gx_contents.specs.Laws.{ElementsKeep, IsPassingItem, OneTypeAName}
-use Rattle.gx_contents.specs.MixedContents.{model_of}
-use Rattle.gx_varieties.specs.Circles.{is_circular}
-use Rattle.gx_varieties.specs.CircularTypes.{first_circular}
-use Rattle.gx_varieties.specs.Forms.{references_of}
-use Rattle.gx_varieties.specs.Faults.{first_type_fault, simple_faults}
-use Rattle.gx_varieties.specs.Laws.{NoFirstFault, NoneIsCircular, VarietiesSolve}
+use Rattle.gx_schema_syntax.specs.declared.written.GlobalDeclaration.{GlobalDeclaration}
+use Rattle.gx_schema_syntax.specs.declared.written.GlobalDeclaration.TheVariants.{Element, Attribute, Group, AttributeGroup}
+use Rattle.gx_schema_syntax.specs.declared.written.TypeReference.{TypeReference}
+use Rattle.gx_schema_syntax.specs.declared.written.TypeReference.TheVariants as types
+use Rattle.gx_schema_syntax.specs.declared.written.TypeDeclaration.{TypeDeclaration}
+use Rattle.gx_schema_syntax.specs.DocumentTree.{DocumentTree}
+use Rattle.gx_schema_components.specs.declared.mention.ComponentKind.TheVariants as kinds
+use Rattle.gx_schema_components.specs.Components.{declared_element}
+use Rattle.gx_schema_components.specs.DeclaredNames.{declarations_in, declared_number, first_type_from, names_of_kind, type_names_in, types_in}
+use Rattle.gx_schema_components.specs.Mentions.{global_mentions, type_declaration_mentions, type_mentions}
+use Rattle.gx_schema_components.specs.Referred.{type_numbered, type_referred, unknown_type}
+use Rattle.gx_schema_components.specs.Unknown.{unknown_name}
+use Rattle.gx_schema_attributes.specs.AttributeKinds.{attribute_kinds}
+use Rattle.gx_schema_attributes.specs.Doubled.{first_doubled}
+use Rattle.gx_schema_attributes.specs.Laws.{KindsAreWritten, UsesAreDistinct}
+use Rattle.gx_schema_attributes.specs.TypeUses.{uses_of_type}
+use Rattle.gx_schema_content.specs.ContentKnots.{content_of_type}
+use Rattle.gx_schema_content.specs.Disagreement.{first_disagreement}
+use Rattle.gx_schema_content.specs.ElementKinds.{element_kinds}
+use Rattle.gx_schema_content.specs.Laws.{ElementsKeep, IsPassingItem, OneTypeAName}
+use Rattle.gx_schema_content.specs.MixedContents.{model_of}
+use Rattle.gx_schema_simple.specs.Circles.{is_circular}
+use Rattle.gx_schema_simple.specs.CircularTypes.{first_circular}
+use Rattle.gx_schema_simple.specs.Forms.{references_of}
+use Rattle.gx_schema_simple.specs.Faults.{first_type_fault, simple_faults}
+use Rattle.gx_schema_simple.specs.Laws.{NoFirstFault, NoneIsCircular, VarietiesSolve}
 use Rattle.gx_schema.specs.declared.found.Found.{Found}
 use Rattle.gx_schema.specs.declared.unread.DeclarationKind.TheVariants as declared_kinds
 use Rattle.gx_schema.specs.Doubled.{doubled_declared_name, doubled_of_kind, doubled_type, doubled_type_name}

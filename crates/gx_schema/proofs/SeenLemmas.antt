@@ -1,10 +1,10 @@
 -- What marks hide is what stands on circles.
 use mathlib.Core.Path.{fun_ext}
 use Rattle.std.proofs.Common.{◌≡◌, ◌∙◌, ℕ, Bool, List, ap}
-use Rattle.gx_profile.specs.DocumentTree.{DocumentTree}
-use Rattle.gx_components.specs.declared.component.AttributeGroup.{AttributeGroup}
-use Rattle.gx_components.specs.declared.component.ModelGroup.{ModelGroup}
-use Rattle.gx_components.specs.declared.component.TypeComponent.{TypeComponent}
+use Rattle.gx_schema_syntax.specs.DocumentTree.{DocumentTree}
+use Rattle.gx_schema_components.specs.declared.component.AttributeGroup.{AttributeGroup}
+use Rattle.gx_schema_components.specs.declared.component.ModelGroup.{ModelGroup}
+use Rattle.gx_schema_components.specs.declared.component.TypeComponent.{TypeComponent}
 use Rattle.gx_schema.specs.declared.seen_components.CircleMarks.{CircleMarks}
 use Rattle.gx_schema.specs.SeenComponents.{Circles, SeenComponents, attribute_groups, circles_among, model_groups, seen_among, seen_components, type_components}
 use Rattle.gx_schema.specs.SeenView.{AreCircles, circles_view}

@@ -2,12 +2,12 @@
 use Rattle.std.proofs.Common.{◌≡◌, ℕ, zero, suc, ◌<◌, inl, inr, Bool, true, false, List, length, Option, Some, sym, ◌∙◌, subst, ap, arith}
 use Rattle.std.proofs.Math.ListN.{set, length-set}
 use Rattle.std.proofs.lemmas.Bool.{true≢false, cases_Bool}
-use Rattle.gx_varieties.specs.Circles.{named_next, ComesTo, directly, StandsOnCircle}
-use Rattle.gx_varieties.specs.Ends.{none_or_passes, ends_by_steps}
-use Rattle.gx_varieties.specs.Walk.{has_mark}
-use Rattle.gx_varieties.proofs.CircleLemmas.{leads_on}
-use Rattle.gx_varieties.proofs.Marks.{set_entry, unmarked, unmarked-set, no_marks, length-no_marks, unmarked-no_marks, has_mark-no_marks}
-use Rattle.gx_varieties.proofs.ShortCircles.{next_or_none}
+use Rattle.gx_schema_simple.specs.Circles.{named_next, ComesTo, directly, StandsOnCircle}
+use Rattle.gx_schema_simple.specs.Ends.{none_or_passes, ends_by_steps}
+use Rattle.gx_schema_simple.specs.Walk.{has_mark}
+use Rattle.gx_schema_simple.proofs.CircleLemmas.{leads_on}
+use Rattle.gx_schema_simple.proofs.Marks.{set_entry, unmarked, unmarked-set, no_marks, length-no_marks, unmarked-no_marks, has_mark-no_marks}
+use Rattle.gx_schema_simple.proofs.ShortCircles.{next_or_none}
 
 -- no declaration stands on a circle
 abbrev pub IsStraight : List (Option ℕ) → Type 0

@@ -12,11 +12,11 @@ use Rattle.gx_types.specs.SameItemType.{same_type_name}
 use Rattle.gx_types.specs.SchemaSet.{declaration_among}
 use Rattle.gx_types.proofs.EqualNames.{type_name_itself}
 use Rattle.gx_types.proofs.SchemaLemmas.{as_many_bases, base_is, no_base}
-use Rattle.gx_components.specs.declared.component.Base.TheVariants.{Builtin, Declared}
-use Rattle.gx_varieties.specs.Ends.{ends_by_steps}
-use Rattle.gx_varieties.specs.Forms.{reference_of, references_of}
-use Rattle.gx_varieties.specs.declared.type_form.TypeForm.{TypeForm}
-use Rattle.gx_varieties.specs.declared.type_form.TypeForm.TheVariants as forms
+use Rattle.gx_schema_components.specs.declared.component.Base.TheVariants.{Builtin, Declared}
+use Rattle.gx_schema_simple.specs.Ends.{ends_by_steps}
+use Rattle.gx_schema_simple.specs.Forms.{reference_of, references_of}
+use Rattle.gx_schema_simple.specs.declared.type_form.TypeForm.{TypeForm}
+use Rattle.gx_schema_simple.specs.declared.type_form.TypeForm.TheVariants as forms
 use Rattle.gx_schema.specs.SchemaTypes.{base_name, derived_from_name}
 use Rattle.gx_schema.proofs.Declarations.{element_at, none_or_some}
 use Rattle.gx_schema.proofs.TypesByNumber.{length-schema_types}

@@ -15,16 +15,16 @@ use Rattle.gx_types.specs.SchemaSet.{SchemaSet, declaration_of}
 use Rattle.gx_types.specs.declared.declaration.Declared.{Declared as DeclaredType}
 use Rattle.gx_types.specs.declared.declaration.GlobalElement.{GlobalElement}
 use Rattle.gx_types.proofs.EqualNames.{type_name_itself}
-use Rattle.gx_components.specs.declared.component.Base.{Base}
-use Rattle.gx_components.specs.declared.component.Base.TheVariants.{Builtin, Declared}
-use Rattle.gx_varieties.specs.Faults.{is_list}
-use Rattle.gx_varieties.specs.Laws.{VarietiesSolve}
-use Rattle.gx_varieties.specs.Meanings.{own_facets_over}
-use Rattle.gx_varieties.specs.Varieties.{variety_of, variety_of_base}
-use Rattle.gx_varieties.specs.declared.type_form.TypeForm.{TypeForm}
-use Rattle.gx_varieties.specs.declared.type_form.TypeForm.TheVariants as forms
-use Rattle.gx_varieties.specs.declared.variety.TypeVariety.{TypeVariety}
-use Rattle.gx_varieties.specs.declared.variety.TypeVariety.TheVariants as varieties
+use Rattle.gx_schema_components.specs.declared.component.Base.{Base}
+use Rattle.gx_schema_components.specs.declared.component.Base.TheVariants.{Builtin, Declared}
+use Rattle.gx_schema_simple.specs.Faults.{is_list}
+use Rattle.gx_schema_simple.specs.Laws.{VarietiesSolve}
+use Rattle.gx_schema_simple.specs.Meanings.{own_facets_over}
+use Rattle.gx_schema_simple.specs.Varieties.{variety_of, variety_of_base}
+use Rattle.gx_schema_simple.specs.declared.type_form.TypeForm.{TypeForm}
+use Rattle.gx_schema_simple.specs.declared.type_form.TypeForm.TheVariants as forms
+use Rattle.gx_schema_simple.specs.declared.variety.TypeVariety.{TypeVariety}
+use Rattle.gx_schema_simple.specs.declared.variety.TypeVariety.TheVariants as varieties
 use Rattle.gx_schema.specs.DerivationFaults.{has_complex_content}
 use Rattle.gx_schema.specs.NamedKinds.{is_simple_form}
 use Rattle.gx_schema.specs.SimpleBases.{simple_base}

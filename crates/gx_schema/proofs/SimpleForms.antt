@@ -7,17 +7,17 @@ use Rattle.gx_types.specs.SameItemType.{same_type_name}
 use Rattle.gx_types.specs.SchemaInvariant.{AreDistinctBy, ContentFits, HoldsOfEach, is_built_in, is_nameable, is_simple_type}
 use Rattle.gx_types.specs.SchemaSet.{SchemaSet}
 use Rattle.gx_types.specs.declared.declaration.GlobalElement.{GlobalElement}
-use Rattle.gx_components.specs.declared.component.Base.{Base}
-use Rattle.gx_components.specs.declared.component.Base.TheVariants.{Builtin, Declared}
-use Rattle.gx_varieties.specs.CircularTypes.{HasNoCircle}
-use Rattle.gx_varieties.specs.Laws.{AreConsistent}
-use Rattle.gx_varieties.specs.declared.type_form.TypeForm.{TypeForm}
-use Rattle.gx_varieties.specs.declared.type_form.TypeForm.TheVariants as forms
+use Rattle.gx_schema_components.specs.declared.component.Base.{Base}
+use Rattle.gx_schema_components.specs.declared.component.Base.TheVariants.{Builtin, Declared}
+use Rattle.gx_schema_simple.specs.CircularTypes.{HasNoCircle}
+use Rattle.gx_schema_simple.specs.Laws.{AreConsistent}
+use Rattle.gx_schema_simple.specs.declared.type_form.TypeForm.{TypeForm}
+use Rattle.gx_schema_simple.specs.declared.type_form.TypeForm.TheVariants as forms
 use Rattle.gx_types.specs.declared.declaration.AttributeUse.{AttributeUse}
 use Rattle.gx_types.specs.declared.declaration.Declared.{Declared as DeclaredType}
-use Rattle.gx_profile.specs.declared.written.WrittenFacet.{WrittenFacet}
-use Rattle.gx_contents.specs.declared.effective.Effective.{Effective}
-use Rattle.gx_varieties.specs.Varieties.{variety_of}
+use Rattle.gx_schema_syntax.specs.declared.written.WrittenFacet.{WrittenFacet}
+use Rattle.gx_schema_content.specs.declared.effective.Effective.{Effective}
+use Rattle.gx_schema_simple.specs.Varieties.{variety_of}
 use Rattle.gx_schema.specs.DerivationFaults.{has_complex_content}
 use Rattle.gx_schema.specs.SchemaTypes.{TypeMeanings, complex_content, schema_types}
 

@@ -7,8 +7,8 @@ use Rattle.gx_types.specs.SameItemType.{same_type_name}
 use Rattle.gx_types.specs.SchemaInvariant.{AreDistinctBy, HoldsOfEach, IsDeclarationOf}
 use Rattle.gx_types.specs.SchemaSet.{declaration_of, declared_types}
 use Rattle.gx_types.specs.declared.declaration.GlobalElement.{GlobalElement}
-use Rattle.gx_varieties.specs.Laws.{VarietiesSolve}
-use Rattle.gx_varieties.specs.declared.type_form.TypeForm.{TypeForm}
+use Rattle.gx_schema_simple.specs.Laws.{VarietiesSolve}
+use Rattle.gx_schema_simple.specs.declared.type_form.TypeForm.{TypeForm}
 use Rattle.gx_schema.specs.TypeNumbers.{first_type_number, type_number_from}
 use Rattle.gx_schema.proofs.Declarations.{numbered_is_declared}
 pub use Rattle.gx_schema.proofs.SimpleForms.{AreReadTypes, HeldByTypes, HoldWhatFits, meanings_with, types_with, IsReadBase, IsReadForm, schemas_with}

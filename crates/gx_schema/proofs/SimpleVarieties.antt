@@ -4,22 +4,22 @@ use Rattle.std.proofs.lemmas.Bool.{true≢false}
 use Rattle.std.proofs.lemmas.List.{length-map}
 use Rattle.gx_base.specs.declared.type_name.Builtin.{Builtin as BuiltinType}
 use Rattle.gx_base.specs.declared.type_name.TypeName.{TypeName}
-use Rattle.gx_profile.specs.declared.written.WrittenFacet.{WrittenFacet}
-use Rattle.gx_components.specs.declared.component.Base.{Base}
-use Rattle.gx_components.specs.declared.component.Base.TheVariants.{Builtin, Declared}
-use Rattle.gx_varieties.specs.CircularTypes.{HasNoCircle}
-use Rattle.gx_varieties.specs.Ends.{ends_by_steps, none_or_passes}
-use Rattle.gx_varieties.specs.Circles.{is_circular}
-use Rattle.gx_varieties.specs.Faults.{is_complex_form}
-use Rattle.gx_varieties.specs.Forms.{followed_base, reference_of, references_of}
-use Rattle.gx_varieties.specs.Laws.{VarietiesSolve, is_complex_among, variety_by}
-use Rattle.gx_varieties.specs.Varieties.{variety_of, variety_of_base}
-use Rattle.gx_varieties.specs.declared.type_form.TypeForm.{TypeForm}
-use Rattle.gx_varieties.specs.declared.type_form.TypeForm.TheVariants as forms
-use Rattle.gx_varieties.specs.declared.variety.TypeVariety.{TypeVariety}
-use Rattle.gx_varieties.specs.declared.variety.TypeVariety.TheVariants as varieties
-use Rattle.gx_varieties.proofs.CircleLemmas.{within_by_next}
-use Rattle.gx_varieties.proofs.ShortCircles.{circles_are_short}
+use Rattle.gx_schema_syntax.specs.declared.written.WrittenFacet.{WrittenFacet}
+use Rattle.gx_schema_components.specs.declared.component.Base.{Base}
+use Rattle.gx_schema_components.specs.declared.component.Base.TheVariants.{Builtin, Declared}
+use Rattle.gx_schema_simple.specs.CircularTypes.{HasNoCircle}
+use Rattle.gx_schema_simple.specs.Ends.{ends_by_steps, none_or_passes}
+use Rattle.gx_schema_simple.specs.Circles.{is_circular}
+use Rattle.gx_schema_simple.specs.Faults.{is_complex_form}
+use Rattle.gx_schema_simple.specs.Forms.{followed_base, reference_of, references_of}
+use Rattle.gx_schema_simple.specs.Laws.{VarietiesSolve, is_complex_among, variety_by}
+use Rattle.gx_schema_simple.specs.Varieties.{variety_of, variety_of_base}
+use Rattle.gx_schema_simple.specs.declared.type_form.TypeForm.{TypeForm}
+use Rattle.gx_schema_simple.specs.declared.type_form.TypeForm.TheVariants as forms
+use Rattle.gx_schema_simple.specs.declared.variety.TypeVariety.{TypeVariety}
+use Rattle.gx_schema_simple.specs.declared.variety.TypeVariety.TheVariants as varieties
+use Rattle.gx_schema_simple.proofs.CircleLemmas.{within_by_next}
+use Rattle.gx_schema_simple.proofs.ShortCircles.{circles_are_short}
 use Rattle.std.specs.Bool.{IsTrue}
 use Rattle.gx_types.specs.SchemaInvariant.{is_nameable}
 use Rattle.gx_schema.specs.DerivationFaults.{has_complex_content}

@@ -3,9 +3,9 @@ use Rattle.std.proofs.Common.{◌≡◌, ℕ, zero, suc, ◌+◌, List, [], ◌�
 use Rattle.gx_base.specs.declared.type_name.TypeName.{TypeName}
 use Rattle.gx_types.specs.SchemaSet.{names_declared}
 use Rattle.gx_types.specs.declared.declaration.Declared.{Declared}
-use Rattle.gx_varieties.specs.Circles.{named_next}
-use Rattle.gx_varieties.specs.Forms.{reference_of, references_of}
-use Rattle.gx_varieties.specs.declared.type_form.TypeForm.{TypeForm}
+use Rattle.gx_schema_simple.specs.Circles.{named_next}
+use Rattle.gx_schema_simple.specs.Forms.{reference_of, references_of}
+use Rattle.gx_schema_simple.specs.declared.type_form.TypeForm.{TypeForm}
 use Rattle.gx_schema.specs.SchemaTypes.{TypeMeanings, schema_type, schema_types_from}
 
 -- the declarations of types have their names

@@ -1,20 +1,20 @@
 -- Attribute declarations whose type is a complex type (XML Schema 1.0 part 1, section 3.2.6).
 use Rattle.std.specs.Prelude.{ℕ, suc, Bool, true, false, List, [], ◌∷◌, slice_get, Option, None}
 use Rattle.std.specs.Option.{option_map, option_map_or, option_or}
-use Rattle.gx_profile.specs.declared.written.AttributeMember.{AttributeMember}
-use Rattle.gx_profile.specs.declared.written.AttributeMember.TheVariants as members
-use Rattle.gx_profile.specs.declared.written.GlobalDeclaration.{GlobalDeclaration}
-use Rattle.gx_profile.specs.declared.written.GlobalDeclaration.TheVariants as globals
-use Rattle.gx_profile.specs.declared.written.LocalDeclaration.{LocalDeclaration}
-use Rattle.gx_profile.specs.declared.written.LocalDeclaration.TheVariants.{Declared, Referred}
-use Rattle.gx_profile.specs.declared.written.TypeDeclaration.{TypeDeclaration}
-use Rattle.gx_profile.specs.declared.written.TypeDefinition.{TypeDefinition}
-use Rattle.gx_profile.specs.declared.written.TypeDefinition.TheVariants.{Simple, Complex}
-use Rattle.gx_profile.specs.declared.written.TypeReference.{TypeReference}
-use Rattle.gx_profile.specs.declared.written.TypeReference.TheVariants as types
-use Rattle.gx_profile.specs.DocumentTree.{DocumentTree}
-use Rattle.gx_components.specs.declared.mention.ComponentKind.TheVariants as kinds
-use Rattle.gx_components.specs.DeclaredNames.{declared_number, types_in}
+use Rattle.gx_schema_syntax.specs.declared.written.AttributeMember.{AttributeMember}
+use Rattle.gx_schema_syntax.specs.declared.written.AttributeMember.TheVariants as members
+use Rattle.gx_schema_syntax.specs.declared.written.GlobalDeclaration.{GlobalDeclaration}
+use Rattle.gx_schema_syntax.specs.declared.written.GlobalDeclaration.TheVariants as globals
+use Rattle.gx_schema_syntax.specs.declared.written.LocalDeclaration.{LocalDeclaration}
+use Rattle.gx_schema_syntax.specs.declared.written.LocalDeclaration.TheVariants.{Declared, Referred}
+use Rattle.gx_schema_syntax.specs.declared.written.TypeDeclaration.{TypeDeclaration}
+use Rattle.gx_schema_syntax.specs.declared.written.TypeDefinition.{TypeDefinition}
+use Rattle.gx_schema_syntax.specs.declared.written.TypeDefinition.TheVariants.{Simple, Complex}
+use Rattle.gx_schema_syntax.specs.declared.written.TypeReference.{TypeReference}
+use Rattle.gx_schema_syntax.specs.declared.written.TypeReference.TheVariants as types
+use Rattle.gx_schema_syntax.specs.DocumentTree.{DocumentTree}
+use Rattle.gx_schema_components.specs.declared.mention.ComponentKind.TheVariants as kinds
+use Rattle.gx_schema_components.specs.DeclaredNames.{declared_number, types_in}
 use Rattle.gx_schema.specs.declared.found.Found.{Found}
 use Rattle.gx_schema.specs.FirstFound.{earlier_found, first_found, found_in_definition, found_in_type, place_where}
 

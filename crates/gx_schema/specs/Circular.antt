@@ -1,10 +1,10 @@
 -- Declarations that are part of themselves (XML Schema 1.0 part 1, sections 3.4.6, 3.6.6, 3.8.6 and 3.14.6).
 use Rattle.std.specs.Prelude.{List, length, Option, option_map}
-use Rattle.gx_profile.specs.DocumentTree.{DocumentTree}
-use Rattle.gx_components.specs.declared.mention.ComponentKind.TheVariants as kinds
-use Rattle.gx_components.specs.Components.{first_inner}
-use Rattle.gx_varieties.specs.declared.type_form.TypeForm.{TypeForm}
-use Rattle.gx_varieties.specs.CircularTypes.{first_circular}
+use Rattle.gx_schema_syntax.specs.DocumentTree.{DocumentTree}
+use Rattle.gx_schema_components.specs.declared.mention.ComponentKind.TheVariants as kinds
+use Rattle.gx_schema_components.specs.Components.{first_inner}
+use Rattle.gx_schema_simple.specs.declared.type_form.TypeForm.{TypeForm}
+use Rattle.gx_schema_simple.specs.CircularTypes.{first_circular}
 use Rattle.gx_schema.specs.declared.found.Found.{Found}
 use Rattle.gx_schema.specs.FirstFound.{earlier_found}
 use Rattle.gx_schema.specs.FirstNumber.{first_number}

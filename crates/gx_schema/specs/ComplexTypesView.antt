@@ -1,12 +1,12 @@
 -- What the code's table of complex types says.
 use Rattle.std.specs.Prelude.{◌≡◌, ℕ, Bool, false, List, map, slice_get, unwrap_or}
 use Rattle.std.specs.Option.{option_map_or}
-use Rattle.gx_profile.specs.declared.written.TypeReference.{TypeReference}
-use Rattle.gx_profile.specs.declared.written.TypeReference.TheVariants as types
-use Rattle.gx_profile.specs.DocumentTree.{DocumentTree}
-use Rattle.gx_components.specs.declared.mention.ComponentKind.TheVariants as kinds
-use Rattle.gx_components.specs.DeclaredNames.{types_in}
-use Rattle.gx_components.specs.NamesView.{IsNumbering, number_in_tables}
+use Rattle.gx_schema_syntax.specs.declared.written.TypeReference.{TypeReference}
+use Rattle.gx_schema_syntax.specs.declared.written.TypeReference.TheVariants as types
+use Rattle.gx_schema_syntax.specs.DocumentTree.{DocumentTree}
+use Rattle.gx_schema_components.specs.declared.mention.ComponentKind.TheVariants as kinds
+use Rattle.gx_schema_components.specs.DeclaredNames.{types_in}
+use Rattle.gx_schema_components.specs.NamesView.{IsNumbering, number_in_tables}
 use Rattle.gx_schema.specs.declared.attribute_types.ComplexTypes.{ComplexTypes}
 use Rattle.gx_schema.specs.AttributeTypes.{is_complex_declaration}
 

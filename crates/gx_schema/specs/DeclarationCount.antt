@@ -2,18 +2,18 @@
 use Rattle.std.specs.Prelude.{ℕ, suc, Bool, false, nat_lt, nat_le, List, [], ◌∷◌, ◌++◌, map, count_by, Option, None, Some, if◌then◌else◌}
 use Rattle.std.specs.List.{flat_map}
 use Rattle.gx_base.specs.declared.name.Name.{Name}
-use Rattle.gx_profile.specs.declared.written.AttributeMember.{AttributeMember}
-use Rattle.gx_profile.specs.declared.written.AttributeMember.TheVariants as members
-use Rattle.gx_profile.specs.declared.written.ComplexTypeDefinition.{ComplexTypeDefinition}
-use Rattle.gx_profile.specs.declared.written.GlobalDeclaration.{GlobalDeclaration}
-use Rattle.gx_profile.specs.declared.written.GlobalDeclaration.TheVariants as globals
-use Rattle.gx_profile.specs.declared.written.LocalDeclaration.{LocalDeclaration}
-use Rattle.gx_profile.specs.declared.written.LocalDeclaration.TheVariants.{Declared, Referred}
-use Rattle.gx_profile.specs.declared.written.TypeDeclaration.{TypeDeclaration}
-use Rattle.gx_profile.specs.declared.written.TypeDefinition.{TypeDefinition}
-use Rattle.gx_profile.specs.declared.written.TypeDefinition.TheVariants.{Simple, Complex}
-use Rattle.gx_profile.specs.DocumentTree.{DocumentTree}
-use Rattle.gx_profile.specs.ParticleTree.{ParticleTree, ParticleTrees, an_element, a_group, a_model_group, no_particles, a_particle}
+use Rattle.gx_schema_syntax.specs.declared.written.AttributeMember.{AttributeMember}
+use Rattle.gx_schema_syntax.specs.declared.written.AttributeMember.TheVariants as members
+use Rattle.gx_schema_syntax.specs.declared.written.ComplexTypeDefinition.{ComplexTypeDefinition}
+use Rattle.gx_schema_syntax.specs.declared.written.GlobalDeclaration.{GlobalDeclaration}
+use Rattle.gx_schema_syntax.specs.declared.written.GlobalDeclaration.TheVariants as globals
+use Rattle.gx_schema_syntax.specs.declared.written.LocalDeclaration.{LocalDeclaration}
+use Rattle.gx_schema_syntax.specs.declared.written.LocalDeclaration.TheVariants.{Declared, Referred}
+use Rattle.gx_schema_syntax.specs.declared.written.TypeDeclaration.{TypeDeclaration}
+use Rattle.gx_schema_syntax.specs.declared.written.TypeDefinition.{TypeDefinition}
+use Rattle.gx_schema_syntax.specs.declared.written.TypeDefinition.TheVariants.{Simple, Complex}
+use Rattle.gx_schema_syntax.specs.DocumentTree.{DocumentTree}
+use Rattle.gx_schema_syntax.specs.ParticleTree.{ParticleTree, ParticleTrees, an_element, a_group, a_model_group, no_particles, a_particle}
 use Rattle.gx_typetext.specs.NameText.{name_text, type_name_text}
 use Rattle.gx_schema.specs.declared.declaration_count.CountedDeclaration.{CountedDeclaration}
 use Rattle.gx_schema.specs.declared.declaration_count.CountedName.{CountedName}

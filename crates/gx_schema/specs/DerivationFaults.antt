@@ -1,19 +1,19 @@
 -- Simple content over a base without it, and complex content over one that is simple or has simple content (XML Schema 1.0 part 1, sections
 -- 3.4.3 and 3.4.6).
 use Rattle.std.specs.Prelude.{ℕ, suc, Bool, true, false, not, List, [], ◌∷◌, Option, None, Some, slice_get, if◌then◌else◌}
-use Rattle.gx_profile.specs.declared.written.ContentKind.{ContentKind}
-use Rattle.gx_profile.specs.declared.written.ContentKind.TheVariants as contents
-use Rattle.gx_components.specs.declared.component.Base.{Base}
-use Rattle.gx_components.specs.declared.component.Base.TheVariants.{Builtin, Declared}
-use Rattle.gx_components.specs.declared.component.Derivation.{Derivation}
-use Rattle.gx_components.specs.declared.component.Derivation.TheVariants as derivations
-use Rattle.gx_components.specs.declared.component.TypeComponent.{TypeComponent}
-use Rattle.gx_components.specs.declared.component.TypeForm.{TypeForm as ComponentForm}
-use Rattle.gx_components.specs.declared.component.TypeForm.TheVariants as components
-use Rattle.gx_varieties.specs.declared.faults.Fault.{Fault}
-use Rattle.gx_varieties.specs.declared.type_form.TypeForm.{TypeForm}
-use Rattle.gx_varieties.specs.declared.type_form.TypeForm.TheVariants as forms
-use Rattle.gx_varieties.specs.Faults.{earlier_fault}
+use Rattle.gx_schema_syntax.specs.declared.written.ContentKind.{ContentKind}
+use Rattle.gx_schema_syntax.specs.declared.written.ContentKind.TheVariants as contents
+use Rattle.gx_schema_components.specs.declared.component.Base.{Base}
+use Rattle.gx_schema_components.specs.declared.component.Base.TheVariants.{Builtin, Declared}
+use Rattle.gx_schema_components.specs.declared.component.Derivation.{Derivation}
+use Rattle.gx_schema_components.specs.declared.component.Derivation.TheVariants as derivations
+use Rattle.gx_schema_components.specs.declared.component.TypeComponent.{TypeComponent}
+use Rattle.gx_schema_components.specs.declared.component.TypeForm.{TypeForm as ComponentForm}
+use Rattle.gx_schema_components.specs.declared.component.TypeForm.TheVariants as components
+use Rattle.gx_schema_simple.specs.declared.faults.Fault.{Fault}
+use Rattle.gx_schema_simple.specs.declared.type_form.TypeForm.{TypeForm}
+use Rattle.gx_schema_simple.specs.declared.type_form.TypeForm.TheVariants as forms
+use Rattle.gx_schema_simple.specs.Faults.{earlier_fault}
 
 abbrev pub has_complex_content : Option TypeForm → Bool
 has_complex_content (Some (forms.ComplexContent base)) = true

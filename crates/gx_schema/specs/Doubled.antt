@@ -2,9 +2,9 @@
 use Rattle.std.specs.Prelude.{ℕ, suc, Bool, false, ◌==◌, List, [], ◌∷◌, Option, None, Some, option_map, if◌then◌else◌}
 use Rattle.gx_base.specs.declared.name.Name.{Name}
 use Rattle.gx_base.specs.declared.type_name.TypeName.{TypeName}
-use Rattle.gx_profile.specs.DocumentTree.{DocumentTree}
-use Rattle.gx_components.specs.declared.mention.ComponentKind.{ComponentKind}
-use Rattle.gx_components.specs.DeclaredNames.{declarations_in, names_of_kind, type_names_in}
+use Rattle.gx_schema_syntax.specs.DocumentTree.{DocumentTree}
+use Rattle.gx_schema_components.specs.declared.mention.ComponentKind.{ComponentKind}
+use Rattle.gx_schema_components.specs.DeclaredNames.{declarations_in, names_of_kind, type_names_in}
 use Rattle.gx_references.specs.Numbers.{first_from}
 use Rattle.gx_schema.specs.declared.found.Found.{Found}
 use Rattle.gx_schema.specs.Found.{found_by_number, globals_found, types_found}

@@ -2,12 +2,12 @@
 use Rattle.std.specs.Prelude.{ℕ, suc, nat_le, Bool, ◌||◌, List, [], ◌∷◌, ◌++◌, map, slice_index_or, if◌then◌else◌}
 use Rattle.std.specs.List.{flat_map, list_any}
 use Rattle.gx_base.specs.declared.name.Name.{Name}
-use Rattle.gx_profile.specs.declared.written.GlobalDeclaration.{GlobalDeclaration}
-use Rattle.gx_profile.specs.declared.written.GlobalDeclaration.TheVariants.{Element, Attribute, Group, AttributeGroup}
-use Rattle.gx_profile.specs.declared.written.TypeDeclaration.{TypeDeclaration}
-use Rattle.gx_profile.specs.DocumentTree.{DocumentTree}
-use Rattle.gx_components.specs.declared.mention.ComponentKind.{ComponentKind}
-use Rattle.gx_components.specs.DeclaredNames.{name_of_kind}
+use Rattle.gx_schema_syntax.specs.declared.written.GlobalDeclaration.{GlobalDeclaration}
+use Rattle.gx_schema_syntax.specs.declared.written.GlobalDeclaration.TheVariants.{Element, Attribute, Group, AttributeGroup}
+use Rattle.gx_schema_syntax.specs.declared.written.TypeDeclaration.{TypeDeclaration}
+use Rattle.gx_schema_syntax.specs.DocumentTree.{DocumentTree}
+use Rattle.gx_schema_components.specs.declared.mention.ComponentKind.{ComponentKind}
+use Rattle.gx_schema_components.specs.DeclaredNames.{name_of_kind}
 use Rattle.gx_typetext.specs.NameText.{name_text, type_name_text}
 use Rattle.gx_schema.specs.declared.found.Found.{Found}
 

@@ -4,23 +4,23 @@ use Rattle.gx_base.specs.declared.limits.TheConstants.{INCLUSION_PAIRS}
 use Rattle.gx_types.specs.declared.shape.Shape.{Shape}
 use Rattle.gx_types.specs.SchemaSet.{SchemaSet}
 use Rattle.gx_xml.specs.declared.source.Source.{Source}
-use Rattle.gx_profile.specs.DocumentTree.{DocumentTree}
-use Rattle.gx_profile.specs.Documents.{documents_written}
-use Rattle.gx_profile.specs.Numbers.{first_numbers}
-use Rattle.gx_profile.specs.Profile.{outside_files}
+use Rattle.gx_schema_syntax.specs.DocumentTree.{DocumentTree}
+use Rattle.gx_schema_syntax.specs.Documents.{documents_written}
+use Rattle.gx_schema_syntax.specs.Numbers.{first_numbers}
+use Rattle.gx_schema_syntax.specs.Profile.{outside_files}
 use Rattle.gx_schema.specs.declared.refusal.SchemaRule.{SchemaRule}
 use Rattle.gx_schema.specs.declared.refusal.SchemaRule.TheVariants.{NotInProfile, UnknownName, Inconsistent, NotARestriction, Circular, TooLarge, TooManyPairs}
 use Rattle.gx_schema.specs.declared.refusal.SchemaRefusal.{SchemaRefusal}
 use Rattle.gx_schema.specs.declared.refusal.SchemaRefusal.TheVariants.{Refused, Memory}
-use Rattle.gx_components.specs.declared.unknown.UnknownName.{UnknownName as Unknown}
-use Rattle.gx_components.specs.Unknown.{unknown_name}
-use Rattle.gx_varieties.specs.declared.type_form.TypeForm.{TypeForm}
+use Rattle.gx_schema_components.specs.declared.unknown.UnknownName.{UnknownName as Unknown}
+use Rattle.gx_schema_components.specs.Unknown.{unknown_name}
+use Rattle.gx_schema_simple.specs.declared.type_form.TypeForm.{TypeForm}
 use Rattle.gx_schema.specs.declared.found.Found.{Found}
 use Rattle.gx_base.specs.declared.type_name.TypeName.{TypeName}
-use Rattle.gx_components.specs.DeclaredNames.{type_names_in}
-use Rattle.gx_restriction.specs.declared.restrictions.Restrictions.{Restrictions}
-use Rattle.gx_restriction.specs.declared.restrictions.Restrictions.TheVariants.{Sound, Unsound, Undecided}
-use Rattle.gx_restriction.specs.Restrictions.{AreJudged}
+use Rattle.gx_schema_components.specs.DeclaredNames.{type_names_in}
+use Rattle.gx_schema_restriction.specs.declared.restrictions.Restrictions.{Restrictions}
+use Rattle.gx_schema_restriction.specs.declared.restrictions.Restrictions.TheVariants.{Sound, Unsound, Undecided}
+use Rattle.gx_schema_restriction.specs.Restrictions.{AreJudged}
 use Rattle.gx_schema.specs.Circular.{circular}
 use Rattle.gx_schema.specs.Found.{found_by_number, types_found}
 use Rattle.gx_schema.specs.Inconsistent.{inconsistent}

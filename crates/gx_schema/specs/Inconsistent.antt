@@ -1,17 +1,17 @@
 -- Declarations that disagree (XML Schema 1.0 part 1, sections 3.4.6, 3.8.6, 3.14.6 and 3.15.3; part 2, section 4.3).
 use Rattle.std.specs.Prelude.{List, Option, option_map}
-use Rattle.gx_profile.specs.DocumentTree.{DocumentTree}
-use Rattle.gx_components.specs.declared.mention.ComponentKind.TheVariants as kinds
+use Rattle.gx_schema_syntax.specs.DocumentTree.{DocumentTree}
+use Rattle.gx_schema_components.specs.declared.mention.ComponentKind.TheVariants as kinds
 use Rattle.gx_typetext.specs.NameText.{name_text}
-use Rattle.gx_contents.specs.declared.elements.ElementParticle.{ElementParticle}
-use Rattle.gx_contents.specs.Disagreement.{first_disagreement}
-use Rattle.gx_contents.specs.declared.extensions.DifferingExtension.{DifferingExtension}
-use Rattle.gx_contents.specs.Extensions.{first_differing_extension}
-use Rattle.gx_attributes.specs.declared.doubled.DoubledAttribute.{DoubledAttribute}
-use Rattle.gx_attributes.specs.Doubled.{first_doubled}
-use Rattle.gx_varieties.specs.declared.faults.Fault.{Fault}
-use Rattle.gx_varieties.specs.declared.type_form.TypeForm.{TypeForm}
-use Rattle.gx_varieties.specs.Faults.{first_type_fault, simple_faults}
+use Rattle.gx_schema_content.specs.declared.elements.ElementParticle.{ElementParticle}
+use Rattle.gx_schema_content.specs.Disagreement.{first_disagreement}
+use Rattle.gx_schema_content.specs.declared.extensions.DifferingExtension.{DifferingExtension}
+use Rattle.gx_schema_content.specs.Extensions.{first_differing_extension}
+use Rattle.gx_schema_attributes.specs.declared.doubled.DoubledAttribute.{DoubledAttribute}
+use Rattle.gx_schema_attributes.specs.Doubled.{first_doubled}
+use Rattle.gx_schema_simple.specs.declared.faults.Fault.{Fault}
+use Rattle.gx_schema_simple.specs.declared.type_form.TypeForm.{TypeForm}
+use Rattle.gx_schema_simple.specs.Faults.{first_type_fault, simple_faults}
 use Rattle.gx_schema.specs.declared.found.Found.{Found}
 use Rattle.gx_schema.specs.FirstFound.{earlier_found}
 use Rattle.gx_schema.specs.Occurrences.{disordered_bounds}

@@ -2,9 +2,9 @@
 use Rattle.std.specs.Prelude.{◌≡◌, ℕ, Bool, List, [], slice_index_or}
 use Rattle.gx_types.specs.declared.declaration.AttributeUse.{AttributeUse}
 use Rattle.gx_references.specs.Known.{known}
-use Rattle.gx_contents.specs.declared.effective.Effective.{Effective}
-use Rattle.gx_contents.specs.TypeContents.{unknown_content}
-use Rattle.gx_varieties.specs.declared.variety.TypeVariety.TheVariants.{Hidden}
+use Rattle.gx_schema_content.specs.declared.effective.Effective.{Effective}
+use Rattle.gx_schema_content.specs.TypeContents.{unknown_content}
+use Rattle.gx_schema_simple.specs.declared.variety.TypeVariety.TheVariants.{Hidden}
 use Rattle.gx_schema.specs.declared.schema_types.TypeTables.{TypeTables}
 use Rattle.gx_schema.specs.SchemaTypes.{TypeMeanings}
 use Rattle.gx_schema.specs.TooLarge.{has_too_many}

@@ -4,10 +4,10 @@ use Rattle.gx_base.specs.declared.type_name.TypeName.{TypeName}
 use Rattle.gx_base.specs.declared.type_name.TypeName.TheVariants as names
 use Rattle.gx_types.specs.SchemaInvariant.{is_nameable}
 use Rattle.gx_typetext.specs.NameText.{type_name_text}
-use Rattle.gx_contents.specs.ElementKinds.{element_kinds}
-use Rattle.gx_attributes.specs.AttributeKinds.{attribute_kinds}
-use Rattle.gx_varieties.specs.declared.type_form.TypeForm.{TypeForm}
-use Rattle.gx_varieties.specs.declared.type_form.TypeForm.TheVariants as forms
+use Rattle.gx_schema_content.specs.ElementKinds.{element_kinds}
+use Rattle.gx_schema_attributes.specs.AttributeKinds.{attribute_kinds}
+use Rattle.gx_schema_simple.specs.declared.type_form.TypeForm.{TypeForm}
+use Rattle.gx_schema_simple.specs.declared.type_form.TypeForm.TheVariants as forms
 use Rattle.gx_schema.specs.SeenComponents.{SeenComponents}
 use Rattle.gx_schema.specs.TypeNumbers.{own_type_number}
 

@@ -1,15 +1,15 @@
 -- How often particles occur (XML Schema 1.0 part 1, sections 3.9.1 and 3.9.6), and the first particle that breaks a rule on it.
 use Rattle.std.specs.Prelude.{ℕ, suc, Bool, false, not, nat_lt, List, [], ◌∷◌, Option, None, Some}
 use Rattle.std.specs.Option.{option_map, option_or}
-use Rattle.gx_profile.specs.declared.written.Bounds.{Bounds}
-use Rattle.gx_profile.specs.declared.written.GlobalDeclaration.{GlobalDeclaration}
-use Rattle.gx_profile.specs.declared.written.GlobalDeclaration.TheVariants.{Element, Attribute, Group, AttributeGroup}
-use Rattle.gx_profile.specs.declared.written.TypeDeclaration.{TypeDeclaration}
-use Rattle.gx_profile.specs.declared.written.TypeDefinition.{TypeDefinition}
-use Rattle.gx_profile.specs.declared.written.TypeDefinition.TheVariants.{Simple, Complex}
-use Rattle.gx_profile.specs.DocumentTree.{DocumentTree}
-use Rattle.gx_profile.specs.ParticleTree.{ParticleTree, ParticleTrees, an_element, a_group, a_model_group, no_particles, a_particle}
-use Rattle.gx_components.specs.Bounds.{is_at_most_greatest, number_of_text}
+use Rattle.gx_schema_syntax.specs.declared.written.Bounds.{Bounds}
+use Rattle.gx_schema_syntax.specs.declared.written.GlobalDeclaration.{GlobalDeclaration}
+use Rattle.gx_schema_syntax.specs.declared.written.GlobalDeclaration.TheVariants.{Element, Attribute, Group, AttributeGroup}
+use Rattle.gx_schema_syntax.specs.declared.written.TypeDeclaration.{TypeDeclaration}
+use Rattle.gx_schema_syntax.specs.declared.written.TypeDefinition.{TypeDefinition}
+use Rattle.gx_schema_syntax.specs.declared.written.TypeDefinition.TheVariants.{Simple, Complex}
+use Rattle.gx_schema_syntax.specs.DocumentTree.{DocumentTree}
+use Rattle.gx_schema_syntax.specs.ParticleTree.{ParticleTree, ParticleTrees, an_element, a_group, a_model_group, no_particles, a_particle}
+use Rattle.gx_schema_components.specs.Bounds.{is_at_most_greatest, number_of_text}
 use Rattle.gx_schema.specs.declared.found.Found.{Found}
 use Rattle.gx_schema.specs.declared.occurrences.OccurrenceRule.{OccurrenceRule}
 use Rattle.gx_schema.specs.declared.occurrences.OccurrenceRule.TheVariants.{Order, Limit}

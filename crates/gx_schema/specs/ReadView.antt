@@ -1,8 +1,8 @@
 -- What is read of documents.
 use Rattle.std.specs.Prelude.{◌≡◌, List, length, map}
-use Rattle.gx_profile.specs.DocumentTree.{DocumentTree}
-use Rattle.gx_components.specs.Components.{first_inner, globals_of}
-use Rattle.gx_components.specs.DeclaredNames.{type_names_in}
+use Rattle.gx_schema_syntax.specs.DocumentTree.{DocumentTree}
+use Rattle.gx_schema_components.specs.Components.{first_inner, globals_of}
+use Rattle.gx_schema_components.specs.DeclaredNames.{type_names_in}
 use Rattle.gx_schema.specs.declared.import.ReadComponents.{ReadComponents}
 use Rattle.gx_schema.specs.SchemaTypes.{schema_element, type_forms}
 use Rattle.gx_schema.specs.SeenComponents.{attribute_groups, model_groups, seen_components, type_components}

@@ -1,10 +1,10 @@
 -- The types that are restrictions, of complex content or of simple content (XML Schema 1.0 part 1, section 3.4.2).
 use Rattle.std.specs.Prelude.{Bool, true, false, List, map}
-use Rattle.gx_components.specs.declared.component.Derivation.{Derivation}
-use Rattle.gx_components.specs.declared.component.Derivation.TheVariants.{Own, Extends, Restricts}
-use Rattle.gx_components.specs.declared.component.TypeComponent.{TypeComponent}
-use Rattle.gx_components.specs.declared.component.TypeForm.{TypeForm as ComponentForm}
-use Rattle.gx_components.specs.declared.component.TypeForm.TheVariants.{Simple, Complex}
+use Rattle.gx_schema_components.specs.declared.component.Derivation.{Derivation}
+use Rattle.gx_schema_components.specs.declared.component.Derivation.TheVariants.{Own, Extends, Restricts}
+use Rattle.gx_schema_components.specs.declared.component.TypeComponent.{TypeComponent}
+use Rattle.gx_schema_components.specs.declared.component.TypeForm.{TypeForm as ComponentForm}
+use Rattle.gx_schema_components.specs.declared.component.TypeForm.TheVariants.{Simple, Complex}
 
 abbrev pub is_restriction : Derivation → Bool
 is_restriction Own = false

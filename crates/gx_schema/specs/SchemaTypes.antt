@@ -10,22 +10,22 @@ use Rattle.gx_types.specs.declared.declaration.Content.{Content}
 use Rattle.gx_types.specs.declared.declaration.Content.TheVariants as contents
 use Rattle.gx_types.specs.declared.declaration.Declared.{Declared}
 use Rattle.gx_types.specs.declared.declaration.GlobalElement.{GlobalElement}
-use Rattle.gx_profile.specs.DocumentTree.{DocumentTree}
-use Rattle.gx_components.specs.declared.component.Base.{Base}
-use Rattle.gx_components.specs.declared.component.Base.TheVariants as bases
-use Rattle.gx_components.specs.declared.component.Declaration.{Declaration}
-use Rattle.gx_components.specs.Components.{globals_of}
-use Rattle.gx_components.specs.DeclaredNames.{type_names_in}
-use Rattle.gx_contents.specs.declared.effective.Effective.{Effective}
-use Rattle.gx_contents.specs.ContentKnots.{content_of_type}
-use Rattle.gx_contents.specs.MixedContents.{model_of}
-use Rattle.gx_attributes.specs.TypeUses.{uses_of_type}
-use Rattle.gx_varieties.specs.declared.type_form.TypeForm.{TypeForm}
-use Rattle.gx_varieties.specs.declared.type_form.TypeForm.TheVariants as forms
-use Rattle.gx_varieties.specs.declared.variety.TypeVariety.{TypeVariety}
-use Rattle.gx_varieties.specs.declared.variety.TypeVariety.TheVariants.{Hidden, NoValues, Atomic, List as ListOf}
-use Rattle.gx_varieties.specs.Meanings.{own_facets_over}
-use Rattle.gx_varieties.specs.Varieties.{variety_of}
+use Rattle.gx_schema_syntax.specs.DocumentTree.{DocumentTree}
+use Rattle.gx_schema_components.specs.declared.component.Base.{Base}
+use Rattle.gx_schema_components.specs.declared.component.Base.TheVariants as bases
+use Rattle.gx_schema_components.specs.declared.component.Declaration.{Declaration}
+use Rattle.gx_schema_components.specs.Components.{globals_of}
+use Rattle.gx_schema_components.specs.DeclaredNames.{type_names_in}
+use Rattle.gx_schema_content.specs.declared.effective.Effective.{Effective}
+use Rattle.gx_schema_content.specs.ContentKnots.{content_of_type}
+use Rattle.gx_schema_content.specs.MixedContents.{model_of}
+use Rattle.gx_schema_attributes.specs.TypeUses.{uses_of_type}
+use Rattle.gx_schema_simple.specs.declared.type_form.TypeForm.{TypeForm}
+use Rattle.gx_schema_simple.specs.declared.type_form.TypeForm.TheVariants as forms
+use Rattle.gx_schema_simple.specs.declared.variety.TypeVariety.{TypeVariety}
+use Rattle.gx_schema_simple.specs.declared.variety.TypeVariety.TheVariants.{Hidden, NoValues, Atomic, List as ListOf}
+use Rattle.gx_schema_simple.specs.Meanings.{own_facets_over}
+use Rattle.gx_schema_simple.specs.Varieties.{variety_of}
 use Rattle.gx_schema.specs.SeenComponents.{SeenComponents, seen_components, type_components}
 use Rattle.gx_schema.specs.SimpleBases.{simple_base}
 use Rattle.gx_schema.specs.TypeForms.{forms_of}

@@ -1,27 +1,27 @@
 -- The components of schema documents, where model groups and attribute groups that stand on circles are not looked through.
 use Rattle.std.specs.Prelude.{ℕ, suc, Bool, false, List, [], ◌∷◌, ◌++◌, if◌then◌else◌}
-use Rattle.gx_profile.specs.DocumentTree.{DocumentTree}
-use Rattle.gx_profile.specs.declared.role.Compositor.TheVariants.{Sequence}
+use Rattle.gx_schema_syntax.specs.DocumentTree.{DocumentTree}
+use Rattle.gx_schema_syntax.specs.declared.role.Compositor.TheVariants.{Sequence}
 use Rattle.gx_references.specs.Circles.{is_circular_among}
-use Rattle.gx_components.specs.declared.component.AttributeGroup.{AttributeGroup}
-use Rattle.gx_components.specs.declared.component.Base.{Base}
-use Rattle.gx_components.specs.declared.component.Base.TheVariants.{Builtin, Declared}
-use Rattle.gx_components.specs.declared.component.ComplexType.{ComplexType}
-use Rattle.gx_components.specs.declared.component.Derivation.{Derivation}
-use Rattle.gx_components.specs.declared.component.Derivation.TheVariants as derivations
-use Rattle.gx_components.specs.declared.component.DerivedFrom.{DerivedFrom}
-use Rattle.gx_components.specs.declared.component.ModelGroup.{ModelGroup}
-use Rattle.gx_components.specs.declared.component.TypeComponent.{TypeComponent}
-use Rattle.gx_components.specs.declared.component.TypeForm.{TypeForm}
-use Rattle.gx_components.specs.declared.component.TypeForm.TheVariants as forms
-use Rattle.gx_components.specs.AttributeLists.{attribute_groups_of}
-use Rattle.gx_components.specs.Components.{definitions_by, first_inner, globals_of, types_by}
-use Rattle.gx_components.specs.DeclaredNames.{declarations_in}
-use Rattle.gx_contents.specs.GroupContents.{groups_in}
-use Rattle.gx_varieties.specs.Circles.{is_circular}
-use Rattle.gx_varieties.specs.Forms.{references_of}
+use Rattle.gx_schema_components.specs.declared.component.AttributeGroup.{AttributeGroup}
+use Rattle.gx_schema_components.specs.declared.component.Base.{Base}
+use Rattle.gx_schema_components.specs.declared.component.Base.TheVariants.{Builtin, Declared}
+use Rattle.gx_schema_components.specs.declared.component.ComplexType.{ComplexType}
+use Rattle.gx_schema_components.specs.declared.component.Derivation.{Derivation}
+use Rattle.gx_schema_components.specs.declared.component.Derivation.TheVariants as derivations
+use Rattle.gx_schema_components.specs.declared.component.DerivedFrom.{DerivedFrom}
+use Rattle.gx_schema_components.specs.declared.component.ModelGroup.{ModelGroup}
+use Rattle.gx_schema_components.specs.declared.component.TypeComponent.{TypeComponent}
+use Rattle.gx_schema_components.specs.declared.component.TypeForm.{TypeForm}
+use Rattle.gx_schema_components.specs.declared.component.TypeForm.TheVariants as forms
+use Rattle.gx_schema_components.specs.AttributeLists.{attribute_groups_of}
+use Rattle.gx_schema_components.specs.Components.{definitions_by, first_inner, globals_of, types_by}
+use Rattle.gx_schema_components.specs.DeclaredNames.{declarations_in}
+use Rattle.gx_schema_content.specs.GroupContents.{groups_in}
+use Rattle.gx_schema_simple.specs.Circles.{is_circular}
+use Rattle.gx_schema_simple.specs.Forms.{references_of}
 use Rattle.gx_schema.specs.TypeForms.{forms_of}
-use Rattle.gx_attributes.specs.GroupUses.{groups_named}
+use Rattle.gx_schema_attributes.specs.GroupUses.{groups_named}
 
 -- ---- as they are written
 

@@ -1,11 +1,11 @@
 -- What marks at components say.
 use Rattle.std.specs.Prelude.{◌≡◌, ℕ, List}
-use Rattle.gx_components.specs.declared.component.AttributeGroup.{AttributeGroup}
-use Rattle.gx_components.specs.declared.component.ModelGroup.{ModelGroup}
-use Rattle.gx_components.specs.declared.component.TypeComponent.{TypeComponent}
-use Rattle.gx_varieties.specs.Circles.{is_circular}
-use Rattle.gx_varieties.specs.Forms.{references_of}
-use Rattle.gx_varieties.specs.Walk.{has_mark}
+use Rattle.gx_schema_components.specs.declared.component.AttributeGroup.{AttributeGroup}
+use Rattle.gx_schema_components.specs.declared.component.ModelGroup.{ModelGroup}
+use Rattle.gx_schema_components.specs.declared.component.TypeComponent.{TypeComponent}
+use Rattle.gx_schema_simple.specs.Circles.{is_circular}
+use Rattle.gx_schema_simple.specs.Forms.{references_of}
+use Rattle.gx_schema_simple.specs.Walk.{has_mark}
 use Rattle.gx_schema.specs.declared.seen_components.CircleMarks.{CircleMarks}
 use Rattle.gx_schema.specs.SeenComponents.{Circles, is_circular_attribute_group, is_circular_group}
 use Rattle.gx_schema.specs.TypeForms.{forms_of}

@@ -1,9 +1,9 @@
 -- The simple types whose values simple content has (XML Schema 1.0 part 1, section 3.4.2).
 use Rattle.std.specs.Prelude.{ℕ, zero, suc, List, length, Option, None, Some, slice_get, unwrap_or}
-use Rattle.gx_components.specs.declared.component.Base.{Base}
-use Rattle.gx_components.specs.declared.component.Base.TheVariants.{Builtin, Declared}
-use Rattle.gx_varieties.specs.declared.type_form.TypeForm.{TypeForm}
-use Rattle.gx_varieties.specs.declared.type_form.TypeForm.TheVariants as forms
+use Rattle.gx_schema_components.specs.declared.component.Base.{Base}
+use Rattle.gx_schema_components.specs.declared.component.Base.TheVariants.{Builtin, Declared}
+use Rattle.gx_schema_simple.specs.declared.type_form.TypeForm.{TypeForm}
+use Rattle.gx_schema_simple.specs.declared.type_form.TypeForm.TheVariants as forms
 
 -- the base of a type with simple content
 abbrev pub base_of_simple_content : Option TypeForm → Option Base

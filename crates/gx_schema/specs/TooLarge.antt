@@ -1,10 +1,10 @@
 -- What passes the limits on schemas: contents, occurrences, and the number of declarations.
 use Rattle.std.specs.Prelude.{ℕ, nat_lt, Bool, ◌||◌, ◌&&◌, List, length, Option, option_map}
 use Rattle.gx_base.specs.declared.limits.TheConstants.{CONTENT_POSITIONS}
-use Rattle.gx_profile.specs.DocumentTree.{DocumentTree}
-use Rattle.gx_contents.specs.ContentKnots.{content_of_type}
-use Rattle.gx_contents.specs.GroupPositions.{positions_with_texts}
-use Rattle.gx_contents.specs.PositionKnots.{positions_of_type}
+use Rattle.gx_schema_syntax.specs.DocumentTree.{DocumentTree}
+use Rattle.gx_schema_content.specs.ContentKnots.{content_of_type}
+use Rattle.gx_schema_content.specs.GroupPositions.{positions_with_texts}
+use Rattle.gx_schema_content.specs.PositionKnots.{positions_of_type}
 use Rattle.gx_schema.specs.declared.found.Found.{Found}
 use Rattle.gx_schema.specs.FirstFound.{earlier_found}
 use Rattle.gx_schema.specs.DeclarationCount.{past_declaration_limit}

@@ -1,18 +1,18 @@
 -- Types, as far as the values of simple types tell of them.
 use Rattle.std.specs.Prelude.{List, map, None, Some}
-use Rattle.gx_profile.specs.declared.written.ContentKind.{ContentKind}
-use Rattle.gx_profile.specs.declared.written.ContentKind.TheVariants as contents
-use Rattle.gx_profile.specs.declared.written.WrittenFacet.{WrittenFacet}
-use Rattle.gx_components.specs.declared.component.Base.{Base}
-use Rattle.gx_components.specs.declared.component.Derivation.{Derivation}
-use Rattle.gx_components.specs.declared.component.Derivation.TheVariants as derivations
-use Rattle.gx_components.specs.declared.component.SimpleType.{SimpleType}
-use Rattle.gx_components.specs.declared.component.SimpleType.TheVariants as simple
-use Rattle.gx_components.specs.declared.component.TypeComponent.{TypeComponent}
-use Rattle.gx_components.specs.declared.component.TypeForm.{TypeForm as ComponentForm}
-use Rattle.gx_components.specs.declared.component.TypeForm.TheVariants.{Simple, Complex}
-use Rattle.gx_varieties.specs.declared.type_form.TypeForm.{TypeForm}
-use Rattle.gx_varieties.specs.declared.type_form.TypeForm.TheVariants as forms
+use Rattle.gx_schema_syntax.specs.declared.written.ContentKind.{ContentKind}
+use Rattle.gx_schema_syntax.specs.declared.written.ContentKind.TheVariants as contents
+use Rattle.gx_schema_syntax.specs.declared.written.WrittenFacet.{WrittenFacet}
+use Rattle.gx_schema_components.specs.declared.component.Base.{Base}
+use Rattle.gx_schema_components.specs.declared.component.Derivation.{Derivation}
+use Rattle.gx_schema_components.specs.declared.component.Derivation.TheVariants as derivations
+use Rattle.gx_schema_components.specs.declared.component.SimpleType.{SimpleType}
+use Rattle.gx_schema_components.specs.declared.component.SimpleType.TheVariants as simple
+use Rattle.gx_schema_components.specs.declared.component.TypeComponent.{TypeComponent}
+use Rattle.gx_schema_components.specs.declared.component.TypeForm.{TypeForm as ComponentForm}
+use Rattle.gx_schema_components.specs.declared.component.TypeForm.TheVariants.{Simple, Complex}
+use Rattle.gx_schema_simple.specs.declared.type_form.TypeForm.{TypeForm}
+use Rattle.gx_schema_simple.specs.declared.type_form.TypeForm.TheVariants as forms
 
 abbrev pub form_of_simple_type : SimpleType → TypeForm
 form_of_simple_type (simple.Restriction place base facets) = forms.Restriction place base facets

@@ -5,18 +5,18 @@ use Rattle.std.specs.Option.{option_or, option_map}
 use Rattle.gx_base.specs.declared.type_name.TypeName.{TypeName}
 use Rattle.gx_base.specs.declared.type_name.TypeName.TheVariants as names
 use Rattle.gx_types.specs.SchemaInvariant.{is_nameable}
-use Rattle.gx_profile.specs.declared.written.Derivation.{Derivation}
-use Rattle.gx_profile.specs.declared.written.GlobalDeclaration.{GlobalDeclaration}
-use Rattle.gx_profile.specs.declared.written.GlobalDeclaration.TheVariants.{Element, Attribute, Group, AttributeGroup}
-use Rattle.gx_profile.specs.declared.written.SimpleTypeDefinition.{SimpleTypeDefinition}
-use Rattle.gx_profile.specs.declared.written.SimpleTypeDefinition.TheVariants as simple
-use Rattle.gx_profile.specs.declared.written.TypeDeclaration.{TypeDeclaration}
-use Rattle.gx_profile.specs.declared.written.TypeDefinition.{TypeDefinition}
-use Rattle.gx_profile.specs.declared.written.TypeDefinition.TheVariants.{Simple, Complex}
-use Rattle.gx_profile.specs.declared.written.TypeReference.{TypeReference}
-use Rattle.gx_profile.specs.declared.written.TypeReference.TheVariants as types
-use Rattle.gx_profile.specs.DocumentTree.{DocumentTree}
-use Rattle.gx_components.specs.DeclaredNames.{type_names_in}
+use Rattle.gx_schema_syntax.specs.declared.written.Derivation.{Derivation}
+use Rattle.gx_schema_syntax.specs.declared.written.GlobalDeclaration.{GlobalDeclaration}
+use Rattle.gx_schema_syntax.specs.declared.written.GlobalDeclaration.TheVariants.{Element, Attribute, Group, AttributeGroup}
+use Rattle.gx_schema_syntax.specs.declared.written.SimpleTypeDefinition.{SimpleTypeDefinition}
+use Rattle.gx_schema_syntax.specs.declared.written.SimpleTypeDefinition.TheVariants as simple
+use Rattle.gx_schema_syntax.specs.declared.written.TypeDeclaration.{TypeDeclaration}
+use Rattle.gx_schema_syntax.specs.declared.written.TypeDefinition.{TypeDefinition}
+use Rattle.gx_schema_syntax.specs.declared.written.TypeDefinition.TheVariants.{Simple, Complex}
+use Rattle.gx_schema_syntax.specs.declared.written.TypeReference.{TypeReference}
+use Rattle.gx_schema_syntax.specs.declared.written.TypeReference.TheVariants as types
+use Rattle.gx_schema_syntax.specs.DocumentTree.{DocumentTree}
+use Rattle.gx_schema_components.specs.DeclaredNames.{type_names_in}
 use Rattle.gx_schema.specs.declared.unread.DeclarationKind.{DeclarationKind}
 use Rattle.gx_schema.specs.declared.unread.DeclarationKind.TheVariants as kinds
 use Rattle.gx_schema.specs.declared.unread.Unread.{Unread}

@@ -1,17 +1,17 @@
 // Attributes whose type is a complex type.
 
 ghost use Rattle.std.specs.Prelude.{◌≡◌, ◌++◌, IfOk, OnOk, map};
-ghost use Rattle.gx_components.specs.DeclaredNames.{types_in};
+ghost use Rattle.gx_schema_components.specs.DeclaredNames.{types_in};
 ghost use Rattle.gx_schema.specs.AttributeTypes.{complex_attribute_type, complex_from, complex_in_document, complex_in_global, complex_in_type, complex_local, complex_member, first_complex_member, first_complex_of, is_complex_definition, is_complex_declaration};
 ghost use Rattle.gx_schema.specs.ComplexTypesView.{is_complex_in_table, AreComplexTypes};
 ghost use Rattle.gx_schema.specs.FirstFound.{earlier_found, first_found, place_where};
 
 use crate::first_found::{note_in_definition, note_in_type};
 use crate::found::Found;
-use gx_components::mention::ComponentKind;
-use gx_components::names::{DeclaredNumbers, declared_numbers, number_in_tables, type_names_in};
-use gx_profile::reference::Reference;
-use gx_profile::written::{
+use gx_schema_components::mention::ComponentKind;
+use gx_schema_components::names::{DeclaredNumbers, declared_numbers, number_in_tables, type_names_in};
+use gx_schema_syntax::reference::Reference;
+use gx_schema_syntax::written::{
     AttributeMember, GlobalDeclaration, LocalDeclaration, SchemaDocument, TypeDeclaration,
     TypeDefinition, TypeReference,
 };

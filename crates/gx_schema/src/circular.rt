@@ -1,8 +1,8 @@
 // Declarations that are part of themselves.
 
 ghost use Rattle.std.specs.Prelude.{◌≡◌, ℕ, IfOk, length, option_map};
-ghost use Rattle.gx_components.specs.Components.{first_inner};
-ghost use Rattle.gx_varieties.specs.Walk.{has_mark};
+ghost use Rattle.gx_schema_components.specs.Components.{first_inner};
+ghost use Rattle.gx_schema_simple.specs.Walk.{has_mark};
 ghost use Rattle.gx_schema.specs.Circular.{circular, circular_attribute_group, circular_group, circular_type};
 ghost use Rattle.gx_schema.specs.FirstNumber.{first_number};
 ghost use Rattle.gx_schema.specs.Found.{found_by_number, globals_found};
@@ -10,10 +10,10 @@ ghost use Rattle.gx_schema.specs.SeenComponents.{attribute_groups, is_circular_a
 
 use crate::first_found::earlier_found;
 use crate::found::{Found, found_by_number, globals_found, types_found};
-use gx_components::mention::ComponentKind;
-use gx_profile::written::SchemaDocument;
-use gx_varieties::circles::{first_circular, is_marked};
-use gx_varieties::type_form::TypeForm;
+use gx_schema_components::mention::ComponentKind;
+use gx_schema_syntax::written::SchemaDocument;
+use gx_schema_simple::circles::{first_circular, is_marked};
+use gx_schema_simple::type_form::TypeForm;
 use std::alloc::{AllocError, Global};
 
 /// The first type on a circle.

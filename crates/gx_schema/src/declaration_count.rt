@@ -2,7 +2,7 @@
 
 ghost use Rattle.std.specs.Prelude.{◌≡◌, ℕ, ◌++◌, IfOk, OnOk, nat_le, slice_get};
 ghost use Rattle.std.specs.List.{flat_map};
-ghost use Rattle.gx_profile.specs.ParticleTree.{particles_of};
+ghost use Rattle.gx_schema_syntax.specs.ParticleTree.{particles_of};
 ghost use Rattle.gx_schema.specs.DeclarationCount.{complex_counted, content_counted, count_in_front, counted_local, counted_named, counted_type_declaration, declarations_counted, elements_counted, elements_counted_among, first_past_count, found_behind, found_counted, global_counted, greatest_count, is_behind, member_counted, past_declaration_limit, places_counted, counted_name_text, type_declarations_counted};
 ghost use Rattle.gx_schema.specs.FirstFound.{earlier_found, first_found};
 
@@ -11,7 +11,7 @@ use crate::found::Found;
 use gx_base::name::Name;
 use gx_base::text::Text;
 use gx_base::type_name::TypeName;
-use gx_profile::written::{
+use gx_schema_syntax::written::{
     AttributeMember, ComplexTypeDefinition, GlobalDeclaration, LocalDeclaration, Particle,
     SchemaDocument, Term, TypeDeclaration, TypeDefinition,
 };

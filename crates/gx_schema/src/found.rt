@@ -6,9 +6,9 @@ ghost use Rattle.gx_schema.specs.Found.{begins_by, some_global_begins, some_type
 
 use gx_base::name::Name;
 use gx_base::text::Text;
-use gx_components::mention::ComponentKind;
-use gx_components::names::name_of_kind;
-use gx_profile::written::{GlobalDeclaration, SchemaDocument, TypeDeclaration};
+use gx_schema_components::mention::ComponentKind;
+use gx_schema_components::names::name_of_kind;
+use gx_schema_syntax::written::{GlobalDeclaration, SchemaDocument, TypeDeclaration};
 use gx_typetext::print::{print_name, print_type_name};
 use std::alloc::{AllocError, Global};
 

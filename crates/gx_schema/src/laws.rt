@@ -2,10 +2,10 @@
 
 ghost use Rattle.gx_schema.specs.Laws.{AnImportExists, ImportsAreOne, ImportsAreSchemaSets};
 
-use gx_attributes::laws::{kinds_are_written, uses_are_distinct};
-use gx_contents::laws::{contents_are_bounded, elements_keep, one_type_a_name};
-use gx_restriction::laws::{a_judgement_exists, judgements_are_one};
-use gx_varieties::laws::{no_first_fault, none_is_circular, varieties_solve};
+use gx_schema_attributes::laws::{kinds_are_written, uses_are_distinct};
+use gx_schema_content::laws::{contents_are_bounded, elements_keep, one_type_a_name};
+use gx_schema_restriction::laws::{a_judgement_exists, judgements_are_one};
+use gx_schema_simple::laws::{no_first_fault, none_is_circular, varieties_solve};
 
 /// What schema files declare keeps to what declarations keep to: names are known and distinct, bases end at built-in types, and
 /// elements of one name in a content have one type (XML Schema 1.0 part 1, sections 3.3.6, 3.4.6, 3.8.6 and 3.14.6).

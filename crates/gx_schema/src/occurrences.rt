@@ -1,14 +1,14 @@
 // How often particles occur.
 
 ghost use Rattle.std.specs.Prelude.{◌≡◌, IfOk, OnOk};
-ghost use Rattle.gx_profile.specs.ParticleTree.{particles_of};
+ghost use Rattle.gx_schema_syntax.specs.ParticleTree.{particles_of};
 ghost use Rattle.gx_schema.specs.FirstFound.{earlier_found, first_found};
 ghost use Rattle.gx_schema.specs.Occurrences.{breaks_rule, broken_from, broken_in_document, broken_in_global, broken_in_type, disordered_bounds, first_breaking, first_breaking_among, first_breaking_in, first_breaking_of, past_occurrence_limit};
 
 use crate::first_found::{note_in_definition, note_in_type};
 use crate::found::Found;
-use gx_components::bounds::bounds_of;
-use gx_profile::written::{
+use gx_schema_components::bounds::bounds_of;
+use gx_schema_syntax::written::{
     Bounds, GlobalDeclaration, Particle, SchemaDocument, Term, TypeDeclaration, TypeDefinition,
 };
 use std::alloc::{AllocError, Global};

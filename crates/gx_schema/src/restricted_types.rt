@@ -1,8 +1,8 @@
 // Restrictions.
 
 ghost use Rattle.std.specs.Prelude.{◌≡◌, IfOk, IfErr, OnOk};
-ghost use Rattle.gx_restriction.specs.declared.restrictions.Restrictions.TheVariants.{Sound};
-ghost use Rattle.gx_restriction.specs.Restrictions.{AreJudged};
+ghost use Rattle.gx_schema_restriction.specs.declared.restrictions.Restrictions.TheVariants.{Sound};
+ghost use Rattle.gx_schema_restriction.specs.Restrictions.{AreJudged};
 ghost use Rattle.gx_schema.specs.Found.{found_by_number, types_found};
 ghost use Rattle.gx_schema.specs.Import.{AreRestrictionsTold, IsRefusalTold, IsRefusalWith, broken_at};
 ghost use Rattle.gx_schema.specs.RestrictedTypes.{is_restricted_type, is_restriction, restricted_types};
@@ -10,9 +10,9 @@ ghost use Rattle.gx_schema.specs.RestrictedTypes.{is_restricted_type, is_restric
 use crate::found::{Found, found_by_number, types_found};
 use crate::refusal::{SchemaRefusal, SchemaRule};
 use gx_base::limits::INCLUSION_PAIRS;
-use gx_components::component::{Derivation, TypeComponent, TypeForm as ComponentForm};
-use gx_profile::written::SchemaDocument;
-use gx_restriction::restrictions::{Restrictions, judge_restrictions};
+use gx_schema_components::component::{Derivation, TypeComponent, TypeForm as ComponentForm};
+use gx_schema_syntax::written::SchemaDocument;
+use gx_schema_restriction::restrictions::{Restrictions, judge_restrictions};
 use gx_types::schemas::Schemas;
 use gx_types::shape::Shape;
 use std::alloc::{AllocError, Global};

@@ -1,21 +1,21 @@
 // The types and the global elements that schema documents declare.
 
 ghost use Rattle.std.specs.Prelude.{◌≡◌, IfOk, map, None, Some, [], slice_index_or};
-ghost use Rattle.gx_varieties.specs.Meanings.{own_facets_over};
+ghost use Rattle.gx_schema_simple.specs.Meanings.{own_facets_over};
 ghost use Rattle.gx_schema.specs.SchemaTypes.{base_name, complex_content, content_declared, derived_from_name, schema_element, schema_type, schema_types, schema_types_from, simple_content};
 ghost use Rattle.gx_schema.specs.MeaningsView.{effective_at, meanings_view};
 
 use crate::simple_bases::simple_base;
 use gx_base::type_name::{Builtin, TypeName};
-use gx_components::component::{Base, Declaration};
-use gx_contents::effective::Effective;
-use gx_contents::mixed::model_of;
+use gx_schema_components::component::{Base, Declaration};
+use gx_schema_content::effective::Effective;
+use gx_schema_content::mixed::model_of;
 use gx_facets::Facets;
 use gx_types::declaration::{AttributeUse, AttributeUses, Content, Declared, GlobalElement};
 use gx_types::sequence_type::Ty;
-use gx_varieties::meaning::own_facets_of;
-use gx_varieties::type_form::TypeForm;
-use gx_varieties::variety::{TypeVariety, known_variety};
+use gx_schema_simple::meaning::own_facets_of;
+use gx_schema_simple::type_form::TypeForm;
+use gx_schema_simple::variety::{TypeVariety, known_variety};
 use std::alloc::{AllocError, Global};
 
 /// What types mean beside their forms, by number: the varieties of their values, their contents and their attributes.

@@ -2,22 +2,22 @@
 
 ghost use Rattle.std.specs.Prelude.{◌≡◌, ℕ, IfOk, map};
 ghost use Rattle.gx_references.specs.PlainReferences.{numbers_in};
-ghost use Rattle.gx_contents.specs.GroupContents.{groups_in};
-ghost use Rattle.gx_varieties.specs.Walk.{has_mark};
+ghost use Rattle.gx_schema_content.specs.GroupContents.{groups_in};
+ghost use Rattle.gx_schema_simple.specs.Walk.{has_mark};
 ghost use Rattle.gx_schema.specs.SeenComponents.{attribute_groups_in_group, is_circular_attribute_group, is_circular_base, is_circular_group, seen_attribute_group, seen_attribute_groups_from, seen_derivation, seen_from, seen_group, seen_groups_from, seen_type, seen_types};
 ghost use Rattle.gx_schema.specs.SeenView.{AreCircles};
 ghost use Rattle.gx_schema.specs.TypeForms.{forms_of};
 
-use gx_attributes::groups::groups_named;
-use gx_components::component::{
+use gx_schema_attributes::groups::groups_named;
+use gx_schema_components::component::{
     AttributeGroup, AttributeParts, Base, Derivation, DerivedFrom, ModelGroup, Particles,
     TypeComponent, TypeForm,
 };
-use gx_contents::group_content::groups_in;
-use gx_profile::role::Compositor;
+use gx_schema_content::group_content::groups_in;
+use gx_schema_syntax::role::Compositor;
 use gx_references::circles::circular_among;
-use gx_varieties::circles::{circular_types, is_marked};
-use gx_varieties::type_form::TypeForm as ValueForm;
+use gx_schema_simple::circles::{circular_types, is_marked};
+use gx_schema_simple::type_form::TypeForm as ValueForm;
 use std::alloc::{AllocError, Global};
 use std::marker::Model;
 

@@ -1,18 +1,18 @@
 // The contents, the positions and the attributes of the types that are seen, and which of them are restrictions.
 
 ghost use Rattle.std.specs.Prelude.{◌≡◌, ℕ, IfOk, [], slice_index_or};
-ghost use Rattle.gx_attributes.specs.TypeUses.{uses_of_type};
-ghost use Rattle.gx_contents.specs.ContentKnots.{content_of_type};
-ghost use Rattle.gx_contents.specs.PositionKnots.{positions_of_type};
+ghost use Rattle.gx_schema_attributes.specs.TypeUses.{uses_of_type};
+ghost use Rattle.gx_schema_content.specs.ContentKnots.{content_of_type};
+ghost use Rattle.gx_schema_content.specs.PositionKnots.{positions_of_type};
 ghost use Rattle.gx_schema.specs.MeaningsView.{effective_at};
 ghost use Rattle.gx_schema.specs.RestrictedTypes.{restricted_types};
 
 use crate::restricted_types::restricted_types;
 use crate::seen_components::SeenComponents;
-use gx_attributes::uses::attribute_uses;
-use gx_contents::contents::contents;
-use gx_contents::effective::Effective;
-use gx_contents::positions::type_positions;
+use gx_schema_attributes::uses::attribute_uses;
+use gx_schema_content::contents::contents;
+use gx_schema_content::effective::Effective;
+use gx_schema_content::positions::type_positions;
 use gx_types::declaration::AttributeUses;
 use std::alloc::{AllocError, Global};
 

@@ -3,8 +3,8 @@
 ghost use Rattle.std.specs.Prelude.{◌≡◌, slice_get};
 ghost use Rattle.gx_schema.specs.SimpleBases.{base_of_simple_content, simple_base};
 
-use gx_components::component::Base;
-use gx_varieties::type_form::TypeForm;
+use gx_schema_components::component::Base;
+use gx_schema_simple::type_form::TypeForm;
 
 /// The simple type of a base of simple content: the base itself where it is simple, and else that of its base.
 #[tactic(auto, using(crate::proofs::SimpleVarieties::stays))]

@@ -13,8 +13,8 @@ use crate::occurrences::past_occurrence_limit;
 use crate::seen_components::SeenComponents;
 use crate::seen_meanings::{seen_contents, seen_positions};
 use gx_base::limits::CONTENT_POSITIONS;
-use gx_contents::effective::Effective;
-use gx_profile::written::SchemaDocument;
+use gx_schema_content::effective::Effective;
+use gx_schema_syntax::written::SchemaDocument;
 use std::alloc::{AllocError, Global};
 
 /// The first that passes a limit, by place: a complex type whose content has too many positions, a particle that may occur too often,

@@ -3,11 +3,11 @@
 ghost use Rattle.std.specs.Prelude.{◌≡◌, IfOk};
 ghost use Rattle.gx_schema.specs.TypeForms.{form_of_content, form_of_derivation, form_of_simple_type, form_of_type, forms_of};
 
-use gx_components::component::{
+use gx_schema_components::component::{
     Base, Derivation, SimpleType, TypeComponent, TypeForm as ComponentForm,
 };
-use gx_profile::written::{ContentKind, WrittenFacet, WrittenFacets};
-use gx_varieties::type_form::TypeForm;
+use gx_schema_syntax::written::{ContentKind, WrittenFacet, WrittenFacets};
+use gx_schema_simple::type_form::TypeForm;
 use std::alloc::{AllocError, Global};
 
 /// The forms of types.

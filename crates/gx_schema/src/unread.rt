@@ -8,8 +8,8 @@ ghost use Rattle.gx_schema.specs.Unread.{base_written, first_by_place, first_unr
 use crate::type_numbers::{TypeNumbers, number_of, type_numbers};
 use gx_base::text::Text;
 use gx_base::type_name::{Builtin, TypeName};
-use gx_components::names::type_names_in;
-use gx_profile::written::{
+use gx_schema_components::names::type_names_in;
+use gx_schema_syntax::written::{
     Derivation, GlobalDeclaration, SchemaDocument, SimpleTypeDefinition, TypeDeclaration,
     TypeDefinition, TypeReference,
 };

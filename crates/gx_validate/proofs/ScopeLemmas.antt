@@ -5,7 +5,7 @@ use Rattle.std.specs.Option.{option_or}
 use Rattle.std.specs.Borrow.{Bor}
 use Rattle.gx_base.specs.Text.{same_text}
 use Rattle.gx_xml.specs.declared.source.Declaration.{Declaration}
-use Rattle.gx_profile.specs.Scope.{declared_uri}
+use Rattle.gx_schema_syntax.specs.Scope.{declared_uri}
 use Rattle.gx_validate.specs.ScopeView.{declarations_of_tags}
 
 -- the URI of a prefix in the first declarations, or else in the others

@@ -13,7 +13,7 @@ use Rattle.gx_xml.specs.SourceTree.{SourceTree, SourceContents, source, no_conte
 use Rattle.gx_xml.specs.Untyped.{untyped_attributes}
 use Rattle.gx_xml.specs.declared.source.Declaration.{Declaration}
 use Rattle.gx_xml.specs.declared.source.SourceAttribute.{SourceAttribute}
-use Rattle.gx_profile.specs.Contents.{tree_name}
+use Rattle.gx_schema_syntax.specs.Contents.{tree_name}
 use Rattle.gx_validate.specs.InstanceAttributes.{given_type, has_nil}
 use Rattle.gx_validate.specs.Annotation.{type_named_in, without_space_around}
 use Rattle.gx_model.specs.TypedTree.{IsWellTyped}

@@ -2,8 +2,8 @@
 
 ghost use Rattle.std.specs.Prelude.{◌≡◌, [], IfOk, option_copied};
 ghost use Rattle.std.specs.List.{list_any};
-ghost use Rattle.gx_profile.specs.Scope.{reference_in, reference_to};
-ghost use Rattle.gx_profile.specs.Words.{has_spelling, is_schema_uri};
+ghost use Rattle.gx_schema_syntax.specs.Scope.{reference_in, reference_to};
+ghost use Rattle.gx_schema_syntax.specs.Words.{has_spelling, is_schema_uri};
 ghost use Rattle.gx_xml.specs.Untyped.{is_instance_namespace};
 ghost use Rattle.gx_validate.specs.Annotation.{annotation, bound_type, declared_type_named, known_type, type_named_in, where_derived, without_space_around};
 ghost use Rattle.gx_validate.specs.ElementContent.{type_in_content};
@@ -15,7 +15,7 @@ use crate::scope::{Scope, uri_in_scope, within};
 use gx_base::name::{Name, SharedName};
 use gx_base::text::Text;
 use gx_base::type_name::TypeName;
-use gx_profile::reference::{Reference, named_builtin};
+use gx_schema_syntax::reference::{Reference, named_builtin};
 use gx_types::derivation::derives;
 use gx_types::schemas::Schemas;
 use gx_xml::source::{SourceAttribute, SourceElement};
@@ -59,7 +59,7 @@ pub fn has_nil(attributes: &[SourceAttribute]) -> bool
         .any(|attribute| is_instance_attribute("nil", &attribute.name))
 }
 
-#[tactic(auto, unfolding(gx_profile::specs::Words::is_schema_uri))]
+#[tactic(auto, unfolding(gx_schema_syntax::specs::Words::is_schema_uri))]
 fn is_schema_uri(uri: &Text) -> bool
     ensures { result ≡ is_schema_uri uri.now }
 {

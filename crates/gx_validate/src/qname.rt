@@ -3,7 +3,7 @@
 ghost use Rattle.std.specs.Prelude.{◌≡◌, IfOk, reverse};
 ghost use Rattle.std.specs.List.{list_all};
 ghost use Rattle.gx_base.specs.NameCharacters.{is_ncname_character};
-ghost use Rattle.gx_profile.specs.Lexical.{colon_in, is_local_name, is_qname, local_in, prefix_in};
+ghost use Rattle.gx_schema_syntax.specs.Lexical.{colon_in, is_local_name, is_qname, local_in, prefix_in};
 ghost use Rattle.gx_validate.specs.Annotation.{without_space_before, without_space_around};
 
 use gx_base::characters::{is_name_character, is_name_start, is_white_space, next_character};

@@ -1,8 +1,8 @@
 // Namespace declarations in scope.
 
 ghost use Rattle.std.specs.Prelude.{◌≡◌, ◌++◌, [], IfOk, OnOk, option_copied};
-ghost use Rattle.gx_profile.specs.Scope.{declared_uri, uri_in_scope};
-ghost use Rattle.gx_profile.specs.Words.{has_spelling};
+ghost use Rattle.gx_schema_syntax.specs.Scope.{declared_uri, uri_in_scope};
+ghost use Rattle.gx_schema_syntax.specs.Words.{has_spelling};
 ghost use Rattle.gx_tree.specs.Binding.{xml, xml_uri};
 ghost use Rattle.gx_validate.specs.ScopeView.{scope_declarations, declarations_of_tags};
 

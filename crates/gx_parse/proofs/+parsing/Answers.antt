@@ -4,26 +4,26 @@ use Rattle.gx_ast.specs.declared.expression.Clause.TheVariants.{Where}
 use Rattle.gx_grammar.specs.Value.{node, nothing, pair}
 use Rattle.gx_grammar.specs.Grammar.{rule, token, ◌&◌}
 use Rattle.gx_grammar.specs.Ran.{Ran, Makes}
-use Rattle.gx_syntax.specs.Nodes.{Arguments, Made, name_at, name_length, tree}
-use Rattle.gx_syntax.specs.Bound.{bound}
-use Rattle.gx_syntax.specs.Binding.{clause, first_bound, flwor, head, last_clause, more_bindings, more_clauses, quantified}
-use Rattle.gx_syntax.specs.declared.word.Binder.TheVariants as binder
-use Rattle.gx_syntax.specs.Keys.{key, key_made, more_keys}
-use Rattle.gx_syntax.specs.Typeswitch.{case, case_made, more_cases}
+use Rattle.gx_parse_grammar.specs.Nodes.{Arguments, Made, name_at, name_length, tree}
+use Rattle.gx_parse_grammar.specs.Bound.{bound}
+use Rattle.gx_parse_grammar.specs.Binding.{clause, first_bound, flwor, head, last_clause, more_bindings, more_clauses, quantified}
+use Rattle.gx_parse_grammar.specs.declared.word.Binder.TheVariants as binder
+use Rattle.gx_parse_grammar.specs.Keys.{key, key_made, more_keys}
+use Rattle.gx_parse_grammar.specs.Typeswitch.{case, case_made, more_cases}
 use Rattle.gx_parse.proofs.TypeswitchPhrases.{case_read, cases_none, cases_more, cases_read, typeswitch_read, branched_condition, branched_typeswitch}
 use Rattle.gx_parse.specs.Lists.{Grown, binding_made, clause_made, head_made, items_before}
-use Rattle.gx_scan.specs.Names.{name_made}
-use Rattle.gx_syntax.specs.Grammar.{after_axis, filtered_step, more_predicates, path_from, step_of, step_value, is_name, behind_keyword, named_single, more_arguments, other_step, at_tokens, begun, behind_any_name, behind_plain_name, condition, ladder, other_operand, parenthesised_step, place_in, single, step, typeswitch}
-use Rattle.gx_syntax.specs.Tokens.{gap, gap_then_open, gap_not_open, gap_then_dollar}
+use Rattle.gx_parse_tokens.specs.Names.{name_made}
+use Rattle.gx_parse_grammar.specs.Grammar.{after_axis, filtered_step, more_predicates, path_from, step_of, step_value, is_name, behind_keyword, named_single, more_arguments, other_step, at_tokens, begun, behind_any_name, behind_plain_name, condition, ladder, other_operand, parenthesised_step, place_in, single, step, typeswitch}
+use Rattle.gx_parse_grammar.specs.Tokens.{gap, gap_then_open, gap_not_open, gap_then_dollar}
 use Rattle.gx_parse.specs.declared.members.Members.TheVariants.{Steps}
 use Rattle.gx_ast.specs.SyntaxTree.{at, conditional, flwor as flwor_form, parenthesised, quantified as quantified_form, typeswitch as typeswitch_form}
 use Rattle.gx_grammar.proofs.PublicLaws.{ran_idle}
-use Rattle.gx_scan.specs.Reading.{call, read_in}
+use Rattle.gx_parse_tokens.specs.Reading.{call, read_in}
 use Rattle.gx_parse.specs.Parsing.{Listed, filtered_tree, named_tree, called_tree, most_of, read_chain, chain_of, member_of, wrapped}
-use Rattle.gx_scan.specs.Reading.{Added}
+use Rattle.gx_parse_tokens.specs.Reading.{Added}
 use Rattle.gx_parse.proofs.Chains.{ran_any, ran_keeps, chain_full}
 use Rattle.gx_parse.proofs.Phrases.{in_rule}
-use Rattle.gx_syntax.specs.NodeTests.{any_step, axis_word, maybe_content, step_tree, test_made, test_of}
+use Rattle.gx_parse_grammar.specs.NodeTests.{any_step, axis_word, maybe_content, step_tree, test_made, test_of}
 use Rattle.gx_parse.proofs.Phrases.{loses_done, loses_ran}
 use Rattle.std.proofs.lemmas.List.{append_assoc}
 use Rattle.gx_parse.proofs.NodeTestsPhrases.{wildcard_stands, no_wildcard}
@@ -38,19 +38,19 @@ use Rattle.gx_ast.specs.SyntaxView.{attribute_parts_of, attributes_of, parts_of}
 use Rattle.gx_grammar.specs.Value.{no_item}
 use Rattle.gx_grammar.specs.First.{by_character}
 use Rattle.gx_base.specs.NameCharacters.{is_ncname_start}
-use Rattle.gx_syntax.specs.Basics.{within}
-use Rattle.gx_syntax.specs.Nodes.{Found, PartsAre, ValueIs}
+use Rattle.gx_parse_grammar.specs.Basics.{within}
+use Rattle.gx_parse_grammar.specs.Nodes.{Found, PartsAre, ValueIs}
 use Rattle.gx_parse.specs.Repeated.{listed_before}
-use Rattle.gx_syntax.specs.Direct.{attribute, element_at, piece_made, value_piece, value_pieces_of}
+use Rattle.gx_parse_grammar.specs.Direct.{attribute, element_at, piece_made, value_piece, value_pieces_of}
 use Rattle.gx_parse.specs.DirectReading.{attribute_made}
 use Rattle.gx_parse.proofs.ContentPhrases.{content_begins, content_ends, content_full, content_more}
 use Rattle.gx_parse.proofs.Repeated.{Begun, all_listed, many_begin, many_end, many_full, many_more}
 use Rattle.gx_parse.proofs.PrologPhrases.{no_more as no_item_added, one_more as item_added}
 use Rattle.gx_parse.proofs.DirectPhrases.{attribute_read, attribute_stops, attributes_read, content_cdata, content_element, content_plain, content_reference, direct_read, doubled_brace, element_read, element_stops, enclosed_read, filled_read, nested_none, nested_read, no_content_read, plain_brace, plain_close, plain_text, value_double, value_doubled, value_plain, value_read, value_reference, value_single, values_are, within_none, within_read}
-use Rattle.gx_syntax.specs.Computed.{computed_form, empty_form, named_form, named_node_value}
-use Rattle.gx_syntax.specs.Grammar.{braced, computed, constructed, named_node}
-use Rattle.gx_syntax.specs.NodeTests.{axis_test}
-use Rattle.gx_syntax.specs.Types.{named}
+use Rattle.gx_parse_grammar.specs.Computed.{computed_form, empty_form, named_form, named_node_value}
+use Rattle.gx_parse_grammar.specs.Grammar.{braced, computed, constructed, named_node}
+use Rattle.gx_parse_grammar.specs.NodeTests.{axis_test}
+use Rattle.gx_parse_grammar.specs.Types.{named}
 use Rattle.gx_parse.proofs.ComputedPhrases.{any_name_constructed, bare_passes, braced_nothing, braced_something, colons, computed_passes, computed_read, constructor_read, gap_passes, named_passes, no_axis, no_colons, node_read, part_read, plain_passes, unnamed_passes}
 use Rattle.gx_parse.proofs.+parsing.Goals as goal
 

@@ -1,5 +1,5 @@
 use Rattle.std.proofs.Common.{None}
-use Rattle.gx_syntax.specs.Bound.{position_made}
+use Rattle.gx_parse_grammar.specs.Bound.{position_made}
 use Rattle.gx_parse.proofs.binding.for_position.Goals as goal
 
 pub returns-in_default : goal.returns-in_default

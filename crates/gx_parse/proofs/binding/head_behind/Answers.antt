@@ -1,6 +1,6 @@
 use Rattle.gx_grammar.specs.Value.{nothing}
-use Rattle.gx_syntax.specs.Grammar.{place_in}
-use Rattle.gx_syntax.specs.Bound.{bound_made, kind_made, position_made}
+use Rattle.gx_parse_grammar.specs.Grammar.{place_in}
+use Rattle.gx_parse_grammar.specs.Bound.{bound_made, kind_made, position_made}
 use Rattle.gx_parse.proofs.BindingPhrases.{head_read, head_stops}
 use Rattle.gx_parse.proofs.binding.head_behind.Goals as goal
 

@@ -1,4 +1,4 @@
-use Rattle.gx_syntax.specs.Bound.{position_made}
+use Rattle.gx_parse_grammar.specs.Bound.{position_made}
 use Rattle.gx_parse.proofs.BindingPhrases.{for_position, let_position, quantifier_position}
 use Rattle.gx_parse.proofs.binding.position_of.Goals as goal
 

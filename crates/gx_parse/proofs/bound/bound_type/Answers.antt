@@ -1,8 +1,8 @@
 use Rattle.gx_grammar.specs.Value.{nothing}
-use Rattle.gx_syntax.specs.Grammar.{place_in}
-use Rattle.gx_scan.specs.Reading.{read_in}
-use Rattle.gx_syntax.specs.Types.{type_made}
-use Rattle.gx_syntax.specs.Bound.{bound_type, kind_made}
+use Rattle.gx_parse_grammar.specs.Grammar.{place_in}
+use Rattle.gx_parse_tokens.specs.Reading.{read_in}
+use Rattle.gx_parse_grammar.specs.Types.{type_made}
+use Rattle.gx_parse_grammar.specs.Bound.{bound_type, kind_made}
 use Rattle.gx_parse.proofs.TypesPhrases.{gave_none}
 use Rattle.gx_parse.proofs.BoundPhrases.{a_type, no_type}
 use Rattle.gx_parse.proofs.bound.bound_type.Goals as goal

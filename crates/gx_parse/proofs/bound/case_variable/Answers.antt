@@ -1,9 +1,9 @@
 use Rattle.gx_grammar.specs.Value.{nothing}
-use Rattle.gx_syntax.specs.Grammar.{place_in}
-use Rattle.gx_scan.specs.Reading.{read_in}
-use Rattle.gx_syntax.specs.declared.word.Word.TheVariants as word
-use Rattle.gx_syntax.specs.Grammar.{lexeme, word_of}
-use Rattle.gx_syntax.specs.Bound.{bound_made, case_variable, position_made}
+use Rattle.gx_parse_grammar.specs.Grammar.{place_in}
+use Rattle.gx_parse_tokens.specs.Reading.{read_in}
+use Rattle.gx_parse_grammar.specs.declared.word.Word.TheVariants as word
+use Rattle.gx_parse_grammar.specs.Grammar.{lexeme, word_of}
+use Rattle.gx_parse_grammar.specs.Bound.{bound_made, case_variable, position_made}
 use Rattle.gx_parse.proofs.TypesPhrases.{gave_none, idle}
 use Rattle.gx_parse.proofs.BoundPhrases.{a_case, no_case}
 use Rattle.gx_parse.proofs.bound.case_variable.Goals as goal

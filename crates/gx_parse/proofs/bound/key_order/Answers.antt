@@ -1,8 +1,8 @@
 use Rattle.std.proofs.Common.{subst, sym}
 use Rattle.gx_grammar.specs.Ran.{Ran}
-use Rattle.gx_syntax.specs.Grammar.{place_in}
-use Rattle.gx_scan.specs.Reading.{read_in}
-use Rattle.gx_syntax.specs.Bound.{direction_made, extreme_made, is_descending, key_order, order_made}
+use Rattle.gx_parse_grammar.specs.Grammar.{place_in}
+use Rattle.gx_parse_tokens.specs.Reading.{read_in}
+use Rattle.gx_parse_grammar.specs.Bound.{direction_made, extreme_made, is_descending, key_order, order_made}
 use Rattle.gx_parse.proofs.BoundPhrases.{order_read}
 use Rattle.gx_parse.proofs.bound.key_order.Goals as goal
 

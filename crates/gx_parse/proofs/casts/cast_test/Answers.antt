@@ -1,13 +1,13 @@
 use Rattle.std.proofs.Common.{ap, refl}
 use Rattle.gx_ast.specs.SyntaxTree.{at}
 use Rattle.gx_grammar.specs.Value.{nothing, node, pair}
-use Rattle.gx_syntax.specs.declared.word.Word.TheVariants as word
-use Rattle.gx_syntax.specs.declared.word.WordSet.TheVariants as set
-use Rattle.gx_syntax.specs.Nodes.{Found, Operator, tree}
-use Rattle.gx_syntax.specs.Grammar.{place_in}
-use Rattle.gx_scan.specs.Reading.{read_in}
-use Rattle.gx_syntax.specs.Types.{casting_made}
-use Rattle.gx_syntax.specs.Casts.{cast_test, cast_form}
+use Rattle.gx_parse_grammar.specs.declared.word.Word.TheVariants as word
+use Rattle.gx_parse_grammar.specs.declared.word.WordSet.TheVariants as set
+use Rattle.gx_parse_grammar.specs.Nodes.{Found, Operator, tree}
+use Rattle.gx_parse_grammar.specs.Grammar.{place_in}
+use Rattle.gx_parse_tokens.specs.Reading.{read_in}
+use Rattle.gx_parse_grammar.specs.Types.{casting_made}
+use Rattle.gx_parse_grammar.specs.Casts.{cast_test, cast_form}
 use Rattle.gx_parse.proofs.CastsPhrases.{no_cast, cast_read}
 use Rattle.gx_parse.proofs.Chains.{ran_any, ran_keeps}
 use Rattle.gx_parse.proofs.casts.cast_test.Goals as goal

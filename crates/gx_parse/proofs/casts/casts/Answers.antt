@@ -1,7 +1,7 @@
-use Rattle.gx_syntax.specs.declared.casts.TypeTest.TheVariants as test
-use Rattle.gx_syntax.specs.declared.casts.CastTest.TheVariants as cast
-use Rattle.gx_syntax.specs.Grammar.{place_in}
-use Rattle.gx_syntax.specs.Casts.{cast_test, casts, type_test}
+use Rattle.gx_parse_grammar.specs.declared.casts.TypeTest.TheVariants as test
+use Rattle.gx_parse_grammar.specs.declared.casts.CastTest.TheVariants as cast
+use Rattle.gx_parse_grammar.specs.Grammar.{place_in}
+use Rattle.gx_parse_grammar.specs.Casts.{cast_test, casts, type_test}
 use Rattle.gx_parse.proofs.casts.casts.Goals as goal
 
 pub returns : goal.returns

@@ -1,12 +1,12 @@
 use Rattle.std.proofs.Common.{ap, subst, sym, ◌∙◌}
 use Rattle.gx_grammar.specs.Value.{nothing}
-use Rattle.gx_scan.specs.Names.{name_made}
-use Rattle.gx_syntax.specs.Nodes.{name_at}
-use Rattle.gx_syntax.specs.Grammar.{constructor_name, place_in}
-use Rattle.gx_scan.specs.Reading.{read_in, read_one}
-use Rattle.gx_syntax.specs.Tokens.{gap}
+use Rattle.gx_parse_tokens.specs.Names.{name_made}
+use Rattle.gx_parse_grammar.specs.Nodes.{name_at}
+use Rattle.gx_parse_grammar.specs.Grammar.{constructor_name, place_in}
+use Rattle.gx_parse_tokens.specs.Reading.{read_in, read_one}
+use Rattle.gx_parse_grammar.specs.Tokens.{gap}
 use Rattle.gx_grammar.proofs.PublicLaws.{ran_idle}
-use Rattle.gx_syntax.specs.Types.{named}
+use Rattle.gx_parse_grammar.specs.Types.{named}
 use Rattle.gx_parse.proofs.TypesPhrases.{gave_none, loses_ended, ran_loses}
 use Rattle.gx_parse.proofs.ComputedPhrases.{name_read}
 use Rattle.gx_grammar.specs.Ran.{Ran}

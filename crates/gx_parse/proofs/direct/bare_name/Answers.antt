@@ -1,12 +1,12 @@
 use Rattle.std.proofs.Common.{ap, subst, sym, ◌∙◌}
 use Rattle.gx_grammar.specs.Value.{nothing}
 use Rattle.gx_grammar.specs.Ran.{Ran}
-use Rattle.gx_scan.specs.Names.{name_made}
-use Rattle.gx_syntax.specs.Nodes.{name_at}
-use Rattle.gx_syntax.specs.Basics.{name}
-use Rattle.gx_syntax.specs.Grammar.{place_in}
-use Rattle.gx_scan.specs.Reading.{read_in}
-use Rattle.gx_syntax.specs.Types.{named}
+use Rattle.gx_parse_tokens.specs.Names.{name_made}
+use Rattle.gx_parse_grammar.specs.Nodes.{name_at}
+use Rattle.gx_parse_grammar.specs.Basics.{name}
+use Rattle.gx_parse_grammar.specs.Grammar.{place_in}
+use Rattle.gx_parse_tokens.specs.Reading.{read_in}
+use Rattle.gx_parse_grammar.specs.Types.{named}
 use Rattle.gx_parse.proofs.TypesPhrases.{gave_none, loses_ended, ran_loses}
 use Rattle.gx_parse.proofs.DirectPhrases.{bare_name_read}
 use Rattle.gx_parse.proofs.direct.bare_name.Goals as goal

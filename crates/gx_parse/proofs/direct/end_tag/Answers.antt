@@ -1,7 +1,7 @@
 use Rattle.std.proofs.Common.{◌∙◌}
 use Rattle.gx_grammar.specs.Value.{nothing, node, pair}
-use Rattle.gx_scan.specs.Names.{name_made}
-use Rattle.gx_syntax.specs.Nodes.{Found}
+use Rattle.gx_parse_tokens.specs.Names.{name_made}
+use Rattle.gx_parse_grammar.specs.Nodes.{Found}
 use Rattle.gx_parse.proofs.DirectPhrases.{end_tag_lost, end_tag_read}
 use Rattle.gx_parse.proofs.direct.end_tag.Goals as goal
 

@@ -1,11 +1,11 @@
 use Rattle.std.proofs.Common.{None, subst, sym}
 use Rattle.gx_grammar.specs.Value.{nothing}
 use Rattle.gx_grammar.specs.Ran.{Ran}
-use Rattle.gx_scan.specs.Names.{name_made}
-use Rattle.gx_syntax.specs.Nodes.{tree}
-use Rattle.gx_syntax.specs.Grammar.{place_in}
-use Rattle.gx_scan.specs.Reading.{read_in}
-use Rattle.gx_syntax.specs.NodeTests.{any_step, step_made, test_made}
+use Rattle.gx_parse_tokens.specs.Names.{name_made}
+use Rattle.gx_parse_grammar.specs.Nodes.{tree}
+use Rattle.gx_parse_grammar.specs.Grammar.{place_in}
+use Rattle.gx_parse_tokens.specs.Reading.{read_in}
+use Rattle.gx_parse_grammar.specs.NodeTests.{any_step, step_made, test_made}
 use Rattle.gx_parse.proofs.Chains.{ran_any}
 use Rattle.gx_parse.proofs.NodeTestsPhrases.{any_step_read}
 use Rattle.gx_parse.proofs.node_tests.any_step.Goals as goal

@@ -1,8 +1,8 @@
-use Rattle.gx_scan.specs.Names.{name_made}
-use Rattle.gx_syntax.specs.Nodes.{name_at}
-use Rattle.gx_syntax.specs.Grammar.{place_in}
-use Rattle.gx_scan.specs.Reading.{read_in}
-use Rattle.gx_syntax.specs.NodeTests.{any_test, in_namespace}
+use Rattle.gx_parse_tokens.specs.Names.{name_made}
+use Rattle.gx_parse_grammar.specs.Nodes.{name_at}
+use Rattle.gx_parse_grammar.specs.Grammar.{place_in}
+use Rattle.gx_parse_tokens.specs.Reading.{read_in}
+use Rattle.gx_parse_grammar.specs.NodeTests.{any_test, in_namespace}
 use Rattle.gx_parse.proofs.NodeTestsPhrases.{any_test_read, gave_test}
 use Rattle.gx_parse.proofs.node_tests.any_test.Goals as goal
 

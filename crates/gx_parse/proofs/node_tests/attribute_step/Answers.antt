@@ -2,10 +2,10 @@ use Rattle.std.proofs.Common.{Some, ap, subst, sym, ◌∙◌}
 use Rattle.gx_ast.specs.declared.name.Axis.TheVariants as axis
 use Rattle.gx_grammar.specs.Value.{nothing}
 use Rattle.gx_grammar.specs.Ran.{Ran}
-use Rattle.gx_syntax.specs.Nodes.{tree}
-use Rattle.gx_syntax.specs.Grammar.{place_in}
-use Rattle.gx_scan.specs.Reading.{read_in}
-use Rattle.gx_syntax.specs.NodeTests.{attribute_step, step_made, test_made}
+use Rattle.gx_parse_grammar.specs.Nodes.{tree}
+use Rattle.gx_parse_grammar.specs.Grammar.{place_in}
+use Rattle.gx_parse_tokens.specs.Reading.{read_in}
+use Rattle.gx_parse_grammar.specs.NodeTests.{attribute_step, step_made, test_made}
 use Rattle.gx_parse.proofs.Chains.{ran_any}
 use Rattle.gx_parse.proofs.NodeTestsPhrases.{attribute_read}
 use Rattle.gx_parse.proofs.node_tests.attribute_step.Goals as goal

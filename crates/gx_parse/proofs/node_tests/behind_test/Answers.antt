@@ -1,11 +1,11 @@
 use Rattle.std.proofs.Common.{subst}
 use Rattle.gx_grammar.specs.Value.{nothing}
-use Rattle.gx_scan.specs.Names.{name_made}
-use Rattle.gx_syntax.specs.Nodes.{name_at}
-use Rattle.gx_syntax.specs.Grammar.{place_in}
-use Rattle.gx_scan.specs.Reading.{read_in}
+use Rattle.gx_parse_tokens.specs.Names.{name_made}
+use Rattle.gx_parse_grammar.specs.Nodes.{name_at}
+use Rattle.gx_parse_grammar.specs.Grammar.{place_in}
+use Rattle.gx_parse_tokens.specs.Reading.{read_in}
 use Rattle.gx_grammar.specs.Ran.{Ran}
-use Rattle.gx_syntax.specs.NodeTests.{behind_test, maybe_content, test_made, test_of}
+use Rattle.gx_parse_grammar.specs.NodeTests.{behind_test, maybe_content, test_made, test_of}
 use Rattle.gx_parse.proofs.TypesPhrases.{gave_none}
 use Rattle.gx_parse.proofs.NodeTestsPhrases.{gave_test, test_read, test_value_is}
 use Rattle.gx_parse.proofs.node_tests.behind_test.Goals as goal

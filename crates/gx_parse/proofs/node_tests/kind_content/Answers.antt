@@ -1,9 +1,9 @@
 use Rattle.std.proofs.Common.{Some}
 use Rattle.gx_grammar.specs.Value.{nothing}
-use Rattle.gx_syntax.specs.Grammar.{place_in}
-use Rattle.gx_scan.specs.Reading.{read_in}
-use Rattle.gx_syntax.specs.Types.{content_made}
-use Rattle.gx_syntax.specs.NodeTests.{maybe_content, kind_content}
+use Rattle.gx_parse_grammar.specs.Grammar.{place_in}
+use Rattle.gx_parse_tokens.specs.Reading.{read_in}
+use Rattle.gx_parse_grammar.specs.Types.{content_made}
+use Rattle.gx_parse_grammar.specs.NodeTests.{maybe_content, kind_content}
 use Rattle.gx_parse.proofs.TypesPhrases.{gave_none}
 use Rattle.gx_parse.proofs.NodeTestsPhrases.{no_kind, no_content, content_read}
 use Rattle.gx_parse.proofs.node_tests.kind_content.Goals as goal

@@ -1,8 +1,8 @@
 use Rattle.std.proofs.Common.{Some}
 use Rattle.gx_grammar.specs.Value.{nothing}
-use Rattle.gx_scan.specs.Names.{name_made}
-use Rattle.gx_syntax.specs.Grammar.{place_in}
-use Rattle.gx_syntax.specs.NodeTests.{any_test, behind_test}
+use Rattle.gx_parse_tokens.specs.Names.{name_made}
+use Rattle.gx_parse_grammar.specs.Grammar.{place_in}
+use Rattle.gx_parse_grammar.specs.NodeTests.{any_test, behind_test}
 use Rattle.gx_parse.proofs.TypesPhrases.{idle}
 use Rattle.gx_parse.proofs.NodeTestsPhrases.{behind_test_name, node_wildcard, node_named, node_done, wildcard_gave, other_gave}
 use Rattle.gx_parse.proofs.node_tests.node_test.Goals as goal

@@ -1,4 +1,4 @@
-use Rattle.gx_syntax.specs.Nodes.{tree}
+use Rattle.gx_parse_grammar.specs.Nodes.{tree}
 use Rattle.gx_parse.proofs.NodeTestsPhrases.{begins_attribute, begins_wildcard, begins_literal}
 use Rattle.gx_parse.proofs.node_tests.test_or_literal.Goals as goal
 

@@ -2,10 +2,10 @@ use Rattle.std.proofs.Common.{Some, ap, ◌∙◌}
 use Rattle.gx_ast.specs.declared.name.NameTest.TheVariants as name_test
 use Rattle.gx_ast.specs.declared.sequence_type.NodeTest.TheVariants as node_test_is
 use Rattle.gx_grammar.specs.Value.{nothing, characters}
-use Rattle.gx_syntax.specs.Grammar.{place_in}
-use Rattle.gx_scan.specs.Reading.{read_in, read_one}
-use Rattle.gx_syntax.specs.Tokens.{gap}
-use Rattle.gx_syntax.specs.NodeTests.{test_made, wildcard}
+use Rattle.gx_parse_grammar.specs.Grammar.{place_in}
+use Rattle.gx_parse_tokens.specs.Reading.{read_in, read_one}
+use Rattle.gx_parse_grammar.specs.Tokens.{gap}
+use Rattle.gx_parse_grammar.specs.NodeTests.{test_made, wildcard}
 use Rattle.gx_grammar.proofs.PublicLaws.{ran_idle}
 use Rattle.gx_parse.proofs.TypesPhrases.{gave_none}
 use Rattle.gx_parse.proofs.NodeTestsPhrases.{any_read, gave_test, local_read}

@@ -1,10 +1,10 @@
 use Rattle.std.proofs.Common.{None, Some, ap, subst, sym, ◌∙◌}
 use Rattle.gx_grammar.specs.Value.{nothing}
 use Rattle.gx_grammar.specs.Ran.{Ran}
-use Rattle.gx_syntax.specs.Nodes.{tree}
-use Rattle.gx_syntax.specs.Grammar.{place_in}
-use Rattle.gx_scan.specs.Reading.{read_in}
-use Rattle.gx_syntax.specs.NodeTests.{step_made, test_made, wildcard_step}
+use Rattle.gx_parse_grammar.specs.Nodes.{tree}
+use Rattle.gx_parse_grammar.specs.Grammar.{place_in}
+use Rattle.gx_parse_tokens.specs.Reading.{read_in}
+use Rattle.gx_parse_grammar.specs.NodeTests.{step_made, test_made, wildcard_step}
 use Rattle.gx_parse.proofs.Chains.{ran_any}
 use Rattle.gx_parse.proofs.NodeTestsPhrases.{wildcard_read}
 use Rattle.gx_parse.proofs.node_tests.wildcard_step.Goals as goal

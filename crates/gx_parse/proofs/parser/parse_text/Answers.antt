@@ -1,5 +1,5 @@
 use Rattle.std.proofs.Common.{◌≡◌, sym, ap, subst, ◌∙◌, Some, None}
-use Rattle.gx_syntax.specs.Query.{RefusesText}
+use Rattle.gx_parse_grammar.specs.Query.{RefusesText}
 use Rattle.gx_parse.specs.Outcome.{refusal_at}
 use Rattle.gx_parse.proofs.Ended.{text_read}
 use Rattle.gx_parse.proofs.parser.parse_text.Goals as goal

@@ -1,5 +1,5 @@
 use Rattle.std.proofs.Common.{ap, ◌∙◌}
-use Rattle.gx_syntax.specs.Grammar.{place_in}
+use Rattle.gx_parse_grammar.specs.Grammar.{place_in}
 use Rattle.gx_parse.proofs.Phrases.{dots_read}
 use Rattle.gx_parse.proofs.parts.dots.Goals as goal
 

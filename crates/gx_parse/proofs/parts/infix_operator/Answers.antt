@@ -1,5 +1,5 @@
 use Rattle.std.proofs.Common.{ap, ◌∙◌}
-use Rattle.gx_syntax.specs.Grammar.{place_in}
+use Rattle.gx_parse_grammar.specs.Grammar.{place_in}
 use Rattle.gx_parse.proofs.Phrases.{infix_reads}
 use Rattle.gx_parse.proofs.parts.infix_operator.Goals as goal
 

@@ -1,5 +1,5 @@
 use Rattle.gx_grammar.specs.Value.{node}
-use Rattle.gx_syntax.specs.Nodes.{Found}
+use Rattle.gx_parse_grammar.specs.Nodes.{Found}
 use Rattle.gx_parse.proofs.Phrases.{keyword_reads}
 use Rattle.gx_parse.proofs.parts.keyword.Goals as goal
 

@@ -1,6 +1,6 @@
 use Rattle.std.proofs.Common.{sym, ◌∙◌}
 use Rattle.gx_grammar.specs.Value.{node}
-use Rattle.gx_syntax.specs.Nodes.{Operator}
+use Rattle.gx_parse_grammar.specs.Nodes.{Operator}
 use Rattle.gx_parse.proofs.Phrases.{last_of_pair, last_not_there, last_there}
 use Rattle.gx_parse.proofs.parts.last.Goals as goal
 

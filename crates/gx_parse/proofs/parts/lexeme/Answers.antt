@@ -1,6 +1,6 @@
 use Rattle.gx_grammar.specs.Value.{node}
-use Rattle.gx_syntax.specs.Nodes.{Found}
-use Rattle.gx_syntax.specs.Tokens.{one_of}
+use Rattle.gx_parse_grammar.specs.Nodes.{Found}
+use Rattle.gx_parse_grammar.specs.Tokens.{one_of}
 use Rattle.gx_parse.proofs.Phrases.{lexeme_reads}
 use Rattle.gx_parse.proofs.parts.lexeme.Goals as goal
 

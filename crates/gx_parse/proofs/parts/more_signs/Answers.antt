@@ -2,9 +2,9 @@ use Rattle.std.proofs.Common.{◌≡◌, ◌-◌, ◌++◌, ◌∷◌, [], refl,
 use Rattle.gx_grammar.specs.Value.{node, nothing, pair}
 use Rattle.gx_grammar.specs.Ran.{Ran}
 use Rattle.gx_parse.specs.declared.parts.Sign.{Sign}
-use Rattle.gx_syntax.specs.Nodes.{Operator}
-use Rattle.gx_syntax.specs.Grammar.{more_signs, place_in}
-use Rattle.gx_scan.specs.Reading.{read_in}
+use Rattle.gx_parse_grammar.specs.Nodes.{Operator}
+use Rattle.gx_parse_grammar.specs.Grammar.{more_signs, place_in}
+use Rattle.gx_parse_tokens.specs.Reading.{read_in}
 use Rattle.gx_parse.specs.Parsing.{signs_before}
 use Rattle.gx_parse.proofs.Phrases.{no_sign, one_sign, signs_end, signs_full, before_more, signs_none, signs_more, loses_done, loses_ran}
 use Rattle.gx_parse.proofs.Chains.{ran_any}

@@ -1,10 +1,10 @@
 use Rattle.std.proofs.Common.{◌≡◌, ◌-◌, ℕ, List, ◌++◌}
 use Rattle.gx_grammar.specs.Ran.{Standing, Ran}
-use Rattle.gx_syntax.specs.Nodes.{Made}
-use Rattle.gx_syntax.specs.Grammar.{more_signs, place_in}
-use Rattle.gx_scan.specs.Reading.{read_in}
+use Rattle.gx_parse_grammar.specs.Nodes.{Made}
+use Rattle.gx_parse_grammar.specs.Grammar.{more_signs, place_in}
+use Rattle.gx_parse_tokens.specs.Reading.{read_in}
 use Rattle.gx_parse.specs.Parsing.{signs_made, signs_before}
-use Rattle.gx_scan.specs.Reading.{Added}
+use Rattle.gx_parse_tokens.specs.Reading.{Added}
 use Rattle.gx_parse.proofs.parts.more_signs.Given as goal
 
 abbrev pub invariant-loop : goal.invariant-loop

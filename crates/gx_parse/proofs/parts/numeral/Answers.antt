@@ -1,7 +1,7 @@
 use Rattle.std.proofs.Common.{ap, ◌∙◌}
 use Rattle.gx_ast.specs.SyntaxTree.{at, number}
-use Rattle.gx_syntax.specs.Grammar.{numeral, place_in}
-use Rattle.gx_scan.specs.Reading.{read_in}
+use Rattle.gx_parse_grammar.specs.Grammar.{numeral, place_in}
+use Rattle.gx_parse_tokens.specs.Reading.{read_in}
 use Rattle.gx_parse.proofs.Chains.{ran_keeps}
 use Rattle.gx_parse.proofs.Phrases.{numeral_read}
 use Rattle.gx_parse.proofs.parts.numeral.Goals as goal

@@ -2,11 +2,11 @@ use Rattle.std.proofs.Common.{ap, ◌∙◌}
 use Rattle.gx_ast.specs.SyntaxTree.{SyntaxTree, at, variable}
 use Rattle.gx_grammar.specs.Value.{node, nothing}
 use Rattle.gx_grammar.proofs.PublicLaws.{ran_idle}
-use Rattle.gx_syntax.specs.Nodes.{Found, name_at, tree}
-use Rattle.gx_scan.specs.Names.{name_made}
-use Rattle.gx_syntax.specs.Tokens.{gap}
-use Rattle.gx_syntax.specs.Grammar.{place_in, variable_step}
-use Rattle.gx_scan.specs.Reading.{read_in, read_one}
+use Rattle.gx_parse_grammar.specs.Nodes.{Found, name_at, tree}
+use Rattle.gx_parse_tokens.specs.Names.{name_made}
+use Rattle.gx_parse_grammar.specs.Tokens.{gap}
+use Rattle.gx_parse_grammar.specs.Grammar.{place_in, variable_step}
+use Rattle.gx_parse_tokens.specs.Reading.{read_in, read_one}
 use Rattle.gx_parse.proofs.Chains.{ran_any, ran_keeps}
 use Rattle.gx_parse.proofs.Phrases.{variable_read}
 use Rattle.gx_parse.proofs.parts.variable.Goals as goal

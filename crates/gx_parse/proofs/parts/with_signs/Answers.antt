@@ -1,7 +1,7 @@
 use Rattle.std.proofs.Common.{sym, subst}
 use Rattle.gx_ast.specs.SyntaxTree.{at, signed}
 use Rattle.gx_grammar.specs.Ran.{Makes}
-use Rattle.gx_syntax.specs.Nodes.{is_minus}
+use Rattle.gx_parse_grammar.specs.Nodes.{is_minus}
 use Rattle.gx_parse.specs.Parsing.{wrapped}
 use Rattle.gx_parse.proofs.Phrases.{wrapped_more, makes_kept}
 use Rattle.gx_parse.proofs.parts.with_signs.Goals as goal

@@ -1,7 +1,7 @@
 use Rattle.std.proofs.Common.{ℕ, ◌∷◌, []}
-use Rattle.gx_syntax.specs.Grammar.{at_tokens, place_in}
+use Rattle.gx_parse_grammar.specs.Grammar.{at_tokens, place_in}
 use Rattle.gx_parse.specs.PrologParts.{closed_definition, definition_item}
-use Rattle.gx_syntax.specs.Tokens.{definer_words}
+use Rattle.gx_parse_grammar.specs.Tokens.{definer_words}
 use Rattle.gx_parse.proofs.Repeated.{Begun}
 use Rattle.gx_parse.proofs.prolog.definitions.Given as goal
 

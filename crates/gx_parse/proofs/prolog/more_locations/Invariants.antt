@@ -1,6 +1,6 @@
 use Rattle.std.proofs.Common.{ℕ, ◌∷◌, []}
-use Rattle.gx_syntax.specs.declared.word.Word.TheVariants as word
-use Rattle.gx_syntax.specs.Grammar.{at_tokens, place_in, word_of}
+use Rattle.gx_parse_grammar.specs.declared.word.Word.TheVariants as word
+use Rattle.gx_parse_grammar.specs.Grammar.{at_tokens, place_in, word_of}
 use Rattle.gx_parse.specs.PrologParts.{further_location, location_item}
 use Rattle.gx_parse.proofs.Repeated.{Begun}
 use Rattle.gx_parse.proofs.prolog.more_locations.Given as goal

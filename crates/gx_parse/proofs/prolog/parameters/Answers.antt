@@ -2,15 +2,15 @@ use Rattle.std.proofs.Common.{◌≡◌, ◌∙◌, ◌-◌, ◌∷◌, ◌++◌
 use Rattle.gx_grammar.specs.Value.{nothing, node, pair, characters, no_item}
 use Rattle.gx_grammar.specs.Ran.{Ran, left_of}
 use Rattle.gx_grammar.specs.Grammar.{many}
-use Rattle.gx_syntax.specs.Grammar.{place_in, lexeme, word_of, at_tokens, expression}
-use Rattle.gx_scan.specs.Reading.{read_in, read_one}
-use Rattle.gx_syntax.specs.Types.{Gave, named}
-use Rattle.gx_syntax.specs.Nodes.{Found, Whole, tree}
-use Rattle.gx_syntax.specs.Bound.{bound, bound_type, bound_made, kind_made}
-use Rattle.gx_syntax.specs.declared.word.Word.TheVariants as word
-use Rattle.gx_syntax.specs.declared.word.WordSet.TheVariants as set
+use Rattle.gx_parse_grammar.specs.Grammar.{place_in, lexeme, word_of, at_tokens, expression}
+use Rattle.gx_parse_tokens.specs.Reading.{read_in, read_one}
+use Rattle.gx_parse_grammar.specs.Types.{Gave, named}
+use Rattle.gx_parse_grammar.specs.Nodes.{Found, Whole, tree}
+use Rattle.gx_parse_grammar.specs.Bound.{bound, bound_type, bound_made, kind_made}
+use Rattle.gx_parse_grammar.specs.declared.word.Word.TheVariants as word
+use Rattle.gx_parse_grammar.specs.declared.word.WordSet.TheVariants as set
 use Rattle.gx_parse.proofs.PrologPhrases.{no_parameters, parameters_stop, parameters_read}
-use Rattle.gx_syntax.specs.Prolog.{parameters}
+use Rattle.gx_parse_grammar.specs.Prolog.{parameters}
 use Rattle.gx_parse.specs.PrologParts.{gapped, parameters_made}
 use Rattle.gx_parse.specs.Lists.{Grown}
 use Rattle.gx_parse.proofs.prolog.parameters.Goals as goal

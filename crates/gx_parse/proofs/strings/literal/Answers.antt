@@ -1,4 +1,4 @@
-use Rattle.gx_syntax.specs.Nodes.{tree}
+use Rattle.gx_parse_grammar.specs.Nodes.{tree}
 use Rattle.gx_parse.proofs.StringsPhrases.{literal_double, literal_single, literal_numeral}
 use Rattle.gx_parse.proofs.strings.literal.Goals as goal
 

@@ -1,6 +1,6 @@
 use Rattle.std.proofs.Common.{suc}
 use Rattle.gx_grammar.specs.Ran.{left_of}
-use Rattle.gx_scan.specs.Reading.{Added}
+use Rattle.gx_parse_tokens.specs.Reading.{Added}
 use Rattle.gx_parse.specs.TextReading.{PartsRead}
 use Rattle.gx_parse.proofs.strings.parts.Given as goal
 

@@ -1,7 +1,7 @@
 use Rattle.std.proofs.Common.{None, subst, sym}
-use Rattle.gx_syntax.specs.Grammar.{place_in}
-use Rattle.gx_scan.specs.Reading.{read_in}
-use Rattle.gx_syntax.specs.Types.{bare_tail, content, tail_made}
+use Rattle.gx_parse_grammar.specs.Grammar.{place_in}
+use Rattle.gx_parse_tokens.specs.Reading.{read_in}
+use Rattle.gx_parse_grammar.specs.Types.{bare_tail, content, tail_made}
 use Rattle.gx_parse.proofs.TypesPhrases.{bare_read}
 use Rattle.gx_grammar.specs.Ran.{Ran}
 use Rattle.gx_parse.proofs.types.bare_tail.Goals as goal

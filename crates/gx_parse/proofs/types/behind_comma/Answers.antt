@@ -1,8 +1,8 @@
 use Rattle.std.proofs.Common.{Some}
 use Rattle.gx_grammar.specs.Value.{nothing}
-use Rattle.gx_syntax.specs.Grammar.{place_in}
-use Rattle.gx_scan.specs.Reading.{read_in}
-use Rattle.gx_syntax.specs.Types.{behind_comma, maybe_named, named}
+use Rattle.gx_parse_grammar.specs.Grammar.{place_in}
+use Rattle.gx_parse_tokens.specs.Reading.{read_in}
+use Rattle.gx_parse_grammar.specs.Types.{behind_comma, maybe_named, named}
 use Rattle.gx_parse.proofs.TypesPhrases.{a_comma, gave_none, no_comma}
 use Rattle.gx_parse.proofs.types.behind_comma.Goals as goal
 

@@ -1,11 +1,11 @@
 use Rattle.std.proofs.Common.{Some, ap, subst, sym, ◌∙◌}
 use Rattle.gx_grammar.specs.Value.{nothing}
-use Rattle.gx_scan.specs.Names.{name_made}
-use Rattle.gx_syntax.specs.Nodes.{name_at}
-use Rattle.gx_syntax.specs.Grammar.{place_in}
-use Rattle.gx_scan.specs.Reading.{read_in}
+use Rattle.gx_parse_tokens.specs.Names.{name_made}
+use Rattle.gx_parse_grammar.specs.Nodes.{name_at}
+use Rattle.gx_parse_grammar.specs.Grammar.{place_in}
+use Rattle.gx_parse_tokens.specs.Reading.{read_in}
 use Rattle.gx_grammar.specs.Ran.{Ran}
-use Rattle.gx_syntax.specs.Types.{behind_type, tail_made, type_made, type_of}
+use Rattle.gx_parse_grammar.specs.Types.{behind_type, tail_made, type_made, type_of}
 use Rattle.gx_parse.proofs.TypesPhrases.{gave_none, loses_ended, ran_loses, type_read}
 use Rattle.gx_parse.proofs.types.behind_type.Goals as goal
 

@@ -1,4 +1,4 @@
-use Rattle.gx_syntax.specs.Types.{content}
+use Rattle.gx_parse_grammar.specs.Types.{content}
 use Rattle.gx_parse.proofs.types.content.Goals as goal
 
 pub returns-in-Node : goal.returns-in-Node

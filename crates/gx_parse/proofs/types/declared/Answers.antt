@@ -1,11 +1,11 @@
 use Rattle.std.proofs.Common.{Some}
 use Rattle.gx_grammar.specs.Value.{nothing}
-use Rattle.gx_syntax.specs.Grammar.{place_in}
-use Rattle.gx_scan.specs.Reading.{read_in}
-use Rattle.gx_syntax.specs.Types.{declared, named}
+use Rattle.gx_parse_grammar.specs.Grammar.{place_in}
+use Rattle.gx_parse_tokens.specs.Reading.{read_in}
+use Rattle.gx_parse_grammar.specs.Types.{declared, named}
 use Rattle.gx_parse.proofs.TypesPhrases.{declared_read, gave_none, idle}
-use Rattle.gx_syntax.specs.declared.word.Word.TheVariants as word
-use Rattle.gx_syntax.specs.Grammar.{lexeme, word_of}
+use Rattle.gx_parse_grammar.specs.declared.word.Word.TheVariants as word
+use Rattle.gx_parse_grammar.specs.Grammar.{lexeme, word_of}
 use Rattle.gx_parse.proofs.types.declared.Goals as goal
 
 pub returns-in_default : goal.returns-in_default

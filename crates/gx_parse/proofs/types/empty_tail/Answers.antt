@@ -1,4 +1,4 @@
-use Rattle.gx_syntax.specs.Types.{content_made, tail_made}
+use Rattle.gx_parse_grammar.specs.Types.{content_made, tail_made}
 use Rattle.gx_parse.proofs.TypesPhrases.{empty_bare, empty_inside}
 use Rattle.gx_parse.proofs.types.empty_tail.Goals as goal
 

@@ -1,8 +1,8 @@
 use Rattle.std.proofs.Common.{None, Some, subst, sym}
-use Rattle.gx_syntax.specs.Grammar.{place_in}
-use Rattle.gx_scan.specs.Reading.{read_in}
+use Rattle.gx_parse_grammar.specs.Grammar.{place_in}
+use Rattle.gx_parse_tokens.specs.Reading.{read_in}
 use Rattle.gx_grammar.specs.Ran.{Ran}
-use Rattle.gx_syntax.specs.Types.{content, content_made, item_tail, nothing_inside, tail_made}
+use Rattle.gx_parse_grammar.specs.Types.{content, content_made, item_tail, nothing_inside, tail_made}
 use Rattle.gx_parse.proofs.TypesPhrases.{item_bare, item_inside}
 use Rattle.gx_parse.proofs.types.item_tail.Goals as goal
 

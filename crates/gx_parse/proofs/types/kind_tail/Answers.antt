@@ -1,12 +1,12 @@
 use Rattle.std.proofs.Common.{None, Some, subst, sym}
 use Rattle.gx_grammar.specs.Value.{nothing}
-use Rattle.gx_syntax.specs.Grammar.{place_in}
-use Rattle.gx_scan.specs.Reading.{read_in, read_one}
+use Rattle.gx_parse_grammar.specs.Grammar.{place_in}
+use Rattle.gx_parse_tokens.specs.Reading.{read_in, read_one}
 use Rattle.gx_grammar.specs.Ran.{Ran}
 use Rattle.gx_grammar.proofs.PublicLaws.{ran_idle}
-use Rattle.gx_syntax.specs.Types.{content, content_made, item_tail, tail_made}
+use Rattle.gx_parse_grammar.specs.Types.{content, content_made, item_tail, tail_made}
 use Rattle.gx_parse.proofs.TypesPhrases.{gave_none, item_bare, item_inside}
-use Rattle.gx_syntax.specs.Tokens.{indication}
+use Rattle.gx_parse_grammar.specs.Tokens.{indication}
 use Rattle.gx_parse.proofs.types.kind_tail.Goals as goal
 
 pub returns-then-not-looks_at : goal.returns-then-not-looks_at

@@ -1,9 +1,9 @@
 use Rattle.std.proofs.Common.{Some}
 use Rattle.gx_grammar.specs.Value.{nothing}
-use Rattle.gx_scan.specs.Names.{name_made}
-use Rattle.gx_syntax.specs.Grammar.{place_in}
-use Rattle.gx_scan.specs.Reading.{read_in}
-use Rattle.gx_syntax.specs.Types.{behind_type, sequence_type, type_made}
+use Rattle.gx_parse_tokens.specs.Names.{name_made}
+use Rattle.gx_parse_grammar.specs.Grammar.{place_in}
+use Rattle.gx_parse_tokens.specs.Reading.{read_in}
+use Rattle.gx_parse_grammar.specs.Types.{behind_type, sequence_type, type_made}
 use Rattle.gx_parse.proofs.TypesPhrases.{gave_none, idle, sequence_read}
 use Rattle.gx_parse.proofs.TypesPhrases.{gave_sequence}
 use Rattle.gx_parse.proofs.types.sequence_type.Goals as goal

@@ -1,10 +1,10 @@
 use Rattle.std.proofs.Common.{Some}
 use Rattle.gx_grammar.specs.Value.{nothing, node, pair}
-use Rattle.gx_syntax.specs.Grammar.{place_in}
-use Rattle.gx_scan.specs.Reading.{read_in}
-use Rattle.gx_syntax.specs.Types.{casting_made, named, single_type}
+use Rattle.gx_parse_grammar.specs.Grammar.{place_in}
+use Rattle.gx_parse_tokens.specs.Reading.{read_in}
+use Rattle.gx_parse_grammar.specs.Types.{casting_made, named, single_type}
 use Rattle.gx_parse.proofs.TypesPhrases.{gave_none, single_optional, single_plain}
-use Rattle.gx_syntax.specs.Nodes.{Found}
+use Rattle.gx_parse_grammar.specs.Nodes.{Found}
 use Rattle.gx_parse.proofs.TypesPhrases.{single_idle}
 use Rattle.gx_parse.proofs.types.single_type.Goals as goal
 

@@ -1,8 +1,8 @@
 use Rattle.std.proofs.Common.{Some}
 use Rattle.gx_grammar.specs.Value.{nothing}
-use Rattle.gx_syntax.specs.Grammar.{place_in}
-use Rattle.gx_scan.specs.Reading.{read_in}
-use Rattle.gx_syntax.specs.Types.{maybe_named, named, tested_name}
+use Rattle.gx_parse_grammar.specs.Grammar.{place_in}
+use Rattle.gx_parse_tokens.specs.Reading.{read_in}
+use Rattle.gx_parse_grammar.specs.Types.{maybe_named, named, tested_name}
 use Rattle.gx_parse.proofs.TypesPhrases.{any_name, gave_none, one_name}
 use Rattle.gx_parse.proofs.types.tested_name.Goals as goal
 

@@ -1,4 +1,4 @@
-use Rattle.gx_syntax.specs.Types.{type_tail}
+use Rattle.gx_parse_grammar.specs.Types.{type_tail}
 use Rattle.gx_parse.proofs.types.type_tail.Goals as goal
 
 pub returns-in-EmptySequence : goal.returns-in-EmptySequence

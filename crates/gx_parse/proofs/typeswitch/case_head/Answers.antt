@@ -1,7 +1,7 @@
 use Rattle.std.proofs.Common.{ap, ◌∙◌}
-use Rattle.gx_syntax.specs.Bound.{position_made}
-use Rattle.gx_syntax.specs.Grammar.{place_in}
-use Rattle.gx_syntax.specs.Types.{type_made}
+use Rattle.gx_parse_grammar.specs.Bound.{position_made}
+use Rattle.gx_parse_grammar.specs.Grammar.{place_in}
+use Rattle.gx_parse_grammar.specs.Types.{type_made}
 use Rattle.gx_parse.proofs.TypeswitchPhrases.{case_head_read}
 use Rattle.gx_parse.proofs.typeswitch.case_head.Goals as goal
 

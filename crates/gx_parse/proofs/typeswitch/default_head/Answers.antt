@@ -1,6 +1,6 @@
 use Rattle.std.proofs.Common.{ap, ◌∙◌}
-use Rattle.gx_syntax.specs.Bound.{position_made}
-use Rattle.gx_syntax.specs.Grammar.{place_in}
+use Rattle.gx_parse_grammar.specs.Bound.{position_made}
+use Rattle.gx_parse_grammar.specs.Grammar.{place_in}
 use Rattle.gx_parse.proofs.TypeswitchPhrases.{default_head_read}
 use Rattle.gx_parse.proofs.typeswitch.default_head.Goals as goal
 

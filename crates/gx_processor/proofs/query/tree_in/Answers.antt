@@ -1,5 +1,5 @@
 use Rattle.std.proofs.Common.{ℕ, List, subst, IfOk, IfErr}
-use Rattle.gx_syntax.specs.Query.{Parses, parsed}
+use Rattle.gx_parse_grammar.specs.Query.{Parses, parsed}
 use Rattle.gx_documents.specs.Documents.{Files}
 use Rattle.gx_processor.specs.Answer.{AnswersBytes}
 use Rattle.gx_processor.specs.Command.{Command}

@@ -1,6 +1,6 @@
 use Rattle.std.proofs.Common.{refl, subst}
-use Rattle.gx_syntax.specs.Query.{refused, RefusesBytes}
-use Rattle.gx_syntax.specs.declared.refusal.SyntaxRefusal.{SyntaxRefusal}
+use Rattle.gx_parse_grammar.specs.Query.{refused, RefusesBytes}
+use Rattle.gx_parse_grammar.specs.declared.refusal.SyntaxRefusal.{SyntaxRefusal}
 use Rattle.gx_processor.proofs.QueryLemmas.{built_refused, kept_parses, not_built, not_parsed}
 use Rattle.gx_processor.proofs.query.tree_of.Goals as goal
 

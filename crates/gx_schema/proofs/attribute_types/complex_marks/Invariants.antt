@@ -1,5 +1,5 @@
 use Rattle.std.proofs.Common.{◌≡◌, ◌++◌, length, map}
-use Rattle.gx_components.specs.DeclaredNames.{types_in}
+use Rattle.gx_schema_components.specs.DeclaredNames.{types_in}
 use Rattle.gx_schema.specs.AttributeTypes.{is_complex_declaration}
 use Rattle.gx_schema.proofs.attribute_types.complex_marks.Given as goal
 

@@ -1,5 +1,5 @@
 use Rattle.std.proofs.Common.{◌≡◌, ℕ, suc, ◌+◌, ◌-◌, sym, ◌∙◌, ap, arith}
-use Rattle.gx_varieties.specs.Walk.{has_mark}
+use Rattle.gx_schema_simple.specs.Walk.{has_mark}
 use Rattle.gx_schema.specs.FirstNumber.{first_number}
 use Rattle.gx_schema.proofs.NumberLemmas.{passed_over}
 use Rattle.gx_schema.proofs.circular.first_marked.Goals as goal

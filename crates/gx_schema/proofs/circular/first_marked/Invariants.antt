@@ -1,5 +1,5 @@
 use Rattle.std.proofs.Common.{◌≡◌, ◌-◌}
-use Rattle.gx_varieties.specs.Walk.{has_mark}
+use Rattle.gx_schema_simple.specs.Walk.{has_mark}
 use Rattle.gx_schema.specs.FirstNumber.{first_number}
 use Rattle.gx_schema.proofs.circular.first_marked.Given as goal
 

@@ -1,5 +1,5 @@
 use Rattle.std.proofs.Common.{◌≡◌, ◌≤◌, ◌+◌, ◌*◌, ◌++◌, length}
-use Rattle.gx_profile.specs.ParticleTree.{particle_size, particles_size, particles_of}
+use Rattle.gx_schema_syntax.specs.ParticleTree.{particle_size, particles_size, particles_of}
 use Rattle.gx_schema.specs.DeclarationCount.{elements_counted_among}
 use Rattle.gx_schema.proofs.declaration_count.+particles.Given as goal
 

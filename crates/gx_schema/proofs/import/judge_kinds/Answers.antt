@@ -1,5 +1,5 @@
 use Rattle.std.proofs.Common.{◌∙◌, ℕ, List, [], Option, ap}
-use Rattle.gx_components.specs.DeclaredNames.{type_names_in}
+use Rattle.gx_schema_components.specs.DeclaredNames.{type_names_in}
 use Rattle.gx_schema.specs.declared.refusal.SchemaRule.TheVariants.{Inconsistent, UnknownName}
 use Rattle.gx_schema.specs.Import.{breaks, declares, kinds_judged, unless_broken}
 use Rattle.gx_schema.specs.NamedKinds.{unsimple_kind}

@@ -1,5 +1,5 @@
 use Rattle.std.proofs.Common.{◌∙◌, refl}
-use Rattle.gx_restriction.specs.declared.restrictions.Restrictions.TheVariants.{Sound}
+use Rattle.gx_schema_restriction.specs.declared.restrictions.Restrictions.TheVariants.{Sound}
 use Rattle.gx_schema.specs.Import.{Imported, IsJudged, IsRefusalTold, declares}
 use Rattle.gx_schema.specs.SchemaTypes.{schemas_written}
 use Rattle.gx_schema.proofs.Refusals.{handed_on, restrictions_judged}

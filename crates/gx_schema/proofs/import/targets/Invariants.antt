@@ -1,5 +1,5 @@
 use Rattle.std.proofs.Common.{◌≡◌, ◌++◌, length, map}
-use Rattle.gx_profile.specs.DocumentTree.{DocumentTree}
+use Rattle.gx_schema_syntax.specs.DocumentTree.{DocumentTree}
 use Rattle.gx_schema.proofs.import.targets.Given as goal
 
 -- the namespaces so far and those that are left

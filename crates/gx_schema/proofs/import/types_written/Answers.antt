@@ -2,8 +2,8 @@ use Rattle.std.proofs.Common.{◌≡◌, ◌∙◌, List, ap, subst}
 use Rattle.std.specs.Prelude.{IfOk}
 use Rattle.gx_base.specs.declared.type_name.TypeName.{TypeName}
 use Rattle.gx_types.specs.declared.declaration.Declared.{Declared}
-use Rattle.gx_components.specs.DeclaredNames.{type_names_in}
-use Rattle.gx_varieties.specs.declared.type_form.TypeForm.{TypeForm}
+use Rattle.gx_schema_components.specs.DeclaredNames.{type_names_in}
+use Rattle.gx_schema_simple.specs.declared.type_form.TypeForm.{TypeForm}
 use Rattle.gx_schema.specs.MeaningsView.{meanings_view}
 use Rattle.gx_schema.specs.SchemaTypes.{meanings_seen, schema_types, type_forms}
 use Rattle.gx_schema.specs.SeenComponents.{seen_components}

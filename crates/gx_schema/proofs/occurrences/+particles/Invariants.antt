@@ -1,5 +1,5 @@
 use Rattle.std.proofs.Common.{◌≡◌, ◌≤◌, ◌+◌, ◌*◌, length}
-use Rattle.gx_profile.specs.ParticleTree.{particle_size, particles_size, particles_of}
+use Rattle.gx_schema_syntax.specs.ParticleTree.{particle_size, particles_size, particles_of}
 use Rattle.gx_schema.specs.Occurrences.{first_breaking_among}
 use Rattle.gx_schema.proofs.occurrences.+particles.Given as goal
 

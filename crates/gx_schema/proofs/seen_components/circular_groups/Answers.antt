@@ -1,6 +1,6 @@
 use Rattle.std.proofs.Common.{◌∙◌, map, ap}
 use Rattle.gx_references.specs.PlainReferences.{numbers_in}
-use Rattle.gx_contents.specs.GroupContents.{groups_in}
+use Rattle.gx_schema_content.specs.GroupContents.{groups_in}
 use Rattle.gx_schema.proofs.Lists.{if_ok_along}
 use Rattle.gx_schema.proofs.SameCircles.{circular_same}
 use Rattle.gx_schema.proofs.seen_components.circular_groups.Goals as goal

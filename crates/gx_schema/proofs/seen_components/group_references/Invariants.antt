@@ -1,6 +1,6 @@
 use Rattle.std.proofs.Common.{◌≡◌, ◌++◌, length, map}
 use Rattle.gx_references.specs.PlainReferences.{numbers_in}
-use Rattle.gx_contents.specs.GroupContents.{groups_in}
+use Rattle.gx_schema_content.specs.GroupContents.{groups_in}
 use Rattle.gx_schema.proofs.seen_components.group_references.Given as goal
 
 abbrev pub invariant-loop-group : goal.invariant-loop-group

@@ -1,5 +1,5 @@
 use Rattle.std.proofs.Common.{◌≡◌, ◌++◌, length, take, drop}
-use Rattle.gx_varieties.specs.Walk.{has_mark}
+use Rattle.gx_schema_simple.specs.Walk.{has_mark}
 use Rattle.gx_schema.specs.SeenComponents.{seen_types}
 use Rattle.gx_schema.proofs.seen_components.hide_bases.Given as goal
 

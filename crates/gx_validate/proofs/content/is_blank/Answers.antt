@@ -1,6 +1,6 @@
 use Rattle.std.proofs.Common.{◌≡◌, ◌∙◌, ap}
 use Rattle.std.specs.Str.Iter.{chars_rest}
-use Rattle.gx_profile.specs.Lexical.{is_blank}
+use Rattle.gx_schema_syntax.specs.Lexical.{is_blank}
 use Rattle.gx_validate.proofs.CharacterLemmas.{encoded_is_utf8, encoded_characters}
 use Rattle.gx_validate.proofs.content.is_blank.Goals as goal
 

@@ -1,5 +1,5 @@
 use Rattle.std.proofs.Common.{◌≡◌, length}
-use Rattle.gx_profile.specs.Scope.{declared_uri}
+use Rattle.gx_schema_syntax.specs.Scope.{declared_uri}
 use Rattle.gx_validate.proofs.scope.uri_among.Given as goal
 
 -- what is left decides

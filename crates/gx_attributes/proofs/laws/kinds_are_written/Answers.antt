@@ -1,5 +1,0 @@
-use Rattle.gx_attributes.proofs.KindLemmas.{kinds_are_written}
-use Rattle.gx_attributes.proofs.laws.kinds_are_written.Goals as goal
-
-pub returns : goal.returns
-returns c = kinds_are_written

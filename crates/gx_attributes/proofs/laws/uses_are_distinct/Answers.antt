@@ -1,5 +1,0 @@
-use Rattle.gx_attributes.proofs.Distinct.{uses_are_distinct}
-use Rattle.gx_attributes.proofs.laws.uses_are_distinct.Goals as goal
-
-pub returns : goal.returns
-returns c = uses_are_distinct

@@ -1,6 +1,0 @@
-use Rattle.std.proofs.Common.{◌≡◌, take}
-use Rattle.gx_contents.specs.Elements.{with_particles}
-use Rattle.gx_contents.proofs.element_lists.add_each.Given as goal
-
-abbrev pub invariant-loop-element : goal.invariant-loop-element
-invariant-loop-element l = l.elements ≡ with_particles l.initial.elements (take l.element-index l.copied)

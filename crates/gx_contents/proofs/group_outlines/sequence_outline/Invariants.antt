@@ -1,8 +1,0 @@
-use Rattle.std.proofs.Common.{◌≡◌, take}
-use Rattle.gx_references.specs.Known.{known}
-use Rattle.gx_contents.specs.declared.outline.Outline.TheVariants.{Never}
-use Rattle.gx_contents.specs.Outlines.{sequence_outline}
-use Rattle.gx_contents.proofs.group_outlines.sequence_outline.Given as goal
-
-abbrev pub invariant-loop-particle : goal.invariant-loop-particle
-invariant-loop-particle l = l.done ≡ sequence_outline (known Never l.table) (take l.particle-index l.particles)

@@ -1,5 +1,0 @@
-use Rattle.gx_contents.proofs.Agreement.{one_type_a_name}
-use Rattle.gx_contents.proofs.laws.one_type_a_name.Goals as goal
-
-pub returns : goal.returns
-returns c = one_type_a_name

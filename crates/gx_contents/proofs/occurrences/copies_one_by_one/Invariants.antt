@@ -1,6 +1,0 @@
-use Rattle.std.proofs.Common.{◌≡◌}
-use Rattle.gx_contents.specs.Occurrences.{copies}
-use Rattle.gx_contents.proofs.occurrences.copies_one_by_one.Given as goal
-
-abbrev pub invariant-loop : goal.invariant-loop
-invariant-loop l = l.done ≡ copies l.counter l.t

@@ -1,6 +1,0 @@
-use Rattle.gx_references.specs.Known.{known}
-use Rattle.gx_contents.specs.Knots.{IsListBelow}
-use Rattle.gx_contents.proofs.positions.counts_of.Given as goal
-
-abbrev pub invariant-loop-number : goal.invariant-loop-number
-invariant-loop-number l = IsListBelow l.number (known 0 l.table) l.counts.items

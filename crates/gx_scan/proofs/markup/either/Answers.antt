@@ -1,6 +1,0 @@
-use Rattle.std.proofs.Common.{refl}
-use Rattle.gx_scan.proofs.MarkupScans.{both_looked}
-use Rattle.gx_scan.proofs.markup.either.Goals as goal
-
-pub returns : goal.returns
-returns c = λ ts us x h k. both_looked ts us x c.args.first c.args.second _ refl c.min.ensures h k

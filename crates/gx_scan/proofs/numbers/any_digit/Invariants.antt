@@ -1,6 +1,0 @@
-use Rattle.std.proofs.Common.{◌≡◌, drop}
-use Rattle.gx_syntax.specs.Numeral.{any_digit}
-use Rattle.gx_scan.proofs.numbers.any_digit.Given as goal
-
-abbrev pub invariant-loop-character : goal.invariant-loop-character
-invariant-loop-character l = any_digit (drop l.character-index l.text) ≡ any_digit l.text

@@ -1,5 +1,0 @@
-use Rattle.gx_scan.proofs.ReferenceScans.{no_scalar}
-use Rattle.gx_scan.proofs.references.numbered.Goals as goal
-
-pub returns-in_default-2 : goal.returns-in_default-2
-returns-in_default-2 c = no_scalar c.args.number c.in_default.ensures.cases

@@ -1,0 +1,10 @@
+use Rattle.std.proofs.Common.{◌≡◌, ◌++◌, length}
+use Rattle.std.specs.List.{flat_map}
+use Rattle.gx_schema_attributes.specs.AttributeKinds.{kinds_in_type}
+use Rattle.gx_schema_attributes.proofs.kinds.add_kinds_of_types.Given as goal
+
+abbrev pub invariant-loop-component : goal.invariant-loop-component
+invariant-loop-component l = l.kinds.items ++ flat_map kinds_in_type l.left ≡ l.fn.kinds.items ++ flat_map kinds_in_type l.types
+
+abbrev pub decreases-loop-component : goal.decreases-loop-component
+decreases-loop-component l = length l.left

@@ -1,0 +1,216 @@
+// Schema components, in which numbers stand in the place of names.
+
+use gx_base::name::Name;
+use gx_base::type_name::{Builtin, TypeName};
+use gx_schema_syntax::role::Compositor;
+use gx_schema_syntax::written::{ContentKind, WrittenFacets};
+use gx_types::declaration::AttributeUse;
+use std::marker::Model;
+
+/// A type that another one is derived from or made of: built in, or the declared one of a number.
+#[derive(Debug, Clone, Copy)]
+pub enum Base {
+    Builtin(Builtin),
+    Declared(usize),
+}
+
+/// How often a particle occurs: at least so often, and at most so often, or any number of times where nothing is said (XML Schema
+/// 1.0 part 1, section 3.9.1). A number past the greatest `u32` counts as that number. `are_ordered` says of the numbers as they
+/// are written that the first is not above the second.
+#[derive(Debug, Clone, Copy)]
+pub struct Bounds {
+    pub least: u32,
+    pub greatest: Option<u32>,
+    pub are_ordered: bool,
+}
+
+/// What a particle holds: an element with its type, or the model group of a number (XML Schema 1.0 part 1, section 3.9.1).
+#[derive(Debug, Drop)]
+pub enum Term {
+    Element { name: Name, kind: TypeName },
+    Group(usize),
+}
+
+/// A part of a content (XML Schema 1.0 part 1, section 3.9). A `place` here and below is the number of the element that it was
+/// written as.
+#[derive(Debug, Drop)]
+pub struct Particle {
+    pub place: u64,
+    pub bounds: Bounds,
+    pub term: Term,
+}
+
+/// Particles in their order, which contracts see as a list.
+#[derive(Debug, Drop)]
+pub struct Particles {
+    items: Vec<Particle>,
+}
+
+impl Model for Particles {
+    ghost use Rattle.std.specs.Prelude.{List};
+    ghost use Rattle.gx_schema_components.specs.declared.component.Particle.{Particle};
+
+    ghost Value = { List Particle };
+
+    ghost view = { λ particles. particles.items.items };
+}
+
+impl Particles {
+    ghost use Rattle.std.specs.Prelude.{◌≡◌};
+
+    /// The particles of the vector, in its order.
+    pub fn from_vec(items: Vec<Particle>) -> Particles
+        ensures { result ≡ items.items }
+    {
+        Particles { items }
+    }
+
+    /// The particles in their order.
+    pub fn as_slice(&self) -> &[Particle]
+        ensures { result.now ≡ self.now }
+    {
+        self.items.as_slice()
+    }
+}
+
+/// A model group (XML Schema 1.0 part 1, sections 3.7 and 3.8). Each has a number: first those of group definitions, in the order
+/// of the definitions, each a sequence of the particle that it is written with; then those that stand in definitions and types,
+/// each behind the groups that stand in it.
+#[derive(Debug, Drop)]
+pub struct ModelGroup {
+    pub compositor: Compositor,
+    pub particles: Particles,
+}
+
+/// A group definition (XML Schema 1.0 part 1, section 3.7). Its number is that of its model group.
+#[derive(Debug, Drop)]
+pub struct GroupDefinition {
+    pub place: u64,
+    pub name: Name,
+}
+
+/// An attribute that is allowed, one that is prohibited, or the attribute group of a number (XML Schema 1.0 part 1, sections 3.2.2
+/// and 3.6.2).
+#[derive(Debug, Drop)]
+pub enum AttributePart {
+    Use { place: u64, attribute: AttributeUse },
+    Prohibited { place: u64, name: Name },
+    Group { place: u64, number: usize },
+}
+
+/// The parts of a list of attributes in their order, which contracts see as a list.
+#[derive(Debug, Drop)]
+pub struct AttributeParts {
+    items: Vec<AttributePart>,
+}
+
+impl Model for AttributeParts {
+    ghost use Rattle.std.specs.Prelude.{List};
+    ghost use Rattle.gx_schema_components.specs.declared.component.AttributePart.{AttributePart};
+
+    ghost Value = { List AttributePart };
+
+    ghost view = { λ parts. parts.items.items };
+}
+
+impl AttributeParts {
+    ghost use Rattle.std.specs.Prelude.{◌≡◌};
+
+    /// The parts of the vector, in its order.
+    pub fn from_vec(items: Vec<AttributePart>) -> AttributeParts
+        ensures { result ≡ items.items }
+    {
+        AttributeParts { items }
+    }
+
+    /// The parts in their order.
+    pub fn as_slice(&self) -> &[AttributePart]
+        ensures { result.now ≡ self.now }
+    {
+        self.items.as_slice()
+    }
+}
+
+/// An attribute group definition (XML Schema 1.0 part 1, section 3.6).
+#[derive(Debug, Drop)]
+pub struct AttributeGroup {
+    pub place: u64,
+    pub name: Name,
+    pub parts: AttributeParts,
+}
+
+/// A global element or attribute declaration (XML Schema 1.0 part 1, sections 3.2 and 3.3).
+#[derive(Debug, Drop)]
+pub struct Declaration {
+    pub place: u64,
+    pub name: Name,
+    pub kind: TypeName,
+}
+
+/// A simple type: a restriction of its base by facets, or lists of items of a type (XML Schema 1.0 part 1, section 3.14).
+#[derive(Debug, Drop)]
+pub enum SimpleType {
+    Restriction {
+        place: u64,
+        base: Base,
+        facets: WrittenFacets,
+    },
+    List {
+        place: u64,
+        item: Base,
+    },
+}
+
+/// What a complex type is derived from, as simple or as complex content.
+#[derive(Debug, Clone, Copy)]
+pub struct DerivedFrom {
+    pub place: u64,
+    pub content: ContentKind,
+    pub base: Base,
+}
+
+/// How a complex type is derived: it names no base, or it extends or restricts one (XML Schema 1.0 part 1, section 3.4.1).
+#[derive(Debug, Clone, Copy)]
+pub enum Derivation {
+    Own,
+    Extends(DerivedFrom),
+    Restricts(DerivedFrom),
+}
+
+/// A complex type with what is written at it (XML Schema 1.0 part 1, section 3.4): whether it is mixed, the facets of simple
+/// content, its content and its attributes.
+#[derive(Debug, Drop)]
+pub struct ComplexType {
+    pub mixed: bool,
+    pub derivation: Derivation,
+    pub facets: WrittenFacets,
+    pub content: Option<Particle>,
+    pub attributes: AttributeParts,
+}
+
+/// What a type is.
+#[derive(Debug, Drop)]
+pub enum TypeForm {
+    Simple(SimpleType),
+    Complex(ComplexType),
+}
+
+/// A type definition, global or anonymous. Its number is its place among the types of all documents.
+#[derive(Debug, Drop)]
+pub struct TypeComponent {
+    pub place: u64,
+    pub name: TypeName,
+    pub form: TypeForm,
+}
+
+/// The components of schema documents (XML Schema 1.0 part 1, section 2.2), each list in the order of the documents. A number is
+/// the index in the list of its kind.
+#[derive(Debug, Drop)]
+pub struct Components {
+    pub types: Vec<TypeComponent>,
+    pub elements: Vec<Declaration>,
+    pub attributes: Vec<Declaration>,
+    pub groups: Vec<GroupDefinition>,
+    pub model_groups: Vec<ModelGroup>,
+    pub attribute_groups: Vec<AttributeGroup>,
+}

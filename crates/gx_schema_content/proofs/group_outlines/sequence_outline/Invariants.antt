@@ -1,0 +1,8 @@
+use Rattle.std.proofs.Common.{◌≡◌, take}
+use Rattle.gx_references.specs.Known.{known}
+use Rattle.gx_schema_content.specs.declared.outline.Outline.TheVariants.{Never}
+use Rattle.gx_schema_content.specs.Outlines.{sequence_outline}
+use Rattle.gx_schema_content.proofs.group_outlines.sequence_outline.Given as goal
+
+abbrev pub invariant-loop-particle : goal.invariant-loop-particle
+invariant-loop-particle l = l.done ≡ sequence_outline (known Never l.table) (take l.particle-index l.particles)

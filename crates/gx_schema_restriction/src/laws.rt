@@ -1,0 +1,19 @@
+// Laws over the definitions.
+
+ghost use Rattle.gx_schema_restriction.specs.Laws.{AJudgementExists, JudgementsAreOne};
+
+use gx_include::laws::{an_answer_exists, answers_are_one};
+
+/// There is one judgement on the restrictions of schemas under a limit: the number of the type and its list are one.
+pub fn judgements_are_one()
+    ensures { JudgementsAreOne }
+{
+    answers_are_one();
+}
+
+/// The restrictions of schemas have a judgement under each limit on the pairs.
+pub fn a_judgement_exists()
+    ensures { AJudgementExists }
+{
+    an_answer_exists();
+}

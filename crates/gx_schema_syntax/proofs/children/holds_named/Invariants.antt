@@ -1,0 +1,11 @@
+use Rattle.std.proofs.Common.{◌≡◌, length}
+use Rattle.gx_xml.specs.SourceView.{contents_of}
+use Rattle.gx_schema_syntax.specs.Contents.{holds_named}
+use Rattle.gx_schema_syntax.proofs.children.holds_named.Given as goal
+
+-- what is left decides
+abbrev pub invariant-loop-child : goal.invariant-loop-child
+invariant-loop-child l = holds_named l.local (contents_of l.left) ≡ holds_named l.local (contents_of l.fn.children)
+
+abbrev pub decreases-loop-child : goal.decreases-loop-child
+decreases-loop-child l = length l.left

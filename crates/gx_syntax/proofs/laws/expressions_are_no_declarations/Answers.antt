@@ -1,5 +1,0 @@
-use Rattle.gx_syntax.proofs.Ahead.{declarations_avoided}
-use Rattle.gx_syntax.proofs.laws.expressions_are_no_declarations.Goals as goal
-
-pub returns : goal.returns
-returns c = λ at. declarations_avoided at

@@ -1,7 +1,0 @@
-use Rattle.std.proofs.Common.{◌≡◌, drop, option_map}
-use Rattle.gx_types.specs.SimpleView.{simple_view}
-use Rattle.gx_varieties.specs.OwnFacets.{greatest_bound}
-use Rattle.gx_varieties.proofs.own_facets.greatest_bound.Given as goal
-
-abbrev pub invariant-loop-index : goal.invariant-loop-index
-invariant-loop-index l = l.greatest ≡ greatest_bound l.kind (option_map simple_view l.base) (drop l.index l.facets)

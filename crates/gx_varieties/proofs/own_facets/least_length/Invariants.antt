@@ -1,6 +1,0 @@
-use Rattle.std.proofs.Common.{◌≡◌, drop}
-use Rattle.gx_varieties.specs.OwnFacets.{least_length}
-use Rattle.gx_varieties.proofs.own_facets.least_length.Given as goal
-
-abbrev pub invariant-loop-index : goal.invariant-loop-index
-invariant-loop-index l = l.least ≡ least_length (drop l.index l.facets)

@@ -1,6 +1,0 @@
-use Rattle.std.proofs.Common.{◌≡◌, ◌++◌, drop}
-use Rattle.gx_varieties.specs.Varieties.{said_from, said_varieties}
-use Rattle.gx_varieties.proofs.variety.said_varieties.Given as goal
-
-abbrev pub invariant-loop-number : goal.invariant-loop-number
-invariant-loop-number l = l.said.items ++ said_from l.forms l.number (drop l.number l.forms) ≡ said_varieties l.forms

@@ -1,0 +1,65 @@
+// Rows of inclusions.
+
+use crate::types::{shape_of, types};
+use gx_include::include::included;
+use gx_include::take::takes;
+use gx_include::verdict::Verdict;
+use rows_words::not_a_row;
+use gx_types::schemas::Schemas;
+use gx_types::sequence_type::Ty;
+use gx_types::shape::Shape;
+use gx_typetext::shapes::print_shapes;
+use std::alloc::{AllocError, Global};
+
+/// Whether the first type that the words make is included in the second one, within a limit or `-` for none.
+pub fn included_row(alloc: Global, limit: &str, words: &[&str]) -> Result<String, AllocError> {
+    let types = types(alloc, words)?;
+    match types.as_slice() {
+        [left, right] => verdict_row(alloc, left, right, limit.parse::<usize>().ok()),
+        _ => not_a_row(alloc),
+    }
+}
+
+/// Whether one type is included in another one.
+pub fn verdict_row(
+    alloc: Global,
+    left: &Ty,
+    right: &Ty,
+    limit: Option<usize>,
+) -> Result<String, AllocError> {
+    let schemas = Schemas::empty(alloc)?;
+    let verdict = included(alloc, &schemas, left, right, limit)?;
+    match verdict {
+        Verdict::Yes => String::from_str(alloc, "yes"),
+        Verdict::No(list) => no_row(alloc, list.as_slice()),
+        Verdict::TooManyPairs => String::from_str(alloc, "unknown"),
+    }
+}
+
+fn no_row(alloc: Global, list: &[Shape]) -> Result<String, AllocError> {
+    let list = print_shapes(alloc, list)?;
+    format!(in alloc; "no: {}", list.as_str())
+}
+
+/// Whether the first type takes a shape of each item type behind it.
+pub fn takes_row(alloc: Global, words: &[&str]) -> Result<String, AllocError> {
+    let types = types(alloc, words)?;
+    match types.as_slice() {
+        [t, items @ ..] => takes_items(alloc, t, items),
+        [] => not_a_row(alloc),
+    }
+}
+
+fn takes_items(alloc: Global, t: &Ty, items: &[Ty]) -> Result<String, AllocError> {
+    let mut list = Vec::new(alloc);
+    for item in items {
+        list.push(shape_of(item)?)?;
+    }
+    takes_list(alloc, t, list.as_slice())
+}
+
+fn takes_list(alloc: Global, t: &Ty, list: &[Shape]) -> Result<String, AllocError> {
+    let schemas = Schemas::empty(alloc)?;
+    let answer = takes(alloc, &schemas, t, list)?;
+    format!(in alloc; "{answer}")
+}

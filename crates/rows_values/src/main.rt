@@ -1,0 +1,54 @@
+//! Worked values of texts, names, numbers and atomic values: each line of standard input is a call with its arguments, and
+//! is written again with its answer.
+#![tactic(auto)]
+
+mod names;
+mod numbers;
+mod values;
+
+use rows_words::not_a_row;
+use rows_words::words::words;
+use names::{build_row, code_row, names_row, texts_row, type_names_row};
+use numbers::{number, one_number, two_numbers};
+use std::alloc::{AllocError, Global};
+use std::io;
+use values::{admits_list_row, admits_row, order_row, value_row};
+
+fn main(rt: HostRuntime) -> io::Result<()> {
+    for line in rt.lines(rt.alloc()) {
+        let line = line?;
+        match row_answer(rt.alloc(), line.as_str()) {
+            Ok(answer) => println!(rt; "{line} = {answer}")?,
+            Err(_) => println!(rt; "{line} = no memory")?,
+        }
+    }
+    Ok(())
+}
+
+fn row_answer(alloc: Global, row: &str) -> Result<String, AllocError> {
+    let words = words(alloc, row)?;
+    let mut parts = Vec::new(alloc);
+    for word in &words {
+        parts.push(word.as_str())?;
+    }
+    answer(alloc, parts.as_slice())
+}
+
+fn answer(alloc: Global, words: &[&str]) -> Result<String, AllocError> {
+    match words {
+        ["build", a, b] => build_row(alloc, a, b),
+        ["texts", a, b] => texts_row(alloc, a, b),
+        ["names", a, b] => names_row(alloc, a, b),
+        ["type_names", a, b] => type_names_row(alloc, a, b),
+        ["code", name] => code_row(alloc, name),
+        ["read_value", kind, text] => value_row(alloc, kind, text),
+        ["compare_values", t, a, u, b] => { order_row(alloc, (t, a), (u, b)) }
+        ["admits", facets @ .., "of", kind, text] => admits_row(alloc, facets, kind, text),
+        ["admits_list", facets @ .., "of", kind, text] => {
+            admits_list_row(alloc, facets, kind, text)
+        }
+        [call, a] => one_number(alloc, call, a),
+        [call, a, b] => two_numbers(alloc, call, number(a), number(b)),
+        _ => not_a_row(alloc),
+    }
+}
