@@ -21,9 +21,9 @@ use gx_ast::expression::{Binding, Clause};
 use gx_ast::name::Variable;
 use gx_ast::sequence_type::{BoundVariable, SequenceType};
 use gx_base::place::Place;
+use gx_parse_grammar::word::{Binder, ClauseWord, Word, WordSet};
 use gx_parse_tokens::reader::Reader;
 use gx_parse_tokens::source::Source;
-use gx_parse_grammar::word::{Binder, ClauseWord, Word, WordSet};
 
 // Reads a variable behind its `$`.
 fn first_bound(reader: &mut Reader<'_>, source: &Source<'_>) -> Option<Variable>

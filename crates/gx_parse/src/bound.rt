@@ -11,9 +11,9 @@ use crate::parts::lexeme;
 use crate::types::{sequence_type, written_name};
 use gx_ast::name::Variable;
 use gx_ast::sequence_type::{EmptyOrder, KeyOrder, SequenceType};
+use gx_parse_grammar::word::{Word, WordSet};
 use gx_parse_tokens::reader::Reader;
 use gx_parse_tokens::source::Source;
-use gx_parse_grammar::word::{Word, WordSet};
 
 /// Reads a variable (XQuery 1.0, section 3.1.2).
 pub fn bound(reader: &mut Reader<'_>, source: &Source<'_>) -> Option<Variable>

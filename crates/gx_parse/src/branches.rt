@@ -18,9 +18,9 @@ use crate::typeswitch::{case_head, default_head, last_case, with_case};
 use gx_ast::expression::{Case, Expr};
 use gx_base::limits::CHAIN_MEMBERS;
 use gx_base::place::Place;
+use gx_parse_grammar::word::{Branching, Word, WordSet};
 use gx_parse_tokens::reader::Reader;
 use gx_parse_tokens::source::Source;
-use gx_parse_grammar::word::{Branching, Word, WordSet};
 
 /// Reads what a name begins, which stood at the place.
 #[cycle(parsing)]

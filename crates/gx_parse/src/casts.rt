@@ -13,10 +13,10 @@ use crate::types::{sequence_type, single_type};
 use gx_ast::expression::{Expr, ExprNode};
 use gx_ast::sequence_type::{SequenceType, SingleType};
 use gx_base::place::Place;
-use gx_parse_tokens::reader::Reader;
-use gx_parse_tokens::source::Source;
 use gx_parse_grammar::casts::{CastTest, TypeTest};
 use gx_parse_grammar::word::{Word, WordSet};
+use gx_parse_tokens::reader::Reader;
+use gx_parse_tokens::source::Source;
 use std::alloc::{AllocError, Global};
 
 // The tree of an operator with a sequence type.

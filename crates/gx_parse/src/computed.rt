@@ -16,9 +16,9 @@ use crate::trees;
 use gx_ast::expression::Expr;
 use gx_ast::name::QName;
 use gx_base::place::Place;
+use gx_parse_grammar::word::{ComputedNode, NamedNode, Word, WordSet};
 use gx_parse_tokens::reader::Reader;
 use gx_parse_tokens::source::Source;
-use gx_parse_grammar::word::{ComputedNode, NamedNode, Word, WordSet};
 
 /// Reads a computed document or text node behind the gap of its word, which stood at the place.
 #[cycle(parsing)]

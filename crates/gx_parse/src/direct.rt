@@ -24,12 +24,12 @@ use crate::trees::{self, fitted};
 use gx_ast::expression::{AttributePart, DirectAttribute, Expr, Part};
 use gx_ast::name::QName;
 use gx_base::text_builder::TextBuilder;
-use gx_parse_tokens::names::ReadName;
-use gx_parse_tokens::reader::Reader;
-use gx_parse_tokens::source::Source;
 use gx_parse_grammar::pieces::{Piece, attribute_value_of, content_of};
 use gx_parse_grammar::runs::{Quote, Run};
 use gx_parse_grammar::word::{Barrier, Word, WordSet};
+use gx_parse_tokens::names::ReadName;
+use gx_parse_tokens::reader::Reader;
+use gx_parse_tokens::source::Source;
 
 // The parts of the content that was read so far, and the pieces behind them, which come to no parts yet.
 #[derive(Drop)]

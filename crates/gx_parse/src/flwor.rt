@@ -24,9 +24,9 @@ use gx_ast::expression::{Binding, Clause, Expr, Key};
 use gx_ast::sequence_type::BoundVariable;
 use gx_base::limits::CHAIN_MEMBERS;
 use gx_base::place::Place;
+use gx_parse_grammar::word::{Binder, ClauseWord, Word, WordSet};
 use gx_parse_tokens::reader::Reader;
 use gx_parse_tokens::source::Source;
-use gx_parse_grammar::word::{Binder, ClauseWord, Word, WordSet};
 
 /// Reads a quantified expression behind its first word, which stood at the place.
 #[cycle(parsing)]

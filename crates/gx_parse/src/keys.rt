@@ -10,8 +10,8 @@ ghost use Rattle.gx_parse_tokens.specs.Reading.{read_in};
 
 use crate::parts::lexeme;
 use gx_ast::expression::Key;
-use gx_parse_tokens::reader::Reader;
 use gx_parse_grammar::word::{Barrier, Word, WordSet};
+use gx_parse_tokens::reader::Reader;
 
 /// Reads a comma behind as many sort keys as may stand, if one stands there.
 pub fn last_key(reader: &mut Reader<'_>)

@@ -20,12 +20,12 @@ use gx_ast::expression::Expr;
 use gx_ast::name::{Axis, NameTest, QName};
 use gx_ast::sequence_type::NodeTest;
 use gx_base::place::Place;
+use gx_parse_grammar::kind_words::{KindWord, TestContent};
+use gx_parse_grammar::word::{Word, WordSet};
 use gx_parse_tokens::kind_words::{kind_test, kind_word};
 use gx_parse_tokens::names::ReadName;
 use gx_parse_tokens::reader::Reader;
 use gx_parse_tokens::source::Source;
-use gx_parse_grammar::kind_words::{KindWord, TestContent};
-use gx_parse_grammar::word::{Word, WordSet};
 use std::alloc::{AllocError, Global};
 
 /// The test that a name test is.

@@ -13,9 +13,9 @@ use crate::paths::{filtered, other_step, path, step};
 use crate::singles::single;
 use crate::trees;
 use gx_ast::expression::Expr;
+use gx_parse_grammar::word::WordSet;
 use gx_parse_tokens::reader::Reader;
 use gx_parse_tokens::source::Source;
-use gx_parse_grammar::word::WordSet;
 
 /// Reads an expression. So many singles may stand one inside another in it.
 #[cycle(parsing)]

@@ -9,9 +9,9 @@ use gx_ast::query::Query;
 use gx_base::limits::FILE_BYTES;
 use gx_base::place::Place;
 use gx_grammar::decode::{DecodeError, decode};
+use gx_parse_grammar::refusal::{SyntaxRefusal, SyntaxRule};
 use gx_parse_tokens::reader::{End, Reader, Refused};
 use gx_parse_tokens::source::Source;
-use gx_parse_grammar::refusal::{SyntaxRefusal, SyntaxRule};
 use std::alloc::Global;
 
 /// The syntax tree of the bytes of a query (XQuery 1.0, section 4), where lines and columns count from 1. White space and

@@ -15,9 +15,9 @@ use crate::members::Members;
 use crate::trees;
 use gx_ast::expression::Expr;
 use gx_base::place::Place;
+use gx_parse_grammar::word::{Barrier, Word, WordSet};
 use gx_parse_tokens::reader::Reader;
 use gx_parse_tokens::source::Source;
-use gx_parse_grammar::word::{Barrier, Word, WordSet};
 use std::alloc::AllocError;
 
 /// A sign at its place.

@@ -23,11 +23,11 @@ use crate::singles::single;
 use crate::trees;
 use gx_ast::expression::{Expr, ExprNode};
 use gx_base::place::Place;
+use gx_parse_grammar::word::{Barrier, Word, WordSet};
 use gx_parse_tokens::kind_words::{axis_word, kind_word};
 use gx_parse_tokens::names::ReadName;
 use gx_parse_tokens::reader::Reader;
 use gx_parse_tokens::source::Source;
-use gx_parse_grammar::word::{Barrier, Word, WordSet};
 
 // So many predicates may stand behind a step.
 const PREDICATES: u8 = 64;

@@ -29,10 +29,10 @@ use gx_ast::sequence_type::EmptyOrder;
 use gx_base::limits::NESTING;
 use gx_base::text::Text;
 use gx_base::text_builder::TextBuilder;
-use gx_parse_tokens::reader::Reader;
-use gx_parse_tokens::source::Source;
 use gx_parse_grammar::runs::Quote;
 use gx_parse_grammar::word::{Definer, Setter, Word, WordSet};
+use gx_parse_tokens::reader::Reader;
+use gx_parse_tokens::source::Source;
 
 // Reads a word with the gap behind it.
 fn symbol(reader: &mut Reader<'_>, word: Word)

@@ -17,10 +17,10 @@ use crate::paths::{arguments_in, named_step, path};
 use crate::trees;
 use gx_ast::expression::Expr;
 use gx_base::place::Place;
+use gx_parse_grammar::word::{Barrier, Opening};
 use gx_parse_tokens::names::ReadName;
 use gx_parse_tokens::reader::Reader;
 use gx_parse_tokens::source::Source;
-use gx_parse_grammar::word::{Barrier, Opening};
 
 /// Reads a single, where so many may stand one inside another, itself among them.
 #[cycle(parsing)]

@@ -13,10 +13,10 @@ use crate::parts::{keep, numeral};
 use crate::trees;
 use gx_ast::expression::Expr;
 use gx_base::text_builder::TextBuilder;
-use gx_parse_tokens::reader::Reader;
-use gx_parse_tokens::source::Source;
 use gx_parse_grammar::runs::{Quote, Run};
 use gx_parse_grammar::word::WordSet;
+use gx_parse_tokens::reader::Reader;
+use gx_parse_tokens::source::Source;
 use std::alloc::Global;
 
 /// Adds a character.

@@ -20,10 +20,10 @@ use gx_ast::sequence_type::{AxisStep, DefaultHead, NodeTest};
 use gx_base::place::Place;
 use gx_base::text_builder::TextBuilder;
 use gx_num::Number;
-use gx_parse_tokens::names::ReadName;
-use gx_parse_tokens::source::Source;
 use gx_parse_grammar::kind_words::{KindWord, TestContent};
 use gx_parse_grammar::word::{ComputedNode, NamedNode, Word};
+use gx_parse_tokens::names::ReadName;
+use gx_parse_tokens::source::Source;
 use std::alloc::{AllocError, Global};
 
 /// The items in no more memory than they take, where that can be had.

@@ -12,12 +12,12 @@ use crate::parts::lexeme;
 use gx_ast::name::QName;
 use gx_ast::sequence_type::{Indicator, SequenceType, SingleType, TestedName};
 use gx_base::place::Place;
+use gx_parse_grammar::kind_words::{KindWord, TestContent, TypeTail, TypeWord};
+use gx_parse_grammar::word::{Word, WordSet};
 use gx_parse_tokens::kind_words::{indicator_of, type_of, type_word};
 use gx_parse_tokens::names::ReadName;
 use gx_parse_tokens::reader::Reader;
 use gx_parse_tokens::source::Source;
-use gx_parse_grammar::kind_words::{KindWord, TestContent, TypeTail, TypeWord};
-use gx_parse_grammar::word::{Word, WordSet};
 
 /// Reads a QName and its gap.
 pub fn written_name(reader: &mut Reader<'_>, source: &Source<'_>) -> Option<QName>

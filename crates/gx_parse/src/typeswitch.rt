@@ -17,9 +17,9 @@ use gx_ast::expression::Case;
 use gx_ast::name::Variable;
 use gx_ast::sequence_type::{CaseHead, DefaultHead, SequenceType};
 use gx_base::place::Place;
+use gx_parse_grammar::word::{Word, WordSet};
 use gx_parse_tokens::reader::Reader;
 use gx_parse_tokens::source::Source;
-use gx_parse_grammar::word::{Word, WordSet};
 
 // Reads the variable of a case, if one stands there.
 fn variable_of_case(reader: &mut Reader<'_>, source: &Source<'_>) -> Option<Variable>

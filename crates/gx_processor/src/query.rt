@@ -33,9 +33,9 @@ use gx_names::resolve::resolve;
 use gx_normal::normalise::normalise;
 use gx_normal::unbuilt::unbuilt_query;
 use gx_parse::parser::parse;
+use gx_parse_grammar::refusal::{SyntaxRefusal, SyntaxRule};
 use gx_static::error::InferError;
 use gx_static::infer::infer;
-use gx_parse_grammar::refusal::{SyntaxRefusal, SyntaxRule};
 use gx_types::schemas::Schemas;
 use std::alloc::{AllocError, Global};
 

@@ -11,9 +11,9 @@ ghost use Rattle.gx_schema.specs.SeenComponents.{attribute_groups, is_circular_a
 use crate::first_found::earlier_found;
 use crate::found::{Found, found_by_number, globals_found, types_found};
 use gx_schema_components::mention::ComponentKind;
-use gx_schema_syntax::written::SchemaDocument;
 use gx_schema_simple::circles::{first_circular, is_marked};
 use gx_schema_simple::type_form::TypeForm;
+use gx_schema_syntax::written::SchemaDocument;
 use std::alloc::{AllocError, Global};
 
 /// The first type on a circle.

@@ -5,9 +5,9 @@ ghost use Rattle.gx_schema_simple.specs.Faults.{earlier_fault};
 ghost use Rattle.gx_schema.specs.DerivationFaults.{derivation_fault, derivation_place, first_derivation_fault, has_complex_content, has_derivation_fault, has_simple_values, kind_fits_base};
 
 use gx_schema_components::component::{Base, Derivation, TypeComponent, TypeForm as ComponentForm};
-use gx_schema_syntax::written::ContentKind;
 use gx_schema_simple::faults::Fault;
 use gx_schema_simple::type_form::TypeForm;
+use gx_schema_syntax::written::ContentKind;
 
 /// The first fault by place of complex types, over the forms of all types: simple content over a base without it, or complex content
 /// over a base that is simple or has simple content (XML Schema 1.0 part 1, sections 3.4.3 and 3.4.6).

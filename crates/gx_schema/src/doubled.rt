@@ -8,10 +8,10 @@ use crate::found::{Found, found_by_number, globals_found, types_found};
 use crate::type_numbers::{TypeNumbers, number_of, type_numbers};
 use gx_base::name::Name;
 use gx_base::type_name::TypeName;
+use gx_references::names::numbers;
 use gx_schema_components::mention::ComponentKind;
 use gx_schema_components::names::{names_of_kind, type_names_in};
 use gx_schema_syntax::written::SchemaDocument;
-use gx_references::names::numbers;
 use std::alloc::{AllocError, Global};
 
 /// The first type whose name another one in front of it has.

@@ -16,10 +16,10 @@ use gx_schema_attributes::doubled::first_doubled;
 use gx_schema_components::mention::ComponentKind;
 use gx_schema_content::disagreement::first_disagreement;
 use gx_schema_content::extensions::first_differing_extension;
-use gx_schema_syntax::written::SchemaDocument;
-use gx_typetext::print::print_name;
 use gx_schema_simple::faults::first_type_fault;
 use gx_schema_simple::type_form::TypeForm;
+use gx_schema_syntax::written::SchemaDocument;
+use gx_typetext::print::print_name;
 use std::alloc::{AllocError, Global};
 
 /// The first declaration that disagrees with others, by place: the second global declaration of a name and kind; a faulty simple type;

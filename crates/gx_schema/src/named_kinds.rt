@@ -7,12 +7,12 @@ ghost use Rattle.gx_schema.specs.TypeNumbers.{AreTypeNumbers, own_type_number};
 use crate::seen_components::SeenComponents;
 use crate::type_numbers::{TypeNumbers, number_of, type_numbers};
 use crate::unread::is_nameable;
-use gx_schema_attributes::kinds::attribute_kinds;
 use gx_base::text::Text;
 use gx_base::type_name::TypeName;
+use gx_schema_attributes::kinds::attribute_kinds;
 use gx_schema_content::kinds::element_kinds;
-use gx_typetext::print::print_type_name;
 use gx_schema_simple::type_form::TypeForm;
+use gx_typetext::print::print_type_name;
 use std::alloc::{AllocError, Global};
 
 /// The first type of an element in a content that is neither built in nor declared.

@@ -7,15 +7,15 @@ ghost use Rattle.gx_schema.specs.MeaningsView.{effective_at, meanings_view};
 
 use crate::simple_bases::simple_base;
 use gx_base::type_name::{Builtin, TypeName};
+use gx_facets::Facets;
 use gx_schema_components::component::{Base, Declaration};
 use gx_schema_content::effective::Effective;
 use gx_schema_content::mixed::model_of;
-use gx_facets::Facets;
-use gx_types::declaration::{AttributeUse, AttributeUses, Content, Declared, GlobalElement};
-use gx_types::sequence_type::Ty;
 use gx_schema_simple::meaning::own_facets_of;
 use gx_schema_simple::type_form::TypeForm;
 use gx_schema_simple::variety::{TypeVariety, known_variety};
+use gx_types::declaration::{AttributeUse, AttributeUses, Content, Declared, GlobalElement};
+use gx_types::sequence_type::Ty;
 use std::alloc::{AllocError, Global};
 
 /// What types mean beside their forms, by number: the varieties of their values, their contents and their attributes.

@@ -8,16 +8,16 @@ ghost use Rattle.gx_schema.specs.SeenComponents.{attribute_groups_in_group, is_c
 ghost use Rattle.gx_schema.specs.SeenView.{AreCircles};
 ghost use Rattle.gx_schema.specs.TypeForms.{forms_of};
 
+use gx_references::circles::circular_among;
 use gx_schema_attributes::groups::groups_named;
 use gx_schema_components::component::{
     AttributeGroup, AttributeParts, Base, Derivation, DerivedFrom, ModelGroup, Particles,
     TypeComponent, TypeForm,
 };
 use gx_schema_content::group_content::groups_in;
-use gx_schema_syntax::role::Compositor;
-use gx_references::circles::circular_among;
 use gx_schema_simple::circles::{circular_types, is_marked};
 use gx_schema_simple::type_form::TypeForm as ValueForm;
+use gx_schema_syntax::role::Compositor;
 use std::alloc::{AllocError, Global};
 use std::marker::Model;
 

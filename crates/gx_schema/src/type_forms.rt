@@ -6,8 +6,8 @@ ghost use Rattle.gx_schema.specs.TypeForms.{form_of_content, form_of_derivation,
 use gx_schema_components::component::{
     Base, Derivation, SimpleType, TypeComponent, TypeForm as ComponentForm,
 };
-use gx_schema_syntax::written::{ContentKind, WrittenFacet, WrittenFacets};
 use gx_schema_simple::type_form::TypeForm;
+use gx_schema_syntax::written::{ContentKind, WrittenFacet, WrittenFacets};
 use std::alloc::{AllocError, Global};
 
 /// The forms of types.

@@ -8,9 +8,9 @@ ghost use Rattle.gx_schema_attributes.specs.GivenUses.{nothing_given};
 ghost use Rattle.gx_schema_attributes.specs.GroupUses.{given_by_group, group_named, group_parts, groups_named};
 
 use crate::given::{GivenUses, given_by_parts};
-use gx_schema_components::component::{AttributeGroup, AttributePart};
 use gx_references::body::Body;
 use gx_references::meanings::meanings;
+use gx_schema_components::component::{AttributeGroup, AttributePart};
 use std::alloc::{AllocError, Global};
 use std::marker::Model;
 

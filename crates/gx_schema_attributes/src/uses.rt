@@ -9,9 +9,9 @@ ghost use Rattle.gx_schema_attributes.specs.TypeUses.{found_uses, uses_of_type, 
 use crate::given::{GivenUses, finished, give_all};
 use crate::groups::given_by_groups;
 use crate::own::{Inherited, OwnUses, inherited_from, own_of_type};
-use gx_schema_components::component::{AttributeGroup, TypeComponent};
 use gx_references::body::Body;
 use gx_references::meanings::meanings;
+use gx_schema_components::component::{AttributeGroup, TypeComponent};
 use gx_types::declaration::{AttributeUse, AttributeUses};
 use std::alloc::{AllocError, Global};
 

@@ -12,8 +12,8 @@ ghost use Rattle.gx_schema_components.specs.NamesView.{IsNumbering, number_in_ta
 use crate::mention::ComponentKind;
 use gx_base::name::Name;
 use gx_base::type_name::TypeName;
-use gx_schema_syntax::written::{GlobalDeclaration, SchemaDocument, TypeDeclaration};
 use gx_references::names::numbers;
+use gx_schema_syntax::written::{GlobalDeclaration, SchemaDocument, TypeDeclaration};
 use indexmap::IndexMap;
 use std::alloc::{AllocError, Global};
 

@@ -14,10 +14,10 @@ use crate::knot::known_meanings;
 use crate::source::{ContentSource, extended_types, source};
 use gx_base::name::Name;
 use gx_base::type_name::TypeName;
+use gx_references::body::Body;
 use gx_schema_components::component::{
     Base, ComplexType, ModelGroup, Particle, Term, TypeComponent, TypeForm,
 };
-use gx_references::body::Body;
 use std::alloc::{AllocError, Global};
 
 /// A model group among others.

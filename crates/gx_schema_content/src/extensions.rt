@@ -9,7 +9,9 @@ use crate::group_outlines::group_outlines;
 use crate::outline::{Outline, TypeOutline};
 use crate::source::{ContentSource, source};
 use crate::type_outlines::{outline_of_base, type_outlines, written_outline};
-use gx_schema_components::component::{ComplexType, Derivation, ModelGroup, TypeComponent, TypeForm};
+use gx_schema_components::component::{
+    ComplexType, Derivation, ModelGroup, TypeComponent, TypeForm,
+};
 use std::alloc::{AllocError, Global};
 
 /// An extension that differs from its base in being mixed: where it is, and the number of its type.

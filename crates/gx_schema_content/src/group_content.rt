@@ -7,9 +7,9 @@ ghost use Rattle.gx_references.specs.Known.{known};
 ghost use Rattle.gx_schema_content.specs.GroupContents.{groups_in, group_of_particle, term_content, particle_content, group_content, content_that_fits};
 
 use crate::occurrences::bounded;
+use gx_references::body::Body;
 use gx_schema_components::component::{ModelGroup, Particle, Term};
 use gx_schema_syntax::role::Compositor;
-use gx_references::body::Body;
 use gx_types::item_type::ItemType;
 use gx_types::sequence_type::Ty;
 use gx_types::type_rules::{choose, join};

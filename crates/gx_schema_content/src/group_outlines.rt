@@ -10,9 +10,9 @@ ghost use Rattle.gx_schema_content.specs.Outlines.{choice_outline, group_outline
 use crate::group_content::groups_in;
 use crate::knot::known_meanings;
 use crate::outline::Outline;
+use gx_references::body::Body;
 use gx_schema_components::component::{ModelGroup, Particle, Term};
 use gx_schema_syntax::role::Compositor;
-use gx_references::body::Body;
 use std::alloc::{AllocError, Global};
 
 /// A model group among others.

@@ -7,8 +7,8 @@ ghost use Rattle.gx_schema_content.specs.GroupPositions.{counted, group_position
 
 use crate::group_content::groups_in;
 use gx_base::limits::CONTENT_POSITIONS;
-use gx_schema_components::component::{Bounds, ModelGroup, Particle, Term};
 use gx_references::body::Body;
+use gx_schema_components::component::{Bounds, ModelGroup, Particle, Term};
 use std::alloc::{AllocError, Global};
 
 /// A model group among others, whose positions are counted: all to one more than the limit.

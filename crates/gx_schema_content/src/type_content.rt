@@ -9,8 +9,8 @@ ghost use Rattle.gx_schema_content.specs.TypeContents.{complex_content, content_
 use crate::effective::Effective;
 use crate::group_content::particle_content;
 use crate::source::{ContentSource, extended_types, source};
-use gx_schema_components::component::{Base, ComplexType, Particle, TypeComponent, TypeForm};
 use gx_references::body::Body;
+use gx_schema_components::component::{Base, ComplexType, Particle, TypeComponent, TypeForm};
 use gx_types::sequence_type::{Ty, TyNode};
 use gx_types::type_rules::join;
 use std::alloc::{AllocError, Global};

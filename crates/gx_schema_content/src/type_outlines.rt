@@ -12,8 +12,8 @@ use crate::group_outlines::particle_outline;
 use crate::knot::known_meanings;
 use crate::outline::{Outline, TypeOutline};
 use crate::source::{ContentSource, extended_types, source};
-use gx_schema_components::component::{Base, ComplexType, Particle, TypeComponent, TypeForm};
 use gx_references::body::Body;
+use gx_schema_components::component::{Base, ComplexType, Particle, TypeComponent, TypeForm};
 use std::alloc::{AllocError, Global};
 
 /// A type among others, with the outlines of all model groups.

@@ -8,8 +8,8 @@ ghost use Rattle.gx_schema_content.specs.TypePositions.{complex_positions, compo
 use crate::group_positions::{known_positions, particle_positions};
 use crate::source::{ContentSource, extended_types, source};
 use gx_base::limits::CONTENT_POSITIONS;
-use gx_schema_components::component::{Base, ComplexType, Particle, TypeComponent, TypeForm};
 use gx_references::body::Body;
+use gx_schema_components::component::{Base, ComplexType, Particle, TypeComponent, TypeForm};
 use std::alloc::{AllocError, Global};
 
 /// A type among others, whose positions are counted over those of all model groups: all to one more than the limit.

@@ -11,8 +11,8 @@ use crate::own_facets::facets_read;
 use crate::type_form::{TypeForm, base_number};
 use crate::variety::{TypeVariety, base_variety};
 use gx_base::type_name::{Builtin, TypeName};
-use gx_schema_components::component::Base;
 use gx_facets::Facets;
+use gx_schema_components::component::Base;
 use gx_types::simple_type::{AtomicType, SimpleType, Variety};
 use std::alloc::{AllocError, Global};
 

@@ -7,10 +7,10 @@ ghost use Rattle.gx_schema_simple.specs.Varieties.{said, said_by, said_of_base, 
 use crate::circles::is_marked;
 use crate::type_form::TypeForm;
 use gx_base::type_name::Builtin;
-use gx_schema_components::component::Base;
 use gx_references::body::Body;
 use gx_references::laws::circles_are_endless;
 use gx_references::meanings::meanings;
+use gx_schema_components::component::Base;
 use std::alloc::{AllocError, Global};
 
 /// What is seen of the values of a type (XML Schema 1.0 part 1, section 3.14.1).

@@ -4,8 +4,8 @@ use crate::values::{atomic, value};
 use gx_atomic::{CastError, cast, effective_boolean_value, fits};
 use gx_base::type_name::TypeName;
 use gx_facets::{Atomic, print_value};
-use rows_words::names::type_name;
 use gx_types::schemas::Schemas;
+use rows_words::names::type_name;
 use std::alloc::{AllocError, Global};
 
 /// The cast of the value of a text at a type to another type.

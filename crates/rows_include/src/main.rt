@@ -5,9 +5,9 @@ mod rows;
 mod texts;
 mod types;
 
+use rows::{included_row, takes_row};
 use rows_words::not_a_row;
 use rows_words::words::words;
-use rows::{included_row, takes_row};
 use std::alloc::{AllocError, Global};
 use std::io;
 use texts::{read_row, texts_row};

@@ -4,11 +4,11 @@ use crate::types::{shape_of, types};
 use gx_include::include::included;
 use gx_include::take::takes;
 use gx_include::verdict::Verdict;
-use rows_words::not_a_row;
 use gx_types::schemas::Schemas;
 use gx_types::sequence_type::Ty;
 use gx_types::shape::Shape;
 use gx_typetext::shapes::print_shapes;
+use rows_words::not_a_row;
 use std::alloc::{AllocError, Global};
 
 /// Whether the first type that the words make is included in the second one, within a limit or `-` for none.

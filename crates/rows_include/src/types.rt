@@ -1,11 +1,11 @@
 // Types from their parts, each word behind its parts.
 
 use gx_base::name::Name;
-use rows_words::names::{name, type_name};
 use gx_types::item_type::ItemType;
 use gx_types::sequence_type::{Ty, TyNode};
 use gx_types::shape::Shape;
 use gx_types::type_rules::{choose, join, optional, plus, star};
+use rows_words::names::{name, type_name};
 use std::alloc::{AllocError, Global};
 
 /// The types that words make on a stack: `none`, `empty` and item types; `,` and `|` behind two types; `?`, `*` and `+` behind

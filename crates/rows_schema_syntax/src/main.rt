@@ -4,10 +4,10 @@
 
 use gx_base::limits::FILE_BYTES;
 use gx_schema_syntax::profile::{ProfileRefusal, schema_documents};
-use rows_words::not_a_row;
-use rows_words::words::words;
 use gx_xml::document::read_document;
 use gx_xml::source::Source;
+use rows_words::not_a_row;
+use rows_words::words::words;
 use std::alloc::{AllocError, Global};
 use std::io;
 

@@ -5,8 +5,8 @@ use gx_base::text::Text;
 use gx_base::type_name::TypeName;
 use gx_model::node::Node;
 use gx_model::path::Path;
-use rows_words::names::{name, type_name};
 use gx_types::step::{Axis, NameTest, Test};
+use rows_words::names::{name, type_name};
 use std::alloc::{AllocError, Global};
 
 /// A node as the number of its tree, its positions behind `/` and that of an attribute behind `@`.

@@ -1,9 +1,9 @@
 // Trees, made of their parts.
 
 use gx_base::text::Text;
-use rows_words::names::{name, type_name};
 use gx_tree::attribute::Attribute;
 use gx_tree::tree::{Tree, TreeNode};
+use rows_words::names::{name, type_name};
 use std::alloc::{AllocError, Global};
 use std::mem;
 

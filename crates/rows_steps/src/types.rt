@@ -3,7 +3,6 @@
 use crate::arguments::{axis_of, test_of};
 use gx_base::limits::FILE_BYTES;
 use gx_base::text::Text;
-use rows_words::not_a_row;
 use gx_steptype::axis_type::axis_type;
 use gx_steptype::data_type::data_type;
 use gx_steptype::error::StepError;
@@ -12,6 +11,7 @@ use gx_types::sequence_type::Ty;
 use gx_types::step::{Axis, Test};
 use gx_typetext::print::print_type;
 use gx_typetext::read::{TypeRead, read_type};
+use rows_words::not_a_row;
 use std::alloc::{AllocError, Global};
 
 /// The type of a step along an axis from a node of a type that is written as a text.

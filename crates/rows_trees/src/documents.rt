@@ -2,13 +2,13 @@
 
 use gx_base::limits::FILE_BYTES;
 use gx_base::place::Place;
-use rows_words::not_a_row;
 use gx_serial::item::{SerialItem, answer_text};
 use gx_tree::tree::Tree;
 use gx_xml::document::read_document;
 use gx_xml::refusal::{XmlRefusal, XmlRule};
 use gx_xml::source::Source;
 use gx_xml::untyped::untyped;
+use rows_words::not_a_row;
 use std::alloc::{AllocError, Global};
 
 /// What is read of the bytes: the text of the untyped tree, or the refusal.

@@ -7,14 +7,14 @@ mod parts;
 
 use documents::{bytes_of, fronts_row, joined, read_row, source_row};
 use gx_io::MemorySink;
-use rows_words::not_a_row;
-use rows_words::words::words;
 use gx_serial::item::serialise;
 use gx_tree::erase::erase;
 use gx_tree::same::same;
 use gx_tree::string_value::string_value;
 use gx_tree::tree::Tree;
 use parts::Parts;
+use rows_words::not_a_row;
+use rows_words::words::words;
 use std::alloc::{AllocError, Global};
 use std::fmt::Debug;
 use std::{io, str};

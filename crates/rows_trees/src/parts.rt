@@ -1,10 +1,10 @@
 // Trees and items of an answer, made of their parts.
 
 use gx_base::text::Text;
-use rows_words::names::{name, type_name};
 use gx_serial::item::SerialItem;
 use gx_tree::attribute::Attribute;
 use gx_tree::tree::{Tree, TreeNode};
+use rows_words::names::{name, type_name};
 use std::alloc::{AllocError, Global};
 use std::mem;
 

@@ -6,9 +6,9 @@ mod operators;
 mod rows;
 mod types;
 
+use rows::{derives_row, item_takes_row, type_row};
 use rows_words::not_a_row;
 use rows_words::words::words;
-use rows::{derives_row, item_takes_row, type_row};
 use std::alloc::{AllocError, Global};
 use std::io;
 

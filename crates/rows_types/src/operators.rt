@@ -9,12 +9,12 @@ use gx_base::text::Text;
 use gx_core::expression::{BinaryOp, Binder};
 use gx_core::operator::Operator;
 use gx_funcs::function::find_local;
-use rows_words::names::{name, type_name};
-use rows_words::not_a_row;
 use gx_static::rules::operator_type;
 use gx_types::schemas::Schemas;
 use gx_types::sequence_type::Ty;
 use gx_types::step::{Axis, NameTest, Test};
+use rows_words::names::{name, type_name};
+use rows_words::not_a_row;
 use std::alloc::{AllocError, Global};
 
 /// The type of an operator, or of a call of a function, over parts of these types. Operators are written as in a query, but

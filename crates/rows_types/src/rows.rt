@@ -3,8 +3,6 @@
 use crate::operators::operator_row;
 use crate::types::{item_type, shape, types};
 use gx_base::type_name::TypeName;
-use rows_words::names::type_name;
-use rows_words::not_a_row;
 use gx_types::derivation::{derives, item_takes};
 use gx_types::item_type::ItemType;
 use gx_types::schemas::Schemas;
@@ -12,6 +10,8 @@ use gx_types::sequence_type::Ty;
 use gx_types::shape::Shape;
 use gx_types::type_rules::{occurrence, prime};
 use gx_typetext::print::print_type;
+use rows_words::names::type_name;
+use rows_words::not_a_row;
 use std::alloc::{AllocError, Global};
 
 /// What a call answers for the types that the words make.

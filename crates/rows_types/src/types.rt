@@ -1,12 +1,12 @@
 // Types from their parts, each word behind its parts.
 
 use gx_base::name::Name;
-use rows_words::names::{name, type_name};
 use gx_types::item_type::ItemType;
 use gx_types::occurrence::Occurrence;
 use gx_types::sequence_type::Ty;
 use gx_types::shape::Shape;
 use gx_types::type_rules::{alt, choose, factor, join, limit, optional, plus, seq, star, times};
+use rows_words::names::{name, type_name};
 use std::alloc::{AllocError, Global};
 
 const AT_MOST_ONCE: Occurrence = Occurrence {

@@ -6,10 +6,10 @@ mod names;
 mod numbers;
 mod values;
 
-use rows_words::not_a_row;
-use rows_words::words::words;
 use names::{build_row, code_row, names_row, texts_row, type_names_row};
 use numbers::{number, one_number, two_numbers};
+use rows_words::not_a_row;
+use rows_words::words::words;
 use std::alloc::{AllocError, Global};
 use std::io;
 use values::{admits_list_row, admits_row, order_row, value_row};
