@@ -7,17 +7,18 @@ use std::alloc::Global;
 /// expressions may; they, and what finds no memory, are dropped as they are.
 pub fn dismantle(alloc: Global, tree: Expr) {
     let mut parts = Vec::new(alloc);
-    set_aside(tree.node, &mut parts);
+    set_aside(tree, &mut parts);
     for _ in 0..u64::MAX {
         match parts.pop() {
-            Some(part) => set_aside(Box::into_inner(part).node, &mut parts),
+            Some(part) => set_aside(Box::into_inner(part), &mut parts),
             None => return,
         }
     }
 }
 
 // The parts of what nests to the left, and of what stands in parentheses.
-fn set_aside(node: ExprNode, parts: &mut Vec<Box<Expr>>) {
+fn set_aside(tree: Expr, parts: &mut Vec<Box<Expr>>) {
+    let (_place, node) = tree.into_parts();
     match node {
         ExprNode::Parenthesised(inner) => keep(inner, parts),
         ExprNode::Signed(_minus, inner) => keep(inner, parts),

@@ -1,5 +1,7 @@
 // Expressions and direct constructors.
 
+ghost use Rattle.std.specs.Prelude.{◌≡◌};
+
 use crate::name::QName;
 use crate::sequence_type::{
     AxisStep, BoundVariable, CaseHead, DefaultHead, KeyOrder, SequenceType, SingleType,
@@ -45,16 +47,37 @@ pub enum BinaryOperator {
 /// a FLWOR, a quantified expression, a typeswitch or a conditional, and, where predicates stand behind it, of the expression
 /// in front of them.
 #[cycle(expression)]
-#[derive(Debug, Drop)]
 pub struct Expr {
     pub place: Place,
     pub node: ExprNode,
 }
 
+impl Drop for Expr {
+    #[cycle(expression)]
+    fn drop(self) {
+        let Expr {
+            place: _place,
+            node: _node,
+        } = self;
+    }
+}
+
+impl Expr {
+    ghost use Rattle.gx_ast.specs.SyntaxView.{syntax_of};
+
+    /// The place, and what stands at the root.
+    pub fn into_parts(self) -> (Place, ExprNode)
+        ensures { self ≡ syntax_of result.0 result.1 }
+    {
+        let Expr { place, node } = self;
+        (place, node)
+    }
+}
+
 /// What stands at the root of an expression (XQuery 1.0, section 3). What is large or rare is in a box, so that an operator
 /// or a literal takes few bytes.
 #[cycle(expression)]
-#[derive(Debug, Drop)]
+#[derive(Drop)]
 pub enum ExprNode {
     /// A numeric literal.
     Number(Box<Number>),
@@ -118,7 +141,7 @@ pub enum ExprNode {
 
 /// A function call.
 #[cycle(expression)]
-#[derive(Debug, Drop)]
+#[derive(Drop)]
 pub struct Call {
     pub name: QName,
     pub arguments: Vec<Expr>,
@@ -126,7 +149,7 @@ pub struct Call {
 
 /// A FLWOR, and whether its order is stable (XQuery 1.0, section 3.8).
 #[cycle(expression)]
-#[derive(Debug, Drop)]
+#[derive(Drop)]
 pub struct Flwor {
     pub clauses: Vec<Clause>,
     pub stable: bool,
@@ -136,7 +159,7 @@ pub struct Flwor {
 
 /// `some`, or `every` where that is true, with its condition behind `satisfies` (XQuery 1.0, section 3.11).
 #[cycle(expression)]
-#[derive(Debug, Drop)]
+#[derive(Drop)]
 pub struct Quantified {
     pub every: bool,
     pub bindings: Vec<Binding>,
@@ -145,7 +168,7 @@ pub struct Quantified {
 
 /// A typeswitch, with the head of its default and the expression behind that (XQuery 1.0, section 3.12.2).
 #[cycle(expression)]
-#[derive(Debug, Drop)]
+#[derive(Drop)]
 pub struct Typeswitch {
     pub operand: Expr,
     pub cases: Vec<Case>,
@@ -155,7 +178,7 @@ pub struct Typeswitch {
 
 /// An expression with its predicates (XQuery 1.0, sections 3.2.2 and 3.3.2).
 #[cycle(expression)]
-#[derive(Debug, Drop)]
+#[derive(Drop)]
 pub struct Filtered {
     pub operand: Expr,
     pub predicates: Vec<Expr>,
@@ -163,7 +186,7 @@ pub struct Filtered {
 
 /// A binding of a `for`, a `let` or a quantified expression.
 #[cycle(expression)]
-#[derive(Debug, Drop)]
+#[derive(Drop)]
 pub struct Binding {
     pub bound: BoundVariable,
     pub value: Expr,
@@ -171,7 +194,7 @@ pub struct Binding {
 
 /// A clause of a FLWOR, at its word.
 #[cycle(expression)]
-#[derive(Debug, Drop)]
+#[derive(Drop)]
 pub enum Clause {
     For(Place, Vec<Binding>),
     Let(Place, Vec<Binding>),
@@ -180,7 +203,7 @@ pub enum Clause {
 
 /// A sort key.
 #[cycle(expression)]
-#[derive(Debug, Drop)]
+#[derive(Drop)]
 pub struct Key {
     pub value: Expr,
     pub order: KeyOrder,
@@ -188,7 +211,7 @@ pub struct Key {
 
 /// A case of a typeswitch.
 #[cycle(expression)]
-#[derive(Debug, Drop)]
+#[derive(Drop)]
 pub struct Case {
     pub head: CaseHead,
     pub body: Expr,
@@ -196,7 +219,7 @@ pub struct Case {
 
 /// A direct element (XQuery 1.0, section 3.7.1).
 #[cycle(expression)]
-#[derive(Debug, Drop)]
+#[derive(Drop)]
 pub struct DirectElement {
     pub name: QName,
     pub attributes: Vec<DirectAttribute>,
@@ -205,7 +228,7 @@ pub struct DirectElement {
 
 /// An attribute of a direct element.
 #[cycle(expression)]
-#[derive(Debug, Drop)]
+#[derive(Drop)]
 pub struct DirectAttribute {
     pub name: QName,
     pub value: Vec<AttributePart>,
@@ -213,7 +236,7 @@ pub struct DirectAttribute {
 
 /// A part of the value of a direct attribute.
 #[cycle(expression)]
-#[derive(Debug, Drop)]
+#[derive(Drop)]
 pub enum AttributePart {
     /// Characters and references.
     Text(Text),
@@ -223,7 +246,7 @@ pub enum AttributePart {
 
 /// A part of the content of a direct element.
 #[cycle(expression)]
-#[derive(Debug, Drop)]
+#[derive(Drop)]
 pub enum Part {
     /// Literal white space alone.
     Blank(Text),

@@ -4,3 +4,4 @@ pub mod Code
 pub mod WhiteSpace
 pub mod NameCharacters
 pub mod Stored
+pub mod Stacked

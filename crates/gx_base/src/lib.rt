@@ -6,6 +6,7 @@ pub mod code;
 pub mod limits;
 pub mod name;
 pub mod place;
+pub mod stack;
 pub mod text;
 pub mod text_builder;
 pub mod type_name;

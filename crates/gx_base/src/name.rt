@@ -19,11 +19,21 @@ use std::rc::Rc;
 /// An expanded QName (Namespaces in XML 1.0, section 2.1; XQuery 1.0, section 2.1). `uri` is empty where the name is in
 /// no namespace, and `prefix` where it was written without one. Two names are equal where their URIs and local parts
 /// are: equality, order and hash do not look at the prefix.
-#[derive(Debug, Drop)]
+#[derive(Debug)]
 pub struct Name {
     pub uri: Text,
     pub prefix: Text,
     pub local: Text,
+}
+
+impl Drop for Name {
+    fn drop(self) {
+        let Name {
+            uri: _uri,
+            prefix: _prefix,
+            local: _local,
+        } = self;
+    }
 }
 
 impl Clone for Name {
@@ -102,7 +112,6 @@ impl Hash for Name {
 }
 
 /// A name that its copies share: copying it takes no memory.
-#[derive(Drop)]
 pub struct SharedName {
     shared: Rc<Name>,
 }
@@ -113,6 +122,12 @@ impl Model for SharedName {
     ghost Value = { Name };
 
     ghost view = { λ n. n.shared.value };
+}
+
+impl Drop for SharedName {
+    fn drop(self) {
+        let SharedName { shared: _shared } = self;
+    }
 }
 
 impl SharedName {

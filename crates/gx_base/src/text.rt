@@ -20,7 +20,6 @@ use std::rc::Rc;
 
 /// A text, which contracts see as the list of its characters (XML 1.0, section 2.2; XQuery 1.0 and XPath 2.0 Data
 /// Model, section 2.1). Copies share the characters, so copying a text takes no memory. Texts are compared by code points.
-#[derive(Drop)]
 pub struct Text {
     shared: Rc<String>,
 }
@@ -32,6 +31,12 @@ impl Model for Text {
     ghost Value = { List ℕ };
 
     ghost view = { λ t. chars (string_bytes t.shared.value) };
+}
+
+impl Drop for Text {
+    fn drop(self) {
+        let Text { shared: _shared } = self;
+    }
 }
 
 #[tactic(auto, using(crate::proofs::TextLemmas::string_rules))]

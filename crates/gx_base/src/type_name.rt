@@ -36,11 +36,21 @@ pub enum Builtin {
 
 /// The name of a type: built-in, declared with a name, or the n-th anonymous type of the schema files, counted from 1.
 /// Copying it takes no memory.
-#[derive(Debug, PartialEq, Eq, PartialOrd, Ord, Hash, Drop)]
+#[derive(Debug, PartialEq, Eq, PartialOrd, Ord, Hash)]
 pub enum TypeName {
     Builtin(Builtin),
     Named(SharedName),
     Anonymous(u32),
+}
+
+impl Drop for TypeName {
+    fn drop(self) {
+        match self {
+            TypeName::Builtin(_builtin) => {}
+            TypeName::Named(_name) => {}
+            TypeName::Anonymous(_number) => {}
+        }
+    }
 }
 
 impl Clone for TypeName {

@@ -1,3 +1,4 @@
+pub mod CallSizes
 pub mod PlainMeaning
 pub mod KeptFacts
 pub mod SoundQueries

@@ -3,13 +3,22 @@
 use crate::expression::{Declaration, Expr, Form, Part, Query};
 use std::alloc::Global;
 
+/// Drops an expression part by part. What finds no memory is dropped as it is.
+pub fn dismantle<K: Drop>(alloc: Global, expression: Expr<K>) {
+    let (_place, _outer, _kind, form) = expression.into_parts();
+    dismantle_form(alloc, form);
+}
+
 /// Drops an expression of this form part by part. What finds no memory is dropped as it is.
-pub fn dismantle<K: Drop>(alloc: Global, form: Form<K>) {
+pub fn dismantle_form<K: Drop>(alloc: Global, form: Form<K>) {
     let mut parts = Vec::new(alloc);
     set_aside(alloc, form, &mut parts);
     for _ in 0..u64::MAX {
         match parts.pop() {
-            Some(part) => set_aside(alloc, Box::into_inner(part).form, &mut parts),
+            Some(part) => {
+                let (_place, _outer, _kind, form) = Box::into_inner(part).into_parts();
+                set_aside(alloc, form, &mut parts);
+            }
             None => return,
         }
     }
@@ -21,7 +30,7 @@ pub fn dismantle_declarations<K: Drop>(alloc: Global, declarations: Vec<Declarat
         match declaration {
             Declaration::Global { value, .. } => {
                 if let Some(value) = value {
-                    dismantle(alloc, value.form);
+                    dismantle(alloc, value);
                 }
             }
         }
@@ -31,7 +40,7 @@ pub fn dismantle_declarations<K: Drop>(alloc: Global, declarations: Vec<Declarat
 /// Drops a query part by part.
 pub fn dismantle_query<K: Drop>(alloc: Global, query: Query<K>) {
     dismantle_declarations(alloc, query.declarations.into_vec());
-    dismantle(alloc, query.body.form);
+    dismantle(alloc, query.body);
 }
 
 fn set_aside<K: Drop>(alloc: Global, form: Form<K>, parts: &mut Vec<Part<K>>) {

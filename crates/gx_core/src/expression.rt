@@ -45,11 +45,20 @@ pub type CoreDeclaration = Declaration<()>;
 pub type TypedDeclaration = Declaration<Ty>;
 
 /// The binding occurrence of a variable: its number, the place of its `$`, and the type that is written behind `as`.
-#[derive(Debug, Drop)]
 pub struct Binder {
     pub variable: u32,
     pub place: Place,
     pub kind: Option<Ty>,
+}
+
+impl Drop for Binder {
+    fn drop(self) {
+        let Binder {
+            variable: _variable,
+            place: _place,
+            kind: _kind,
+        } = self;
+    }
 }
 
 /// The operators of two operands (XQuery 1.0, sections 3.3.1, 3.4 and 3.5).
@@ -132,7 +141,6 @@ impl BinaryOp {
 /// A Core expression, with what it carries: its type `kind` in typed Core, and nothing before. `place` is its own place, `outer`
 /// that of its outermost parentheses as they were written; the two are equal where there are none.
 #[cycle(core_tree)]
-#[derive(Debug, Drop)]
 pub struct Expr<K> {
     pub place: Place,
     pub outer: Place,
@@ -154,7 +162,7 @@ pub type Part<K> = Box<Expr<K>>;
 /// an axis with a test from the node of a variable, an operand of nodes alone, an operand in document order, the atomization of
 /// its operand, what looks at a context where there is none, a call of a built-in function, the negation of a number, or an operator of two operands.
 #[cycle(core_tree)]
-#[derive(Debug, Drop)]
+#[derive(Drop)]
 pub enum Form<K> {
     Lit(Atomic),
     Var(u32),
@@ -192,4 +200,34 @@ impl<K> Model for Expr<K> {
     ghost use Rattle.gx_core.specs.ExpressionParts.{parts_are_smaller};
 
     ghost size_decreases = { λ a h. parts_are_smaller a.form };
+}
+
+impl<K: Drop> Drop for Expr<K> {
+    #[cycle(core_tree)]
+    fn drop(self) {
+        let Expr {
+            place: _place,
+            outer: _outer,
+            kind: _kind,
+            form: _form,
+        } = self;
+    }
+}
+
+impl<K> Expr<K> {
+    ghost use Rattle.gx_core.specs.Expression.{At};
+    ghost use Rattle.gx_core.specs.ExpressionView.{operator_of, parts_of};
+
+    /// The places of the expression, what it carries, and what it is.
+    pub fn into_parts(self) -> (Place, Place, K, Form<K>)
+        ensures { self ≡ At result.0 result.1 result.2 (operator_of result.3) (parts_of result.3) }
+    {
+        let Expr {
+            place,
+            outer,
+            kind,
+            form,
+        } = self;
+        (place, outer, kind, form)
+    }
 }

@@ -8,4 +8,3 @@ pub mod expression;
 pub mod laws;
 pub mod operator;
 pub mod scope;
-pub mod stack;

@@ -8,7 +8,7 @@ use gx_types::step::{Axis, Test};
 
 /// One operator of Core, with what it has beside its parts: one variant for each form of an expression. The parts of an
 /// operator are its expressions in the order written.
-#[derive(Debug, Drop)]
+#[derive(Drop)]
 pub enum Operator {
     Lit(Atomic),
     Var(u32),

@@ -20,7 +20,7 @@ use std::alloc::AllocError;
 pub use values::{compare_values, print_value};
 
 /// An atomic value without its type (XQuery 1.0 and XPath 2.0 Data Model, section 2.7).
-#[derive(Debug, PartialEq, Eq, Drop)]
+#[derive(Debug, PartialEq, Eq)]
 pub enum AtomValue {
     /// An xs:untypedAtomic.
     Untyped(Text),
@@ -30,6 +30,17 @@ pub enum AtomValue {
     Truth(bool),
     /// An xs:integer or an xs:decimal, or of a type that derives from them.
     Num(Number),
+}
+
+impl Drop for AtomValue {
+    fn drop(self) {
+        match self {
+            AtomValue::Untyped(_text) => {}
+            AtomValue::Str(_text) => {}
+            AtomValue::Truth(_truth) => {}
+            AtomValue::Num(_number) => {}
+        }
+    }
 }
 
 impl Clone for AtomValue {
@@ -46,10 +57,19 @@ impl Clone for AtomValue {
 }
 
 /// An atomic value with its type.
-#[derive(Debug, PartialEq, Eq, Drop)]
+#[derive(Debug, PartialEq, Eq)]
 pub struct Atomic {
     pub value: AtomValue,
     pub kind: TypeName,
+}
+
+impl Drop for Atomic {
+    fn drop(self) {
+        let Atomic {
+            value: _value,
+            kind: _kind,
+        } = self;
+    }
 }
 
 impl Clone for Atomic {

@@ -84,7 +84,7 @@ impl Enumeration {
 
 /// The facets of a simple type (XML Schema Part 2, 4.3). An enumeration without entries is absent, and so is each of the
 /// others that is None. A length above the greatest u64 is given as that number.
-#[derive(Debug, Drop)]
+#[derive(Debug)]
 pub struct Facets {
     /// The enumeration, each entry the list of its values.
     pub values: Enumeration,
@@ -95,4 +95,19 @@ pub struct Facets {
     pub length: Option<u64>,
     pub min_length: Option<u64>,
     pub max_length: Option<u64>,
+}
+
+impl Drop for Facets {
+    fn drop(self) {
+        let Facets {
+            values: _values,
+            min_inclusive: _min_inclusive,
+            max_inclusive: _max_inclusive,
+            min_exclusive: _min_exclusive,
+            max_exclusive: _max_exclusive,
+            length: _length,
+            min_length: _min_length,
+            max_length: _max_length,
+        } = self;
+    }
 }

@@ -11,7 +11,7 @@ use Rattle.gx_resolved.specs.ResolvedView.{resolved_parts}
 use Rattle.gx_core.specs.Expression.{CoreExpression}
 use Rattle.gx_normal.specs.Normalisation.{Numbers, Focus, numbered_binder, constructed, of_three, core_of, flwor_core, path_core}
 use Rattle.gx_normal.specs.Constructs.{empty_at, let_at}
-use Rattle.gx_normal.specs.Normalising.{Made, added, all_added, finished}
+use Rattle.gx_normal.specs.Normalising.{Made, added, all_added, construct_finished}
 
 added_in_turn : (cores parts : List CoreExpression) (outer : Made) → all_added cores (parts ∷ outer) ≡ reverse_aux cores parts ∷ outer
 added_in_turn [] parts outer = refl
@@ -19,9 +19,9 @@ added_in_turn (e ∷ es) parts outer = added_in_turn es (e ∷ parts) outer
 
 -- the parts of a construct that was opened without any
 pub all_finished : (cores : List CoreExpression) (place : Place) (construct : Construct) (outer : Made)
-    → finished place construct (all_added cores ([] ∷ outer)) ≡ added (constructed place construct cores) outer
+    → construct_finished place construct (all_added cores ([] ∷ outer)) ≡ added (constructed place construct cores) outer
 all_finished cores place construct outer =
-    ap (finished place construct) (added_in_turn cores [] outer)
+    ap (construct_finished place construct) (added_in_turn cores [] outer)
     ∙ ap (λ (parts : List CoreExpression). added (constructed place construct parts) outer) (reverse-reverse cores)
 
 pub behind_twice : (items parts : List CoreExpression) → parts ≡ reverse items → reverse parts ≡ items

@@ -24,9 +24,9 @@ abbrev pub all_added : List CoreExpression → Made → Made
 all_added [] outer = outer
 all_added (e ∷ es) outer = all_added es (added e outer)
 
-abbrev pub finished : Place → Construct → Made → Made
-finished place construct [] = []
-finished place construct (parts ∷ outer) = added (constructed place construct (reverse parts)) outer
+abbrev pub construct_finished : Place → Construct → Made → Made
+construct_finished place construct [] = []
+construct_finished place construct (parts ∷ outer) = added (constructed place construct (reverse parts)) outer
 
 abbrev pub let_finished : Place → Binder → Made → Made
 let_finished place binder ((body ∷ value ∷ more) ∷ outer) = added (let_at place binder value body) outer
@@ -60,10 +60,10 @@ core_left (Enter place second ∷ tasks) made numbers focus free =
     let e = core_of second.now numbers (Some free) (free + 1) in core_left tasks (path_finished place free (added e.0 made)) numbers focus e.1
 core_left (Leave outer ∷ tasks) made numbers focus free = core_left tasks made numbers outer free
 core_left (FinishPath place number ∷ tasks) made numbers focus free = core_left tasks (path_finished place number made) numbers focus free
-core_left (Finish place construct ∷ tasks) made numbers focus free = core_left tasks (finished place construct.now made) numbers focus free
+core_left (Finish place construct ∷ tasks) made numbers focus free = core_left tasks (construct_finished place construct.now made) numbers focus free
 
-abbrev pub left_of : Normalising → Left
-left_of n = core_left n.tasks n.made n.numbers n.focus n.free
+abbrev pub core_to_make : Normalising → Left
+core_to_make n = core_left n.tasks n.made n.numbers n.focus n.free
 
 -- with one more task that comes first
 abbrev pub left_with : Task → Normalising → Left

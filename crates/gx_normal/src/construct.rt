@@ -406,7 +406,7 @@ pub(crate) fn operator_in_core(operator: BinaryOperator) -> Option<BinaryOp>
 fn within(outer: Place, e: CoreExpr) -> CoreExpr
     ensures { result ≡ within outer e }
 {
-    let CoreExpr { place, form, .. } = e;
+    let (place, _outer, _kind, form) = e.into_parts();
     CoreExpr {
         place,
         outer,

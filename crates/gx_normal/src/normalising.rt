@@ -3,15 +3,15 @@
 ghost use Rattle.std.specs.Prelude.{◌≡◌, ◌≢◌, [], ◌∷◌, length, None, IfOk, IfSome, IsNone, OnOk};
 ghost use Rattle.gx_resolved.specs.ResolvedView.{resolved_parts};
 ghost use Rattle.gx_normal.specs.Normalisation.{constructed, core_of, cores_of, number_at, numbered_binder, path_core, variable_at};
-ghost use Rattle.gx_normal.specs.Normalising.{added, core_left, IsOnePart, left_behind, left_of, left_with};
+ghost use Rattle.gx_normal.specs.Normalising.{added, core_left, IsOnePart, left_behind, core_to_make, left_with};
 ghost use Rattle.gx_normal.specs.declared.normalising.Task.TheVariants as tasks;
 
 use crate::construct::{at, construct, context_item, empty, let_in, path, step};
 use gx_base::place::Place;
+use gx_base::stack::Stack;
 use gx_core::dismantle::dismantle;
 use gx_core::expression::{Binder, CoreExpr, Form};
 use gx_resolved::nested_map::NestedMap;
-use gx_resolved::stack::Stack;
 use gx_resolved::tree::{BoundName, Construct, ResolvedExpr};
 use gx_types::step::{Axis, Test};
 use std::alloc::{AllocError, Global};
@@ -67,7 +67,7 @@ impl<'a> Normalising<'a> {
         numbers: Numbers,
         free: u32,
     ) -> Result<Normalising<'a>, AllocError>
-        ensures { IfOk result (λ n. left_of n
+        ensures { IfOk result (λ n. core_to_make n
             ≡ record { made = ((core_of tree.now numbers None free).0 ∷ []) ∷ []; numbers = numbers; focus = None; free = (core_of tree.now numbers None free).1 }) }
     {
         let mut tasks = Stack::new(alloc);
@@ -99,7 +99,7 @@ impl<'a> Normalising<'a> {
 
     // Does a task.
     pub(crate) fn step(&mut self, alloc: Global, task: Task<'a>) -> Result<(), AllocError>
-        ensures { OnOk result (left_of self.new ≡ left_with task.entry self.old) }
+        ensures { OnOk result (core_to_make self.new ≡ left_with task.entry self.old) }
     {
         match task {
             Task::Normalise(tree) => self.open(alloc, tree),
@@ -135,7 +135,7 @@ impl<'a> Normalising<'a> {
     }
 
     fn open(&mut self, alloc: Global, tree: &'a ResolvedExpr) -> Result<(), AllocError>
-        ensures { OnOk result (left_of self.new ≡ left_with (tasks.Normalise tree.entry) self.old) }
+        ensures { OnOk result (core_to_make self.new ≡ left_with (tasks.Normalise tree.entry) self.old) }
     {
         match &tree.construct {
             Construct::Variable(_, binder) => self.variable(alloc, tree.place, *binder),
@@ -158,7 +158,7 @@ impl<'a> Normalising<'a> {
     }
 
     fn variable(&mut self, alloc: Global, place: Place, binder: Place) -> Result<(), AllocError>
-        ensures { OnOk result (left_of self.new ≡ left_behind (variable_at place (number_at self.old.numbers binder)) self.old) }
+        ensures { OnOk result (core_to_make self.new ≡ left_behind (variable_at place (number_at self.old.numbers binder)) self.old) }
     {
         let e = match self.numbers.find(&binder) {
             Some(number) => at(place, Form::Var(*number)),
@@ -176,7 +176,7 @@ impl<'a> Normalising<'a> {
         construct: &'a Construct,
         parts: &'a [ResolvedExpr],
     ) -> Result<(), AllocError>
-        ensures { OnOk result (left_of self.new ≡ (let cores = cores_of (resolved_parts parts.now) self.old.numbers self.old.focus self.old.free in
+        ensures { OnOk result (core_to_make self.new ≡ (let cores = cores_of (resolved_parts parts.now) self.old.numbers self.old.focus self.old.free in
             core_left self.old.tasks (added (constructed place construct.now cores.0) self.old.made) self.old.numbers self.old.focus cores.1)) }
     {
         self.made.push(Stack::new(alloc))?;
@@ -185,7 +185,7 @@ impl<'a> Normalising<'a> {
     }
 
     fn open_parts(&mut self, trees: &'a [ResolvedExpr]) -> Result<(), AllocError>
-        ensures { OnOk result (left_of self.new ≡ left_with (tasks.Parts trees.entry) self.old) }
+        ensures { OnOk result (core_to_make self.new ≡ left_with (tasks.Parts trees.entry) self.old) }
     {
         let Some((first, others)) = trees.split_first() else {
             return Ok(());
@@ -201,7 +201,7 @@ impl<'a> Normalising<'a> {
         place: Place,
         parts: &'a [ResolvedExpr],
     ) -> Result<(), AllocError>
-        ensures { OnOk result (left_of self.new ≡ left_with (tasks.Flwor place parts.entry) self.old) }
+        ensures { OnOk result (core_to_make self.new ≡ left_with (tasks.Flwor place parts.entry) self.old) }
     {
         let Some((clause, others)) = parts.split_first() else {
             return self.add(alloc, empty(place));
@@ -224,7 +224,7 @@ impl<'a> Normalising<'a> {
         bound: &BoundName,
         others: &'a [ResolvedExpr],
     ) -> Result<(), AllocError>
-        ensures { OnOk result (left_of self.new ≡ left_with (tasks.Bind place bound.entry others.entry) self.old) }
+        ensures { OnOk result (core_to_make self.new ≡ left_with (tasks.Bind place bound.entry others.entry) self.old) }
     {
         let Some(next) = self.free.checked_add(1) else {
             return Err(AllocError);
@@ -238,7 +238,7 @@ impl<'a> Normalising<'a> {
     }
 
     fn finish_let(&mut self, alloc: Global, place: Place, binder: Binder) -> Result<(), AllocError>
-        ensures { OnOk result (left_of self.new ≡ left_with (tasks.FinishLet place binder) self.old) }
+        ensures { OnOk result (core_to_make self.new ≡ left_with (tasks.FinishLet place binder) self.old) }
     {
         let Some(mut parts) = self.made.pop() else {
             return Ok(());
@@ -261,7 +261,7 @@ impl<'a> Normalising<'a> {
         place: Place,
         parts: &'a [ResolvedExpr],
     ) -> Result<(), AllocError>
-        ensures { OnOk result (left_of self.new ≡ (let path = path_core place (resolved_parts parts.now) self.old.numbers self.old.focus self.old.free in
+        ensures { OnOk result (core_to_make self.new ≡ (let path = path_core place (resolved_parts parts.now) self.old.numbers self.old.focus self.old.free in
             core_left self.old.tasks (added path.0 self.old.made) self.old.numbers self.old.focus path.1)) }
     {
         let Some((first, second)) = two_parts(parts) else {
@@ -274,7 +274,7 @@ impl<'a> Normalising<'a> {
 
     // The context item of the right part is the variable with the free number.
     fn enter(&mut self, place: Place, second: &'a ResolvedExpr) -> Result<(), AllocError>
-        ensures { OnOk result (left_of self.new ≡ left_with (tasks.Enter place second.entry) self.old) }
+        ensures { OnOk result (core_to_make self.new ≡ left_with (tasks.Enter place second.entry) self.old) }
     {
         let number = self.free;
         let Some(next) = number.checked_add(1) else {
@@ -288,7 +288,7 @@ impl<'a> Normalising<'a> {
     }
 
     fn finish_path(&mut self, alloc: Global, place: Place, number: u32) -> Result<(), AllocError>
-        ensures { OnOk result (left_of self.new ≡ left_with (tasks.FinishPath place number) self.old) }
+        ensures { OnOk result (core_to_make self.new ≡ left_with (tasks.FinishPath place number) self.old) }
     {
         let Some(mut parts) = self.made.pop() else {
             return Ok(());
@@ -317,7 +317,7 @@ impl<'a> Normalising<'a> {
 
     #[tactic(auto, using(crate::proofs::MakingLemmas::behind_twice))]
     fn finish(&mut self, alloc: Global, place: Place, of: &Construct) -> Result<(), AllocError>
-        ensures { OnOk result (left_of self.new ≡ left_with (tasks.Finish place of.entry) self.old) }
+        ensures { OnOk result (core_to_make self.new ≡ left_with (tasks.Finish place of.entry) self.old) }
     {
         let Some(parts) = self.made.pop() else {
             return Ok(());
@@ -330,7 +330,7 @@ impl<'a> Normalising<'a> {
     pub(crate) fn dismantle(self, alloc: Global) {
         for parts in self.made.into_items() {
             for part in parts.into_items() {
-                dismantle(alloc, part.form);
+                dismantle(alloc, part);
             }
         }
     }

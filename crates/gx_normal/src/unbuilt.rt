@@ -10,7 +10,7 @@ use gx_ast::expression::{BinaryOperator, Binding, Clause, Expr, ExprNode, Key};
 use gx_ast::name::Axis;
 use gx_ast::query::{Definition, DefinitionNode, Initialiser, Query};
 use gx_base::place::Place;
-use gx_core::stack::Stack;
+use gx_base::stack::Stack;
 use std::alloc::{AllocError, Global};
 
 // A part of a query that is left to be searched: a tree, trees, bindings, clauses, or a place that was found, if it was.

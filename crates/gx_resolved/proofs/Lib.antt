@@ -1,2 +1,1 @@
-pub mod StackLemmas
 pub mod NestedLemmas

@@ -4,7 +4,7 @@ use Rattle.std.specs.Cmp.{IsEquivalence}
 use Rattle.indexmap.specs.IndexMap.{get, Updates}
 use Rattle.gx_resolved.specs.declared.nested_map.Binding.{Binding}
 use Rattle.std.specs.Prelude.{MatchOption}
-use Rattle.gx_resolved.specs.Stacked.{first}
+use Rattle.gx_base.specs.Stacked.{first}
 use Rattle.gx_resolved.specs.NestedMap.{innermost_value, flattened}
 use Rattle.gx_resolved.specs.NestedBindings.{pairs, Index, IsIndexOf}
 

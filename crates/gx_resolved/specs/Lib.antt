@@ -1,6 +1,5 @@
 pub mod NestedMap
 pub mod NestedBindings
-pub mod Stacked
 pub mod ResolvedTree
 pub mod ResolvedCode
 pub mod ResolvedView

@@ -11,6 +11,10 @@ mutual
     no_resolved : ResolvedTrees
     a_resolved : (first : ResolvedTree) → (others : ResolvedTrees) → ResolvedTrees
 
+-- the parts of a tree
+abbrev pub parts_of_tree : ResolvedTree → ResolvedTrees
+parts_of_tree (resolved_at place construct parts) = parts
+
 abbrev mutual
   -- how many constructs and lists of parts a tree has
   pub resolved_size : ResolvedTree → ℕ

@@ -16,11 +16,7 @@ pub fn dismantle(alloc: Global, tree: ResolvedExpr) {
 }
 
 fn set_aside(tree: ResolvedExpr, aside: &mut Vec<ResolvedExpr>) {
-    for part in parts_of(tree) {
+    for part in tree.into_parts() {
         let _kept = aside.push(part);
     }
-}
-
-fn parts_of(tree: ResolvedExpr) -> Vec<ResolvedExpr> {
-    tree.parts
 }

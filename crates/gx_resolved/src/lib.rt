@@ -3,5 +3,4 @@
 
 pub mod dismantle;
 pub mod nested_map;
-pub mod stack;
 pub mod tree;

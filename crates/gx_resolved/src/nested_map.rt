@@ -3,7 +3,7 @@
 ghost use Rattle.std.specs.Prelude.{◌≡◌, [], ◌∷◌, OnOk, IfOk, drop, option_copied};
 ghost use Rattle.gx_resolved.specs.NestedMap.{innermost_value};
 
-use crate::stack::Stack;
+use gx_base::stack::Stack;
 use indexmap::IndexMap;
 use std::alloc::{AllocError, Global};
 use std::hash::Hash;

@@ -14,11 +14,21 @@ use gx_types::step::{Axis, Test};
 use std::marker::Model;
 
 /// A variable that is bound, at its `$`, and the type that is written at it.
-#[derive(Debug, Drop)]
+#[derive(Debug)]
 pub struct BoundName {
     pub name: SharedName,
     pub place: Place,
     pub kind: Option<Ty>,
+}
+
+impl Drop for BoundName {
+    fn drop(self) {
+        let BoundName {
+            name: _name,
+            place: _place,
+            kind: _kind,
+        } = self;
+    }
 }
 
 /// The word of a clause that binds variables.
@@ -32,7 +42,7 @@ pub enum BindingWord {
 
 /// What stands at the root of a part of a query, with what it has beside its parts: one variant for each construct (XQuery 1.0,
 /// section 3). A binding, a clause, a sort key, a branch of a typeswitch and an attribute of a direct element are parts of their own.
-#[derive(Debug, Drop)]
+#[derive(Debug)]
 pub enum Construct {
     /// A numeric literal.
     Number(Number),
@@ -110,12 +120,84 @@ pub enum Construct {
     Blank(Text),
 }
 
+impl Drop for Construct {
+    fn drop(self) {
+        match self {
+            Construct::Number(_value) => {}
+            Construct::String(_text) => {}
+            Construct::Variable(_name, _binder) => {}
+            Construct::Empty => {}
+            Construct::Parenthesised => {}
+            Construct::Context => {}
+            Construct::Call(_function) => {}
+            Construct::CallDeclared(_name) => {}
+            Construct::Sequence => {}
+            Construct::Flwor => {}
+            Construct::For(_bound, _position) => {}
+            Construct::Let(_bound) => {}
+            Construct::Where => {}
+            Construct::Key(_order) => {}
+            Construct::Quantified(_every) => {}
+            Construct::In(_bound) => {}
+            Construct::Typeswitch => {}
+            Construct::Case(_bound, _kind) => {}
+            Construct::Default(_bound) => {}
+            Construct::If => {}
+            Construct::Binary(_operator) => {}
+            Construct::InstanceOf(_kind) => {}
+            Construct::TreatAs(_kind) => {}
+            Construct::CastableAs(_kind, _optional) => {}
+            Construct::CastAs(_kind, _optional) => {}
+            Construct::Signed(_minus) => {}
+            Construct::Path(_deep) => {}
+            Construct::Step(_axis, _test) => {}
+            Construct::ParentStep => {}
+            Construct::Filtered => {}
+            Construct::Document => {}
+            Construct::TextNode => {}
+            Construct::Element(_name) => {}
+            Construct::Attribute(_name) => {}
+            Construct::DirectElement(_name) => {}
+            Construct::DirectAttribute(_name) => {}
+            Construct::Blank(_text) => {}
+        }
+    }
+}
+
 /// A part of a query in which each name is resolved: a construct over its parts, which are in the order of the text.
-#[derive(Debug, Drop)]
+#[derive(Debug)]
 pub struct ResolvedExpr {
     pub place: Place,
     pub construct: Construct,
     pub parts: Vec<ResolvedExpr>,
+}
+
+impl Drop for ResolvedExpr {
+    fn drop(self) {
+        let ResolvedExpr {
+            place: _place,
+            construct: _construct,
+            parts: _parts,
+        } = self;
+    }
+}
+
+impl ResolvedExpr {
+    ghost use Rattle.std.specs.Prelude.{◌≡◌};
+    ghost use Rattle.gx_resolved.specs.ResolvedTree.{parts_of_tree};
+    ghost use Rattle.gx_resolved.specs.ResolvedView.{resolved_parts};
+
+    /// The parts of the tree.
+    pub fn into_parts(self) -> Vec<ResolvedExpr>
+        ensures { parts_of_tree self ≡ resolved_parts result.items }
+    {
+        let ResolvedExpr {
+            place: _place,
+            construct: _construct,
+            parts,
+        } = self;
+        parts
+    }
 }
 
 impl Model for ResolvedExpr {

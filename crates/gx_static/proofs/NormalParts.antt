@@ -6,7 +6,7 @@ use Rattle.gx_types.specs.SchemaSet.{SchemaSet}
 use Rattle.gx_types.specs.SchemaInvariant.{HoldsOfEach}
 use Rattle.gx_types.specs.SequenceType.{SequenceType, never, nothing, item, both, either, optional, star, plus}
 use Rattle.gx_types.specs.Indicator.{optional_of}
-use Rattle.gx_types.specs.Choice.{is_member_of, or_else, with_member, with_members, has_empty, gathered, choice_among}
+use Rattle.gx_types.specs.Choice.{is_member_of, choice_with, with_member, with_members, has_empty, gathered, choice_among}
 use Rattle.gx_types.specs.Prime.{items_of}
 use Rattle.gx_types.specs.TypeRules.{followed_by, joined_types}
 use Rattle.gx_steptype.specs.Replaced.{replaced_items, alternatives}
@@ -105,7 +105,7 @@ joined_is_known s (optional a) u h k = followed_is_known s (optional a) u h k
 joined_is_known s (star a) u h k = followed_is_known s (star a) u h k
 joined_is_known s (plus a) u h k = followed_is_known s (plus a) u h k
 
-else_is_known : (s : SchemaSet) (c t : SequenceType) → AreKnown s c → AreKnown s t → AreKnown s (or_else c t)
+else_is_known : (s : SchemaSet) (c t : SequenceType) → AreKnown s c → AreKnown s t → AreKnown s (choice_with c t)
 else_is_known s never t h k = k
 else_is_known s nothing t h k = k
 else_is_known s (item kind) t h k = both_hold (IsOfKnownType s) (items_of (item kind)) (items_of t) h k
@@ -115,7 +115,7 @@ else_is_known s (optional a) t h k = both_hold (IsOfKnownType s) (items_of a) (i
 else_is_known s (star a) t h k = both_hold (IsOfKnownType s) (items_of a) (items_of t) h k
 else_is_known s (plus a) t h k = both_hold (IsOfKnownType s) (items_of a) (items_of t) h k
 
-unless_there : (s : SchemaSet) (is_there : Bool) (c t : SequenceType) → AreKnown s c → AreKnown s t → AreKnown s (if is_there then c else or_else c t)
+unless_there : (s : SchemaSet) (is_there : Bool) (c t : SequenceType) → AreKnown s c → AreKnown s t → AreKnown s (if is_there then c else choice_with c t)
 unless_there s true c t h k = h
 unless_there s false c t h k = else_is_known s c t h k
 

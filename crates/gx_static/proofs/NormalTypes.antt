@@ -7,7 +7,7 @@ use Rattle.gx_types.specs.Occurs.{Occurs}
 use Rattle.gx_types.specs.Occurrence.{occurrence_of}
 use Rattle.gx_types.specs.SequenceType.{SequenceType, never, nothing, item, both, either, optional, star, plus}
 use Rattle.gx_types.specs.Indicator.{optional_of, star_of, plus_of, times_by}
-use Rattle.gx_types.specs.Choice.{is_member_of, or_else, with_member, with_members, has_empty, gathered, choice_among}
+use Rattle.gx_types.specs.Choice.{is_member_of, choice_with, with_member, with_members, has_empty, gathered, choice_among}
 use Rattle.gx_types.specs.Prime.{with_items, prime_of}
 use Rattle.gx_types.specs.TypeRules.{positions_of, factored, limited, followed_by, joined_types, sequence_of, choice_of, times_of}
 use Rattle.gx_static.specs.NormalTypes.{IsMadeOfItems, IsNormalType}
@@ -32,7 +32,7 @@ pub choice_is_normal : (s : SchemaSet) (t : SequenceType) → IsChoice s t → I
 choice_is_normal s t (inl e) = subst (IsNormalType s) (sym e) tt
 choice_is_normal s t (inr m) = made_is_normal s t m
 
-else_made : (s : SchemaSet) (c t : SequenceType) → IsMadeOfItems s c → IsMadeOfItems s t → IsMadeOfItems s (or_else c t)
+else_made : (s : SchemaSet) (c t : SequenceType) → IsMadeOfItems s c → IsMadeOfItems s t → IsMadeOfItems s (choice_with c t)
 else_made s never t m n = n
 else_made s nothing t m n = absurd m
 else_made s (item kind) t m n = (m, n)
@@ -42,9 +42,9 @@ else_made s (optional a) t m n = (m, n)
 else_made s (star a) t m n = (m, n)
 else_made s (plus a) t m n = (m, n)
 
-one_more : (s : SchemaSet) (is_there : Bool) (c t : SequenceType) → IsChoice s c → IsMadeOfItems s t → IsChoice s (if is_there then c else or_else c t)
+one_more : (s : SchemaSet) (is_there : Bool) (c t : SequenceType) → IsChoice s c → IsMadeOfItems s t → IsChoice s (if is_there then c else choice_with c t)
 one_more s true c t h n = h
-one_more s false c t (inl e) n = inr (subst (λ (x : SequenceType). IsMadeOfItems s (or_else x t)) (sym e) n)
+one_more s false c t (inl e) n = inr (subst (λ (x : SequenceType). IsMadeOfItems s (choice_with x t)) (sym e) n)
 one_more s false c t (inr m) n = inr (else_made s c t m n)
 
 member_added : (s : SchemaSet) (c t : SequenceType) → IsChoice s c → IsMadeOfItems s t → IsChoice s (with_member c t)

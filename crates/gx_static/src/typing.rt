@@ -29,14 +29,14 @@ use crate::rules::{
 use gx_base::code::Code;
 use gx_base::name::Name;
 use gx_base::place::Place;
+use gx_base::stack::Stack;
 use gx_core::declarations::Declarations;
-use gx_core::dismantle::{dismantle, dismantle_declarations};
+use gx_core::dismantle::{dismantle, dismantle_declarations, dismantle_form};
 use gx_core::expression::{
     Binder, Core, CoreDeclaration, CoreExpr, Form, TypedCore, TypedDeclaration, TypedExpr,
 };
 use gx_core::operator::Operator;
 use gx_core::scope::Scope;
-use gx_core::stack::Stack;
 use gx_funcs::function::Function;
 use gx_types::schemas::Schemas;
 use gx_types::sequence_type::{Ty, TyNode};
@@ -100,11 +100,11 @@ impl Typing {
     pub(crate) fn dismantle(self, alloc: Global) {
         for task in self.tasks.into_items() {
             if let Task::Infer(expression) = task {
-                dismantle(alloc, expression.form);
+                dismantle(alloc, expression);
             }
         }
         for part in self.parts.into_items() {
-            dismantle(alloc, part.form);
+            dismantle(alloc, part);
         }
         dismantle_declarations(alloc, self.declared);
     }
@@ -143,12 +143,7 @@ impl Typing {
     fn open(&mut self, expression: CoreExpr) -> Result<(), AllocError>
         ensures { (schemas : SchemaSet) → OnOk result (judgement_of schemas self.new ≡ judgement_with schemas (tasks.Infer expression) self.old) }
     {
-        let CoreExpr {
-            place,
-            outer,
-            form,
-            ..
-        } = expression;
+        let (place, outer, _kind, form) = expression.into_parts();
         match form {
             Form::Lit(value) => self.open_leaf(place, outer, Operator::Lit(value)),
             Form::Var(number) => self.open_leaf(place, outer, Operator::Var(number)),
@@ -350,7 +345,7 @@ impl Typing {
         if is_as_written(alloc, schemas, &binder, &value.kind)? {
             Ok(self.add_global(name, binder, value)?)
         } else {
-            dismantle(alloc, value.form);
+            dismantle(alloc, value);
             Err(InferError::NoType {
                 place: binder.place,
                 code: Code::XPTY0004,
@@ -404,7 +399,7 @@ impl Typing {
         ensures typed { OnOk result (judgement_of schemas.now self.new ≡ judgement_with schemas.now (tasks.Finish place outer operator) self.old) }
         ensures rejected { IfErr result (λ e. EndsRejected e (judgement_with schemas.now (tasks.Finish place outer operator) self.old)) }
     {
-        let form = self.form(alloc, operator)?;
+        let form = form(alloc, operator, &mut self.parts)?;
         self.conclude(alloc, schemas, place, outer, form)
     }
 
@@ -423,7 +418,7 @@ impl Typing {
         ensures typed { OnOk result (judgement_of schemas.now self.new ≡ judgement_with schemas.now (tasks.FinishCall place outer function count) self.old) }
         ensures rejected { IfErr result (λ e. EndsRejected e (judgement_with schemas.now (tasks.FinishCall place outer function count) self.old)) }
     {
-        let arguments = self.last(alloc, count)?;
+        let arguments = last(alloc, count, &mut self.parts)?;
         self.conclude(
             alloc,
             schemas,
@@ -459,96 +454,96 @@ impl Typing {
             ),
             Err(error) => {
                 let refusal = refusal(place, &form, error);
-                dismantle(alloc, form);
+                dismantle_form(alloc, form);
                 Err(refusal)
             }
         }
     }
+}
 
-    // An operator over the parts on top.
-    fn form(&mut self, alloc: Global, operator: Operator) -> Result<Form<Ty>, AllocError>
-        requires { part_count operator ≤ length self.now.parts }
-        ensures operator { IfOk result (λ form. operator_of form ≡ operator) }
-        ensures parts { (next : Parts SequenceType → List TypedExpression → Awaited)
-            → IfOk result (λ form. last_parts (part_count operator) self.old.parts no_parts next ≡ next (parts_of form) self.new.parts) }
-        ensures tasks { self.new.tasks ≡ self.old.tasks }
-        ensures scope { self.new.scope ≡ self.old.scope }
-        ensures declared { self.new.declared.items ≡ self.old.declared.items }
-    {
-        match operator {
-            Operator::Lit(value) => Ok(Form::Lit(value)),
-            Operator::Var(number) => Ok(Form::Var(number)),
-            Operator::Empty => Ok(Form::Empty),
-            Operator::Seq => {
-                let second = self.part(alloc)?;
-                Ok(Form::Seq(self.part(alloc)?, second))
-            }
-            Operator::For(binder) => {
-                let body = self.part(alloc)?;
-                Ok(Form::For(binder, self.part(alloc)?, body))
-            }
-            Operator::Let(binder) => {
-                let body = self.part(alloc)?;
-                Ok(Form::Let(binder, self.part(alloc)?, body))
-            }
-            Operator::If => {
-                let otherwise = self.part(alloc)?;
-                let chosen = self.part(alloc)?;
-                Ok(Form::If(self.part(alloc)?, chosen, otherwise))
-            }
-            Operator::Cast(kind, optional) => { Ok(Form::Cast(self.part(alloc)?, kind, optional)) }
-            Operator::Castable(kind, optional) => {
-                Ok(Form::Castable(self.part(alloc)?, kind, optional))
-            }
-            Operator::Step(axis, test, number) => Ok(Form::Step(axis, test, number)),
-            Operator::Nodes => Ok(Form::Nodes(self.part(alloc)?)),
-            Operator::Order => Ok(Form::Order(self.part(alloc)?)),
-            Operator::DataOf => Ok(Form::DataOf(self.part(alloc)?)),
-            Operator::NoContext => Ok(Form::NoContext),
-            Operator::Call(function) => {
-                Ok(Form::Call(function, self.last(alloc, function.arity())?))
-            }
-            Operator::Neg => Ok(Form::Neg(self.part(alloc)?)),
-            Operator::Binary(operator) => {
-                let right = self.part(alloc)?;
-                Ok(Form::Binary(operator, self.part(alloc)?, right))
-            }
+// An operator over the parts on top.
+fn form(
+    alloc: Global,
+    operator: Operator,
+    parts: &mut Stack<TypedExpr>,
+) -> Result<Form<Ty>, AllocError>
+    requires { part_count operator ≤ length parts.old }
+    ensures operator { IfOk result (λ form. operator_of form ≡ operator) }
+    ensures parts { (next : Parts SequenceType → List TypedExpression → Awaited)
+        → IfOk result (λ form. last_parts (part_count operator) parts.old no_parts next ≡ next (parts_of form) parts.new) }
+{
+    match operator {
+        Operator::Lit(value) => Ok(Form::Lit(value)),
+        Operator::Var(number) => Ok(Form::Var(number)),
+        Operator::Empty => Ok(Form::Empty),
+        Operator::Seq => {
+            let second = part(alloc, parts)?;
+            Ok(Form::Seq(part(alloc, parts)?, second))
+        }
+        Operator::For(binder) => {
+            let body = part(alloc, parts)?;
+            Ok(Form::For(binder, part(alloc, parts)?, body))
+        }
+        Operator::Let(binder) => {
+            let body = part(alloc, parts)?;
+            Ok(Form::Let(binder, part(alloc, parts)?, body))
+        }
+        Operator::If => {
+            let otherwise = part(alloc, parts)?;
+            let chosen = part(alloc, parts)?;
+            Ok(Form::If(part(alloc, parts)?, chosen, otherwise))
+        }
+        Operator::Cast(kind, optional) => Ok(Form::Cast(part(alloc, parts)?, kind, optional)),
+        Operator::Castable(kind, optional) => {
+            Ok(Form::Castable(part(alloc, parts)?, kind, optional))
+        }
+        Operator::Step(axis, test, number) => Ok(Form::Step(axis, test, number)),
+        Operator::Nodes => Ok(Form::Nodes(part(alloc, parts)?)),
+        Operator::Order => Ok(Form::Order(part(alloc, parts)?)),
+        Operator::DataOf => Ok(Form::DataOf(part(alloc, parts)?)),
+        Operator::NoContext => Ok(Form::NoContext),
+        Operator::Call(function) => {
+            let arguments = last(alloc, function.arity(), parts)?;
+            Ok(Form::Call(function, arguments))
+        }
+        Operator::Neg => Ok(Form::Neg(part(alloc, parts)?)),
+        Operator::Binary(operator) => {
+            let right = part(alloc, parts)?;
+            Ok(Form::Binary(operator, part(alloc, parts)?, right))
         }
     }
+}
 
-    // Takes so many parts on top, in order.
-    #[tactic(auto, using(crate::proofs::Continuing::last_are_arguments))]
-    fn last(&mut self, alloc: Global, count: usize) -> Result<Vec<TypedExpr>, AllocError>
-        requires { count ≤ length self.now.parts }
-        ensures parts { (next : Parts SequenceType → List TypedExpression → Awaited)
-            → IfOk result (λ taken. last_parts count self.old.parts no_parts next ≡ next (all_parts taken.items) self.new.parts) }
-        ensures tasks { self.new.tasks ≡ self.old.tasks }
-        ensures scope { self.new.scope ≡ self.old.scope }
-        ensures declared { self.new.declared.items ≡ self.old.declared.items }
-    {
-        let mut taken = Vec::new(alloc);
-        for _ in 0..count {
-            match self.parts.pop() {
-                Some(part) => taken.push(part)?,
-                None => unreachable!(),
-            }
-        }
-        taken.reverse();
-        Ok(taken)
-    }
-
-    // Takes the part on top.
-    fn part(&mut self, alloc: Global) -> Result<Box<TypedExpr>, AllocError>
-        requires { self.now.parts ≢ [] }
-        ensures part { IfOk result (λ part. self.old.parts ≡ part.value ∷ self.new.parts) }
-        ensures tasks { self.new.tasks ≡ self.old.tasks }
-        ensures scope { self.new.scope ≡ self.old.scope }
-        ensures declared { self.new.declared.items ≡ self.old.declared.items }
-    {
-        match self.parts.pop() {
-            Some(part) => Ok(Box::new(alloc, part)?),
+// Takes so many parts on top, in order.
+#[tactic(auto, using(crate::proofs::Continuing::last_are_arguments))]
+fn last(
+    alloc: Global,
+    count: usize,
+    parts: &mut Stack<TypedExpr>,
+) -> Result<Vec<TypedExpr>, AllocError>
+    requires { count ≤ length parts.old }
+    ensures { (next : Parts SequenceType → List TypedExpression → Awaited)
+        → IfOk result (λ taken. last_parts count parts.old no_parts next ≡ next (all_parts taken.items) parts.new) }
+{
+    let mut taken = Vec::new(alloc);
+    for _ in 0..count {
+        match parts.pop() {
+            Some(part) => taken.push(part)?,
             None => unreachable!(),
         }
+    }
+    taken.reverse();
+    Ok(taken)
+}
+
+// Takes the part on top.
+fn part(alloc: Global, parts: &mut Stack<TypedExpr>) -> Result<Box<TypedExpr>, AllocError>
+    requires { parts.old ≢ [] }
+    ensures { IfOk result (λ part. parts.old ≡ part.value ∷ parts.new) }
+{
+    match parts.pop() {
+        Some(part) => Ok(Box::new(alloc, part)?),
+        None => unreachable!(),
     }
 }
 

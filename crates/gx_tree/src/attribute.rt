@@ -8,11 +8,21 @@ use gx_base::type_name::{Builtin, TypeName};
 use std::alloc::AllocError;
 
 /// An attribute node (XQuery 1.0 and XPath 2.0 Data Model, section 6.3).
-#[derive(Debug, Drop)]
+#[derive(Debug)]
 pub struct Attribute {
     pub name: Name,
     pub kind: TypeName,
     pub value: Text,
+}
+
+impl Drop for Attribute {
+    fn drop(self) {
+        let Attribute {
+            name: _name,
+            kind: _kind,
+            value: _value,
+        } = self;
+    }
 }
 
 impl Clone for Attribute {

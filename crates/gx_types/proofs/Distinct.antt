@@ -5,7 +5,7 @@ use Rattle.std.proofs.lemmas.List.Elements.{All-append}
 use Rattle.std.proofs.lemmas.List.Quantifiers.{all_pairs_push}
 use Rattle.gx_types.specs.SequenceType.{SequenceType, never, nothing, item, both, either, optional, star, plus}
 use Rattle.gx_types.specs.SameType.{same_type}
-use Rattle.gx_types.specs.Choice.{is_member_of, or_else, with_member, with_members, members_of, AreDistinctTypes}
+use Rattle.gx_types.specs.Choice.{is_member_of, choice_with, with_member, with_members, members_of, AreDistinctTypes}
 use Rattle.gx_types.specs.Prime.{with_items}
 use Rattle.gx_types.specs.Laws.{MembersAreDistinct}
 
@@ -47,7 +47,7 @@ IsDistinctChoice c = AreDistinctTypes (members_of c)
 pushed_is_distinct : (c m : SequenceType) → is_member_of m c ≡ false → IsDistinctChoice c → AreDistinctTypes (members_of c ++ m ∷ [])
 pushed_is_distinct c m e d = all_pairs_push Differ (members_of c) m d (differs_from_each m c e)
 
-or_else_is_distinct : (c m : SequenceType) → members_of m ≡ m ∷ [] → is_member_of m c ≡ false → IsDistinctChoice c → IsDistinctChoice (or_else c m)
+or_else_is_distinct : (c m : SequenceType) → members_of m ≡ m ∷ [] → is_member_of m c ≡ false → IsDistinctChoice c → IsDistinctChoice (choice_with c m)
 or_else_is_distinct never m l e d = subst AreDistinctTypes (sym l) (one_is_distinct m)
 or_else_is_distinct nothing m l e d = subst (λ (ts : List SequenceType). AreDistinctTypes (members_of nothing ++ ts)) (sym l) (pushed_is_distinct nothing m e d)
 or_else_is_distinct (item k) m l e d = subst (λ (ts : List SequenceType). AreDistinctTypes (members_of (item k) ++ ts)) (sym l) (pushed_is_distinct (item k) m e d)
@@ -59,7 +59,7 @@ or_else_is_distinct (plus a) m l e d = subst (λ (ts : List SequenceType). AreDi
 
 member_is_distinct : (c m : SequenceType) → members_of m ≡ m ∷ [] → IsDistinctChoice c → IsDistinctChoice (with_member c m)
 member_is_distinct c m l d =
-    elim (is_member_of m c) as (λ (b : Bool). is_member_of m c ≡ b → IsDistinctChoice (if b then c else or_else c m)) [ true ↦ λ _. d | false ↦ λ e. or_else_is_distinct c m l e d ] refl
+    elim (is_member_of m c) as (λ (b : Bool). is_member_of m c ≡ b → IsDistinctChoice (if b then c else choice_with c m)) [ true ↦ λ _. d | false ↦ λ e. or_else_is_distinct c m l e d ] refl
 
 members_are_distinct : (c t : SequenceType) → IsDistinctChoice c → IsDistinctChoice (with_members c t)
 members_are_distinct c never d = d

@@ -9,7 +9,7 @@ use Rattle.gx_types.specs.Occurs.{Occurs}
 use Rattle.gx_types.specs.Occurrence.{occurs, occurrence_of}
 use Rattle.gx_types.specs.SequenceType.{SequenceType, never, nothing, item, both, either, optional, star, plus}
 use Rattle.gx_types.specs.Indicator.{optional_of, star_of, plus_of, times_by}
-use Rattle.gx_types.specs.Choice.{is_member_of, or_else, with_member, with_members, has_empty, gathered, choice_among}
+use Rattle.gx_types.specs.Choice.{is_member_of, choice_with, with_member, with_members, has_empty, gathered, choice_among}
 use Rattle.gx_types.specs.Prime.{with_items, prime_of, items_of}
 use Rattle.gx_types.specs.TypeRules.{positions_of, factored, followed_by, joined_types}
 use Rattle.gx_types.specs.Takes.{Takes, Each, EachShape, SomeTakes, SomeItemTakes, all_joined}
@@ -131,7 +131,7 @@ repeated_takes s t (suc least) (suc (suc more)) (part ∷ parts) e w = plus_take
 
 -- choices
 
-or_else_first : (s : SchemaSet) (c m : SequenceType) (ss : List Shape) → Takes s c ss → Takes s (or_else c m) ss
+or_else_first : (s : SchemaSet) (c m : SequenceType) (ss : List Shape) → Takes s c ss → Takes s (choice_with c m) ss
 or_else_first s never m ss h = absurd h
 or_else_first s nothing m ss h = inl h
 or_else_first s (item kind) m ss h = inl h
@@ -141,7 +141,7 @@ or_else_first s (optional a) m ss h = inl h
 or_else_first s (star a) m ss h = inl h
 or_else_first s (plus a) m ss h = inl h
 
-or_else_second : (s : SchemaSet) (c m : SequenceType) (ss : List Shape) → Takes s m ss → Takes s (or_else c m) ss
+or_else_second : (s : SchemaSet) (c m : SequenceType) (ss : List Shape) → Takes s m ss → Takes s (choice_with c m) ss
 or_else_second s never m ss h = h
 or_else_second s nothing m ss h = inr h
 or_else_second s (item kind) m ss h = inr h
@@ -151,7 +151,7 @@ or_else_second s (optional a) m ss h = inr h
 or_else_second s (star a) m ss h = inr h
 or_else_second s (plus a) m ss h = inr h
 
-or_else_only : (s : SchemaSet) (c m : SequenceType) (ss : List Shape) → Takes s (or_else c m) ss → Takes s c ss ⊎ Takes s m ss
+or_else_only : (s : SchemaSet) (c m : SequenceType) (ss : List Shape) → Takes s (choice_with c m) ss → Takes s c ss ⊎ Takes s m ss
 or_else_only s never m ss h = inr h
 or_else_only s nothing m ss h = h
 or_else_only s (item kind) m ss h = h
@@ -176,15 +176,15 @@ among_takes s m (star a) ss h k = equal_takes s (star a) m ss h k
 among_takes s m (plus a) ss h k = equal_takes s (plus a) m ss h k
 
 member_first : (s : SchemaSet) (c m : SequenceType) (ss : List Shape) → Takes s c ss → Takes s (with_member c m) ss
-member_first s c m ss h = elim (is_member_of m c) as (λ (b : Bool). Takes s (if b then c else or_else c m) ss) [ true ↦ h | false ↦ or_else_first s c m ss h ]
+member_first s c m ss h = elim (is_member_of m c) as (λ (b : Bool). Takes s (if b then c else choice_with c m) ss) [ true ↦ h | false ↦ or_else_first s c m ss h ]
 
 member_second : (s : SchemaSet) (c m : SequenceType) (ss : List Shape) → Takes s m ss → Takes s (with_member c m) ss
 member_second s c m ss h =
-    elim (is_member_of m c) as (λ (b : Bool). is_member_of m c ≡ b → Takes s (if b then c else or_else c m) ss) [ true ↦ λ e. among_takes s m c ss e h | false ↦ λ _. or_else_second s c m ss h ] refl
+    elim (is_member_of m c) as (λ (b : Bool). is_member_of m c ≡ b → Takes s (if b then c else choice_with c m) ss) [ true ↦ λ e. among_takes s m c ss e h | false ↦ λ _. or_else_second s c m ss h ] refl
 
 member_only : (s : SchemaSet) (c m : SequenceType) (ss : List Shape) → Takes s (with_member c m) ss → Takes s c ss ⊎ Takes s m ss
 member_only s c m ss =
-    elim (is_member_of m c) as (λ (b : Bool). Takes s (if b then c else or_else c m) ss → Takes s c ss ⊎ Takes s m ss) [ true ↦ λ h. inl h | false ↦ λ h. or_else_only s c m ss h ]
+    elim (is_member_of m c) as (λ (b : Bool). Takes s (if b then c else choice_with c m) ss → Takes s c ss ⊎ Takes s m ss) [ true ↦ λ h. inl h | false ↦ λ h. or_else_only s c m ss h ]
 
 pub members_first : (s : SchemaSet) (c t : SequenceType) (ss : List Shape) → Takes s c ss → Takes s (with_members c t) ss
 members_first s c never ss h = h

@@ -17,19 +17,19 @@ is_member_of member (star part) = same_type (star part) member
 is_member_of member (plus part) = same_type (plus part) member
 
 -- one more alternative behind those of a choice
-abbrev pub or_else : SequenceType → SequenceType → SequenceType
-or_else never member = member
-or_else nothing member = either nothing member
-or_else (item kind) member = either (item kind) member
-or_else (both first second) member = either (both first second) member
-or_else (either first second) member = either (either first second) member
-or_else (optional part) member = either (optional part) member
-or_else (star part) member = either (star part) member
-or_else (plus part) member = either (plus part) member
+abbrev pub choice_with : SequenceType → SequenceType → SequenceType
+choice_with never member = member
+choice_with nothing member = either nothing member
+choice_with (item kind) member = either (item kind) member
+choice_with (both first second) member = either (both first second) member
+choice_with (either first second) member = either (either first second) member
+choice_with (optional part) member = either (optional part) member
+choice_with (star part) member = either (star part) member
+choice_with (plus part) member = either (plus part) member
 
 -- a choice with one more member, unless an equal one is there
 abbrev pub with_member : SequenceType → SequenceType → SequenceType
-with_member choice member = if is_member_of member choice then choice else or_else choice member
+with_member choice member = if is_member_of member choice then choice else choice_with choice member
 
 -- a choice with the members of a type behind its own
 abbrev pub with_members : SequenceType → SequenceType → SequenceType

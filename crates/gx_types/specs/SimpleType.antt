@@ -75,8 +75,8 @@ meaning_of_content types t content = simple_meaning types t content
 abbrev pub meaning_among : List Declared → TypeName → SimpleMeaning
 meaning_among types t = meaning_of_content types t (own_content types t)
 
-abbrev pub meaning_of : SchemaSet → TypeName → SimpleMeaning
-meaning_of schemas t = meaning_among schemas.types t
+abbrev pub simple_meaning_of : SchemaSet → TypeName → SimpleMeaning
+simple_meaning_of schemas t = meaning_among schemas.types t
 
 -- an atomic type with this content; a complex type is none, whatever its values are
 abbrev pub atomic_of_content : List Declared → TypeName → Option Content → Option AtomicMeaning

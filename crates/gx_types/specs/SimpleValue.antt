@@ -11,7 +11,7 @@ use Rattle.gx_facets.specs.declared.ValueRead.{ValueRead}
 use Rattle.gx_facets.specs.declared.ValueRead.TheVariants.{NotLexical, Memory}
 use Rattle.gx_facets.specs.declared.restriction.Facets.{Facets}
 use Rattle.gx_types.specs.SchemaSet.{SchemaSet}
-use Rattle.gx_types.specs.SimpleType.{AtomicMeaning, SimpleMeaning, meaning_of}
+use Rattle.gx_types.specs.SimpleType.{AtomicMeaning, SimpleMeaning, simple_meaning_of}
 use Rattle.gx_types.specs.declared.simple_type.Variety.{Variety}
 use Rattle.gx_types.specs.declared.simple_type.Variety.TheVariants as varieties
 
@@ -71,7 +71,7 @@ values_at meaning text = admitted_values meaning (each_value meaning.item (value
 
 -- the values of a text at a type
 abbrev pub values_of_text : SchemaSet → TypeName → List ℕ → Result (List Atomic) ValueRead
-values_of_text schemas t text = values_at (meaning_of schemas t) text
+values_of_text schemas t text = values_at (simple_meaning_of schemas t) text
 
 -- the call refuses so, unless memory runs out
 abbrev pub RefusesValue : {T : Type 0} → ValueRead → Result T ValueRead → Type 0

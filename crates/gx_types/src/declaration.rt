@@ -10,11 +10,21 @@ use std::marker::Model;
 
 /// An attribute that a complex type allows, with its type, and whether an element must have it (XML Schema 1.0 part 1,
 /// section 3.5).
-#[derive(Debug, Drop)]
+#[derive(Debug)]
 pub struct AttributeUse {
     pub name: Name,
     pub kind: TypeName,
     pub required: bool,
+}
+
+impl Drop for AttributeUse {
+    fn drop(self) {
+        let AttributeUse {
+            name: _name,
+            kind: _kind,
+            required: _required,
+        } = self;
+    }
 }
 
 /// The attributes of a type in their order, which contracts see as a list.
@@ -57,7 +67,7 @@ impl AttributeUses {
 }
 
 /// What a declared type holds (XML Schema 1.0 part 1, sections 3.4 and 3.14).
-#[derive(Debug, Drop)]
+#[derive(Debug)]
 pub enum Content {
     /// A simple type of one value, with the facets of its own.
     Atomic(Facets),
@@ -69,8 +79,22 @@ pub enum Content {
     Complex { mixed: bool, model: Ty },
 }
 
+impl Drop for Content {
+    fn drop(self) {
+        match self {
+            Content::Atomic(_facets) => {}
+            Content::List(_type_name, _facets) => {}
+            Content::Simple(_type_name, _facets) => {}
+            Content::Complex {
+                mixed: _mixed,
+                model: _model,
+            } => {}
+        }
+    }
+}
+
 /// A declared type with the type that it is derived from (XML Schema 1.0 part 1, sections 3.4 and 3.14).
-#[derive(Debug, Drop)]
+#[derive(Debug)]
 pub struct Declared {
     pub name: TypeName,
     pub base: TypeName,
@@ -78,9 +102,29 @@ pub struct Declared {
     pub attributes: AttributeUses,
 }
 
+impl Drop for Declared {
+    fn drop(self) {
+        let Declared {
+            name: _name,
+            base: _base,
+            content: _content,
+            attributes: _attributes,
+        } = self;
+    }
+}
+
 /// A global element with its type (XML Schema 1.0 part 1, section 3.3).
-#[derive(Debug, Drop)]
+#[derive(Debug)]
 pub struct GlobalElement {
     pub name: Name,
     pub kind: TypeName,
+}
+
+impl Drop for GlobalElement {
+    fn drop(self) {
+        let GlobalElement {
+            name: _name,
+            kind: _kind,
+        } = self;
+    }
 }

@@ -10,13 +10,31 @@ use std::alloc::AllocError;
 
 /// The type of an item (XQuery 1.0, section 2.5.3). An element or an attribute without a name has any name, and a
 /// document node with an element has it as its only child element. The type of an atomic value is an atomic type.
-#[derive(Debug, Drop)]
+#[derive(Debug)]
 pub enum ItemType {
     Element { name: Option<Name>, kind: TypeName },
     Attribute { name: Option<Name>, kind: TypeName },
     Text,
     Document(Option<(Option<Name>, TypeName)>),
     Atom(TypeName),
+}
+
+impl Drop for ItemType {
+    fn drop(self) {
+        match self {
+            ItemType::Element {
+                name: _name,
+                kind: _kind,
+            } => {}
+            ItemType::Attribute {
+                name: _name,
+                kind: _kind,
+            } => {}
+            ItemType::Text => {}
+            ItemType::Document(_element) => {}
+            ItemType::Atom(_kind) => {}
+        }
+    }
 }
 
 impl Clone for ItemType {

@@ -1,4 +1,4 @@
-// Laws over the definitions.
+// Laws of types, of derivation, and of what types take.
 
 ghost use Rattle.gx_types.specs.Laws.{OccurrenceBoundsLength, JoinedTypesAreASequence, SequenceTakesParts, SequenceTakesNoMore, ChoiceTakesSome, ChoiceKeepsItsMembers, ChoiceTakesNewMembers, ChoiceTakesMembers, ChoiceTakesNoMore, MembersAreDistinct, IndicatorsAreExact, RepeatedTakesJoined, RepeatedTakesNoMore, TimesTakesJoined, TimesTakesNoMore, PrimeIsAChoiceOfItems, ItemsTakeEachShape, FactoredTakesType, PrimeTakesType, LimitedTakesType, ShortTypesStay, EqualTypesTakeTheSame};
 ghost use Rattle.gx_types.specs.DerivationLaws.{DerivationIsAPreorder, DerivationIsLinear, DerivationLooksAtNoPrefix, EqualTypesHaveOneBase, AllTypesAreDerivedFromAnyType, EqualityIsAnEquivalence};

@@ -12,7 +12,7 @@ use std::rc::Rc;
 /// A type of values, which contracts see as a plain tree (XQuery 1.0 and XPath 2.0 Formal Semantics, section 2.4.1). Types
 /// share their parts, so that a copy takes no more than one level.
 #[cycle(type_tree)]
-#[derive(Debug, Drop)]
+#[derive(Debug)]
 pub struct Ty {
     pub node: TyNode,
 }
@@ -48,6 +48,13 @@ impl Model for Ty {
     ghost use Rattle.gx_types.specs.TypeParts.{type_parts_are_smaller};
 
     ghost size_decreases = { λ a h. type_parts_are_smaller a.node };
+}
+
+impl Drop for Ty {
+    #[cycle(type_tree)]
+    fn drop(self) {
+        let Ty { node: _node } = self;
+    }
 }
 
 impl Clone for Ty {

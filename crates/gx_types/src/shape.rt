@@ -9,13 +9,25 @@ use std::alloc::AllocError;
 /// What a type sees of an item: the name and the type annotation of an element, the name and the type of an attribute, a
 /// text, a document with the name and the annotation of its one child where that is an element, or the type of an atomic
 /// value (XQuery 1.0, section 2.5.4).
-#[derive(Debug, Drop)]
+#[derive(Debug)]
 pub enum Shape {
     Elem(Name, TypeName),
     Attr(Name, TypeName),
     Text,
     Doc(Option<(Name, TypeName)>),
     Atom(TypeName),
+}
+
+impl Drop for Shape {
+    fn drop(self) {
+        match self {
+            Shape::Elem(_name, _type_name) => {}
+            Shape::Attr(_name, _type_name) => {}
+            Shape::Text => {}
+            Shape::Doc(_option) => {}
+            Shape::Atom(_type_name) => {}
+        }
+    }
 }
 
 impl Clone for Shape {

@@ -2,7 +2,7 @@
 
 ghost use Rattle.std.specs.Prelude.{◌≡◌, [], ◌∷◌, ◌++◌, filter_map, IfOk, option_copied, option_map};
 ghost use Rattle.gx_types.specs.BaseChain.{own_declaration, own_content, BasesEnd};
-ghost use Rattle.gx_types.specs.SimpleType.{own_facets, all_facets, bottom_of, atomic_meaning, simple_meaning, meaning_among, meaning_of, meaning_without_values, restricted, declared_atomic, atomic_of_content};
+ghost use Rattle.gx_types.specs.SimpleType.{own_facets, all_facets, bottom_of, atomic_meaning, simple_meaning, meaning_among, simple_meaning_of, meaning_without_values, restricted, declared_atomic, atomic_of_content};
 ghost use Rattle.gx_types.specs.SimpleView.{atomic_view, simple_view, facets_view};
 
 use crate::declaration::{Content, Declared};
@@ -43,7 +43,7 @@ pub fn simple_type<'a>(
     schemas: &'a Schemas,
     t: &TypeName,
 ) -> Result<SimpleType<'a>, AllocError>
-    ensures { IfOk result (λ s. simple_view s ≡ meaning_of schemas.now t.now) }
+    ensures { IfOk result (λ s. simple_view s ≡ simple_meaning_of schemas.now t.now) }
 {
     type_with_values(alloc, schemas.declared_types(), t)
 }

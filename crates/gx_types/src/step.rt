@@ -22,7 +22,7 @@ pub enum Axis {
 }
 
 /// A test of a name: any, one name, the names of one URI, or the names with one local part (XQuery 1.0, section 3.2.1.2).
-#[derive(Debug, Drop)]
+#[derive(Debug)]
 pub enum NameTest {
     Any,
     Name(Name),
@@ -31,7 +31,7 @@ pub enum NameTest {
 }
 
 /// A node test (XQuery 1.0, sections 3.2.1.2 and 2.5.3). `Schema` and `DocumentSchema` name a declared element.
-#[derive(Debug, Drop)]
+#[derive(Debug)]
 pub enum Test {
     Node,
     Text,
@@ -43,6 +43,17 @@ pub enum Test {
     DocumentSchema(Name),
 }
 
+impl Drop for NameTest {
+    fn drop(self) {
+        match self {
+            NameTest::Any => {}
+            NameTest::Name(_name) => {}
+            NameTest::Uri(_uri) => {}
+            NameTest::Local(_local) => {}
+        }
+    }
+}
+
 impl Clone for NameTest {
     ghost is_clone = { λ test copy. copy ≡ test };
 
@@ -52,6 +63,21 @@ impl Clone for NameTest {
             NameTest::Name(name) => Ok(NameTest::Name(name.clone()?)),
             NameTest::Uri(uri) => Ok(NameTest::Uri(uri.clone()?)),
             NameTest::Local(local) => Ok(NameTest::Local(local.clone()?)),
+        }
+    }
+}
+
+impl Drop for Test {
+    fn drop(self) {
+        match self {
+            Test::Node => {}
+            Test::Text => {}
+            Test::Named(_test) => {}
+            Test::Element(_name, _kind) => {}
+            Test::Attribute(_name, _kind) => {}
+            Test::Schema(_name) => {}
+            Test::Document(_element) => {}
+            Test::DocumentSchema(_name) => {}
         }
     }
 }

@@ -1,10 +1,10 @@
 use Rattle.std.proofs.Common.{◌≡◌, [], ◌∷◌, None}
 use Rattle.gx_normal.specs.Normalisation.{core_of}
-use Rattle.gx_normal.specs.Normalising.{left_of}
+use Rattle.gx_normal.specs.Normalising.{core_to_make}
 use Rattle.gx_normal.proofs.normalise.expression.Given as goal
 
 -- what is left comes to the Core of the tree
 abbrev pub invariant-loop : goal.invariant-loop
 invariant-loop l =
-    left_of l.normalising
+    core_to_make l.normalising
     ≡ record { made = ((core_of l.fn.tree l.fn.numbers None l.fn.free).0 ∷ []) ∷ []; numbers = l.fn.numbers; focus = None; free = (core_of l.fn.tree l.fn.numbers None l.fn.free).1 }

@@ -7,4 +7,4 @@ pub returns-in-None-clause-typed : goal.returns-in-None-clause-typed
 returns-in-None-clause-typed c =
     ap whole_judgement
     (judgement_is c.args.schemas.now c.loop.typing.parts c.loop.typing.scope c.loop.typing.declared.items (core_judged c.args.schemas.now c.args.core) c.result.result
-    (rw c.in-None.ensures at c.loop.invariant) (c.result.ensures c.args.schemas.now))
+    (rw c.in-None.ensures.0 at c.loop.invariant) (c.result.ensures c.args.schemas.now))

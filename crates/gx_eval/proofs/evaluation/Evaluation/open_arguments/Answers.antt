@@ -12,7 +12,7 @@ use Rattle.gx_eval.proofs.evaluation.Evaluation.open_arguments.Goals as goal
 pub loop-argument-preserved : goal.loop-argument-preserved
 loop-argument-preserved c = record {
   same = λ k stacks values marks bindings forest.
-      ap (λ (work : List Pending). in_order (map (meaning k) c.in-Some.front.now) (resume_marked k work stacks) values marks bindings forest) (c.in_ok-push-3.ensures ∙ ap (λ (work : List Pending). Mark ∷ work) c.in_ok-push-2.ensures)
+      ap (λ (work : List Pending). in_order (map (meaning k) c.in-Some.front.now) (resume_marked k work stacks) values marks bindings forest) (c.in_ok-push-3.ensures.ok ∙ ap (λ (work : List Pending). Mark ∷ work) c.in_ok-push-2.ensures.ok)
       ∙ sym (last_in_order (map (meaning k) c.in-Some.front.now) (meaning k c.in-Some.argument.now) (resume_marked k c.loop-argument.self.work stacks) values marks bindings forest)
       ∙ ap (λ (parts : List Denotation). in_order parts (resume_marked k c.loop-argument.self.work stacks) values marks bindings forest)
       (sym (map-append (meaning k) c.in-Some.front.now (c.in-Some.argument.now ∷ [])) ∙ ap (map (meaning k)) (sym c.in-Some.ensures.cases.0))

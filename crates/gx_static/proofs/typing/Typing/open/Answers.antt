@@ -6,116 +6,116 @@ use Rattle.gx_static.proofs.typing.Typing.open.Goals as goal
 pub returns-in-Seq : goal.returns-in-Seq
 returns-in-Seq c = λ schemas.
     rw (
-      ← c.expression.view_is,
+      c.into_parts-kind.ensures,
       c.in-Seq.is,
-      ← pair_opens schemas operators.Seq (λ before. refl) refl c.args.self.now.tasks c.args.self.now.parts c.args.self.now.scope c.args.self.now.declared.items c.expression.inside.place c.expression.inside.outer c.in-Seq.first.value c.in-Seq.second.value,
+      ← pair_opens schemas operators.Seq (λ before. refl) refl c.args.self.now.tasks c.args.self.now.parts c.args.self.now.scope c.args.self.now.declared.items c.into_parts-kind.result.0 c.into_parts-kind.result.1 c.in-Seq.first.value c.in-Seq.second.value,
     )
     (c.open_pair.ensures schemas)
 
 pub returns-in-Let : goal.returns-in-Let
 returns-in-Let c = λ schemas.
     rw (
-      ← c.expression.view_is,
+      c.into_parts-kind.ensures,
       c.in-Let.is,
-      ← let_opens schemas c.args.self.now.tasks c.args.self.now.parts c.args.self.now.scope c.args.self.now.declared.items c.expression.inside.place c.expression.inside.outer c.in-Let.binder c.in-Let.value.value c.in-Let.body.value,
+      ← let_opens schemas c.args.self.now.tasks c.args.self.now.parts c.args.self.now.scope c.args.self.now.declared.items c.into_parts-kind.result.0 c.into_parts-kind.result.1 c.in-Let.binder c.in-Let.value.value c.in-Let.body.value,
     )
     (c.open_let.ensures schemas)
 
 pub returns-in-If : goal.returns-in-If
 returns-in-If c = λ schemas.
     rw (
-      ← c.expression.view_is,
+      c.into_parts-kind.ensures,
       c.in-If.is,
-      ← conditional_opens schemas c.args.self.now.tasks c.args.self.now.parts c.args.self.now.scope c.args.self.now.declared.items c.expression.inside.place c.expression.inside.outer c.in-If.condition.value c.in-If.chosen.value c.in-If.otherwise.value,
+      ← conditional_opens schemas c.args.self.now.tasks c.args.self.now.parts c.args.self.now.scope c.args.self.now.declared.items c.into_parts-kind.result.0 c.into_parts-kind.result.1 c.in-If.condition.value c.in-If.chosen.value c.in-If.otherwise.value,
     )
     (c.open_conditional.ensures schemas)
 
 pub returns-in-Call : goal.returns-in-Call
 returns-in-Call c = λ schemas.
     rw (
-      ← c.expression.view_is,
+      c.into_parts-kind.ensures,
       c.in-Call.is,
-      ← call_opens schemas c.args.self.now.tasks c.args.self.now.parts c.args.self.now.scope c.args.self.now.declared.items c.expression.inside.place c.expression.inside.outer c.in-Call.function c.in-Call.arguments.items,
+      ← call_opens schemas c.args.self.now.tasks c.args.self.now.parts c.args.self.now.scope c.args.self.now.declared.items c.into_parts-kind.result.0 c.into_parts-kind.result.1 c.in-Call.function c.in-Call.arguments.items,
     )
     (c.open_call.ensures schemas)
 
 pub returns-in-Binary : goal.returns-in-Binary
 returns-in-Binary c = λ schemas.
     rw (
-      ← c.expression.view_is,
+      c.into_parts-kind.ensures,
       c.in-Binary.is,
-      ← pair_opens schemas (operators.Binary c.in-Binary.operator) (λ before. refl) refl c.args.self.now.tasks c.args.self.now.parts c.args.self.now.scope c.args.self.now.declared.items c.expression.inside.place c.expression.inside.outer c.in-Binary.left.value c.in-Binary.right.value,
+      ← pair_opens schemas (operators.Binary c.in-Binary.operator) (λ before. refl) refl c.args.self.now.tasks c.args.self.now.parts c.args.self.now.scope c.args.self.now.declared.items c.into_parts-kind.result.0 c.into_parts-kind.result.1 c.in-Binary.left.value c.in-Binary.right.value,
     )
     (c.open_pair-in-Binary.ensures schemas)
 
 pub returns-in-Lit : goal.returns-in-Lit
-returns-in-Lit c = λ schemas. rw (← c.expression.view_is, c.in-Lit.is) (c.open_leaf.ensures schemas)
+returns-in-Lit c = λ schemas. rw (c.into_parts-kind.ensures, c.in-Lit.is) (c.open_leaf.ensures schemas)
 
 pub returns-in-Var : goal.returns-in-Var
-returns-in-Var c = λ schemas. rw (← c.expression.view_is, c.in-Var.is) (c.open_leaf-in-Var.ensures schemas)
+returns-in-Var c = λ schemas. rw (c.into_parts-kind.ensures, c.in-Var.is) (c.open_leaf-in-Var.ensures schemas)
 
 pub returns-in-Cast : goal.returns-in-Cast
 returns-in-Cast c = λ schemas.
     rw (
-      ← c.expression.view_is,
+      c.into_parts-kind.ensures,
       c.in-Cast.is,
-      ← single_opens schemas (operators.Cast c.in-Cast.kind c.in-Cast.optional) (λ before. refl) refl c.args.self.now.tasks c.args.self.now.parts c.args.self.now.scope c.args.self.now.declared.items c.expression.inside.place c.expression.inside.outer c.in-Cast.operand.value,
+      ← single_opens schemas (operators.Cast c.in-Cast.kind c.in-Cast.optional) (λ before. refl) refl c.args.self.now.tasks c.args.self.now.parts c.args.self.now.scope c.args.self.now.declared.items c.into_parts-kind.result.0 c.into_parts-kind.result.1 c.in-Cast.operand.value,
     )
     (c.open_single.ensures schemas)
 
 pub returns-in-Castable : goal.returns-in-Castable
 returns-in-Castable c = λ schemas.
     rw (
-      ← c.expression.view_is,
+      c.into_parts-kind.ensures,
       c.in-Castable.is,
-      ← single_opens schemas (operators.Castable c.in-Castable.kind c.in-Castable.optional) (λ before. refl) refl c.args.self.now.tasks c.args.self.now.parts c.args.self.now.scope c.args.self.now.declared.items c.expression.inside.place c.expression.inside.outer c.in-Castable.operand.value,
+      ← single_opens schemas (operators.Castable c.in-Castable.kind c.in-Castable.optional) (λ before. refl) refl c.args.self.now.tasks c.args.self.now.parts c.args.self.now.scope c.args.self.now.declared.items c.into_parts-kind.result.0 c.into_parts-kind.result.1 c.in-Castable.operand.value,
     )
     (c.open_single-in-Castable.ensures schemas)
 
 pub returns-in-DataOf : goal.returns-in-DataOf
 returns-in-DataOf c = λ schemas.
     rw (
-      ← c.expression.view_is,
+      c.into_parts-kind.ensures,
       c.in-DataOf.is,
-      ← single_opens schemas (operators.DataOf) (λ before. refl) refl c.args.self.now.tasks c.args.self.now.parts c.args.self.now.scope c.args.self.now.declared.items c.expression.inside.place c.expression.inside.outer c.in-DataOf.operand.value,
+      ← single_opens schemas (operators.DataOf) (λ before. refl) refl c.args.self.now.tasks c.args.self.now.parts c.args.self.now.scope c.args.self.now.declared.items c.into_parts-kind.result.0 c.into_parts-kind.result.1 c.in-DataOf.operand.value,
     )
     (c.open_single-in-DataOf.ensures schemas)
 
 pub returns-in-Neg : goal.returns-in-Neg
 returns-in-Neg c = λ schemas.
     rw (
-      ← c.expression.view_is,
+      c.into_parts-kind.ensures,
       c.in-Neg.is,
-      ← single_opens schemas (operators.Neg) (λ before. refl) refl c.args.self.now.tasks c.args.self.now.parts c.args.self.now.scope c.args.self.now.declared.items c.expression.inside.place c.expression.inside.outer c.in-Neg.operand.value,
+      ← single_opens schemas (operators.Neg) (λ before. refl) refl c.args.self.now.tasks c.args.self.now.parts c.args.self.now.scope c.args.self.now.declared.items c.into_parts-kind.result.0 c.into_parts-kind.result.1 c.in-Neg.operand.value,
     )
     (c.open_single-in-Neg.ensures schemas)
 
 pub returns-in-For : goal.returns-in-For
 returns-in-For c = λ schemas.
     rw (
-      ← c.expression.view_is,
+      c.into_parts-kind.ensures,
       c.in-For.is,
-      ← for_opens schemas c.args.self.now.tasks c.args.self.now.parts c.args.self.now.scope c.args.self.now.declared.items c.expression.inside.place c.expression.inside.outer c.in-For.binder c.in-For.source.value c.in-For.body.value,
+      ← for_opens schemas c.args.self.now.tasks c.args.self.now.parts c.args.self.now.scope c.args.self.now.declared.items c.into_parts-kind.result.0 c.into_parts-kind.result.1 c.in-For.binder c.in-For.source.value c.in-For.body.value,
     )
     (c.open_for.ensures schemas)
 
 pub returns-in-Step : goal.returns-in-Step
-returns-in-Step c = λ schemas. rw (← c.expression.view_is, c.in-Step.is) (c.open_leaf-in-Step.ensures schemas)
+returns-in-Step c = λ schemas. rw (c.into_parts-kind.ensures, c.in-Step.is) (c.open_leaf-in-Step.ensures schemas)
 
 pub returns-in-Nodes : goal.returns-in-Nodes
 returns-in-Nodes c = λ schemas.
     rw (
-      ← c.expression.view_is,
+      c.into_parts-kind.ensures,
       c.in-Nodes.is,
-      ← single_opens schemas (operators.Nodes) (λ before. refl) refl c.args.self.now.tasks c.args.self.now.parts c.args.self.now.scope c.args.self.now.declared.items c.expression.inside.place c.expression.inside.outer c.in-Nodes.operand.value,
+      ← single_opens schemas (operators.Nodes) (λ before. refl) refl c.args.self.now.tasks c.args.self.now.parts c.args.self.now.scope c.args.self.now.declared.items c.into_parts-kind.result.0 c.into_parts-kind.result.1 c.in-Nodes.operand.value,
     )
     (c.open_single-in-Nodes.ensures schemas)
 
 pub returns-in-Order : goal.returns-in-Order
 returns-in-Order c = λ schemas.
     rw (
-      ← c.expression.view_is,
+      c.into_parts-kind.ensures,
       c.in-Order.is,
-      ← single_opens schemas (operators.Order) (λ before. refl) refl c.args.self.now.tasks c.args.self.now.parts c.args.self.now.scope c.args.self.now.declared.items c.expression.inside.place c.expression.inside.outer c.in-Order.operand.value,
+      ← single_opens schemas (operators.Order) (λ before. refl) refl c.args.self.now.tasks c.args.self.now.parts c.args.self.now.scope c.args.self.now.declared.items c.into_parts-kind.result.0 c.into_parts-kind.result.1 c.in-Order.operand.value,
     )
     (c.open_single-in-Order.ensures schemas)

@@ -17,7 +17,7 @@ loop-argument-preserved c =
     let all : c.loop-argument.arguments.items ≡ c.pop.new.self.items ++ (c.in-Some.argument ∷ []) = c.in-Some.ensures.items in
     record {
       same = λ schemas there.
-          ap (λ (tasks : List Task). typed_in_order schemas c.pop.new.self.items types (λ parts. continued schemas tasks parts types declared) there) c.in_ok-push-2.ensures
+          ap (λ (tasks : List Task). typed_in_order schemas c.pop.new.self.items types (λ parts. continued schemas tasks parts types declared) there) c.in_ok-push-2.ensures.ok
           ∙ sym (last_typed schemas c.pop.new.self.items c.in-Some.argument types (λ parts. continued schemas before parts types declared) there)
           ∙ ap (λ (es : List CoreExpression). typed_in_order schemas es types (λ parts. continued schemas before parts types declared) there) (sym all)
           ∙ c.loop-argument.invariant.same schemas there;

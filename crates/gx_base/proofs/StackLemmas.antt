@@ -2,7 +2,7 @@
 use Rattle.std.proofs.Common.{◌≡◌, ℕ, ◌-◌, List, [], ◌∷◌, length, reverse, slice_get, get_or, refl, sym, ap, subst, ◌∙◌, arith}
 use Rattle.std.proofs.lemmas.List.{length-reverse, get_or-reverse, reverse-reverse}
 use Rattle.std.proofs.lemmas.Option.{slice_get_read}
-use Rattle.gx_resolved.specs.Stacked.{first}
+use Rattle.gx_base.specs.Stacked.{first}
 
 from_behind : {T : Type 0} (items : List T) → slice_get (reverse items) (length (reverse items) - 1) ≡ first items
 from_behind [] = refl
