@@ -12,7 +12,7 @@ use Rattle.gx_typetext.specs.declared.written.WrittenName.{WrittenName}
 use Rattle.gx_typetext.specs.declared.written.WrittenTest.{WrittenTest}
 use Rattle.gx_typetext.specs.declared.written.Inside.{Inside}
 use Rattle.gx_typetext.specs.declared.written.Inside.TheVariants as inside
-use Rattle.gx_typetext.specs.Nodes.{Made, written_name_made, maybe_name_made, inside_made, written_test_made, declared_made, braced_value, prefixed_value, unprefixed_value, name_given, name_behind_comma, test_written, declared_inside, element_inside, document_content, later_value}
+use Rattle.gx_typetext.specs.Nodes.{Made, written_name_made, maybe_name_made, inside_made, written_test_made, declared_made, braced_value, prefixed_value, unprefixed_value, given_name_made, name_behind_comma, test_written, declared_inside, element_inside, document_content, later_value}
 use Rattle.gx_typetext.specs.Tokens.{Token, symbol, keyword, local, uri, gap, scan, seen, no_faults}
 use Rattle.gx_typetext.specs.Grammar.{TypePhrase, lexeme, braced, prefixed, unprefixed, if_prefixed, name, tested_name, behind_comma, nothing_inside, tested, declared, document_test, document, type_texts}
 use Rattle.gx_typetext.specs.Standings.{read_type_token, Calls, WasGiven}
@@ -139,7 +139,7 @@ module _ (call : Calls) where
   any_named = made (λ left v. maybe_name_made None) (lexeme (symbol (codes "*")))
 
   abbrev some_named : TypePhrase
-  some_named = made (λ left v. name_given v) name
+  some_named = made (λ left v. given_name_made v) name
 
   pub star_read : (taken : Bool) (a b c : Standing) → taken ≡ true → Looked taken a b (by_character (is 42)) → Ran (pair nothing nothing) b c (reading (lexeme (symbol (codes "*")))) → Ran (maybe_name_made None) a c (reading tested_name)
   unfolding tested_name
@@ -147,11 +147,11 @@ module _ (call : Calls) where
 
   pub some_read : (n : WrittenName) (taken : Bool) (a b c : Standing) → taken ≡ false → Looked taken a b (by_character (is 42)) → Ran (written_name_made n) b c (reading name) → Ran (maybe_name_made (Some n)) a c (reading tested_name)
   unfolding tested_name
-  some_read n taken a b c e h k = ran_right type_texts call (by_character (is 42)) any_named some_named (maybe_name_made (Some n)) taken a b c e h (ran_made type_texts call (λ left v. name_given v) name (written_name_made n) b c k)
+  some_read n taken a b c e h k = ran_right type_texts call (by_character (is 42)) any_named some_named (maybe_name_made (Some n)) taken a b c e h (ran_made type_texts call (λ left v. given_name_made v) name (written_name_made n) b c k)
 
   pub some_failed : (taken : Bool) (a b c : Standing) → taken ≡ false → Looked taken a b (by_character (is 42)) → Failed name b c → Failed tested_name a c
   unfolding tested_name
-  some_failed taken a b c e h k = failed_right (by_character (is 42)) any_named some_named taken a b c e h (failed_made (λ left v. name_given v) name b c k)
+  some_failed taken a b c e h k = failed_right (by_character (is 42)) any_named some_named taken a b c e h (failed_made (λ left v. given_name_made v) name b c k)
 
   abbrev kind_named : TypePhrase
   kind_named = made (λ left v. name_behind_comma v) (lexeme (symbol (codes ",")) & name)

@@ -16,7 +16,7 @@ use Rattle.gx_base.specs.declared.type_name.TypeName.TheVariants as names
 use Rattle.gx_types.specs.declared.declaration.Declared.{Declared}
 use Rattle.gx_types.specs.declared.item_type.ItemType.{ItemType}
 use Rattle.gx_types.specs.declared.item_type.ItemType.TheVariants as items
-use Rattle.gx_types.specs.Derivation.{Bases, bases_of, declared_base_of, base_of, of_base, leads_within, is_derived}
+use Rattle.gx_types.specs.SchemaInvariant.{content_is, is_atomic_content}
 use Rattle.gx_types.specs.Laws.{TakeTheSame}
 use Rattle.gx_types.specs.SameItemType.{same_optional_name, same_type_name, same_item_type}
 use Rattle.gx_types.specs.SameType.{same_type}
@@ -33,7 +33,7 @@ use Rattle.gx_typetext.specs.declared.written.Piece.{Piece}
 use Rattle.gx_typetext.specs.declared.written.Piece.TheVariants as piece
 use Rattle.gx_typetext.specs.BuiltinName.{local_name, all_builtins}
 use Rattle.gx_typetext.specs.ItemText.{is_any_type, is_any_simple_type}
-use Rattle.gx_typetext.specs.KnownNames.{uri_of_space, expanded_name, builtin_with_name, declared_with_name, type_with_name, if_atomic, atomic_with_name, unless_known, unknown_kind, unknown_in_item, unknown_in_piece, first_of_names, first_unknown, tested_kind, atomic_kind, written_item_type}
+use Rattle.gx_typetext.specs.KnownNames.{uri_of_space, expanded_name, builtin_of_name, builtin_with_name, or_declared, is_atomic_name, declared_with_name, type_with_name, if_atomic, atomic_with_name, unless_known, unknown_kind, unknown_in_item, unknown_in_piece, first_of_names, first_unknown, tested_kind, atomic_kind, written_item_type}
 use Rattle.gx_typetext.specs.NameText.{word, schema_namespace}
 use Rattle.gx_typetext.specs.ReadBack.{IsKnownKind, IsKnownItem, AreKnownItems}
 use Rattle.gx_typetext.proofs.PrintedNames.{word_is as plain_word, plain_local, space_by, written, written_kind}
@@ -118,38 +118,24 @@ declared_alike (d ∷ ds) n =
     ap (λ b. if b then Some d else declaration_among ds (names.Named n)) (kind_alike d.name n)
     ∙ ap (λ o. if same_type_name d.name (names.Named (without_prefix n)) then Some d else o) (declared_alike ds n)
 
-base_alike : (bases : Bases) (n : Name) → declared_base_of bases (names.Named n) ≡ declared_base_of bases (names.Named (without_prefix n))
-base_alike [] n = refl
-base_alike (d ∷ ds) n =
-    ap (λ b. if b then Some d.1 else declared_base_of ds (names.Named n)) (kind_alike d.0 n)
-    ∙ ap (λ o. if same_type_name d.0 (names.Named (without_prefix n)) then Some d.1 else o) (base_alike ds n)
-
-leads_alike : (bases : Bases) (steps : ℕ) (n : Name) (u : TypeName) → leads_within bases steps (names.Named n) u ≡ leads_within bases steps (names.Named (without_prefix n)) u
-leads_alike bases zero n (names.Builtin b) = refl
-leads_alike bases zero n (names.Named m) = refl
-leads_alike bases zero n (names.Anonymous k) = refl
-leads_alike bases (suc steps) n (names.Builtin b) = ap (λ o. false || of_base o (λ base. leads_within bases steps base (names.Builtin b))) (base_alike bases n)
-leads_alike bases (suc steps) n (names.Named m) = ap (λ o. same_name n m || of_base o (λ base. leads_within bases steps base (names.Named m))) (base_alike bases n)
-leads_alike bases (suc steps) n (names.Anonymous k) = ap (λ o. false || of_base o (λ base. leads_within bases steps base (names.Anonymous k))) (base_alike bases n)
-
 module _ (s : SchemaSet) where
   found : (t : TypeName) → IsKnownKind s t → type_with_name s (expanded_name (written_kind t)) ≡ Some (bare_kind t)
   found (names.Builtin b) k =
-      ap (λ c. if c then option_map names.Builtin (builtin_with_name (word (local_name b))) else declared_with_name s (expanded_name (written_kind (names.Builtin b)))) (text_itself schema_namespace)
-      ∙ ap (λ o. option_map names.Builtin o) (builtin_found b)
+      ap (λ c. or_declared s (expanded_name (written_kind (names.Builtin b))) (if c then builtin_with_name (word (local_name b)) else None)) (text_itself schema_namespace)
+      ∙ ap (or_declared s (expanded_name (written_kind (names.Builtin b)))) (builtin_found b)
   found (names.Named n) k =
       ap (type_with_name s) (expanded_is n)
-      ∙ ap (λ c. if c then option_map names.Builtin (builtin_with_name n.local) else declared_with_name s (without_prefix n)) k.outside
+      ∙ ap (or_declared s (without_prefix n)) k.unshared
       ∙ ap (λ c. if c then Some (names.Named (without_prefix n)) else None) (ap is_some (sym (declared_alike s.types n)) ∙ k.declared)
   found (names.Anonymous number) k = absurd k
 
-  derived_alike : (t : TypeName) → is_derived s (bare_kind t) (names.Builtin AnyAtomic) ≡ is_derived s t (names.Builtin AnyAtomic)
-  derived_alike (names.Builtin b) = refl
-  derived_alike (names.Named n) = sym (leads_alike (bases_of s) (length (bases_of s) + 23) n (names.Builtin AnyAtomic))
-  derived_alike (names.Anonymous k) = refl
+  atomic_alike : (t : TypeName) → is_atomic_name s (bare_kind t) ≡ is_atomic_name s t
+  atomic_alike (names.Builtin b) = refl
+  atomic_alike (names.Named n) = ap (λ o. content_is o is_atomic_content) (sym (declared_alike s.types n))
+  atomic_alike (names.Anonymous k) = refl
 
-  atomic_found : (t : TypeName) → IsKnownKind s t → IsTrue (is_derived s t (names.Builtin AnyAtomic)) → atomic_with_name s (expanded_name (written_kind t)) ≡ Some (bare_kind t)
-  atomic_found t k d = ap (if_atomic s) (found t k) ∙ ap (λ c. if c then Some (bare_kind t) else None) (derived_alike t ∙ d)
+  atomic_found : (t : TypeName) → IsKnownKind s t → IsTrue (is_atomic_name s t) → atomic_with_name s (expanded_name (written_kind t)) ≡ Some (bare_kind t)
+  atomic_found t k d = ap (if_atomic s) (found t k) ∙ ap (λ c. if c then Some (bare_kind t) else None) (atomic_alike t ∙ d)
 
   any_is : (t : TypeName) → is_any_type t ≡ true → t ≡ names.Builtin AnyType
   any_is (names.Builtin AnyType) e = refl

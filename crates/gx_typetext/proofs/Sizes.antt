@@ -5,7 +5,7 @@ use Rattle.std.proofs.lemmas.Bool.{leb-true}
 use Rattle.gx_base.specs.declared.limits.TheConstants.{TYPE_TEXT_POSITIONS}
 use Rattle.gx_types.specs.SchemaSet.{SchemaSet}
 use Rattle.gx_types.specs.SequenceType.{SequenceType, never, nothing, item as one_item, both, either, optional, star, plus}
-use Rattle.gx_types.specs.Choice.{is_member_of, or_else, with_members, has_empty, gathered}
+use Rattle.gx_types.specs.Choice.{is_member_of, choice_with, with_members, has_empty, gathered}
 use Rattle.gx_types.specs.Indicator.{optional_of, star_of, plus_of}
 use Rattle.gx_types.specs.TypeRules.{positions_of, followed_by, joined_types}
 use Rattle.gx_grammar.specs.Value.{nothing as no_value, characters, node, pair, no_item, an_item}
@@ -372,7 +372,7 @@ indicator_short (Some indicator.Optional) a = optional_short a
 indicator_short (Some indicator.Star) a = star_short a
 indicator_short (Some indicator.Plus) a = plus_short a
 
-or_else_short : (a b : SequenceType) → positions_of (or_else a b) ≤ positions_of a + positions_of b
+or_else_short : (a b : SequenceType) → positions_of (choice_with a b) ≤ positions_of a + positions_of b
 or_else_short never b = omega arith
 or_else_short nothing b = omega arith
 or_else_short (one_item kind) b = omega arith
@@ -382,7 +382,7 @@ or_else_short (optional a) b = omega arith
 or_else_short (star a) b = omega arith
 or_else_short (plus a) b = omega arith
 
-unless_there : (there : Bool) (a b : SequenceType) → positions_of (if there then a else or_else a b) ≤ positions_of a + positions_of b
+unless_there : (there : Bool) (a b : SequenceType) → positions_of (if there then a else choice_with a b) ≤ positions_of a + positions_of b
 unless_there true a b = omega arith
 unless_there false a b = or_else_short a b
 

@@ -14,7 +14,7 @@ use Rattle.gx_typetext.specs.declared.written.NameWord.TheVariants as word
 use Rattle.gx_typetext.specs.declared.written.Indicator.TheVariants as indicator
 use Rattle.gx_typetext.specs.declared.written.Operand.TheVariants as operand_is
 use Rattle.gx_typetext.specs.declared.written.Piece.TheVariants as piece
-use Rattle.gx_typetext.specs.Nodes.{TypeTextNode, maybe_name_made, inside_made, pieces, braced_value, prefixed_value, unprefixed_value, name_given, name_behind_comma, test_written, declared_inside, element_inside, document_content, later_value, name_word, put, put_name, put_word, put_empty}
+use Rattle.gx_typetext.specs.Nodes.{TypeTextNode, maybe_name_made, inside_made, pieces, braced_value, prefixed_value, unprefixed_value, given_name_made, name_behind_comma, test_written, declared_inside, element_inside, document_content, later_value, name_word, put, put_name, put_word, put_empty}
 use Rattle.gx_typetext.specs.Tokens.{Token, symbol, keyword, local, uri, gap, derives, opens, scan, seen, no_faults, takes}
 
 -- Where so many parentheses are open and so many positions are left, an operand is due, or what stands behind one.
@@ -49,7 +49,7 @@ name = choose (by_character (is 123)) braced (if_prefixed prefixed unprefixed)
 
 -- a name, or `*`
 unfoldable pub tested_name : TypePhrase
-tested_name = choose (by_character (is 42)) (made (λ left v. maybe_name_made None) (lexeme (symbol (codes "*")))) (made (λ left v. name_given v) name)
+tested_name = choose (by_character (is 42)) (made (λ left v. maybe_name_made None) (lexeme (symbol (codes "*")))) (made (λ left v. given_name_made v) name)
 
 -- a type's name behind a comma, or nothing
 unfoldable pub behind_comma : TypePhrase

@@ -1,5 +1,5 @@
 -- What the names and the operands of a type text stand for (XQuery 1.0, sections 2.5.3 and 2.5.4).
-use Rattle.std.specs.Prelude.{ℕ, List, [], ◌∷◌, find, unwrap_or, is_some, if◌then◌else◌, Option, None, Some}
+use Rattle.std.specs.Prelude.{ℕ, Bool, List, [], ◌∷◌, find, unwrap_or, is_some, if◌then◌else◌, Option, None, Some}
 use Rattle.std.specs.Option.{option_map}
 use Rattle.gx_base.specs.Text.{same_text}
 use Rattle.gx_base.specs.declared.name.Name.{Name}
@@ -10,6 +10,7 @@ use Rattle.gx_base.specs.declared.type_name.TypeName.TheVariants as names
 use Rattle.gx_types.specs.declared.item_type.ItemType.TheVariants as items
 use Rattle.gx_types.specs.Choice.{choice_among}
 use Rattle.gx_types.specs.Derivation.{is_derived}
+use Rattle.gx_types.specs.SchemaInvariant.{content_is, is_atomic_content}
 use Rattle.gx_types.specs.SchemaSet.{SchemaSet, declaration_of, global_type}
 use Rattle.gx_types.specs.SequenceType.{SequenceType, never, nothing, item}
 use Rattle.gx_typetext.specs.declared.written.Space.{Space}
@@ -42,15 +43,29 @@ builtin_with_name local = find (λ builtin. same_text (word (local_name builtin)
 abbrev pub declared_with_name : SchemaSet → Name → Option TypeName
 declared_with_name schemas name = if is_some (declaration_of schemas (names.Named name)) then Some (names.Named name) else None
 
--- the type of a name: a built-in one in the schema namespace, and else a declared one
-abbrev pub type_with_name : SchemaSet → Name → Option TypeName
-type_with_name schemas name =
-    if same_text name.uri schema_namespace then option_map names.Builtin (builtin_with_name name.local) else declared_with_name schemas name
+-- the built-in type of a name, which is in the schema namespace
+abbrev pub builtin_of_name : Name → Option Builtin
+builtin_of_name name = if same_text name.uri schema_namespace then builtin_with_name name.local else None
 
--- a type, where it is derived from xs:anyAtomicType
+abbrev pub or_declared : SchemaSet → Name → Option Builtin → Option TypeName
+or_declared schemas name (Some builtin) = Some (names.Builtin builtin)
+or_declared schemas name None = declared_with_name schemas name
+
+-- the type of a name: a built-in one, and else a declared one
+abbrev pub type_with_name : SchemaSet → Name → Option TypeName
+type_with_name schemas name = or_declared schemas name (builtin_of_name name)
+
+-- an atomic type: a built-in one that is derived from xs:anyAtomicType, or a declared one whose values are single atomic values; a
+-- complex type with simple content is none
+abbrev pub is_atomic_name : SchemaSet → TypeName → Bool
+is_atomic_name schemas (names.Builtin builtin) = is_derived schemas (names.Builtin builtin) (names.Builtin builtins.AnyAtomic)
+is_atomic_name schemas (names.Named name) = content_is (declaration_of schemas (names.Named name)) is_atomic_content
+is_atomic_name schemas (names.Anonymous number) = content_is (declaration_of schemas (names.Anonymous number)) is_atomic_content
+
+-- a type, where it is atomic
 abbrev pub if_atomic : SchemaSet → Option TypeName → Option TypeName
 if_atomic schemas None = None
-if_atomic schemas (Some t) = if is_derived schemas t (names.Builtin builtins.AnyAtomic) then Some t else None
+if_atomic schemas (Some t) = if is_atomic_name schemas t then Some t else None
 
 -- the atomic type of a name
 abbrev pub atomic_with_name : SchemaSet → Name → Option TypeName

@@ -50,12 +50,12 @@ abbrev pub unprefixed_value : Made → Made
 unprefixed_value (pair (characters local) gap) = written_name_made (record { space = space.Nowhere; local = local })
 unprefixed_value _ = nothing
 
-abbrev pub name_given : Made → Made
-name_given (node (Named n)) = maybe_name_made (Some n)
-name_given _ = nothing
+abbrev pub given_name_made : Made → Made
+given_name_made (node (Named n)) = maybe_name_made (Some n)
+given_name_made _ = nothing
 
 abbrev pub name_behind_comma : Made → Made
-name_behind_comma (pair comma v) = name_given v
+name_behind_comma (pair comma v) = given_name_made v
 name_behind_comma _ = nothing
 
 -- what stands in parentheses

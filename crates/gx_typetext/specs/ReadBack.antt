@@ -1,16 +1,13 @@
 -- Which printed types are read back, and as what.
 use Rattle.std.specs.Prelude.{◌≡◌, ◌≢◌, ℕ, ◌+◌, ◌≤◌, Bool, true, false, ◌&&◌, List, [], ◌∷◌, codes, max, is_some, Option, None, Some}
 use Rattle.std.specs.Bool.{IsTrue}
-use Rattle.gx_base.specs.Text.{same_text}
 use Rattle.gx_base.specs.declared.limits.TheConstants.{TYPE_TEXT_POSITIONS, TYPE_TEXT_NESTING}
 use Rattle.gx_base.specs.declared.name.Name.{Name}
-use Rattle.gx_base.specs.declared.type_name.Builtin.TheVariants.{AnyAtomic}
 use Rattle.gx_base.specs.declared.type_name.TypeName.{TypeName}
 use Rattle.gx_base.specs.declared.type_name.TypeName.TheVariants as names
 use Rattle.gx_grammar.specs.Tokens.{all_pass}
 use Rattle.gx_types.specs.declared.item_type.ItemType.{ItemType}
 use Rattle.gx_types.specs.declared.item_type.ItemType.TheVariants as items
-use Rattle.gx_types.specs.Derivation.{is_derived}
 use Rattle.gx_types.specs.Laws.{TakeTheSame}
 use Rattle.gx_types.specs.SchemaSet.{SchemaSet, declaration_of}
 use Rattle.gx_types.specs.SequenceType.{SequenceType, never, nothing, item, both, either, optional, star, plus}
@@ -18,8 +15,9 @@ use Rattle.gx_types.specs.TypeRules.{positions_of}
 use Rattle.gx_typetext.specs.declared.context.Context.{Context}
 use Rattle.gx_typetext.specs.declared.context.Context.TheVariants.{Whole, Sequence, Choice, Indicator}
 use Rattle.gx_base.specs.NameCharacters.{is_ncname_start, is_ncname_character}
+use Rattle.gx_typetext.specs.KnownNames.{builtin_of_name, is_atomic_name}
 use Rattle.gx_typetext.specs.Letters.{is_uri_character}
-use Rattle.gx_typetext.specs.NameText.{word, schema_namespace}
+use Rattle.gx_typetext.specs.NameText.{word}
 use Rattle.gx_typetext.specs.TypeReading.{IsTypeText}
 use Rattle.gx_typetext.specs.TypeText.{type_text, sequence_is_wrapped, choice_is_wrapped, indicated_is_wrapped}
 
@@ -39,10 +37,10 @@ abbrev pub IsWritten : Option Name → Type 0
 IsWritten None = Unit {0}
 IsWritten (Some name) = CanBeWritten name
 
--- the name of a declared type; in the schema namespace a text finds the built-in types alone
+-- the name of a declared type, which no built-in type has
 pub record IsFound (schemas : SchemaSet) (name : Name) : Type 0 where
   pub written : CanBeWritten name
-  pub outside : same_text name.uri schema_namespace ≡ false
+  pub unshared : builtin_of_name name ≡ None
   pub declared : IsTrue (is_some (declaration_of schemas (names.Named name)))
 
 -- a type that a test can name
@@ -66,7 +64,7 @@ IsKnownItem schemas (items.Attribute name kind) = IsKnownTest schemas name kind
 IsKnownItem schemas items.Text = Unit {0}
 IsKnownItem schemas (items.Document None) = Unit {0}
 IsKnownItem schemas (items.Document (Some element)) = IsKnownTest schemas element.0 element.1
-IsKnownItem schemas (items.Atom kind) = IsKnownKind schemas kind × IsNotNone kind × IsTrue (is_derived schemas kind (names.Builtin AnyAtomic))
+IsKnownItem schemas (items.Atom kind) = IsKnownKind schemas kind × IsNotNone kind × IsTrue (is_atomic_name schemas kind)
 
 abbrev pub AreKnownItems : SchemaSet → SequenceType → Type 0
 AreKnownItems schemas never = Unit {0}

@@ -9,19 +9,19 @@ use Rattle.gx_typetext.specs.NameText.{word}
 use Rattle.gx_typetext.specs.ItemText.{item_text}
 
 -- the item type of a shape's name and type
-abbrev pub item_of : Shape → ItemType
-item_of (shapes.Elem name kind) = items.Element (Some name) kind
-item_of (shapes.Attr name kind) = items.Attribute (Some name) kind
-item_of shapes.Text = items.Text
-item_of (shapes.Doc None) = items.Document None
-item_of (shapes.Doc (Some child)) = items.Document (Some (Some child.0, child.1))
-item_of (shapes.Atom kind) = items.Atom kind
+abbrev pub item_type_of_shape : Shape → ItemType
+item_type_of_shape (shapes.Elem name kind) = items.Element (Some name) kind
+item_type_of_shape (shapes.Attr name kind) = items.Attribute (Some name) kind
+item_type_of_shape shapes.Text = items.Text
+item_type_of_shape (shapes.Doc None) = items.Document None
+item_type_of_shape (shapes.Doc (Some child)) = items.Document (Some (Some child.0, child.1))
+item_type_of_shape (shapes.Atom kind) = items.Atom kind
 
 -- the texts of shapes behind another one
 abbrev pub further_text : List Shape → List ℕ
-further_text list = flat_map (λ shape. word (codes ", ") ++ item_text (item_of shape)) list
+further_text list = flat_map (λ shape. word (codes ", ") ++ item_text (item_type_of_shape shape)) list
 
 -- the shapes with commas between them; no shape is the empty sequence
 abbrev pub shapes_text : List Shape → List ℕ
 shapes_text [] = word (codes "empty-sequence()")
-shapes_text (shape ∷ list) = item_text (item_of shape) ++ further_text list
+shapes_text (shape ∷ list) = item_text (item_type_of_shape shape) ++ further_text list

@@ -5,7 +5,7 @@ ghost use Rattle.std.specs.Option.{option_map};
 ghost use Rattle.gx_types.specs.Choice.{choice_among};
 ghost use Rattle.gx_types.specs.SequenceType.{item};
 ghost use Rattle.gx_typetext.specs.declared.written.WrittenItem.TheVariants.{Atomic, Attribute, Declared, DocumentOf, DocumentOfDeclared, Element};
-ghost use Rattle.gx_typetext.specs.KnownNames.{uri_of_space, expanded_name, builtin_with_name, declared_with_name, type_with_name, atomic_with_name, unless_known, unknown_kind, unknown_element, unknown_in_item, unknown_in_operand, tested_kind, element_kind, node_types, item_types, written_item_type, written_operand_type};
+ghost use Rattle.gx_typetext.specs.KnownNames.{uri_of_space, expanded_name, builtin_of_name, builtin_with_name, declared_with_name, is_atomic_name, type_with_name, atomic_with_name, unless_known, unknown_kind, unknown_element, unknown_in_item, unknown_in_operand, tested_kind, element_kind, node_types, item_types, written_item_type, written_operand_type};
 ghost use Rattle.gx_typetext.specs.NameText.{name_text};
 ghost use Rattle.gx_typetext.specs.TypeReading.{IsUnknownName, ReadAs};
 
@@ -18,6 +18,7 @@ use gx_base::name::{Name, SharedName};
 use gx_base::text::Text;
 use gx_base::text_builder::TextBuilder;
 use gx_base::type_name::{Builtin, TypeName};
+use gx_types::declaration::Content;
 use gx_types::derivation::derives;
 use gx_types::item_type::ItemType;
 use gx_types::schemas::Schemas;
@@ -108,7 +109,7 @@ fn declared_with_name(
     }
 }
 
-/// The type of a name: a built-in one in the schema namespace, and else a declared one; None exactly where there is none.
+/// The type of a name: a built-in one, and else a declared one; None exactly where there is none.
 pub fn type_with_name(
     alloc: Global,
     schemas: &Schemas,
@@ -116,10 +117,33 @@ pub fn type_with_name(
 ) -> Result<Option<TypeName>, AllocError>
     ensures { IfOk result (λ t. t ≡ type_with_name schemas.now name.now) }
 {
+    match builtin_of_name(alloc, name)? {
+        Some(builtin) => Ok(Some(TypeName::Builtin(builtin))),
+        None => declared_with_name(alloc, schemas, name),
+    }
+}
+
+// The built-in type of a name.
+fn builtin_of_name(alloc: Global, name: &Name) -> Result<Option<Builtin>, AllocError>
+    ensures { IfOk result (λ found. found ≡ builtin_of_name name.now) }
+{
     if name.uri == Text::from_str(alloc, SCHEMA_NAMESPACE)? {
-        Ok(builtin_with_name(&name.local).map(TypeName::Builtin))
+        Ok(builtin_with_name(&name.local))
     } else {
-        declared_with_name(alloc, schemas, name)
+        Ok(None)
+    }
+}
+
+// Whether a type is atomic.
+fn is_atomic_name(schemas: &Schemas, t: &TypeName) -> bool
+    ensures { result ≡ is_atomic_name schemas.now t.now }
+{
+    if let TypeName::Builtin(_) = t {
+        return derives(schemas, t, &TypeName::Builtin(Builtin::AnyAtomic));
+    }
+    match schemas.declared(t) {
+        Some(declared) => matches!(&declared.content, Content::Atomic(_)),
+        None => false,
     }
 }
 
@@ -132,7 +156,7 @@ pub fn atomic_with_name(
     ensures { IfOk result (λ t. t ≡ atomic_with_name schemas.now name.now) }
 {
     match type_with_name(alloc, schemas, name)? {
-        Some(t) if derives(schemas, &t, &TypeName::Builtin(Builtin::AnyAtomic)) => Ok(Some(t)),
+        Some(t) if is_atomic_name(schemas, &t) => Ok(Some(t)),
         _ => Ok(None),
     }
 }

@@ -1,4 +1,4 @@
-//! Laws of type texts.
+// Laws of type texts.
 
 ghost use Rattle.std.specs.Prelude.{List, ℕ};
 ghost use Rattle.gx_grammar.specs.Text.{IsReadable, IsVerdict};

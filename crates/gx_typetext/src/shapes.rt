@@ -3,7 +3,7 @@
 ghost use Rattle.std.specs.Prelude.{◌≡◌, ◌++◌, OnOk, IfOk, codes};
 ghost use Rattle.gx_typetext.specs.NameText.{word};
 ghost use Rattle.gx_typetext.specs.ItemText.{item_text};
-ghost use Rattle.gx_typetext.specs.ShapeText.{item_of, further_text, shapes_text};
+ghost use Rattle.gx_typetext.specs.ShapeText.{item_type_of_shape, further_text, shapes_text};
 
 use crate::item_text::{write_item, write_word};
 use gx_base::text::Text;
@@ -39,14 +39,14 @@ fn write_further(alloc: Global, text: &mut TextBuilder, list: &[Shape]) -> Resul
 
 #[tactic(auto, using(std::proofs::Common::append_assoc))]
 fn write_behind(alloc: Global, text: &mut TextBuilder, shape: &Shape) -> Result<(), AllocError>
-    ensures { OnOk result (text.new ≡ text.old ++ (word (codes ", ") ++ item_text (item_of shape.now))) }
+    ensures { OnOk result (text.new ≡ text.old ++ (word (codes ", ") ++ item_text (item_type_of_shape shape.now))) }
 {
     write_word(alloc, text, ", ")?;
     write_shape(alloc, text, shape)
 }
 
 fn write_shape(alloc: Global, text: &mut TextBuilder, shape: &Shape) -> Result<(), AllocError>
-    ensures { OnOk result (text.new ≡ text.old ++ item_text (item_of shape.now)) }
+    ensures { OnOk result (text.new ≡ text.old ++ item_text (item_type_of_shape shape.now)) }
 {
     let item = item_of_shape(shape)?;
     write_item(alloc, text, &item)
@@ -54,7 +54,7 @@ fn write_shape(alloc: Global, text: &mut TextBuilder, shape: &Shape) -> Result<(
 
 // The item type of a shape's name and type.
 fn item_of_shape(shape: &Shape) -> Result<ItemType, AllocError>
-    ensures { IfOk result (λ item. item ≡ item_of shape.now) }
+    ensures { IfOk result (λ item. item ≡ item_type_of_shape shape.now) }
 {
     match shape {
         Shape::Elem(name, kind) => {

@@ -25,7 +25,7 @@ use Rattle.gx_schema_syntax.specs.Scope.{reference_in}
 use Rattle.gx_schema_syntax.specs.Words.{is_schema_uri}
 use Rattle.gx_schema_syntax.specs.declared.reference.Reference.{Reference}
 use Rattle.gx_validate.specs.InstanceAttributes.{given_type}
-use Rattle.gx_validate.specs.Annotation.{annotation, annotation_given, where_derived, type_named_in, bound_type, known_type, declared_type_named, without_space_around}
+use Rattle.gx_validate.specs.Annotation.{annotation, annotation_given, where_derived, type_named_in, bound_type, built_in_type, or_declared_type, known_type, declared_type_named, without_space_around}
 use Rattle.gx_validate.specs.Outcome.{root_type}
 use Rattle.gx_validate.specs.Valid.{IsAnnotation}
 
@@ -96,18 +96,18 @@ nameable : (local : List ℕ) (found : Builtin) → nameable_builtin local ≡ S
 unfolding nameable_builtin
 nameable local found h = row_is_nameable rows_of_builtins local found rows_are_nameable h
 
-builtin_is_known : (s : SchemaSet) (reference : Reference) (t : TypeName) (o : Option Builtin) → named_builtin reference ≡ o → option_map names.Builtin o ≡ Some t → is_named_type s t ≡ true
-builtin_is_known s reference t None e h = absurd (cc)
-builtin_is_known s reference t (Some b) e h =
-    let one : names.Builtin b ≡ t = cc in subst (λ (u : TypeName). is_named_type s u ≡ true) one (nameable _ b e)
+built_in_is_nameable : (reference : Reference) (builtin : Builtin) (b : Bool) → (if b then (named_builtin reference) else None) ≡ Some builtin → is_nameable builtin ≡ true
+built_in_is_nameable reference builtin true h = nameable _ builtin h
+built_in_is_nameable reference builtin false h = absurd (cc)
 
-known_is_known : (s : SchemaSet) (reference : Reference) (t : TypeName) (b : Bool)
-    → (if b then (option_map names.Builtin (named_builtin reference)) else (declared_type_named s reference.name)) ≡ Some t → is_named_type s t ≡ true
-known_is_known s reference t true h = builtin_is_known s reference t (named_builtin reference) refl h
-known_is_known s reference t false h = declared_is_known s reference.name t (declaration_of s (names.Named reference.name)) refl h
+known_is_known : (s : SchemaSet) (reference : Reference) (t : TypeName) (o : Option Builtin) → built_in_type reference ≡ o → or_declared_type s reference.name o ≡ Some t → is_named_type s t ≡ true
+known_is_known s reference t None e h = declared_is_known s reference.name t (declaration_of s (names.Named reference.name)) refl h
+known_is_known s reference t (Some builtin) e h =
+    let one : names.Builtin builtin ≡ t = cc in
+    subst (λ (u : TypeName). is_named_type s u ≡ true) one (built_in_is_nameable reference builtin (is_schema_uri reference.name.uri) e)
 
 bound_is_known : (s : SchemaSet) (reference : Reference) (t : TypeName) (b : Bool) → (if b then (known_type s reference) else None) ≡ Some t → is_named_type s t ≡ true
-bound_is_known s reference t true h = known_is_known s reference t (is_schema_uri reference.name.uri) h
+bound_is_known s reference t true h = known_is_known s reference t (built_in_type reference) refl h
 bound_is_known s reference t false h = absurd (cc)
 
 qname_is_known : (s : SchemaSet) (reference : Reference) (t : TypeName) (b : Bool) → (if b then (bound_type s reference) else None) ≡ Some t → is_named_type s t ≡ true

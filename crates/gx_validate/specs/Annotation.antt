@@ -3,6 +3,7 @@ use Rattle.std.specs.Prelude.{ℕ, List, [], ◌∷◌, reverse, Option, Some, N
 use Rattle.std.specs.Option.{option_map}
 use Rattle.gx_base.specs.WhiteSpace.{is_white_space}
 use Rattle.gx_base.specs.declared.name.Name.{Name}
+use Rattle.gx_base.specs.declared.type_name.Builtin.{Builtin as BuiltinType}
 use Rattle.gx_base.specs.declared.type_name.TypeName.{TypeName}
 use Rattle.gx_base.specs.declared.type_name.TypeName.TheVariants.{Builtin, Named}
 use Rattle.gx_types.specs.SchemaSet.{SchemaSet, declaration_of}
@@ -30,11 +31,17 @@ without_space_around text = reverse (without_space_before (reverse (without_spac
 abbrev pub declared_type_named : SchemaSet → Name → Option TypeName
 declared_type_named schemas name = option_map (λ (declared : Declared). declared.name) (declaration_of schemas (Named name))
 
--- the type of a name in the namespace of schema documents, or in another one
+-- the built-in type that a reference names, which is in the namespace of schema documents
+abbrev pub built_in_type : Reference → Option BuiltinType
+built_in_type reference = if is_schema_uri reference.name.uri then (named_builtin reference) else None
+
+abbrev pub or_declared_type : SchemaSet → Name → Option BuiltinType → Option TypeName
+or_declared_type schemas name (Some builtin) = Some (Builtin builtin)
+or_declared_type schemas name None = declared_type_named schemas name
+
+-- the type of a name: a built-in one, and else a declared one
 abbrev pub known_type : SchemaSet → Reference → Option TypeName
-known_type schemas reference =
-    if is_schema_uri reference.name.uri then (option_map Builtin (named_builtin reference))
-    else (declared_type_named schemas reference.name)
+known_type schemas reference = or_declared_type schemas reference.name (built_in_type reference)
 
 abbrev pub bound_type : SchemaSet → Reference → Option TypeName
 bound_type schemas reference = if reference.is_bound then (known_type schemas reference) else None

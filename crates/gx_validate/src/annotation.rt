@@ -5,7 +5,7 @@ ghost use Rattle.std.specs.List.{list_any};
 ghost use Rattle.gx_schema_syntax.specs.Scope.{reference_in, reference_to};
 ghost use Rattle.gx_schema_syntax.specs.Words.{has_spelling, is_schema_uri};
 ghost use Rattle.gx_xml.specs.Untyped.{is_instance_namespace};
-ghost use Rattle.gx_validate.specs.Annotation.{annotation, bound_type, declared_type_named, known_type, type_named_in, where_derived, without_space_around};
+ghost use Rattle.gx_validate.specs.Annotation.{annotation, bound_type, built_in_type, declared_type_named, known_type, type_named_in, where_derived, without_space_around};
 ghost use Rattle.gx_validate.specs.ElementContent.{type_in_content};
 ghost use Rattle.gx_validate.specs.InstanceAttributes.{given_type, has_nil, is_instance_attribute};
 ghost use Rattle.gx_validate.specs.ScopeView.{scope_declarations};
@@ -14,7 +14,7 @@ use crate::qname::{characters, is_qname, local_in, prefix_in, text_of, without_s
 use crate::scope::{Scope, uri_in_scope, within};
 use gx_base::name::{Name, SharedName};
 use gx_base::text::Text;
-use gx_base::type_name::TypeName;
+use gx_base::type_name::{Builtin, TypeName};
 use gx_schema_syntax::reference::{Reference, named_builtin};
 use gx_types::derivation::derives;
 use gx_types::schemas::Schemas;
@@ -115,10 +115,20 @@ fn known_type(
 ) -> Result<Option<TypeName>, AllocError>
     ensures { IfOk result (λ t. t ≡ known_type schemas.now reference.now) }
 {
+    match built_in_type(reference) {
+        Some(builtin) => Ok(Some(TypeName::Builtin(builtin))),
+        None => declared_type(alloc, schemas, &reference.name),
+    }
+}
+
+// The built-in type that a reference names.
+fn built_in_type(reference: &Reference) -> Option<Builtin>
+    ensures { result ≡ built_in_type reference.now }
+{
     if is_schema_uri(&reference.name.uri) {
-        Ok(named_builtin(reference).map(TypeName::Builtin))
+        named_builtin(reference)
     } else {
-        declared_type(alloc, schemas, &reference.name)
+        None
     }
 }
 

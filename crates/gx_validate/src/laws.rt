@@ -1,4 +1,4 @@
-// Laws over the definitions.
+// Laws of validity.
 
 ghost use Rattle.gx_validate.specs.Laws.{FaultsExcludeTrees, OutcomesAreValid, ValidTreesAreOne, ValidTreesAreHonest};
 

@@ -104,5 +104,9 @@ impl<'a> Takers<'a> {
 fn is_text_at_most(shapes: &[Shape]) -> bool
     ensures { result ≡ is_text_at_most shapes.now }
 {
-    matches!(shapes, [] | [Shape::Text])
+    match shapes {
+        [] => true,
+        [only] => matches!(only, Shape::Text),
+        _ => false,
+    }
 }

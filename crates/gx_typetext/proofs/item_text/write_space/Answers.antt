@@ -8,12 +8,12 @@ pub returns-then-eq : goal.returns-then-eq
 returns-then-eq c =
     let uri = c.args.uri.now in
     let some : uri ≡ [] → ⊥ = λ (e : uri ≡ []). let empty = c.is_empty.ensures.1 e in cc in
-    let same : same_text uri (word (codes "http://www.w3.org/2001/XMLSchema")) ≡ true = cc (c.eq-2.ensures, c.if-eq.true, c.in_ok-from_str.ensures) in
+    let same : same_text uri (word (codes "http://www.w3.org/2001/XMLSchema")) ≡ true = cc (c.eq.ensures, c.if-eq.true, c.in_ok-from_str.ensures) in
     rw (space_text-schema uri some same) c.write_word.ensures
 
 pub returns : goal.returns
 returns c =
     let uri = c.args.uri.now in
     let some : uri ≡ [] → ⊥ = λ (e : uri ≡ []). let empty = c.is_empty.ensures.1 e in cc in
-    let other : same_text uri (word (codes "http://www.w3.org/2001/XMLSchema")) ≡ false = cc (c.eq-2.ensures, c.if-eq.false, c.in_ok-from_str.ensures) in
+    let other : same_text uri (word (codes "http://www.w3.org/2001/XMLSchema")) ≡ false = cc (c.eq.ensures, c.if-eq.false, c.in_ok-from_str.ensures) in
     rw (space_text-other uri some other) c.write_braced.ensures
