@@ -51,7 +51,7 @@ use Rattle.gx_schema.specs.Import.{declares, unless_broken, found_in_file, docum
 use Rattle.gx_schema.specs.Circular.{circular, circular_attribute_group, circular_group, circular_type}
 use Rattle.gx_schema.specs.DerivationFaults.{first_derivation_fault}
 use Rattle.gx_schema.specs.FirstFound.{earlier_found}
-use Rattle.gx_schema.specs.Inconsistent.{differing_extension, disagreeing_element, doubled_attribute, doubled_declaration, faulty_complex_type, faulty_declaration, faulty_derivation, faulty_type, found_attribute, found_fault, found_particle, inconsistent}
+use Rattle.gx_schema.specs.Inconsistent.{extension_found, disagreeing_element, doubled_attribute, doubled_declaration, faulty_complex_type, faulty_declaration, faulty_derivation, faulty_type, found_attribute, found_fault, found_particle, inconsistent}
 use Rattle.gx_schema.specs.NamedKinds.{first_failing, is_named_kind, is_simple_form, is_simple_kind, is_simple_number, kind_found, unnamed_kind, unsimple_kind}
 use Rattle.gx_schema.specs.SeenComponents.{seen_components, type_components}
 use Rattle.gx_schema.specs.TooLarge.{too_large}
@@ -137,16 +137,17 @@ is_judged documents schemas e =
     let e8 = rest_told Inconsistent (unsimple_kind declared forms seen) written schemas e7 in
     let agree = mapped_none found_in_file (inconsistent documents forms seen) (none_found Inconsistent (option_map found_in_file (inconsistent documents forms seen)) fourth schemas e3) in
     let complex = faulty_complex_type documents forms seen in
-    let behind = earlier_found (faulty_declaration documents) complex in
-    let single = left_none (doubled_declaration documents) (earlier_found (faulty_type documents forms) behind) agree in
-    let no_fault = right_none (doubled_declaration documents) (earlier_found (faulty_type documents forms) behind) agree in
-    let sound = left_none (faulty_type documents forms) behind no_fault in
-    let no_complex = right_none (faulty_declaration documents) complex (right_none (faulty_type documents forms) behind no_fault) in
+    let simple = faulty_type documents forms in
+    let single_faults = earlier_found simple (faulty_declaration documents) in
+    let single = left_none (doubled_declaration documents) (earlier_found complex single_faults) agree in
+    let no_fault = right_none (doubled_declaration documents) (earlier_found complex single_faults) agree in
+    let no_complex = left_none complex single_faults no_fault in
+    let sound = left_none simple (faulty_declaration documents) (right_none complex single_faults no_fault) in
     let at_attribute = doubled_attribute documents seen in
     let at_element = disagreeing_element documents seen in
-    let no_derivation = left_none (faulty_derivation documents forms seen) (earlier_found (differing_extension documents seen) (earlier_found at_element at_attribute)) no_complex in
-    let no_member = right_none (differing_extension documents seen) (earlier_found at_element at_attribute)
-    (right_none (faulty_derivation documents forms seen) (earlier_found (differing_extension documents seen) (earlier_found at_element at_attribute)) no_complex) in
+    let of_base = earlier_found (extension_found documents seen) (faulty_derivation documents forms seen) in
+    let no_member = right_none at_attribute (earlier_found at_element of_base) no_complex in
+    let no_derivation = right_none (extension_found documents seen) (faulty_derivation documents forms seen) (right_none at_element of_base no_member) in
     let others = earlier_found (doubled kinds.AttributeDeclaration) (earlier_found (doubled kinds.GroupDefinition) (doubled kinds.AttributeGroupDefinition)) in
     let one_type = left_none (doubled_type documents) (earlier_found (doubled kinds.ElementDeclaration) others) single in
     let one_element = left_none (doubled kinds.ElementDeclaration) others (right_none (doubled_type documents) (earlier_found (doubled kinds.ElementDeclaration) others) single) in
@@ -160,8 +161,8 @@ is_judged documents schemas e =
         faults = mapped_none (found_fault (types_found 0 documents)) (first_type_fault (simple_faults forms)) sound;
         circles = mapped_none (found_by_number (types_found 0 documents)) (first_circular forms) no_type;
         derivations = mapped_none (found_fault (types_found 0 documents)) (first_derivation_fault forms 0 seen.types) no_derivation;
-        elements = mapped_none (found_particle documents) (first_disagreement seen.types seen.groups) (left_none at_element at_attribute no_member);
-        attributes = mapped_none (found_attribute (types_found 0 documents)) (first_doubled seen.types seen.attribute_groups) (right_none at_element at_attribute no_member);
+        elements = mapped_none (found_particle documents) (first_disagreement seen.types seen.groups) (left_none at_element of_base no_member);
+        attributes = mapped_none (found_attribute (types_found 0 documents)) (first_doubled seen.types seen.attribute_groups) (left_none at_attribute (earlier_found at_element of_base) no_complex);
         named = mapped_none kind_found (first_failing (is_named_kind declared) (element_kinds seen.types seen.groups)) (none_found UnknownName (unnamed_kind declared seen) seventh schemas e6);
         simple = mapped_none kind_found (first_failing (is_simple_kind declared forms) (attribute_kinds seen.types seen.attribute_groups)) (none_found Inconsistent (unsimple_kind declared forms seen) written schemas e7);
       },

@@ -19,7 +19,7 @@ use Rattle.gx_schema_syntax.specs.declared.written.WrittenFacet.{WrittenFacet}
 use Rattle.gx_schema_content.specs.declared.effective.Effective.{Effective}
 use Rattle.gx_schema_simple.specs.Varieties.{variety_of}
 use Rattle.gx_schema.specs.DerivationFaults.{has_complex_content}
-use Rattle.gx_schema.specs.SchemaTypes.{TypeMeanings, complex_content, schema_types}
+use Rattle.gx_schema.specs.SchemaTypes.{TypeMeanings, declared_complex, schema_types}
 
 -- a base is a built-in type that may be named, or one of so many declared types
 abbrev pub IsReadBase : (count : ℕ) → Base → Type 0
@@ -66,6 +66,6 @@ schemas_with declared types held elements targets = record { types = types_with 
 
 -- contents and attributes keep to what schemas ask of those of types
 pub record HoldWhatFits (schemas : SchemaSet) (held : HeldByTypes) : Type 0 where
-  pub content : (number : ℕ) → ContentFits schemas (complex_content (held.content number))
+  pub content : (number : ℕ) → ContentFits schemas (declared_complex (held.content number))
   pub attributes : (number : ℕ) → HoldsOfEach (λ (attribute : AttributeUse). IsTrue (is_simple_type schemas attribute.kind)) (held.uses number)
   pub distinct : (number : ℕ) → AreDistinctBy same_name (map (λ (attribute : AttributeUse). attribute.name) (held.uses number))

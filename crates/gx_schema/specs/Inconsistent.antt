@@ -38,8 +38,8 @@ faulty_derivation documents forms seen =
 abbrev pub found_extension : List Found → DifferingExtension → Found
 found_extension types extension = found_in_place extension.place (found_by_number types extension.number)
 
-abbrev pub differing_extension : List DocumentTree → SeenComponents → Option Found
-differing_extension documents seen = option_map (found_extension (types_found 0 documents)) (first_differing_extension seen.types seen.groups)
+abbrev pub extension_found : List DocumentTree → SeenComponents → Option Found
+extension_found documents seen = option_map (found_extension (types_found 0 documents)) (first_differing_extension seen.types seen.groups)
 
 -- the first name of a kind that is declared twice
 abbrev pub doubled_declaration : List DocumentTree → Option Found
@@ -64,15 +64,17 @@ doubled_attribute documents seen = option_map (found_attribute (types_found 0 do
 
 -- faults of single declarations
 abbrev pub faulty_declaration : List DocumentTree → Option Found
-faulty_declaration documents = earlier_found (disordered_bounds documents) (complex_attribute_type documents)
+faulty_declaration documents = earlier_found (complex_attribute_type documents) (disordered_bounds documents)
 
 -- faults of complex types
 abbrev pub faulty_complex_type : List DocumentTree → List TypeForm → SeenComponents → Option Found
 faulty_complex_type documents forms seen =
-    earlier_found (faulty_derivation documents forms seen) (earlier_found (differing_extension documents seen)
-    (earlier_found (disagreeing_element documents seen) (doubled_attribute documents seen)))
+    earlier_found (doubled_attribute documents seen) (earlier_found (disagreeing_element documents seen)
+    (earlier_found (extension_found documents seen) (faulty_derivation documents forms seen)))
 
+-- the first by place, and at one place in this order: a doubled declaration, a doubled attribute, an element with two types, an extension that is mixed
+-- otherwise than its base, a base of another kind, a faulty simple type, an attribute of a complex type, bounds out of order
 abbrev pub inconsistent : List DocumentTree → List TypeForm → SeenComponents → Option Found
 inconsistent documents forms seen =
-    earlier_found (doubled_declaration documents) (earlier_found (faulty_type documents forms)
-    (earlier_found (faulty_declaration documents) (faulty_complex_type documents forms seen)))
+    earlier_found (doubled_declaration documents) (earlier_found (faulty_complex_type documents forms seen)
+    (earlier_found (faulty_type documents forms) (faulty_declaration documents)))

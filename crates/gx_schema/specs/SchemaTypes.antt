@@ -50,8 +50,8 @@ simple_content declared (Atomic bottom) facets = contents.Atomic facets
 simple_content declared NoValues facets = contents.Atomic facets
 simple_content declared Hidden facets = contents.Atomic facets
 
-abbrev pub complex_content : Effective → Content
-complex_content effective = contents.Complex effective.mixed (model_of effective.mixed effective.content)
+abbrev pub declared_complex : Effective → Content
+declared_complex effective = contents.Complex effective.mixed (model_of effective.mixed effective.content)
 
 -- what types mean beside their forms, by number: the varieties of their values, their contents and their attributes
 pub record TypeMeanings : Type 0 where
@@ -67,7 +67,7 @@ content_declared declared types meanings number (forms.List place item) =
     simple_content declared (meanings.variety number) (own_facets_over meanings.variety (forms.List place item))
 content_declared declared types meanings number (forms.SimpleContent base facets) =
     contents.Simple (base_name declared (simple_base types base)) (own_facets_over meanings.variety (forms.SimpleContent base facets))
-content_declared declared types meanings number (forms.ComplexContent base) = complex_content (meanings.content number)
+content_declared declared types meanings number (forms.ComplexContent base) = declared_complex (meanings.content number)
 
 abbrev pub schema_type : List TypeName → List TypeForm → TypeMeanings → (number : ℕ) → TypeName → TypeForm → Declared
 schema_type declared types meanings number name form = record {

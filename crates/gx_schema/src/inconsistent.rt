@@ -1,7 +1,7 @@
 // Declarations that disagree.
 
 ghost use Rattle.std.specs.Prelude.{◌≡◌, IfOk, Some};
-ghost use Rattle.gx_schema.specs.Inconsistent.{differing_extension, disagreeing_element, doubled_attribute, doubled_declaration, faulty_complex_type, faulty_declaration, faulty_derivation, faulty_type, found_particle, inconsistent};
+ghost use Rattle.gx_schema.specs.Inconsistent.{extension_found, disagreeing_element, doubled_attribute, doubled_declaration, faulty_complex_type, faulty_declaration, faulty_derivation, faulty_type, found_particle, inconsistent};
 ghost use Rattle.gx_schema.specs.FirstFound.{earlier_found};
 ghost use Rattle.gx_schema.specs.Found.{file_of_place, found_by_number, found_in_place, types_found};
 
@@ -22,8 +22,8 @@ use gx_schema_syntax::written::SchemaDocument;
 use gx_typetext::print::print_name;
 use std::alloc::{AllocError, Global};
 
-/// The first declaration that disagrees with others, by place: the second global declaration of a name and kind; a faulty simple type;
-/// a particle whose bounds are out of order, or an attribute of a complex type; or a faulty complex type.
+/// The first declaration that disagrees with others, by place, and at one place in this order: the second global declaration of a name and
+/// kind; a faulty complex type; a faulty simple type; an attribute of a complex type, or a particle whose bounds are out of order.
 pub fn inconsistent(
     alloc: Global,
     documents: &[SchemaDocument],
@@ -33,23 +33,24 @@ pub fn inconsistent(
     ensures { IfOk result (λ found. found ≡ inconsistent documents.now forms.now seen.now) }
 {
     let declaration = faulty_declaration(alloc, documents)?;
-    let complex_type = faulty_complex_type(alloc, documents, forms, seen)?;
-    let behind = earlier_found(declaration, complex_type);
-    inconsistent_before(alloc, documents, forms, behind)
+    let simple_type = faulty_type(alloc, documents, forms)?;
+    let behind = earlier_found(simple_type, declaration);
+    inconsistent_before(alloc, documents, forms, seen, behind)
 }
 
-// The first of doubled declarations, faulty simple types, and what was found beside them.
+// The first of doubled declarations, faulty complex types, and what was found beside them.
 fn inconsistent_before(
     alloc: Global,
     documents: &[SchemaDocument],
     forms: &[TypeForm],
+    seen: &SeenComponents,
     behind: Option<Found>,
 ) -> Result<Option<Found>, AllocError>
-    ensures { IfOk result (λ found. found ≡ earlier_found (doubled_declaration documents.now) (earlier_found (faulty_type documents.now forms.now) behind)) }
+    ensures { IfOk result (λ found. found ≡ earlier_found (doubled_declaration documents.now) (earlier_found (faulty_complex_type documents.now forms.now seen.now) behind)) }
 {
-    let simple_type = faulty_type(alloc, documents, forms)?;
+    let complex_type = faulty_complex_type(alloc, documents, forms, seen)?;
     let doubled = doubled_declaration(alloc, documents)?;
-    Ok(earlier_found(doubled, earlier_found(simple_type, behind)))
+    Ok(earlier_found(doubled, earlier_found(complex_type, behind)))
 }
 
 fn doubled_declaration(
@@ -109,7 +110,7 @@ fn faulty_declaration(
 {
     let bounds = disordered_bounds(alloc, documents)?;
     let attribute = complex_attribute_type(alloc, documents)?;
-    Ok(earlier_found(bounds, attribute))
+    Ok(earlier_found(attribute, bounds))
 }
 
 fn faulty_complex_type(
@@ -120,30 +121,23 @@ fn faulty_complex_type(
 ) -> Result<Option<Found>, AllocError>
     ensures { IfOk result (λ found. found ≡ faulty_complex_type documents.now forms.now seen.now) }
 {
-    let attribute = doubled_attribute(alloc, documents, seen)?;
-    let element = disagreeing_element(alloc, documents, seen)?;
-    faulty_derivation_before(
-        alloc,
-        documents,
-        forms,
-        seen,
-        earlier_found(element, attribute),
-    )
+    let derivation = faulty_derivation(alloc, documents, forms, seen)?;
+    let extension = extension_found(alloc, documents, seen)?;
+    faulty_member_before(alloc, documents, seen, earlier_found(extension, derivation))
 }
 
-// The first of faulty derivations, and what was found beside them.
-fn faulty_derivation_before(
+// The first of doubled attributes, elements that disagree, and what was found beside them.
+fn faulty_member_before(
     alloc: Global,
     documents: &[SchemaDocument],
-    forms: &[TypeForm],
     seen: &SeenComponents,
     behind: Option<Found>,
 ) -> Result<Option<Found>, AllocError>
-    ensures { IfOk result (λ found. found ≡ earlier_found (faulty_derivation documents.now forms.now seen.now) (earlier_found (differing_extension documents.now seen.now) behind)) }
+    ensures { IfOk result (λ found. found ≡ earlier_found (doubled_attribute documents.now seen.now) (earlier_found (disagreeing_element documents.now seen.now) behind)) }
 {
-    let extension = differing_extension(alloc, documents, seen)?;
-    let derivation = faulty_derivation(alloc, documents, forms, seen)?;
-    Ok(earlier_found(derivation, earlier_found(extension, behind)))
+    let element = disagreeing_element(alloc, documents, seen)?;
+    let attribute = doubled_attribute(alloc, documents, seen)?;
+    Ok(earlier_found(attribute, earlier_found(element, behind)))
 }
 
 fn faulty_derivation(
@@ -160,12 +154,12 @@ fn faulty_derivation(
     }
 }
 
-fn differing_extension(
+fn extension_found(
     alloc: Global,
     documents: &[SchemaDocument],
     seen: &SeenComponents,
 ) -> Result<Option<Found>, AllocError>
-    ensures { IfOk result (λ found. found ≡ differing_extension documents.now seen.now) }
+    ensures { IfOk result (λ found. found ≡ extension_found documents.now seen.now) }
 {
     match first_differing_extension(alloc, &seen.types, &seen.groups)? {
         Some(extension) => found_in_type(alloc, documents, extension.place, extension.number),

@@ -1,4 +1,4 @@
-// Laws over the definitions.
+// Laws of schema import.
 
 ghost use Rattle.gx_schema.specs.Laws.{AnImportExists, ImportsAreOne, ImportsAreSchemaSets};
 

@@ -2,7 +2,7 @@
 
 ghost use Rattle.std.specs.Prelude.{◌≡◌, IfOk, map, None, Some, [], slice_index_or};
 ghost use Rattle.gx_schema_simple.specs.Meanings.{own_facets_over};
-ghost use Rattle.gx_schema.specs.SchemaTypes.{base_name, complex_content, content_declared, derived_from_name, schema_element, schema_type, schema_types, schema_types_from, simple_content};
+ghost use Rattle.gx_schema.specs.SchemaTypes.{base_name, declared_complex, content_declared, derived_from_name, schema_element, schema_type, schema_types, schema_types_from, simple_content};
 ghost use Rattle.gx_schema.specs.MeaningsView.{effective_at, meanings_view};
 
 use crate::simple_bases::simple_base;
@@ -117,17 +117,17 @@ fn content_declared(
             Ok(Content::Simple(base_name(place.names, simple)?, facets))
         }
         TypeForm::ComplexContent { .. } => {
-            complex_content(alloc, &place.tables.contents, place.number)
+            declared_complex(alloc, &place.tables.contents, place.number)
         }
     }
 }
 
-fn complex_content(
+fn declared_complex(
     alloc: Global,
     contents: &[Effective],
     number: usize,
 ) -> Result<Content, AllocError>
-    ensures { IfOk result (λ content. content ≡ complex_content (effective_at contents.now number)) }
+    ensures { IfOk result (λ content. content ≡ declared_complex (effective_at contents.now number)) }
 {
     match contents.get(number) {
         Some(effective) => Ok(Content::Complex {
