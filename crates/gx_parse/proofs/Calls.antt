@@ -1,22 +1,21 @@
 -- How the arguments of a call are read.
-use Rattle.std.proofs.Common.{◌≡◌, ℕ, zero, suc, Bool, true, false, List, [], ◌∷◌, ◌++◌, length, refl, sym, ap, subst, ◌∙◌, append_assoc, append-nil}
+use Rattle.std.proofs.Common.{◌≡◌, ℕ, zero, suc, Bool, true, false, List, [], ◌∷◌, ◌++◌, refl, sym, ap, subst, ◌∙◌, append_assoc, append-nil}
 use Rattle.gx_ast.specs.SyntaxTree.{SyntaxTree, SyntaxTrees, a_tree, no_tree}
 use Rattle.gx_ast.specs.SyntaxView.{trees_of}
 use Rattle.gx_grammar.specs.Value.{nothing, node, pair, no_item, an_item}
-use Rattle.gx_grammar.specs.Grammar.{empty, ◌&◌, choose, rule, made}
+use Rattle.gx_grammar.specs.Grammar.{empty, ◌&◌, choose, rule}
 use Rattle.gx_grammar.specs.Apart.{is}
 use Rattle.gx_grammar.specs.First.{by_character}
-use Rattle.gx_grammar.specs.Reading.{State, Reading}
 use Rattle.gx_grammar.specs.Ran.{Standing, Going, GaveUp, Lost, Ran, Looked, Loses, left_of}
 use Rattle.gx_grammar.proofs.PublicLaws.{ran_full, ran_idle, ran_item, ran_none}
 use Rattle.gx_parse_grammar.specs.declared.word.Word.TheVariants as word
 use Rattle.gx_parse_grammar.specs.Nodes.{Made, Arguments, arguments_value, second_value, trees_in, tree}
 use Rattle.gx_parse_grammar.specs.Grammar.{Phrase, word_of, lexeme, at_tokens, single, arguments, arguments_in, more_arguments, place_in}
 use Rattle.gx_parse_tokens.specs.Reading.{call, read_in}
-use Rattle.gx_parse.specs.Parsing.{Listed, Passed, trees_before, read_item, read_items}
+use Rattle.gx_parse_parts.specs.Parsing.{Listed, Passed, trees_before, read_item, read_items}
 use Rattle.gx_parse_tokens.specs.Reading.{Added}
-use Rattle.gx_parse.proofs.Chains.{ran_any}
-use Rattle.gx_parse.proofs.Phrases.{in_both, in_empty, in_left, in_right, in_made, in_rule, loses_done, loses_ran}
+use Rattle.gx_parse_parts.proofs.Chains.{ran_any}
+use Rattle.gx_parse_parts.proofs.Phrases.{in_both, in_empty, in_left, in_right, in_made, in_rule, loses_done, loses_ran}
 
 pub trees_listed : (us : List SyntaxTree) → trees_before us no_tree ≡ trees_of us
 trees_listed [] = refl

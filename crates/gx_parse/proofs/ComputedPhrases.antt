@@ -1,11 +1,11 @@
 -- How computed constructors are read behind their names.
-use Rattle.std.proofs.Common.{◌≡◌, ℕ, ◌+◌, Bool, true, false, List, [], ◌∷◌, refl, sym, ap, subst, ◌∙◌, Option, Some, None}
+use Rattle.std.proofs.Common.{◌≡◌, ℕ, ◌+◌, Bool, true, false, List, [], ◌∷◌, refl, sym, subst, Option, Some, None}
 use Rattle.gx_base.specs.declared.place.Place.{Place}
 use Rattle.gx_ast.specs.declared.name.Axis.{Axis}
 use Rattle.gx_ast.specs.declared.name.QName.{QName}
 use Rattle.gx_ast.specs.SyntaxTree.{SyntaxForm, SyntaxTree, at as located}
 use Rattle.gx_grammar.specs.Value.{nothing, node, pair}
-use Rattle.gx_grammar.specs.Grammar.{token, empty, ◌&◌, choose, made}
+use Rattle.gx_grammar.specs.Grammar.{token, empty, ◌&◌}
 use Rattle.gx_grammar.specs.Apart.{is}
 use Rattle.gx_grammar.specs.First.{by_character}
 use Rattle.gx_grammar.specs.Reading.{State, Reading}
@@ -15,15 +15,15 @@ use Rattle.gx_parse_grammar.specs.declared.word.ComputedNode.{ComputedNode}
 use Rattle.gx_parse_grammar.specs.declared.word.NamedNode.{NamedNode}
 use Rattle.gx_parse_tokens.specs.declared.names.ReadName.{ReadName}
 use Rattle.gx_parse_tokens.specs.Names.{name_made}
-use Rattle.gx_parse_grammar.specs.Nodes.{Made, Constructs, Tree, Name, name_at, name_length, second_value, tree}
+use Rattle.gx_parse_grammar.specs.Nodes.{Made, Constructs, name_at, name_length, second_value, tree}
 use Rattle.gx_parse_grammar.specs.Tokens.{gap, constructor, no_constructor}
 use Rattle.gx_parse_grammar.specs.Types.{named}
 use Rattle.gx_parse_grammar.specs.NodeTests.{axis_word, axis_test}
 use Rattle.gx_parse_grammar.specs.Computed.{computed_form, computed_named, computed_value, constructor_value, named_node_value, node_named}
 use Rattle.gx_parse_grammar.specs.Grammar.{Phrase, word_of, lexeme, at_tokens, expression, after_name, after_axis, behind_any_name, braced, computed, constructed, constructed_by, constructor_name, named_node, no_node, step_of, step_value, place_in}
 use Rattle.gx_parse_tokens.specs.Reading.{read_in, read_one}
-use Rattle.gx_parse.specs.Parsing.{Passes}
-use Rattle.gx_parse.proofs.Phrases.{in_token, in_both, in_empty, in_left, in_right, in_made}
+use Rattle.gx_parse_parts.specs.Parsing.{Passes}
+use Rattle.gx_parse_parts.proofs.Phrases.{in_token, in_both, in_empty, in_left, in_right, in_made}
 use Rattle.gx_parse.proofs.Steps.{name_placed}
 
 module _ (text : List ℕ) (n : ℕ) where

@@ -1,18 +1,13 @@
 -- What the reading of a whole text says of it.
-use Rattle.std.proofs.Common.{◌≡◌, ◌≢◌, ◌∷◌, Option, Some, None, ℕ, zero, suc, ◌+◌, ◌≤◌, ◌<◌, true, List, [], length, Result, Ok, Err, IfOk, IfErr, refl, sym, ap, subst, ◌∙◌, arith, ◌⊎◌, inl, inr, encode_utf8_all}
-use Rattle.std.specs.Str.{all_scalars, chars, IsUtf8, IsValidUpTo}
-use Rattle.std.proofs.lemmas.Str.{chars-encodes, length-le-encodes}
-use Rattle.std.proofs.lemmas.List.{take_all}
-use Rattle.gx_base.specs.declared.place.Place.{Place}
+use Rattle.std.proofs.Common.{◌≡◌, ◌≢◌, ◌∷◌, Option, Some, None, ℕ, ◌≤◌, List, [], length, Result, Ok, Err, IfOk, IfErr, refl, sym, ap, subst, ◌∙◌, encode_utf8_all}
+use Rattle.std.proofs.lemmas.Str.{length-le-encodes}
 use Rattle.gx_ast.specs.declared.query.Query.{Query}
 use Rattle.gx_grammar.specs.Value.{node}
-use Rattle.gx_grammar.specs.Text.{AtEnd, Nowhere, IsVerdict, read_text, whole_only, with_rest}
+use Rattle.gx_grammar.specs.Text.{IsVerdict, read_text, whole_only, with_rest}
 use Rattle.gx_grammar.specs.Ran.{Standing, Going, GaveUp, Lost, Ran}
-use Rattle.gx_grammar.specs.Reading.{Refusal, Unfit, Faulty, TooDeep, Reading, start}
-use Rattle.gx_grammar.proofs.PublicLaws.{exact_text, never_too_deep, same_verdict, unique}
+use Rattle.gx_grammar.specs.Reading.{Refusal, Unfit, Reading, start}
 use Rattle.gx_parse_tokens.specs.Reading.{call, read_in, refusal_of, Ended}
 use Rattle.gx_parse_grammar.specs.Levels.{more_than}
-use Rattle.gx_parse_grammar.specs.Fronts.{fronts}
 use Rattle.gx_parse_grammar.specs.declared.refusal.SyntaxRule.TheVariants.{NotUtf8, Syntax, TooNested, LiteralTooLarge, BadReference}
 use Rattle.gx_parse_grammar.specs.declared.refusal.SyntaxRefusal.{SyntaxRefusal}
 use Rattle.gx_parse_grammar.specs.declared.refusal.SyntaxRefusal.TheVariants.{Refused as RefusedBy, Memory}
@@ -24,15 +19,15 @@ use Rattle.gx_parse_grammar.specs.Nodes.{Made, Whole}
 use Rattle.gx_parse_grammar.specs.Grammar.{query_language, place_in}
 use Rattle.gx_parse_grammar.specs.Prolog.{query}
 use Rattle.gx_parse_grammar.specs.Query.{IsQuery, IsText, Parses, parsed, RefusesText, RefusesBytes}
-use Rattle.gx_parse.specs.Outcome.{refusal_at}
+use Rattle.gx_parse.specs.Outcome.{syntax_refusal_at}
 use Rattle.gx_parse_grammar.proofs.Verdict.{verdict}
 
 -- what the reading of a whole text says, where it ended so
 abbrev pub Says : List ℕ → Query → Option End → Type 0
 Says text t None = IsQuery text t
-Says text t (Some end) = RefusesText (refusal_at text end) text
+Says text t (Some end) = RefusesText (syntax_refusal_at text end) text
 
-by_refusal : (text : List ℕ) (r : Refused) → IsVerdict (query_language (place_in text)) (query (place_in text)) text (Err (refusal_of r)) → RefusesText (refusal_at text (ended.GaveUp r)) text
+by_refusal : (text : List ℕ) (r : Refused) → IsVerdict (query_language (place_in text)) (query (place_in text)) text (Err (refusal_of r)) → RefusesText (syntax_refusal_at text (ended.GaveUp r)) text
 by_refusal text (refused_by.Unfit far) v = record { left = far; unfit = v; there = refl }
 by_refusal text (refused_by.Limit left) v = record { left = left; faulty = v; there = refl }
 by_refusal text (refused_by.Number left) v = record { left = left; faulty = v; there = refl }

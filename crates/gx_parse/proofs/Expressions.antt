@@ -1,41 +1,36 @@
 -- How the functions of the parser go together.
-use Rattle.std.proofs.Common.{◌≡◌, ◌≤◌, ℕ, zero, suc, ◌+◌, Bool, true, false, if◌then◌else◌, List, [], ◌∷◌, ◌++◌, length, refl, sym, ap, subst, ◌∙◌, Result, Ok, Err, IfOk, Option, Some, None, codes, arith}
+use Rattle.std.proofs.Common.{◌≡◌, ◌≤◌, ℕ, zero, suc, ◌+◌, Bool, true, false, List, [], ◌∷◌, refl, sym, ap, subst, ◌∙◌, Result, IfOk, Some, None, arith}
 use Rattle.gx_base.specs.declared.place.Place.{Place}
-use Rattle.gx_ast.specs.SyntaxTree.{SyntaxTree, SyntaxTrees, at as located, signed, conditional, parenthesised, empty_sequence, a_tree, no_tree}
-use Rattle.gx_ast.specs.SyntaxView.{trees_of}
-use Rattle.gx_grammar.specs.Value.{nothing, node, pair, an_item, no_item}
+use Rattle.gx_ast.specs.SyntaxTree.{SyntaxTree, SyntaxTrees, at as located, signed, conditional, parenthesised, empty_sequence}
+use Rattle.gx_grammar.specs.Value.{nothing, node, pair}
 use Rattle.gx_grammar.specs.Grammar.{Guard, token, empty, ◌&◌, keyed, choose, many, rule, made}
 use Rattle.gx_grammar.specs.Apart.{is}
 use Rattle.gx_grammar.specs.First.{by_character}
-use Rattle.gx_grammar.specs.Reading.{State, Reading, go_on, read_with, repeat}
-use Rattle.gx_grammar.specs.Ran.{Standing, Going, GaveUp, Lost, Ran, Looked, IsDone, Loses, Makes, left_of}
-use Rattle.gx_grammar.proofs.PublicLaws.{ran_idle, ran_item, ran_makes, ran_none}
+use Rattle.gx_grammar.specs.Ran.{Standing, Going, GaveUp, Lost, Ran, Looked, IsDone, Makes, left_of}
+use Rattle.gx_grammar.proofs.PublicLaws.{ran_makes}
 use Rattle.gx_parse_grammar.specs.declared.word.Barrier.TheVariants as barrier
 use Rattle.gx_parse_grammar.specs.declared.word.Word.{Word}
 use Rattle.gx_parse_grammar.specs.declared.word.Word.TheVariants as word
 use Rattle.gx_parse_grammar.specs.declared.word.WordSet.{WordSet}
 use Rattle.gx_parse_grammar.specs.declared.word.WordSet.TheVariants as set
-use Rattle.gx_parse.specs.declared.parts.Sign.{Sign}
-use Rattle.gx_parse_tokens.specs.declared.names.ReadName.{ReadName}
-use Rattle.gx_parse.specs.declared.members.Members.{Members}
-use Rattle.gx_parse.specs.declared.members.Members.TheVariants.{Singles, Operands, Steps}
+use Rattle.gx_parse_parts.specs.declared.parts.Sign.{Sign}
+use Rattle.gx_parse_parts.specs.declared.members.Members.{Members}
+use Rattle.gx_parse_parts.specs.declared.members.Members.TheVariants.{Singles, Operands, Steps}
 use Rattle.gx_base.specs.NameCharacters.{is_ncname_start}
-use Rattle.gx_parse_tokens.specs.Names.{name_made}
-use Rattle.gx_parse_grammar.specs.Nodes.{Node, Made, Arguments, Found, Operator, Tree, name_at, name_length, named_value, second_value, signed_value, condition_value, parenthesised_value, arguments_value, trees_in, is_minus, tree, chain_value, joined_to}
+use Rattle.gx_parse_grammar.specs.Nodes.{Made, Arguments, Operator, name_at, name_length, named_value, second_value, signed_value, condition_value, parenthesised_value, is_minus, tree}
 use Rattle.gx_parse_grammar.specs.Tokens.{Token, one_of, gap, gap_then_open, gap_not_open, gap_then_dollar, gap_then_neither, barred, qname}
 use Rattle.gx_parse_grammar.specs.Direct.{direct_step}
-use Rattle.gx_parse_grammar.specs.Grammar.{Phrase, word_of, lexeme, at_tokens, keyword, operator, infix_operator, more, more_signs, single, rules, expression, ladder, other_operand, other_step, step, dots, literal, variable_step, parenthesised_step, more_arguments, arguments_in, arguments, behind_plain_name, behind_any_name, filtered_step, test_or_literal, path_from, signed_path, condition, branched, branched_or_name, begun, behind_keyword, opened_or_name, named_single, is_name, is_reserved, is_single, level_at, two, chain, query_language, place_in}
+use Rattle.gx_parse_grammar.specs.Grammar.{Phrase, word_of, lexeme, at_tokens, keyword, operator, infix_operator, more_signs, single, rules, expression, ladder, other_operand, other_step, step, dots, variable_step, parenthesised_step, arguments_in, behind_plain_name, behind_any_name, filtered_step, test_or_literal, path_from, signed_path, condition, branched, branched_or_name, begun, behind_keyword, opened_or_name, named_single, is_single, level_at, two, chain, place_in}
 use Rattle.gx_parse_grammar.specs.Casts.{casts}
 use Rattle.gx_parse_grammar.specs.declared.word.Opening.{Opening}
 use Rattle.gx_parse_grammar.specs.Binding.{opening_named, opened}
 use Rattle.gx_parse_grammar.specs.NodeTests.{wildcard_or, any_step}
 use Rattle.gx_parse_grammar.specs.declared.word.Branching.{Branching}
 use Rattle.gx_parse_grammar.specs.Typeswitch.{branching_named}
-use Rattle.gx_parse_tokens.specs.Reading.{NameRead, call, read_in, read_one}
-use Rattle.gx_parse_grammar.specs.Levels.{more_than}
-use Rattle.gx_parse.specs.Parsing.{KeepsTree, Listed, join_of, set_of, read_chain, chain_of, is_pair, most_of, member_of, named_tree, called_tree, signs_before, wrapped, read_item, read_items}
-use Rattle.gx_parse.proofs.Chains.{ran_any, ran_keeps, chain_reads, chain_ends, chain_goes_on}
-use Rattle.gx_parse.proofs.Phrases.{in_token, in_both, in_keyed, in_empty, in_left, in_right, in_made, in_rule, signed_wraps, loses_done, stays_done}
+use Rattle.gx_parse_tokens.specs.Reading.{call, read_in, read_one}
+use Rattle.gx_parse_parts.specs.Parsing.{KeepsTree, join_of, set_of, read_chain, chain_of, most_of, member_of, named_tree, called_tree, signs_before, wrapped}
+use Rattle.gx_parse_parts.proofs.Chains.{ran_any, ran_keeps, chain_reads, chain_ends, chain_goes_on}
+use Rattle.gx_parse_parts.proofs.Phrases.{in_token, in_both, in_keyed, in_empty, in_left, in_right, in_made, in_rule, signed_wraps}
 
 module _ (text : List ℕ) (n : ℕ) where
   -- the levels of operators

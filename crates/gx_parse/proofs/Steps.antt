@@ -1,11 +1,10 @@
 -- How steps are read behind their names, and their predicates.
-use Rattle.std.proofs.Common.{◌≡◌, ◌≤◌, ℕ, zero, suc, ◌+◌, Bool, true, false, if◌then◌else◌, List, [], ◌∷◌, ◌++◌, refl, sym, ap, subst, ◌∙◌, Option, Some, None, arith}
+use Rattle.std.proofs.Common.{◌≡◌, ◌≤◌, ℕ, zero, suc, ◌+◌, Bool, true, false, if◌then◌else◌, List, [], ◌∷◌, ◌++◌, refl, sym, ap, subst, Option, Some, None, arith}
 use Rattle.gx_base.specs.declared.place.Place.{Place}
 use Rattle.gx_ast.specs.declared.name.QName.{QName}
-use Rattle.gx_ast.specs.declared.name.Axis.{Axis}
 use Rattle.gx_ast.specs.SyntaxTree.{SyntaxTree, at as located, filtered, a_tree}
 use Rattle.gx_ast.specs.SyntaxView.{trees_of}
-use Rattle.gx_grammar.specs.Value.{nothing, characters, node, pair}
+use Rattle.gx_grammar.specs.Value.{nothing, characters, pair}
 use Rattle.gx_grammar.specs.Grammar.{token, empty, ◌&◌, choose, made}
 use Rattle.gx_grammar.specs.Apart.{is}
 use Rattle.gx_grammar.specs.First.{by_character}
@@ -17,14 +16,14 @@ use Rattle.gx_parse_grammar.specs.declared.kind_words.KindWord.{KindWord}
 use Rattle.gx_parse_grammar.specs.declared.kind_words.TestContent.{TestContent}
 use Rattle.gx_parse_tokens.specs.declared.names.ReadName.{ReadName}
 use Rattle.gx_parse_tokens.specs.Names.{name_made, part_made}
-use Rattle.gx_parse_grammar.specs.Nodes.{Made, Arguments, name_at, name_length, predicate_value, predicates_in, filtered_value, place_of, tree}
+use Rattle.gx_parse_grammar.specs.Nodes.{Made, name_at, name_length, predicate_value, predicates_in, filtered_value, place_of, tree}
 use Rattle.gx_parse_grammar.specs.Tokens.{gap, barred}
 use Rattle.gx_parse_grammar.specs.Types.{kind_word}
-use Rattle.gx_parse_grammar.specs.NodeTests.{axis_word, test_of, step_tree, maybe_content, kind_content, axis_test}
-use Rattle.gx_parse_grammar.specs.Grammar.{Phrase, word_of, lexeme, at_tokens, is_reserved, expression, arguments, after_name, after_axis, step_of, step_value, behind_any_name, predicate, more_predicates, filtered_step, place_in}
+use Rattle.gx_parse_grammar.specs.NodeTests.{test_of, step_tree, maybe_content, kind_content}
+use Rattle.gx_parse_grammar.specs.Grammar.{Phrase, word_of, lexeme, at_tokens, is_reserved, expression, arguments, after_name, step_of, step_value, predicate, more_predicates, filtered_step, place_in}
 use Rattle.gx_parse_tokens.specs.Reading.{read_in, read_one}
-use Rattle.gx_parse.specs.Parsing.{Passes, predicates_before, filtered_tree}
-use Rattle.gx_parse.proofs.Phrases.{in_token, in_both, in_empty, in_left, in_right, in_made}
+use Rattle.gx_parse_parts.specs.Parsing.{Passes, predicates_before, filtered_tree}
+use Rattle.gx_parse_parts.proofs.Phrases.{in_token, in_both, in_empty, in_left, in_right, in_made}
 
 -- the place of a name that was read
 pub name_placed : (p : Place) (name : ReadName) → (name_at p (name_made name)).place ≡ p

@@ -24,6 +24,6 @@ left_at (refused_by.Number left) = left
 left_at (refused_by.Reference left) = left
 
 -- the refusal of a text whose reading ended so
-abbrev pub refusal_at : List ℕ → End → SyntaxRefusal
-refusal_at text ended.Lost = Memory
-refusal_at text (ended.GaveUp r) = Refused (rule_of r) (place_in text (left_at r))
+abbrev pub syntax_refusal_at : List ℕ → End → SyntaxRefusal
+syntax_refusal_at text ended.Lost = Memory
+syntax_refusal_at text (ended.GaveUp r) = Refused (rule_of r) (place_in text (left_at r))

@@ -4,23 +4,23 @@ ghost use Rattle.std.specs.Prelude.{◌≡◌, ◌+◌};
 ghost use Rattle.gx_grammar.specs.Value.{nothing};
 ghost use Rattle.gx_grammar.specs.Ran.{Ran, left_of};
 ghost use Rattle.gx_parse_grammar.specs.Grammar.{branched, condition, place_in, typeswitch};
-ghost use Rattle.gx_parse.specs.Lists.{items_before};
+ghost use Rattle.gx_parse_parts.specs.Lists.{items_before};
 ghost use Rattle.gx_parse_grammar.specs.Nodes.{Made, name_length, tree};
 ghost use Rattle.gx_parse_tokens.specs.Reading.{Added};
 ghost use Rattle.gx_parse_tokens.specs.Reading.{read_in};
 ghost use Rattle.gx_parse_grammar.specs.Typeswitch.{case, case_made, cases, more_cases};
 
 use crate::operators::expression;
-use crate::parts::{keep, keyword, lexeme};
 use crate::singles::single;
-use crate::trees;
-use crate::typeswitch::{case_head, default_head, last_case, with_case};
 use gx_ast::expression::{Case, Expr};
 use gx_base::limits::CHAIN_MEMBERS;
 use gx_base::place::Place;
 use gx_parse_grammar::word::{Branching, Word, WordSet};
+use gx_parse_parts::parts::{keep, keyword, lexeme};
+use gx_parse_parts::trees;
 use gx_parse_tokens::reader::Reader;
 use gx_parse_tokens::source::Source;
+use gx_parse_types::typeswitch::{case_head, default_head, last_case, with_case};
 
 /// Reads what a name begins, which stood at the place.
 #[cycle(parsing)]

@@ -2,7 +2,7 @@
 
 ghost use Rattle.std.specs.Prelude.{◌≡◌, ◌+◌, ℕ};
 ghost use Rattle.gx_grammar.specs.Ran.{Ran, Standing, left_of};
-ghost use Rattle.gx_parse.specs.Parsing.{Passes};
+ghost use Rattle.gx_parse_parts.specs.Parsing.{Passes};
 ghost use Rattle.gx_parse_tokens.specs.Names.{name_made};
 ghost use Rattle.gx_parse_tokens.specs.Reading.{read_in};
 ghost use Rattle.gx_parse_tokens.specs.declared.names.ReadName.{ReadName};
@@ -11,12 +11,12 @@ ghost use Rattle.gx_parse_grammar.specs.Nodes.{name_length, tree};
 ghost use Rattle.gx_parse_grammar.specs.Types.{Gave, named};
 
 use crate::operators::expression;
-use crate::parts::{keep, lexeme};
-use crate::trees;
 use gx_ast::expression::Expr;
 use gx_ast::name::QName;
 use gx_base::place::Place;
 use gx_parse_grammar::word::{ComputedNode, NamedNode, Word, WordSet};
+use gx_parse_parts::parts::{keep, lexeme};
+use gx_parse_parts::trees;
 use gx_parse_tokens::reader::Reader;
 use gx_parse_tokens::source::Source;
 

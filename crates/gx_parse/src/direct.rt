@@ -1,42 +1,34 @@
 // The reader of direct constructors (XQuery 1.0, section 3.7.1).
 
-ghost use Rattle.std.specs.Prelude.{◌≡◌, ◌++◌, ℕ, List, suc};
+ghost use Rattle.std.specs.Prelude.{suc};
 ghost use Rattle.gx_ast.specs.SyntaxView.{attribute_parts_of, attributes_of, parts_of};
 ghost use Rattle.gx_grammar.specs.Grammar.{rule};
 ghost use Rattle.gx_grammar.specs.Ran.{Ran};
-ghost use Rattle.gx_grammar.specs.Value.{no_item, node, nothing};
+ghost use Rattle.gx_grammar.specs.Value.{no_item, node};
 ghost use Rattle.gx_parse_grammar.specs.Basics.{name, nested, within};
-ghost use Rattle.gx_parse_grammar.specs.Direct.{attribute, attribute_value, attributes, behind_attribute, brace_piece, cdata, content, content_if_any, content_piece, direct_step, element_at, end_tag, piece_made, plain_piece, reference_piece, start_of, symbol_piece, text_piece, value_in, value_piece, value_pieces};
-ghost use Rattle.gx_parse.specs.DirectReading.{MadeOrLost, OnePiece, attribute_made, ends_text};
+ghost use Rattle.gx_parse_grammar.specs.Direct.{attribute, attribute_value, attributes, brace_piece, content, content_if_any, content_piece, direct_step, element_at, piece_made, plain_piece, start_of, value_in, value_piece, value_pieces};
+ghost use Rattle.gx_parse_constructors.specs.DirectReading.{attribute_made};
 ghost use Rattle.gx_parse_grammar.specs.Grammar.{place_in};
-ghost use Rattle.gx_parse.specs.Lists.{OneMore};
+ghost use Rattle.gx_parse_parts.specs.Lists.{OneMore};
 ghost use Rattle.gx_parse_tokens.specs.Names.{name_made};
-ghost use Rattle.gx_parse_grammar.specs.Nodes.{AttributesAre, Made, PartsAre, ValueIs, tree};
-ghost use Rattle.gx_parse_grammar.specs.Pieces.{content_of, attribute_value_of};
+ghost use Rattle.gx_parse_grammar.specs.Nodes.{AttributesAre, PartsAre, ValueIs, tree};
 ghost use Rattle.gx_parse_tokens.specs.Reading.{call, read_in};
-ghost use Rattle.gx_parse.specs.Repeated.{listed_before};
-ghost use Rattle.gx_parse_grammar.specs.Types.{Gave, named};
+ghost use Rattle.gx_parse_parts.specs.Repeated.{listed_before};
 
 use crate::operators::expression;
-use crate::parts::{keep, with_item};
-use crate::strings::push;
-use crate::trees::{self, fitted};
 use gx_ast::expression::{AttributePart, DirectAttribute, Expr, Part};
-use gx_ast::name::QName;
-use gx_base::text_builder::TextBuilder;
-use gx_parse_grammar::pieces::{Piece, attribute_value_of, content_of};
+use gx_parse_constructors::pieces::{
+    ContentRead, all_parts, bare_name, behind_attribute, cdata, end_tag, reference_piece,
+    symbol_piece, text_piece, value_parts, with_piece,
+};
+use gx_parse_grammar::pieces::Piece;
 use gx_parse_grammar::runs::{Quote, Run};
 use gx_parse_grammar::word::{Barrier, Word, WordSet};
+use gx_parse_parts::parts::{keep, with_item};
+use gx_parse_parts::trees;
 use gx_parse_tokens::names::ReadName;
 use gx_parse_tokens::reader::Reader;
 use gx_parse_tokens::source::Source;
-
-// The parts of the content that was read so far, and the pieces behind them, which come to no parts yet.
-#[derive(Drop)]
-struct ContentRead {
-    parts: Vec<Part>,
-    pieces: Vec<Piece>,
-}
 
 /// Reads a direct element with the gap behind it.
 #[cycle(parsing)]
@@ -105,34 +97,6 @@ fn attribute(
     with_item(reader, list, DirectAttribute { name, value })
 }
 
-// Reads a name.
-fn bare_name(reader: &mut Reader<'_>, source: &Source<'_>) -> Option<QName>
-    ensures { (n : ℕ) → Gave named result reader.old reader.new (read_in source.now n (name (place_in source.now))) }
-{
-    let place = source.place(reader.left());
-    let Some(name) = reader.name(source.alloc()) else {
-        return None;
-    };
-    match name.at(source, place) {
-        Ok(written) => Some(written),
-        Err(_) => {
-            reader.lose();
-            None
-        }
-    }
-}
-
-// Reads what stands behind an attribute.
-fn behind_attribute(reader: &mut Reader<'_>)
-    ensures { (text : List ℕ) (n : ℕ) → Ran nothing reader.old reader.new (read_in text n behind_attribute) }
-{
-    if reader.looks_at_white() {
-        reader.white();
-    } else {
-        reader.no_attribute();
-    }
-}
-
 // Reads the value of an attribute.
 #[cycle(parsing)]
 fn attribute_value(reader: &mut Reader<'_>, source: &Source<'_>, levels: u8) -> Vec<AttributePart>
@@ -158,23 +122,6 @@ fn value_in(
     let pieces = value_pieces(reader, source, levels, quote);
     reader.word(WordSet::Only(quote.closing()));
     value_parts(reader, source, pieces)
-}
-
-// The parts of an attribute value; none where memory does not suffice.
-fn value_parts(
-    reader: &mut Reader<'_>,
-    source: &Source<'_>,
-    pieces: Vec<Piece>,
-) -> Vec<AttributePart>
-    ensures { MadeOrLost result.items (attribute_value_of pieces.items) reader.old reader.new }
-{
-    match attribute_value_of(source.alloc(), pieces) {
-        Ok(parts) => fitted(parts),
-        Err(_) => {
-            reader.lose();
-            Vec::new(source.alloc())
-        }
-    }
 }
 
 // Reads the pieces of an attribute value.
@@ -212,46 +159,6 @@ fn value_piece(reader: &mut Reader<'_>, source: &Source<'_>, levels: u8, quote: 
         return symbol_piece(reader, source, quote.doubled(), quote.symbol());
     }
     plain_piece(reader, source, levels, Run::Attribute(quote))
-}
-
-// Reads a piece that is a reference.
-fn reference_piece(reader: &mut Reader<'_>, source: &Source<'_>) -> Piece
-    ensures { (n : ℕ) → Ran (piece_made result) reader.old reader.new (read_in source.now n reference_piece) }
-{
-    let mut text = TextBuilder::new(source.alloc());
-    let character = reader.reference();
-    push(reader, &mut text, character);
-    Piece::Kept(text)
-}
-
-// Reads a word that stands for a character.
-fn symbol_piece(reader: &mut Reader<'_>, source: &Source<'_>, word: Word, symbol: char) -> Piece
-    ensures { (n : ℕ) → Ran (piece_made result) reader.old reader.new (read_in source.now n (symbol_piece word symbol)) }
-{
-    let mut text = TextBuilder::new(source.alloc());
-    reader.word(WordSet::Only(word));
-    push(reader, &mut text, symbol);
-    Piece::Literal(text)
-}
-
-// Reads literal text.
-fn text_piece(reader: &mut Reader<'_>, source: &Source<'_>, run: Run) -> Piece
-    ensures { (n : ℕ) → Ran (piece_made result) reader.old reader.new (read_in source.now n (text_piece run)) }
-{
-    let mut text = TextBuilder::new(source.alloc());
-    reader.text(run, &mut text);
-    Piece::Literal(text)
-}
-
-// Reads a CDATA section.
-fn cdata(reader: &mut Reader<'_>, source: &Source<'_>) -> Piece
-    ensures { (n : ℕ) → Ran (piece_made result) reader.old reader.new (read_in source.now n cdata) }
-{
-    let mut text = TextBuilder::new(source.alloc());
-    reader.word(WordSet::Only(Word::CdataOpen));
-    reader.cdata(&mut text);
-    reader.word(WordSet::Only(Word::TagEnd));
-    Piece::Kept(text)
 }
 
 // Reads braces or literal text.
@@ -315,20 +222,6 @@ fn content_if_any(
     parts
 }
 
-// Reads the end tag of the element with that name.
-fn end_tag(reader: &mut Reader<'_>, source: &Source<'_>, name: &ReadName)
-    ensures { (n : ℕ) → (v : Made) × Ran v reader.old reader.new (read_in source.now n (end_tag (name_made name.now))) }
-{
-    reader.word(WordSet::Only(Word::EndTagOpen));
-    let Ok(letters) = name.letters(source.alloc()) else {
-        reader.lose();
-        return;
-    };
-    reader.tag_name(letters.as_slice());
-    reader.blank();
-    reader.word(WordSet::Only(Word::TagEnd));
-}
-
 // Reads the content of an element.
 #[cycle(parsing)]
 fn content(reader: &mut Reader<'_>, source: &Source<'_>, levels: u8) -> Vec<Part>
@@ -347,75 +240,6 @@ fn content(reader: &mut Reader<'_>, source: &Source<'_>, levels: u8) -> Vec<Part
         left -= 1;
     }
     all_parts(reader, source, read)
-}
-
-// The content with a piece more. An element or an enclosed expression ends the text in front of it, so that what was read
-// becomes parts there, and no second list of all pieces is kept.
-fn with_piece(
-    reader: &mut Reader<'_>,
-    source: &Source<'_>,
-    read: ContentRead,
-    piece: Piece,
-) -> ContentRead
-    ensures { OnePiece (read.parts.items, read.pieces.items) piece (result.parts.items, result.pieces.items) reader.old reader.new }
-{
-    let ends_text = ends_text(&piece);
-    let ContentRead { parts, pieces } = read;
-    let pieces = with_item(reader, pieces, piece);
-    let read = ContentRead { parts, pieces };
-    if !ends_text {
-        return read;
-    }
-    let parts = all_parts(reader, source, read);
-    ContentRead {
-        parts,
-        pieces: Vec::new(source.alloc()),
-    }
-}
-
-// Whether the piece ends the text in front of it.
-fn ends_text(piece: &Piece) -> bool
-    ensures { result ≡ ends_text piece.now }
-{
-    matches!(piece, Piece::Element(_) | Piece::Enclosed(_))
-}
-
-// The parts of all that was read; others where memory does not suffice.
-fn all_parts(reader: &mut Reader<'_>, source: &Source<'_>, read: ContentRead) -> Vec<Part>
-    ensures { MadeOrLost result.items (read.parts.items ++ content_of read.pieces.items) reader.old reader.new }
-{
-    let ContentRead { parts, pieces } = read;
-    let further = content_parts(reader, source, pieces);
-    with_parts(reader, parts, further)
-}
-
-// The parts with further ones; others where memory does not suffice.
-fn with_parts(reader: &mut Reader<'_>, parts: Vec<Part>, further: Vec<Part>) -> Vec<Part>
-    ensures { MadeOrLost result.items (parts.items ++ further.items) reader.old reader.new }
-{
-    let mut list = parts;
-    if list.is_empty() {
-        return further;
-    }
-    let mut further = further;
-    if list.append(&mut further).is_err() {
-        reader.lose();
-        return list;
-    }
-    list
-}
-
-// The parts of content; none where memory does not suffice.
-fn content_parts(reader: &mut Reader<'_>, source: &Source<'_>, pieces: Vec<Piece>) -> Vec<Part>
-    ensures { MadeOrLost result.items (content_of pieces.items) reader.old reader.new }
-{
-    match content_of(source.alloc(), pieces) {
-        Ok(parts) => parts,
-        Err(_) => {
-            reader.lose();
-            Vec::new(source.alloc())
-        }
-    }
 }
 
 // Reads a piece of the content of an element.

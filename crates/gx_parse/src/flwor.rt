@@ -7,26 +7,28 @@ ghost use Rattle.gx_grammar.specs.Ran.{Looked, Ran, Standing, left_of};
 ghost use Rattle.gx_parse_grammar.specs.Binding.{clause, flwor, last_clause, more_bindings, more_clauses, quantified};
 ghost use Rattle.gx_parse_grammar.specs.Grammar.{Phrase, at_tokens, place_in, single, word_of};
 ghost use Rattle.gx_parse_grammar.specs.Keys.{key, key_made, more_keys, order_clause, order_clause_made, ordered};
-ghost use Rattle.gx_parse.specs.Lists.{OneMore, binding_made, clause_made, head_made, items_before};
+ghost use Rattle.gx_parse_parts.specs.Lists.{OneMore, binding_made, clause_made, head_made, items_before};
 ghost use Rattle.gx_parse_grammar.specs.Nodes.{Made, name_length, tree};
 ghost use Rattle.gx_parse_tokens.specs.Reading.{Added};
 ghost use Rattle.gx_parse_tokens.specs.Reading.{read_in};
 ghost use Rattle.gx_parse_grammar.specs.Types.{Gave};
 ghost use Rattle.gx_parse_grammar.specs.declared.word.Word.TheVariants as word;
 
-use crate::binding::{clause_of, first_head, last_binding, next_head, with_binding, with_clause};
-use crate::bound::key_order;
-use crate::keys::{last_key, with_key};
-use crate::parts::{keep, keyword, lexeme};
 use crate::singles::single;
-use crate::trees;
 use gx_ast::expression::{Binding, Clause, Expr, Key};
 use gx_ast::sequence_type::BoundVariable;
 use gx_base::limits::CHAIN_MEMBERS;
 use gx_base::place::Place;
 use gx_parse_grammar::word::{Binder, ClauseWord, Word, WordSet};
+use gx_parse_parts::parts::{keep, keyword, lexeme};
+use gx_parse_parts::trees;
 use gx_parse_tokens::reader::Reader;
 use gx_parse_tokens::source::Source;
+use gx_parse_types::binding::{
+    clause_of, first_head, last_binding, next_head, with_binding, with_clause,
+};
+use gx_parse_types::bound::key_order;
+use gx_parse_types::keys::{last_key, with_key};
 
 /// Reads a quantified expression behind its first word, which stood at the place.
 #[cycle(parsing)]

@@ -3,19 +3,19 @@
 ghost use Rattle.gx_grammar.specs.Ran.{Ran, Standing};
 ghost use Rattle.gx_parse_grammar.specs.Grammar.{Phrase, expression, ladder, other_operand, place_in, signed_path};
 ghost use Rattle.gx_parse_grammar.specs.Nodes.{tree};
-ghost use Rattle.gx_parse.specs.Parsing.{chain_of, member_of};
+ghost use Rattle.gx_parse_parts.specs.Parsing.{chain_of, member_of};
 ghost use Rattle.gx_parse_tokens.specs.Reading.{read_in};
 
-use crate::casts::casts;
-use crate::members::Members;
-use crate::parts::{infix_operator, joined, keep, last, more_signs, operator, with_signs};
 use crate::paths::{filtered, other_step, path, step};
 use crate::singles::single;
-use crate::trees;
 use gx_ast::expression::Expr;
 use gx_parse_grammar::word::WordSet;
+use gx_parse_parts::members::Members;
+use gx_parse_parts::parts::{infix_operator, joined, keep, last, more_signs, operator, with_signs};
+use gx_parse_parts::trees;
 use gx_parse_tokens::reader::Reader;
 use gx_parse_tokens::source::Source;
+use gx_parse_types::casts::casts;
 
 /// Reads an expression. So many singles may stand one inside another in it.
 #[cycle(parsing)]

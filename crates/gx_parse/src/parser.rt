@@ -1,13 +1,12 @@
 // The parser of queries.
 
 ghost use Rattle.std.specs.Prelude.{◌≡◌, ◌≤◌, length, IfOk, IfErr};
-ghost use Rattle.gx_parse.specs.Outcome.{left_at, refusal_at, rule_of};
+ghost use Rattle.gx_parse.specs.Outcome.{left_at, syntax_refusal_at, rule_of};
 ghost use Rattle.gx_parse_grammar.specs.Query.{IsQuery, Parses, RefusesBytes, RefusesText, parsed};
 
-use crate::prolog::query;
+use crate::definitions::query;
 use gx_ast::query::Query;
 use gx_base::limits::FILE_BYTES;
-use gx_base::place::Place;
 use gx_grammar::decode::{DecodeError, decode};
 use gx_parse_grammar::refusal::{SyntaxRefusal, SyntaxRule};
 use gx_parse_tokens::reader::{End, Reader, Refused};
@@ -50,7 +49,7 @@ fn parse_text(alloc: Global, text: &[char]) -> Result<Query, SyntaxRefusal>
 
 // The refusal of a text whose reading ended so.
 fn refusal(source: &Source<'_>, end: End) -> SyntaxRefusal
-    ensures { result ≡ refusal_at source.now end }
+    ensures { result ≡ syntax_refusal_at source.now end }
 {
     match end {
         End::Lost => SyntaxRefusal::Memory,

@@ -1,33 +1,36 @@
 // Steps, their predicates, and paths.
 
-ghost use Rattle.std.specs.Prelude.{◌≡◌, ◌+◌, None};
+ghost use Rattle.std.specs.Prelude.{◌≡◌, ◌+◌, ℕ, None};
 ghost use Rattle.gx_ast.specs.SyntaxView.{trees_of};
 ghost use Rattle.gx_grammar.specs.Value.{node, nothing};
 ghost use Rattle.gx_grammar.specs.Ran.{Ran, Standing, left_of};
-ghost use Rattle.gx_parse_grammar.specs.Grammar.{Phrase, after_axis, after_name, arguments, arguments_in, behind_any_name, constructed, filtered_step, more_arguments, more_predicates, other_step, parenthesised_step, path_from, place_in, predicate, step, step_of};
+ghost use Rattle.gx_parse_grammar.specs.Grammar.{Phrase, after_axis, after_name, arguments, arguments_in, behind_any_name, constructed, filtered_step, more_arguments, more_predicates, other_step, parenthesised_step, path_from, place_in, predicate, step, step_of, test_or_literal};
 ghost use Rattle.gx_parse_tokens.specs.Names.{name_made};
 ghost use Rattle.gx_parse_grammar.specs.Computed.{computed_named};
 ghost use Rattle.gx_parse_grammar.specs.NodeTests.{axis_word};
 ghost use Rattle.gx_parse_grammar.specs.Nodes.{Arguments, name_length, tree};
-ghost use Rattle.gx_parse.specs.Parsing.{Listed, Passes, predicates_before};
+ghost use Rattle.gx_parse_parts.specs.Parsing.{Listed, Passes, predicates_before};
 ghost use Rattle.gx_parse_tokens.specs.Reading.{Added};
 ghost use Rattle.gx_parse_tokens.specs.Reading.{read_in};
 
 use crate::computed::{computed_constructor, named_constructor};
 use crate::direct::direct_step;
-use crate::members::Members;
-use crate::node_tests::{any_step, axis_test, kind_content, test_or_literal};
 use crate::operators::{expression, further};
-use crate::parts::{dots, keep, lexeme, variable};
 use crate::singles::single;
-use crate::trees;
 use gx_ast::expression::{Expr, ExprNode};
 use gx_base::place::Place;
+use gx_parse_constructors::strings::literal;
 use gx_parse_grammar::word::{Barrier, Word, WordSet};
+use gx_parse_parts::members::Members;
+use gx_parse_parts::parts::{dots, keep, lexeme, variable};
+use gx_parse_parts::trees;
 use gx_parse_tokens::kind_words::{axis_word, kind_word};
 use gx_parse_tokens::names::ReadName;
 use gx_parse_tokens::reader::Reader;
 use gx_parse_tokens::source::Source;
+use gx_parse_types::node_tests::{
+    any_step, attribute_step, axis_test, kind_content, wildcard_step,
+};
 
 // So many predicates may stand behind a step.
 const PREDICATES: u8 = 64;
@@ -278,6 +281,19 @@ fn more_arguments(
         left -= 1;
     }
     list
+}
+
+// Reads a step that begins with `@` or `*`, or a literal.
+fn test_or_literal(reader: &mut Reader<'_>, source: &Source<'_>) -> Expr
+    ensures { (n : ℕ) → Ran (tree result) reader.old reader.new (read_in source.now n (test_or_literal (place_in source.now))) }
+{
+    if reader.starts_with('@') {
+        return attribute_step(reader, source);
+    }
+    if reader.starts_with('*') {
+        return wildcard_step(reader, source);
+    }
+    literal(reader, source)
 }
 
 // Reads what stands in parentheses.

@@ -10,17 +10,17 @@ ghost use Rattle.gx_parse_tokens.specs.Reading.{call, read_in};
 
 use crate::branches::branched;
 use crate::flwor::{flwor, quantified};
-use crate::node_tests::any_step;
 use crate::operators::{ladder, other_operand};
-use crate::parts::keep;
 use crate::paths::{arguments_in, named_step, path};
-use crate::trees;
 use gx_ast::expression::Expr;
 use gx_base::place::Place;
 use gx_parse_grammar::word::{Barrier, Opening};
+use gx_parse_parts::parts::keep;
+use gx_parse_parts::trees;
 use gx_parse_tokens::names::ReadName;
 use gx_parse_tokens::reader::Reader;
 use gx_parse_tokens::source::Source;
+use gx_parse_types::node_tests::any_step;
 
 /// Reads a single, where so many may stand one inside another, itself among them.
 #[cycle(parsing)]

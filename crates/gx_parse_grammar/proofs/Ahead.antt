@@ -28,7 +28,7 @@ use Rattle.gx_base.specs.NameCharacters.{is_ncname_start, is_ncname_character, i
 use Rattle.gx_parse_grammar.specs.Characters.{is_word_character, no_character}
 use Rattle.gx_parse_grammar.specs.Words.{letters_of, ends_at, ending_of}
 use Rattle.gx_parse_grammar.specs.Nodes.{Node, Made, Found, join_binary}
-use Rattle.gx_parse_grammar.specs.Tokens.{Token, one_of, qname, ncname, gap, leading, local_wildcard, IsGapHere, scan_gap_here, IsQName, IsNCName, scan_ncname, seen_local_part, starts_local_part, IsTheWord, IsGapWith, second_of_two, derives, opens, seen, faults, shape_of}
+use Rattle.gx_parse_grammar.specs.Tokens.{Token, one_of, qname, ncname, gap, leading, local_wildcard, IsGapHere, scan_gap_here, IsQName, IsNCName, scan_ncname, seen_local_part, starts_local_part, IsTheWord, IsGapWith, second_of_two, derives, opens, seen, faults, shape_of_token}
 use Rattle.gx_parse_grammar.specs.Grammar.{Phrase, word_of, single, is_single, level_at, operator, infix_operator, more, chain, two, expression, step_of, after_name, after_axis, arguments, behind_any_name, path_from, filtered_step, more_predicates, predicate, signed_path, other_operand, ladder, begun, branched_or_name, opened_or_name, named_single, behind_single, query_language, constructed, constructed_by}
 use Rattle.gx_parse_grammar.specs.NodeTests.{if_wildcard, wildcard_or, any_step}
 use Rattle.gx_parse_grammar.specs.Casts.{casts, type_test, cast_test}
@@ -167,7 +167,7 @@ module _ (at : ℕ → Place) where
 
   -- a word with one of others behind it, where a name that is the word may stand
   module _ (w : Word) (c : ℕ) (cs : List ℕ) (ws : WordSet) (letters : letters_of w ≡ c ∷ cs) (starts : is_ncname_start c ≡ true) (others : all_pass is_ncname_character cs ≡ true) (ends : ends_at (ending_of w) ≡ is_word_character)
-      (begins : words_begin is_word_character true (shape_of (one_of ws)) ≡ true) (none : opens (one_of ws) []) (apart : all_apart shape_of (one_of ws ∷ []) behind_step ≡ true)
+      (begins : words_begin is_word_character true (shape_of_token (one_of ws)) ≡ true) (none : opens (one_of ws) []) (apart : all_apart shape_of_token (one_of ws ∷ []) behind_step ≡ true)
       (leftmost : Leftmost (query_language at) (fronts at) (token gap) (named_single at 39 (pair (characters (c ∷ cs)) nothing)) (word_of word.Comma ∷ []) behind_step) where
     abbrev leads : Token
     leads = leading w ws
@@ -177,7 +177,7 @@ module _ (at : ℕ → Place) where
 
     -- the second word is avoided behind the gap of a step
     second_avoided : Avoids (query_language at) (one_of ws ∷ []) (Follows behind_step) (FollowsCut behind_step)
-    second_avoided = apart_avoids (query_language at) (lawful at) (fronts at) (right at) (one_of ws ∷ []) behind_step (refl, tt) (computed_apart (query_language at) shape_of (shaped at) (one_of ws ∷ []) behind_step apart)
+    second_avoided = apart_avoids (query_language at) (lawful at) (fronts at) (right at) (one_of ws ∷ []) behind_step (refl, tt) (computed_apart (query_language at) shape_of_token (shaped at) (one_of ws ∷ []) behind_step apart)
 
     second_never : (y z : List ℕ) (v : Made) → Follows behind_step y → derives (one_of ws) v y z → ⊥
     second_never y z v k d = second_avoided.never y k (record { token = one_of ws; among = inl refl; stands = inl (v, z, d) })
@@ -195,7 +195,7 @@ module _ (at : ℕ → Place) where
       where
         touching : y ≡ j.between → ⊥
         touching e =
-            let h = (computed_words (query_language at) shape_of (shaped at) is_word_character true (one_of ws ∷ []) (ap (λ b. b && true) begins)).0 in
+            let h = (computed_words (query_language at) shape_of_token (shaped at) is_word_character true (one_of ws ∷ []) (ap (λ b. b && true) begins)).0 in
             let k : head_passes is_word_character y ≡ true = ap (head_passes is_word_character) e ∙ (h.stands j.between (inl (j.back, z, j.ends))).1 in
             let n : head_passes is_word_character y ≡ false = ap (λ t. head_passes t y) (sym ends) ∙ d.ended in
             absurd (cc (k, n))

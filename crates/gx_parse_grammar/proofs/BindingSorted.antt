@@ -13,7 +13,7 @@ use Rattle.gx_parse_grammar.specs.declared.word.Binder.{Binder}
 use Rattle.gx_parse_grammar.specs.declared.word.Binder.TheVariants as binder
 use Rattle.gx_parse_grammar.specs.Words.{binder_in}
 use Rattle.gx_parse_grammar.specs.Nodes.{Made}
-use Rattle.gx_parse_grammar.specs.Tokens.{Token, one_of, barred_words, shape_of}
+use Rattle.gx_parse_grammar.specs.Tokens.{Token, one_of, barred_words, shape_of_token}
 use Rattle.gx_parse_grammar.specs.Grammar.{Phrase, word_of, keyword, behind_single, query_language}
 use Rattle.gx_parse_grammar.specs.Bound.{bound, bound_type, position}
 use Rattle.gx_parse_grammar.specs.Keys.{ordered, order_clause}
@@ -28,8 +28,8 @@ module _ (at : ℕ → Place) (right : AreFronts (query_language at) (fronts at)
   abbrev Sorts : Phrase → List Token → Type 0
   Sorts A us = IsSorted (query_language at) (fronts at) A us
 
-  abbrev apart : (ts us : List Token) → all_apart shape_of ts us ≡ true → AllOf (λ u. AllOf (λ t. AreApart (query_language at) t u) ts) us
-  apart ts us e = computed_apart (query_language at) shape_of (shaped at) ts us e
+  abbrev apart : (ts us : List Token) → all_apart shape_of_token ts us ≡ true → AllOf (λ u. AllOf (λ t. AreApart (query_language at) t u) ts) us
+  apart ts us e = computed_apart (query_language at) shape_of_token (shaped at) ts us e
 
   first_bound_sorted : (us : List Token) → Sorts (first_bound at) us
   unfolding first_bound
@@ -52,7 +52,7 @@ module _ (at : ℕ → Place) (right : AreFronts (query_language at) (fronts at)
   further_sorted n b us f = ((tt, tt), binding_sorted n b (bound at) us (λ vs. bound_sorted at right vs) f)
 
   -- before tokens that are no comma, and may follow an expression
-  more_bindings_sorted : (n : ℕ) (b : Binder) (us : List Token) → all_apart shape_of (word_of word.Comma ∷ []) us ≡ true → AllOf (IsIn (behind_single at)) us → (k : ℕ) → Sorts (more_bindings at n b k) us
+  more_bindings_sorted : (n : ℕ) (b : Binder) (us : List Token) → all_apart shape_of_token (word_of word.Comma ∷ []) us ≡ true → AllOf (IsIn (behind_single at)) us → (k : ℕ) → Sorts (more_bindings at n b k) us
   unfolding more_bindings further_binding
   more_bindings_sorted n b us e f zero = (
     tokens_choose (query_language at) (lawful at) (fronts at) right (word_of word.Comma ∷ []) _ empty us
@@ -73,7 +73,7 @@ module _ (at : ℕ → Place) (right : AreFronts (query_language at) (fronts at)
     tt,
   )
 
-  bindings_sorted : (n : ℕ) (b : Binder) (variable : Phrase) (us : List Token) → ((vs : List Token) → Sorts variable vs) → all_apart shape_of (word_of word.Comma ∷ []) us ≡ true → AllOf (IsIn (behind_single at)) us → Sorts (bindings at n b variable) us
+  bindings_sorted : (n : ℕ) (b : Binder) (variable : Phrase) (us : List Token) → ((vs : List Token) → Sorts variable vs) → all_apart shape_of_token (word_of word.Comma ∷ []) us ≡ true → AllOf (IsIn (behind_single at)) us → Sorts (bindings at n b variable) us
   unfolding bindings more_bindings binding further_binding
   bindings_sorted n b variable us s e f = (binding_sorted n b variable (word_of word.Comma ∷ us) s (inl refl, f), more_bindings_sorted n b us e f 63)
 
@@ -106,7 +106,7 @@ module _ (at : ℕ → Place) (right : AreFronts (query_language at) (fronts at)
   abbrev behind_clause : Token → List Token
   behind_clause t = t ∷ word_of word.Where ∷ behind_clauses
 
-  clause_sorted : (n : ℕ) (us : List Token) → all_apart shape_of (word_of word.Comma ∷ []) us ≡ true → AllOf (IsIn (behind_single at)) us → Sorts (clause at n) us
+  clause_sorted : (n : ℕ) (us : List Token) → all_apart shape_of_token (word_of word.Comma ∷ []) us ≡ true → AllOf (IsIn (behind_single at)) us → Sorts (clause at n) us
   unfolding clause
   clause_sorted n us e f = λ v. (tt, bindings_sorted n (binder_in (word_found v)) (bound at) us (λ vs. bound_sorted at right vs) e f)
 

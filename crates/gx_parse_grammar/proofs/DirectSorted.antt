@@ -15,7 +15,7 @@ use Rattle.gx_parse_grammar.specs.declared.runs.Run.{Run}
 use Rattle.gx_parse_grammar.specs.declared.runs.Run.TheVariants as run
 use Rattle.gx_base.specs.NameCharacters.{is_ncname_start}
 use Rattle.gx_parse_grammar.specs.Nodes.{Node, Made}
-use Rattle.gx_parse_grammar.specs.Tokens.{Token, text_run, reference, qname, white, no_attribute, no_element, begins_attribute, shape_of, takes, opens, derives, faults}
+use Rattle.gx_parse_grammar.specs.Tokens.{Token, text_run, reference, qname, white, no_attribute, no_element, begins_attribute, shape_of_token, takes, opens, derives, faults}
 use Rattle.gx_parse_grammar.specs.Grammar.{Phrase, behind_nested, within, nested, word_of, name, query_language}
 use Rattle.gx_parse_grammar.specs.Fronts.{fronts}
 use Rattle.gx_parse_grammar.specs.Strings.{opening_of, closing_of, doubled_of}
@@ -102,24 +102,24 @@ module _ (at : ℕ → Place) (right : AreFronts (query_language at) (fronts at)
   start_opens (suc (suc n)) x o = open_rule (open_made (open_first (open_token o)))
 
   start_less : (n : ℕ) → HasHead (query_language at) (is 60) true (start_of n)
-  start_less zero = (computed_heads (query_language at) shape_of (shaped at) 60 true (no_element ∷ []) refl).0
-  start_less (suc zero) = (computed_heads (query_language at) shape_of (shaped at) 60 true (no_element ∷ []) refl).0
-  start_less (suc (suc n)) = (computed_heads (query_language at) shape_of (shaped at) 60 true (word_of word.TagOpen ∷ []) refl).0
+  start_less zero = (computed_heads (query_language at) shape_of_token (shaped at) 60 true (no_element ∷ []) refl).0
+  start_less (suc zero) = (computed_heads (query_language at) shape_of_token (shaped at) 60 true (no_element ∷ []) refl).0
+  start_less (suc (suc n)) = (computed_heads (query_language at) shape_of_token (shaped at) 60 true (word_of word.TagOpen ∷ []) refl).0
 
   start_no_ampersand : (n : ℕ) → HasHead (query_language at) (is 38) false (start_of n)
-  start_no_ampersand zero = (computed_heads (query_language at) shape_of (shaped at) 38 false (no_element ∷ []) refl).0
-  start_no_ampersand (suc zero) = (computed_heads (query_language at) shape_of (shaped at) 38 false (no_element ∷ []) refl).0
-  start_no_ampersand (suc (suc n)) = (computed_heads (query_language at) shape_of (shaped at) 38 false (word_of word.TagOpen ∷ []) refl).0
+  start_no_ampersand zero = (computed_heads (query_language at) shape_of_token (shaped at) 38 false (no_element ∷ []) refl).0
+  start_no_ampersand (suc zero) = (computed_heads (query_language at) shape_of_token (shaped at) 38 false (no_element ∷ []) refl).0
+  start_no_ampersand (suc (suc n)) = (computed_heads (query_language at) shape_of_token (shaped at) 38 false (word_of word.TagOpen ∷ []) refl).0
 
   start_no_cdata : (n : ℕ) → AreApart (query_language at) (word_of word.CdataOpen) (start_of n)
-  start_no_cdata zero = (computed_apart (query_language at) shape_of (shaped at) (word_of word.CdataOpen ∷ []) (no_element ∷ []) refl).0.0
-  start_no_cdata (suc zero) = (computed_apart (query_language at) shape_of (shaped at) (word_of word.CdataOpen ∷ []) (no_element ∷ []) refl).0.0
-  start_no_cdata (suc (suc n)) = (computed_apart (query_language at) shape_of (shaped at) (word_of word.CdataOpen ∷ []) (word_of word.TagOpen ∷ []) refl).0.0
+  start_no_cdata zero = (computed_apart (query_language at) shape_of_token (shaped at) (word_of word.CdataOpen ∷ []) (no_element ∷ []) refl).0.0
+  start_no_cdata (suc zero) = (computed_apart (query_language at) shape_of_token (shaped at) (word_of word.CdataOpen ∷ []) (no_element ∷ []) refl).0.0
+  start_no_cdata (suc (suc n)) = (computed_apart (query_language at) shape_of_token (shaped at) (word_of word.CdataOpen ∷ []) (word_of word.TagOpen ∷ []) refl).0.0
 
   start_no_end : (n : ℕ) → AreApart (query_language at) (start_of n) (word_of word.EndTagOpen)
-  start_no_end zero = (computed_apart (query_language at) shape_of (shaped at) (no_element ∷ []) (word_of word.EndTagOpen ∷ []) refl).0.0
-  start_no_end (suc zero) = (computed_apart (query_language at) shape_of (shaped at) (no_element ∷ []) (word_of word.EndTagOpen ∷ []) refl).0.0
-  start_no_end (suc (suc n)) = (computed_apart (query_language at) shape_of (shaped at) (word_of word.TagOpen ∷ []) (word_of word.EndTagOpen ∷ []) refl).0.0
+  start_no_end zero = (computed_apart (query_language at) shape_of_token (shaped at) (no_element ∷ []) (word_of word.EndTagOpen ∷ []) refl).0.0
+  start_no_end (suc zero) = (computed_apart (query_language at) shape_of_token (shaped at) (no_element ∷ []) (word_of word.EndTagOpen ∷ []) refl).0.0
+  start_no_end (suc (suc n)) = (computed_apart (query_language at) shape_of_token (shaped at) (word_of word.TagOpen ∷ []) (word_of word.EndTagOpen ∷ []) refl).0.0
 
   -- the tokens inside which stand in front of an end tag
   abbrev inner : List Token
@@ -138,7 +138,7 @@ module _ (at : ℕ → Place) (right : AreFronts (query_language at) (fronts at)
     unfolding brace_piece enclosed symbol_piece
     brace_sorted us = (
       tokens_choose (query_language at) (lawful at) (fronts at) right (word_of word.TwoOpenBraces ∷ []) _ _ us
-          (record { takes = refl; first = (inl refl, tt); full = (refl, tt); opening = ((λ x o. open_made (open_token o)), tt); apart = computed_apart (query_language at) shape_of (shaped at) (word_of word.TwoOpenBraces ∷ []) (word_of word.BraceOpen ∷ []) refl }),
+          (record { takes = refl; first = (inl refl, tt); full = (refl, tt); opening = ((λ x o. open_made (open_token o)), tt); apart = computed_apart (query_language at) shape_of_token (shaped at) (word_of word.TwoOpenBraces ∷ []) (word_of word.BraceOpen ∷ []) refl }),
       tt,
       enclosed_sorted us,
     )
@@ -148,10 +148,10 @@ module _ (at : ℕ → Place) (right : AreFronts (query_language at) (fronts at)
       plain_sorted : (us : List Token) → Sorts (plain_piece expr r) us
       unfolding plain_piece brace_piece enclosed symbol_piece text_piece
       plain_sorted us = (
-        character_chooses (query_language at) (is 123) (fronts at) right _ _ us (record { takes = refl; passes = computed_heads (query_language at) shape_of (shaped at) 123 true (word_of word.TwoOpenBraces ∷ word_of word.BraceOpen ∷ []) refl; fails = opens_pass }),
+        character_chooses (query_language at) (is 123) (fronts at) right _ _ us (record { takes = refl; passes = computed_heads (query_language at) shape_of_token (shaped at) 123 true (word_of word.TwoOpenBraces ∷ word_of word.BraceOpen ∷ []) refl; fails = opens_pass }),
         brace_sorted us,
         (
-          character_chooses (query_language at) (is 125) (fronts at) right _ _ us (record { takes = refl; passes = computed_heads (query_language at) shape_of (shaped at) 125 true (word_of word.TwoCloseBraces ∷ []) refl; fails = closes_pass }),
+          character_chooses (query_language at) (is 125) (fronts at) right _ _ us (record { takes = refl; passes = computed_heads (query_language at) shape_of_token (shaped at) 125 true (word_of word.TwoCloseBraces ∷ []) refl; fails = closes_pass }),
           tt,
           tt,
         ),
@@ -161,36 +161,36 @@ module _ (at : ℕ → Place) (right : AreFronts (query_language at) (fronts at)
     unfolding value_piece reference_piece plain_piece brace_piece enclosed symbol_piece text_piece
     piece_sorted quote.Double us = (
       character_chooses (query_language at) (is 38) (fronts at) right _ _ us
-          (record { takes = refl; passes = (reference_passes, tt); fails = computed_heads (query_language at) shape_of (shaped at) 38 false (word_of (doubled_of quote.Double) ∷ plain (run.Attribute quote.Double)) refl }),
+          (record { takes = refl; passes = (reference_passes, tt); fails = computed_heads (query_language at) shape_of_token (shaped at) 38 false (word_of (doubled_of quote.Double) ∷ plain (run.Attribute quote.Double)) refl }),
       tt,
       (
         character_chooses (query_language at) (is 34) (fronts at) right _ _ us
             (record {
               takes = refl;
-              passes = computed_heads (query_language at) shape_of (shaped at) 34 true (word_of (doubled_of quote.Double) ∷ []) refl;
-              fails = computed_heads (query_language at) shape_of (shaped at) 34 false (plain (run.Attribute quote.Double)) refl;
+              passes = computed_heads (query_language at) shape_of_token (shaped at) 34 true (word_of (doubled_of quote.Double) ∷ []) refl;
+              fails = computed_heads (query_language at) shape_of_token (shaped at) 34 false (plain (run.Attribute quote.Double)) refl;
             }),
         tt,
-        plain_sorted (run.Attribute quote.Double) (computed_heads (query_language at) shape_of (shaped at) 123 false (closings (run.Attribute quote.Double)) refl) (computed_heads (query_language at) shape_of (shaped at) 125 false (text_run (run.Attribute quote.Double) ∷ []) refl) us,
+        plain_sorted (run.Attribute quote.Double) (computed_heads (query_language at) shape_of_token (shaped at) 123 false (closings (run.Attribute quote.Double)) refl) (computed_heads (query_language at) shape_of_token (shaped at) 125 false (text_run (run.Attribute quote.Double) ∷ []) refl) us,
       ),
     )
     piece_sorted quote.Single us = (
       character_chooses (query_language at) (is 38) (fronts at) right _ _ us
-          (record { takes = refl; passes = (reference_passes, tt); fails = computed_heads (query_language at) shape_of (shaped at) 38 false (word_of (doubled_of quote.Single) ∷ plain (run.Attribute quote.Single)) refl }),
+          (record { takes = refl; passes = (reference_passes, tt); fails = computed_heads (query_language at) shape_of_token (shaped at) 38 false (word_of (doubled_of quote.Single) ∷ plain (run.Attribute quote.Single)) refl }),
       tt,
       (
         character_chooses (query_language at) (is 39) (fronts at) right _ _ us
             (record {
               takes = refl;
-              passes = computed_heads (query_language at) shape_of (shaped at) 39 true (word_of (doubled_of quote.Single) ∷ []) refl;
-              fails = computed_heads (query_language at) shape_of (shaped at) 39 false (plain (run.Attribute quote.Single)) refl;
+              passes = computed_heads (query_language at) shape_of_token (shaped at) 39 true (word_of (doubled_of quote.Single) ∷ []) refl;
+              fails = computed_heads (query_language at) shape_of_token (shaped at) 39 false (plain (run.Attribute quote.Single)) refl;
             }),
         tt,
-        plain_sorted (run.Attribute quote.Single) (computed_heads (query_language at) shape_of (shaped at) 123 false (closings (run.Attribute quote.Single)) refl) (computed_heads (query_language at) shape_of (shaped at) 125 false (text_run (run.Attribute quote.Single) ∷ []) refl) us,
+        plain_sorted (run.Attribute quote.Single) (computed_heads (query_language at) shape_of_token (shaped at) 123 false (closings (run.Attribute quote.Single)) refl) (computed_heads (query_language at) shape_of_token (shaped at) 125 false (text_run (run.Attribute quote.Single) ∷ []) refl) us,
       ),
     )
 
-    closing_apart : (q : Quote) → all_apart shape_of (value_pieces_of q) (word_of (closing_of q) ∷ []) ≡ true
+    closing_apart : (q : Quote) → all_apart shape_of_token (value_pieces_of q) (word_of (closing_of q) ∷ []) ≡ true
     closing_apart quote.Double = refl
     closing_apart quote.Single = refl
 
@@ -215,7 +215,7 @@ module _ (at : ℕ → Place) (right : AreFronts (query_language at) (fronts at)
                 ),
               ),
             );
-            apart = computed_apart (query_language at) shape_of (shaped at) (value_pieces_of q) (word_of (closing_of q) ∷ []) (closing_apart q);
+            apart = computed_apart (query_language at) shape_of_token (shaped at) (value_pieces_of q) (word_of (closing_of q) ∷ []) (closing_apart q);
           }),
       refl,
       piece_sorted q _,
@@ -231,8 +231,8 @@ module _ (at : ℕ → Place) (right : AreFronts (query_language at) (fronts at)
       character_chooses (query_language at) (is 34) (fronts at) right _ _ us
           (record {
             takes = refl;
-            passes = computed_heads (query_language at) shape_of (shaped at) 34 true (word_of (opening_of quote.Double) ∷ []) refl;
-            fails = computed_heads (query_language at) shape_of (shaped at) 34 false (word_of (opening_of quote.Single) ∷ []) refl;
+            passes = computed_heads (query_language at) shape_of_token (shaped at) 34 true (word_of (opening_of quote.Double) ∷ []) refl;
+            fails = computed_heads (query_language at) shape_of_token (shaped at) 34 false (word_of (opening_of quote.Single) ∷ []) refl;
           }),
       value_sorted quote.Double us,
       value_sorted quote.Single us,
@@ -241,7 +241,7 @@ module _ (at : ℕ → Place) (right : AreFronts (query_language at) (fronts at)
     -- attributes
 
     -- behind an attribute: another one, or what follows
-    between_sorted : (us : List Token) → all_apart shape_of (white ∷ []) us ≡ true → Sorts behind_attribute (qname ∷ us)
+    between_sorted : (us : List Token) → all_apart shape_of_token (white ∷ []) us ≡ true → Sorts behind_attribute (qname ∷ us)
     unfolding behind_attribute
     between_sorted us e = (
       tokens_choose (query_language at) (lawful at) (fronts at) right (white ∷ []) (token white) (token no_attribute) (qname ∷ us)
@@ -250,18 +250,18 @@ module _ (at : ℕ → Place) (right : AreFronts (query_language at) (fronts at)
             first = (inl refl, tt);
             full = (refl, tt);
             opening = ((λ x o. open_token o), tt);
-            apart = ((white_apart, tt), ((white_no_name, tt), computed_apart (query_language at) shape_of (shaped at) (white ∷ []) us e));
+            apart = ((white_apart, tt), ((white_no_name, tt), computed_apart (query_language at) shape_of_token (shaped at) (white ∷ []) us e));
           }),
       tt,
       tt,
     )
 
-    attribute_sorted : (us : List Token) → all_apart shape_of (white ∷ []) us ≡ true → Sorts (attribute at expr) (qname ∷ us)
+    attribute_sorted : (us : List Token) → all_apart shape_of_token (white ∷ []) us ≡ true → Sorts (attribute at expr) (qname ∷ us)
     unfolding attribute name
     attribute_sorted us e = (tt, (tt, (tt, (tt, (attribute_value_sorted _, between_sorted us e)))))
 
     -- no name begins what follows
-    attributes_sorted : (us : List Token) → all_apart shape_of (white ∷ []) us ≡ true → AllOf (HasHead (query_language at) is_ncname_start false) us → Sorts (attributes at expr) us
+    attributes_sorted : (us : List Token) → all_apart shape_of_token (white ∷ []) us ≡ true → AllOf (HasHead (query_language at) is_ncname_start false) us → Sorts (attributes at expr) us
     unfolding attributes attribute name
     attributes_sorted us e h = (
       tt,
@@ -283,15 +283,15 @@ module _ (at : ℕ → Place) (right : AreFronts (query_language at) (fronts at)
           (record {
             takes = refl;
             passes = (reference_passes, tt);
-            fails = ((computed_heads (query_language at) shape_of (shaped at) 38 false (word_of word.CdataOpen ∷ []) refl).0, (start_no_ampersand n, computed_heads (query_language at) shape_of (shaped at) 38 false (plain run.Content) refl));
+            fails = ((computed_heads (query_language at) shape_of_token (shaped at) 38 false (word_of word.CdataOpen ∷ []) refl).0, (start_no_ampersand n, computed_heads (query_language at) shape_of_token (shaped at) 38 false (plain run.Content) refl));
           }),
       tt,
       (
         character_chooses (query_language at) (is 60) (fronts at) right _ _ us
             (record {
               takes = refl;
-              passes = ((computed_heads (query_language at) shape_of (shaped at) 60 true (word_of word.CdataOpen ∷ []) refl).0, (start_less n, tt));
-              fails = computed_heads (query_language at) shape_of (shaped at) 60 false (plain run.Content) refl;
+              passes = ((computed_heads (query_language at) shape_of_token (shaped at) 60 true (word_of word.CdataOpen ∷ []) refl).0, (start_less n, tt));
+              fails = computed_heads (query_language at) shape_of_token (shaped at) 60 false (plain run.Content) refl;
             }),
         (
           tokens_choose (query_language at) (lawful at) (fronts at) right (word_of word.CdataOpen ∷ []) _ _ us
@@ -299,7 +299,7 @@ module _ (at : ℕ → Place) (right : AreFronts (query_language at) (fronts at)
           (tt, (tt, tt)),
           among,
         ),
-        plain_sorted run.Content (computed_heads (query_language at) shape_of (shaped at) 123 false (closings run.Content) refl) (computed_heads (query_language at) shape_of (shaped at) 125 false (text_run run.Content ∷ []) refl) us,
+        plain_sorted run.Content (computed_heads (query_language at) shape_of_token (shaped at) 123 false (closings run.Content) refl) (computed_heads (query_language at) shape_of_token (shaped at) 125 false (text_run run.Content ∷ []) refl) us,
       ),
     )
 
@@ -328,7 +328,7 @@ module _ (at : ℕ → Place) (right : AreFronts (query_language at) (fronts at)
               ),
             );
             apart = (
-                let k = computed_apart (query_language at) shape_of (shaped at) inner (word_of word.EndTagOpen ∷ []) refl in
+                let k = computed_apart (query_language at) shape_of_token (shaped at) inner (word_of word.EndTagOpen ∷ []) refl in
                 ((k.0.0, (k.0.1.0, (k.0.1.1.0, (k.0.1.1.1.0, (k.0.1.1.1.1.0, (k.0.1.1.1.1.1.0, (start_no_end n, tt))))))), tt)
                 );
           }),
@@ -345,7 +345,7 @@ module _ (at : ℕ → Place) (right : AreFronts (query_language at) (fronts at)
 
     ends_no_name : AllOf (HasHead (query_language at) is_ncname_start false) tag_ends
     unfolding is_ncname_start
-    ends_no_name = computed_words (query_language at) shape_of (shaped at) is_ncname_start false tag_ends refl
+    ends_no_name = computed_words (query_language at) shape_of_token (shaped at) is_ncname_start false tag_ends refl
 
     end_tag_sorted : (v : Made) (us : List Token) → Sorts (end_tag v) us
     unfolding end_tag
@@ -361,8 +361,8 @@ module _ (at : ℕ → Place) (right : AreFronts (query_language at) (fronts at)
       character_chooses (query_language at) (is 47) (fronts at) right _ _ us
           (record {
             takes = refl;
-            passes = computed_heads (query_language at) shape_of (shaped at) 47 true (word_of word.EmptyTagEnd ∷ []) refl;
-            fails = computed_heads (query_language at) shape_of (shaped at) 47 false (word_of word.TagEnd ∷ []) refl;
+            passes = computed_heads (query_language at) shape_of_token (shaped at) 47 true (word_of word.EmptyTagEnd ∷ []) refl;
+            fails = computed_heads (query_language at) shape_of_token (shaped at) 47 false (word_of word.TagEnd ∷ []) refl;
           }),
       tt,
       filled_sorted v us,

@@ -8,7 +8,7 @@ use Rattle.gx_grammar.specs.Apart.{all_apart}
 use Rattle.gx_grammar.proofs.PublicLaws.{computed_apart, tokens_choose}
 use Rattle.gx_parse_grammar.specs.declared.word.Word.TheVariants as word
 use Rattle.gx_parse_grammar.specs.declared.word.WordSet.TheVariants as set
-use Rattle.gx_parse_grammar.specs.Tokens.{Token, one_of, shape_of}
+use Rattle.gx_parse_grammar.specs.Tokens.{Token, one_of, shape_of_token}
 use Rattle.gx_parse_grammar.specs.Grammar.{Phrase, word_of, keyword, behind_single, query_language}
 use Rattle.gx_parse_grammar.specs.Bound.{direction, extreme, key_order}
 use Rattle.gx_parse_grammar.specs.Keys.{key, further_key, more_keys, ordered, order_clause}
@@ -20,8 +20,8 @@ module _ (at : ℕ → Place) (right : AreFronts (query_language at) (fronts at)
   abbrev Sorts : Phrase → List Token → Type 0
   Sorts A us = IsSorted (query_language at) (fronts at) A us
 
-  abbrev apart : (ts us : List Token) → all_apart shape_of ts us ≡ true → AllOf (λ u. AllOf (λ t. AreApart (query_language at) t u) ts) us
-  apart ts us e = computed_apart (query_language at) shape_of (shaped at) ts us e
+  abbrev apart : (ts us : List Token) → all_apart shape_of_token ts us ≡ true → AllOf (λ u. AllOf (λ t. AreApart (query_language at) t u) ts) us
+  apart ts us e = computed_apart (query_language at) shape_of_token (shaped at) ts us e
 
   is_comma : IsIn (behind_single at) (word_of word.Comma)
   is_comma = inl refl

@@ -14,7 +14,7 @@ use Rattle.gx_parse_grammar.specs.declared.kind_words.KindWord.{KindWord}
 use Rattle.gx_parse_grammar.specs.declared.kind_words.KindWord.TheVariants as kind
 use Rattle.gx_base.specs.NameCharacters.{is_ncname_start}
 use Rattle.gx_parse_grammar.specs.Nodes.{Made}
-use Rattle.gx_parse_grammar.specs.Tokens.{Token, qname, shape_of}
+use Rattle.gx_parse_grammar.specs.Tokens.{Token, qname, shape_of_token}
 use Rattle.gx_parse_grammar.specs.Grammar.{Phrase, word_of, query_language}
 use Rattle.gx_parse_grammar.specs.Types.{kind_word, nothing_inside, document, tested, declared, content, named_content, declared_content}
 use Rattle.gx_parse_grammar.specs.NodeTests.{if_wildcard, wildcard_or, wildcard, kind_content, behind_test, any_test, node_test, axis_test, attribute_step, wildcard_step}
@@ -24,7 +24,7 @@ use Rattle.gx_parse_grammar.proofs.TypesSorted.{content_sorted}
 
 -- no `(` begins these
 abbrev pub not_open : List Token → Bool
-not_open us = list_all (λ t. shape_begins 40 false (shape_of t)) us
+not_open us = list_all (λ t. shape_begins 40 false (shape_of_token t)) us
 
 module _ (at : ℕ → Place) (right : AreFronts (query_language at) (fronts at)) where
   abbrev Sorts : Phrase → List Token → Type 0
@@ -33,10 +33,10 @@ module _ (at : ℕ → Place) (right : AreFronts (query_language at) (fronts at)
   -- a part that begins with `(`, or nothing
   parentheses_sorted : (A : Phrase) (us : List Token) → takes_some (query_language at) (fronts at).takings A ≡ true → AllOf (HasHead (query_language at) (is 40) true) (first_of (query_language at) (fronts at) A) → not_open us ≡ true → Sorts A us
       → Sorts (choose (by_character (is 40)) A empty) us
-  parentheses_sorted A us t h e s = (character_chooses (query_language at) (is 40) (fronts at) right A empty us (record { takes = t; passes = h; fails = computed_heads (query_language at) shape_of (shaped at) 40 false us e }), s, tt)
+  parentheses_sorted A us t h e s = (character_chooses (query_language at) (is 40) (fronts at) right A empty us (record { takes = t; passes = h; fails = computed_heads (query_language at) shape_of_token (shaped at) 40 false us e }), s, tt)
 
   opening : AllOf (HasHead (query_language at) (is 40) true) (word_of word.Open ∷ [])
-  opening = computed_heads (query_language at) shape_of (shaped at) 40 true (word_of word.Open ∷ []) refl
+  opening = computed_heads (query_language at) shape_of_token (shaped at) 40 true (word_of word.Open ∷ []) refl
 
   pub kind_content_sorted : (k : Option KindWord) (us : List Token) → not_open us ≡ true → Sorts (kind_content at k) us
   unfolding kind_content content named_content declared_content nothing_inside document tested declared
@@ -57,7 +57,7 @@ module _ (at : ℕ → Place) (right : AreFronts (query_language at) (fronts at)
           first = (inl refl, tt);
           full = (refl, tt);
           opening = ((λ x o. open_made (open_first (open_token o))), tt);
-          apart = computed_apart (query_language at) shape_of (shaped at) (word_of word.AnyPrefix ∷ []) (word_of word.AnyName ∷ []) refl;
+          apart = computed_apart (query_language at) shape_of_token (shaped at) (word_of word.AnyPrefix ∷ []) (word_of word.AnyName ∷ []) refl;
         }),
     (tt, (tt, tt)),
     (tt, tt),
@@ -90,7 +90,7 @@ module _ (at : ℕ → Place) (right : AreFronts (query_language at) (fronts at)
         (record {
           takes = refl;
           passes = (record { stands = (shaped at qname).0; opened = (shaped at qname).1 }, tt);
-          fails = computed_words (query_language at) shape_of (shaped at) is_ncname_start false (word_of word.AnyPrefix ∷ word_of word.AnyName ∷ []) refl;
+          fails = computed_words (query_language at) shape_of_token (shaped at) is_ncname_start false (word_of word.AnyPrefix ∷ word_of word.AnyName ∷ []) refl;
         }),
     (λ v. wildcard_or_sorted v (any_test at v) (behind_test at v) us (any_test_sorted v us) (behind_test_sorted v us e)),
     wildcard_sorted us,

@@ -24,7 +24,7 @@ use Rattle.gx_base.specs.NameCharacters.{is_ncname_start}
 use Rattle.gx_parse_grammar.specs.Characters.{is_word_character}
 use Rattle.gx_parse_grammar.specs.Words.{letters_of}
 use Rattle.gx_parse_grammar.specs.Nodes.{Node, Made}
-use Rattle.gx_parse_grammar.specs.Tokens.{Token, one_of, gap, leading, begins_word, IsTheWord, OpensTheWord, scan_the_word, IsGapHere, scan_gap_here, IsGapWith, OpensGapWith, second_of_two, derives, opens, seen, faults, shape_of}
+use Rattle.gx_parse_grammar.specs.Tokens.{Token, one_of, gap, leading, begins_word, IsTheWord, OpensTheWord, scan_the_word, IsGapHere, scan_gap_here, IsGapWith, OpensGapWith, second_of_two, derives, opens, seen, faults, shape_of_token}
 use Rattle.gx_parse_grammar.specs.Grammar.{Phrase, word_of, lexeme, rules, behind, expression, query_language}
 use Rattle.gx_parse_grammar.specs.Strings.{quoted, string_of}
 use Rattle.gx_parse_grammar.specs.Bound.{bound}
@@ -46,8 +46,8 @@ module _ (at : ℕ → Place) where
   abbrev Apart : List Token → List Token → Type 0
   Apart ts us = AllOf (λ u. AllOf (λ t. AreApart (query_language at) t u) ts) us
 
-  abbrev apart : (ts us : List Token) → all_apart shape_of ts us ≡ true → Apart ts us
-  apart ts us e = computed_apart (query_language at) shape_of (shaped at) ts us e
+  abbrev apart : (ts us : List Token) → all_apart shape_of_token ts us ≡ true → Apart ts us
+  apart ts us e = computed_apart (query_language at) shape_of_token (shaped at) ts us e
 
   -- words with others behind them
 
@@ -132,7 +132,7 @@ module _ (at : ℕ → Place) where
   unfolding text_literal text_of string_of quoted
   text_sorted us = (
     character_chooses (query_language at) (is 34) (fronts at) (right at) _ _ us
-        (record { takes = refl; passes = computed_heads (query_language at) shape_of (shaped at) 34 true (word_of word.Quote ∷ []) refl; fails = computed_heads (query_language at) shape_of (shaped at) 34 false (word_of word.Apostrophe ∷ []) refl }),
+        (record { takes = refl; passes = computed_heads (query_language at) shape_of_token (shaped at) 34 true (word_of word.Quote ∷ []) refl; fails = computed_heads (query_language at) shape_of_token (shaped at) 34 false (word_of word.Apostrophe ∷ []) refl }),
     string_sorted at (right at) quote.Double us,
     string_sorted at (right at) quote.Single us,
   )
@@ -176,7 +176,7 @@ module _ (at : ℕ → Place) where
     ),
   )
 
-  more_locations_sorted : (us : List Token) → all_apart shape_of (word_of word.Comma ∷ []) us ≡ true → Sorts more_locations us
+  more_locations_sorted : (us : List Token) → all_apart shape_of_token (word_of word.Comma ∷ []) us ≡ true → Sorts more_locations us
   unfolding more_locations
   more_locations_sorted us e = (
     tokens_repeat (query_language at) (lawful at) (fronts at) (right at) (word_of word.Comma ∷ []) _ us
@@ -185,11 +185,11 @@ module _ (at : ℕ → Place) where
     ((tt, tt), text_sorted _),
   )
 
-  import_sorted : (us : List Token) → all_apart shape_of (word_of word.Comma ∷ []) us ≡ true → Sorts (schema_import at) us
+  import_sorted : (us : List Token) → all_apart shape_of_token (word_of word.Comma ∷ []) us ≡ true → Sorts (schema_import at) us
   unfolding schema_import text_literal text_of quoted
   import_sorted us e = (schema_prefix_sorted, (text_sorted _, ((tt, tt), (text_sorted _, more_locations_sorted us e))))
 
-  pub setting_sorted : (us : List Token) → all_apart shape_of (word_of word.Comma ∷ []) us ≡ true → Sorts (setting at) us
+  pub setting_sorted : (us : List Token) → all_apart shape_of_token (word_of word.Comma ∷ []) us ≡ true → Sorts (setting at) us
   unfolding setting
   setting_sorted us e = (
     tokens_choose (query_language at) (lawful at) (fronts at) (right at) (setter_words ∷ []) _ _ us
@@ -230,7 +230,7 @@ module _ (at : ℕ → Place) where
   unfolding parameters parameter more_parameters bound
   parameters_sorted us = (
     character_chooses (query_language at) (is 41) (fronts at) (right at) _ _ us
-        (record { takes = refl; passes = computed_heads (query_language at) shape_of (shaped at) 41 true (word_of word.Close ∷ []) refl; fails = computed_heads (query_language at) shape_of (shaped at) 41 false (word_of word.Dollar ∷ []) refl }),
+        (record { takes = refl; passes = computed_heads (query_language at) shape_of_token (shaped at) 41 true (word_of word.Close ∷ []) refl; fails = computed_heads (query_language at) shape_of_token (shaped at) 41 false (word_of word.Dollar ∷ []) refl }),
     (tt, (tt, tt)),
     ((parameter_sorted, more_parameters_sorted), (tt, tt)),
   )

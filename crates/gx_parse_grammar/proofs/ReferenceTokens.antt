@@ -13,7 +13,7 @@ use Rattle.gx_parse_grammar.specs.declared.runs.Radix.{Radix}
 use Rattle.gx_parse_grammar.specs.declared.runs.Radix.TheVariants as radix
 use Rattle.gx_parse_grammar.specs.Characters.{is_digit, no_character}
 use Rattle.gx_parse_grammar.specs.Nodes.{Made}
-use Rattle.gx_parse_grammar.specs.References.{number_value, numbering, grown, greatest, front_value, back_value, prefix_of, IsPrefix, scan_prefix, OpensPrefix, IsNumbered, scan_numbered, IsSemicolon, scan_semicolon, OpensSemicolon, IsEnded, OpensEnded, scan_ended, seen_ended, IsWritten, OpensNumeric, scan_written, seen_numeric, names_char, IsNumeric, scan_numeric, scan_figures, closes}
+use Rattle.gx_parse_grammar.specs.References.{number_value, numbering, grown, greatest, front_value, back_value, prefix_of, IsPrefix, scan_prefix, OpensPrefix, IsNumbered, scan_numbered, IsSemicolon, scan_semicolon, OpensSemicolon, IsEnded, OpensEnded, scan_ended, seen_ended, IsReferenceWritten, OpensNumeric, scan_written, seen_numeric, names_char, IsNumeric, scan_numeric, scan_figures, closes}
 use Rattle.gx_parse_grammar.specs.Tokens.{entries, entity_words, entity_value, IsEntityWord, IsEntity, OpensEntity, scan_entity, seen_entity, IsByNumber, OpensByNumber, scan_by_number, seen_by_number, IsReference, OpensReference, scan_reference, seen_reference, reference_fault, reference_code}
 
 module _ (r : Radix) where
@@ -29,11 +29,11 @@ module _ (r : Radix) where
   ended_lawful : LawfulToken (IsEnded r) (OpensEnded r) (scan_ended r) (seen_ended r) no_fault
   ended_lawful = lawful_joined (IsNumbered r) (opens_walk (numbering r) 0) (scan_numbered r) (seen_walk (numbering r) 0) numbered_lawful IsSemicolon OpensSemicolon scan_semicolon (seen_word (59 ∷ [])) semicolon_lawful front_value
 
-  written_lawful : LawfulToken (IsWritten r) (OpensNumeric r) (scan_written r) (seen_numeric r) no_fault
+  written_lawful : LawfulToken (IsReferenceWritten r) (OpensNumeric r) (scan_written r) (seen_numeric r) no_fault
   written_lawful = lawful_joined (IsPrefix r) (OpensPrefix r) (scan_prefix r) (seen_word (prefix_of r)) prefix_lawful (IsEnded r) (OpensEnded r) (scan_ended r) (seen_ended r) ended_lawful back_value
 
   pub numeric_lawful : LawfulToken (IsNumeric r) (OpensNumeric r) (scan_numeric r) (seen_numeric r) no_fault
-  numeric_lawful = lawful_fitting (IsWritten r) (OpensNumeric r) (scan_written r) (seen_numeric r) no_fault written_lawful names_char no_fault (λ v x y d e. refl) refl
+  numeric_lawful = lawful_fitting (IsReferenceWritten r) (OpensNumeric r) (scan_written r) (seen_numeric r) no_fault written_lawful names_char no_fault (λ v x y d e. refl) refl
 
 -- no digit is an x
 

@@ -20,9 +20,9 @@ use Rattle.gx_parse_grammar.specs.declared.word.Word.{Word}
 use Rattle.gx_parse_grammar.specs.Nodes.{Node, Made}
 use Rattle.gx_parse_grammar.specs.Numeral.{OpensNumeral, is_small, scan_literal}
 use Rattle.gx_parse_grammar.specs.declared.word.Barrier.{Barrier}
-use Rattle.gx_parse_grammar.specs.Tokens.{Token, one_of, constructor, no_constructor, word_end, qname, number, number_end, gap, gap_then_open, gap_not_open, barred, indication, entries, begins_at, limit_code, number_code, derives, opens, faults, begins_gap, begins_number, shape_of, text_run, reference, white, blank, no_attribute, no_element, tag_open, tag_name, cdata_text, ncname, local_wildcard, gap_then_dollar, gap_then_neither, barred_words, begins_dollar, leading, begins_word}
+use Rattle.gx_parse_grammar.specs.Tokens.{Token, one_of, constructor, no_constructor, word_end, qname, number, number_end, gap, gap_then_open, gap_not_open, barred, indication, entries, begins_at, limit_code, number_code, derives, opens, faults, begins_gap, begins_number, shape_of_token, text_run, reference, white, blank, no_attribute, no_element, tag_open, tag_name, cdata_text, ncname, local_wildcard, gap_then_dollar, gap_then_neither, barred_words, begins_dollar, leading, begins_word}
 use Rattle.gx_parse_grammar.specs.declared.runs.Run.{Run}
-use Rattle.gx_parse_grammar.specs.References.{is_text}
+use Rattle.gx_parse_grammar.specs.References.{is_run_character}
 use Rattle.gx_parse_grammar.proofs.ReferenceTokens.{reference_begins, fault_begins, reference_opened}
 use Rattle.gx_parse_grammar.specs.Grammar.{query_language}
 use Rattle.gx_parse_grammar.proofs.Tokens.{token_lawful, literal_lawful, pointed_begins, or_left, or_right, is_full, word_full}
@@ -204,11 +204,11 @@ leading_open w ws x (inr o) n = let d = o.2 in (letters_begin (letters_of w) x o
 
 -- literal text and references
 
-texts_stand : (r : Run) (x : List ℕ) → Stood (text_run r) x → (x ≢ []) × (head_passes (is_text r) x ≡ true)
-texts_stand r x (inl d) = let n = d.2 in full_head (is_text r) n.head n.tail n.whole n.begins
+texts_stand : (r : Run) (x : List ℕ) → Stood (text_run r) x → (x ≢ []) × (head_passes (is_run_character r) x ≡ true)
+texts_stand r x (inl d) = let n = d.2 in full_head (is_run_character r) n.head n.tail n.whole n.begins
 texts_stand r x (inr f) = absurd (let e = f.1 in cc e)
 
-texts_open : (r : Run) (x : List ℕ) → opens_name (is_text r) (is_text r) x → x ≢ [] → head_passes (is_text r) x ≡ true
+texts_open : (r : Run) (x : List ℕ) → opens_name (is_run_character r) (is_run_character r) x → x ≢ [] → head_passes (is_run_character r) x ≡ true
 texts_open r [] o n = absurd (n refl)
 texts_open r (c ∷ x) o n = o.0
 
@@ -238,7 +238,7 @@ module _ (at : ℕ → Place) where
   pub lawful : LawfulTokens (query_language at)
   lawful = lawful_tokens (query_language at) token_lawful
 
-  pub shaped : (t : Token) → HasShape (query_language at) t (shape_of t)
+  pub shaped : (t : Token) → HasShape (query_language at) t (shape_of_token t)
   shaped (one_of ws) = (words_stand ws, (λ x o. one_of_opened (entries (words_of ws)) x o), (λ x o. one_of_opening (entries (words_of ws)) x o))
   shaped qname = (names_stand, names_open)
   shaped number = (numbers_stand, numbers_open)

@@ -19,7 +19,7 @@ use Rattle.gx_base.specs.NameCharacters.{is_ncname_start}
 use Rattle.gx_parse_grammar.specs.Characters.{is_word_character}
 use Rattle.gx_parse_grammar.specs.Nodes.{Made, Join, join_binary, join_path, join_comma, second_value}
 use Rattle.gx_parse_grammar.specs.declared.word.Barrier.{Barrier}
-use Rattle.gx_parse_grammar.specs.Tokens.{Token, one_of, qname, number, gap_then_open, gap_not_open, gap_then_dollar, barred, begins_sign, shape_of, constructor}
+use Rattle.gx_parse_grammar.specs.Tokens.{Token, one_of, qname, number, gap_then_open, gap_not_open, gap_then_dollar, barred, begins_sign, shape_of_token, constructor}
 use Rattle.gx_parse_grammar.specs.Grammar.{Production, single, within, nested, behind, Phrase, word_of, is_single, level_at, is_reserved, keyword, operator, infix_operator, more, stop, chain, two, expression, numeral, literal, name, variable_step, dots, parenthesised_step, more_arguments, arguments_in, arguments, after_name, after_axis, step_of, behind_plain_name, behind_any_name, test_or_literal, other_step, step, predicate, more_predicates, filtered_step, path_from, more_signs, signed_path, other_operand, ladder, condition, typeswitch, branched, branched_or_name, begun, behind_keyword, opened_or_name, named_single, rules, behind_single, query_language, computed, braced, constructor_name, named_node, no_node, constructed, constructed_by}
 use Rattle.gx_parse_grammar.specs.Casts.{casts, type_test, cast_test, casts_fit, behind_cast}
 use Rattle.gx_parse_grammar.specs.Fronts.{fronts}
@@ -62,8 +62,8 @@ module _ (at : ℕ → Place) where
   abbrev Takes : Phrase → Bool
   Takes A = takes_some (query_language at) (fronts at).takings A
 
-  abbrev apart : (ts us : List Token) → all_apart shape_of ts us ≡ true → AllOf (λ u. AllOf (λ t. AreApart (query_language at) t u) ts) us
-  apart ts us e = computed_apart (query_language at) shape_of (shaped at) ts us e
+  abbrev apart : (ts us : List Token) → all_apart shape_of_token ts us ≡ true → AllOf (λ u. AllOf (λ t. AreApart (query_language at) t u) ts) us
+  apart ts us e = computed_apart (query_language at) shape_of_token (shaped at) ts us e
 
   production_takes : (p : Production) → (fronts at).takings.production_takes p ≡ true → Takes (rules at p) ≡ true
   unfolding ladder casts type_test cast_test chain two expression other_operand operator path_from filtered_step other_step variable_step parenthesised_step direct_step element_at element_of dots test_or_literal attribute_step wildcard_step wildcard literal string_of quoted numeral
@@ -95,7 +95,7 @@ module _ (at : ℕ → Place) where
 
   -- chains
 
-  stop_sorted : (ws : WordSet) (b : Barrier) (us : List Token) → all_apart shape_of (one_of ws ∷ []) us ≡ true → Sorts (stop at ws b) us
+  stop_sorted : (ws : WordSet) (b : Barrier) (us : List Token) → all_apart shape_of_token (one_of ws ∷ []) us ≡ true → Sorts (stop at ws b) us
   unfolding stop operator
   stop_sorted ws b us e = (
     tokens_choose (query_language at) (lawful at) (fronts at) right (one_of ws ∷ []) _ empty us
@@ -104,7 +104,7 @@ module _ (at : ℕ → Place) where
     tt,
   )
 
-  more_sorted : (ws : WordSet) (operand : Phrase) (b : Barrier) (us : List Token) → all_apart shape_of (one_of ws ∷ []) us ≡ true → Sorts operand (one_of ws ∷ us) → (k : ℕ) → Sorts (more at ws operand (stop at ws b) k) us
+  more_sorted : (ws : WordSet) (operand : Phrase) (b : Barrier) (us : List Token) → all_apart shape_of_token (one_of ws ∷ []) us ≡ true → Sorts operand (one_of ws ∷ us) → (k : ℕ) → Sorts (more at ws operand (stop at ws b) k) us
   unfolding more stop operator infix_operator
   more_sorted ws operand b us e s zero = stop_sorted ws b us e
   more_sorted ws operand b us e s (suc zero) = (
@@ -120,11 +120,11 @@ module _ (at : ℕ → Place) where
     tt,
   )
 
-  chain_sorted : (join : Join) (ws : WordSet) (first operand : Phrase) (b : Barrier) (us : List Token) → all_apart shape_of (one_of ws ∷ []) us ≡ true → Sorts first (one_of ws ∷ us) → Sorts operand (one_of ws ∷ us) → Sorts (chain at join ws first operand b) us
+  chain_sorted : (join : Join) (ws : WordSet) (first operand : Phrase) (b : Barrier) (us : List Token) → all_apart shape_of_token (one_of ws ∷ []) us ≡ true → Sorts first (one_of ws ∷ us) → Sorts operand (one_of ws ∷ us) → Sorts (chain at join ws first operand b) us
   unfolding chain more infix_operator
   chain_sorted join ws first operand b us e f s = (f, more_sorted ws operand b us e s 63)
 
-  two_sorted : (ws : WordSet) (first operand : Phrase) (us : List Token) → all_apart shape_of (one_of ws ∷ []) us ≡ true → Sorts first (one_of ws ∷ us) → Sorts operand us → Sorts (two at ws first operand) us
+  two_sorted : (ws : WordSet) (first operand : Phrase) (us : List Token) → all_apart shape_of_token (one_of ws ∷ []) us ≡ true → Sorts first (one_of ws ∷ us) → Sorts operand us → Sorts (two at ws first operand) us
   unfolding two more infix_operator
   two_sorted ws first operand us e f s = (
     f,
@@ -136,25 +136,25 @@ module _ (at : ℕ → Place) where
     ),
   )
 
-  pub expression_sorted : (n : ℕ) (us : List Token) → all_apart shape_of (word_of word.Comma ∷ []) us ≡ true → AllOf (IsIn (behind_single at)) us → Sorts (expression at n) us
+  pub expression_sorted : (n : ℕ) (us : List Token) → all_apart shape_of_token (word_of word.Comma ∷ []) us ≡ true → AllOf (IsIn (behind_single at)) us → Sorts (expression at n) us
   unfolding expression
   expression_sorted n us e f = chain_sorted join_comma (set.Only word.Comma) (rule (single n)) (rule (single n)) barrier.Single us e (inl refl, f) (inl refl, f)
 
   -- steps
 
   abbrev not_brace : List Token → Bool
-  not_brace us = list_all (λ t. shape_begins 123 false (shape_of t)) us
+  not_brace us = list_all (λ t. shape_begins 123 false (shape_of_token t)) us
 
   -- neither `(` nor `::` begins these
   abbrev axis_fits : List Token → Bool
-  axis_fits us = not_open us && all_apart shape_of (word_of word.Colons ∷ []) us
+  axis_fits us = not_open us && all_apart shape_of_token (word_of word.Colons ∷ []) us
 
   -- nor `{`
   abbrev name_fits : List Token → Bool
   name_fits us = axis_fits us && not_brace us
 
   bare_fits : (us : List Token) → name_fits us ≡ true → not_open us ≡ true
-  bare_fits us e = (both (not_open us) (all_apart shape_of (word_of word.Colons ∷ []) us) (both (axis_fits us) (not_brace us) e).0).0
+  bare_fits us e = (both (not_open us) (all_apart shape_of_token (word_of word.Colons ∷ []) us) (both (axis_fits us) (not_brace us) e).0).0
 
   variable_sorted : (us : List Token) → Sorts (variable_step at) us
   unfolding variable_step name
@@ -170,16 +170,16 @@ module _ (at : ℕ → Place) where
     character_chooses (query_language at) (is 34) (fronts at) right _ _ us
         (record {
           takes = refl;
-          passes = computed_heads (query_language at) shape_of (shaped at) 34 true (word_of word.Quote ∷ []) refl;
-          fails = computed_heads (query_language at) shape_of (shaped at) 34 false (word_of word.Apostrophe ∷ number ∷ []) refl;
+          passes = computed_heads (query_language at) shape_of_token (shaped at) 34 true (word_of word.Quote ∷ []) refl;
+          fails = computed_heads (query_language at) shape_of_token (shaped at) 34 false (word_of word.Apostrophe ∷ number ∷ []) refl;
         }),
     string_sorted at right quote.Double us,
     (
       character_chooses (query_language at) (is 39) (fronts at) right _ _ us
           (record {
             takes = refl;
-            passes = computed_heads (query_language at) shape_of (shaped at) 39 true (word_of word.Apostrophe ∷ []) refl;
-            fails = computed_heads (query_language at) shape_of (shaped at) 39 false (number ∷ []) refl;
+            passes = computed_heads (query_language at) shape_of_token (shaped at) 39 true (word_of word.Apostrophe ∷ []) refl;
+            fails = computed_heads (query_language at) shape_of_token (shaped at) 39 false (number ∷ []) refl;
           }),
       string_sorted at right quote.Single us,
       numeral_sorted us,
@@ -200,10 +200,10 @@ module _ (at : ℕ → Place) where
 
   singles_pass : AllOf (HasHead (query_language at) (is 41) false) singles
   unfolding is_ncname_start
-  singles_pass = computed_heads (query_language at) shape_of (shaped at) 41 false singles refl
+  singles_pass = computed_heads (query_language at) shape_of_token (shaped at) 41 false singles refl
 
   closing_passes : AllOf (HasHead (query_language at) (is 41) true) (word_of word.Close ∷ [])
-  closing_passes = computed_heads (query_language at) shape_of (shaped at) 41 true (word_of word.Close ∷ []) refl
+  closing_passes = computed_heads (query_language at) shape_of_token (shaped at) 41 true (word_of word.Close ∷ []) refl
 
   parenthesised_sorted : (n : ℕ) (us : List Token) → Sorts (parenthesised_step at n) us
   unfolding parenthesised_step expression chain
@@ -243,13 +243,13 @@ module _ (at : ℕ → Place) where
     | true ↦ kind_content_sorted at right (kind_word v) us e
     | false ↦ (
       character_chooses (query_language at) (is 40) (fronts at) right _ empty us
-          (record { takes = refl; passes = computed_heads (query_language at) shape_of (shaped at) 40 true (word_of word.Open ∷ []) refl; fails = computed_heads (query_language at) shape_of (shaped at) 40 false us e }),
+          (record { takes = refl; passes = computed_heads (query_language at) shape_of_token (shaped at) 40 true (word_of word.Open ∷ []) refl; fails = computed_heads (query_language at) shape_of_token (shaped at) 40 false us e }),
       arguments_sorted n us,
       tt,
     )
   ]
 
-  kind_content_apart : (k : Option KindWord) (us : List Token) → all_apart shape_of (word_of word.Colons ∷ []) us ≡ true
+  kind_content_apart : (k : Option KindWord) (us : List Token) → all_apart shape_of_token (word_of word.Colons ∷ []) us ≡ true
       → AllOf (λ u. AllOf (λ t. AreApart (query_language at) t u) (word_of word.Colons ∷ [])) (first_behind (query_language at) (fronts at) (kind_content at k) us)
   unfolding kind_content content named_content declared_content nothing_inside document tested declared
   kind_content_apart (Some kind.Node) us e = apart (word_of word.Colons ∷ []) (word_of word.Open ∷ us) e
@@ -260,7 +260,7 @@ module _ (at : ℕ → Place) where
   kind_content_apart (Some kind.SchemaElement) us e = apart (word_of word.Colons ∷ []) (word_of word.Open ∷ us) e
   kind_content_apart None us e = apart (word_of word.Colons ∷ []) us e
 
-  after_name_apart : (n : ℕ) (v : Made) (us : List Token) → all_apart shape_of (word_of word.Colons ∷ []) us ≡ true
+  after_name_apart : (n : ℕ) (v : Made) (us : List Token) → all_apart shape_of_token (word_of word.Colons ∷ []) us ≡ true
       → AllOf (λ u. AllOf (λ t. AreApart (query_language at) t u) (word_of word.Colons ∷ [])) (first_behind (query_language at) (fronts at) (after_name at n v) us)
   unfolding after_name arguments
   after_name_apart n v us e =
@@ -270,13 +270,13 @@ module _ (at : ℕ → Place) where
   after_axis_sorted : (n : ℕ) (a : Option Axis) (v : Made) (us : List Token) → axis_fits us ≡ true → Sorts (after_axis at n a v) us
   unfolding after_axis axis_test
   after_axis_sorted n (Some a) v us e =
-      let p = both (not_open us) (all_apart shape_of (word_of word.Colons ∷ []) us) e in (
+      let p = both (not_open us) (all_apart shape_of_token (word_of word.Colons ∷ []) us) e in (
         tokens_choose (query_language at) (lawful at) (fronts at) right (word_of word.Colons ∷ []) _ _ us
             (record { takes = refl; first = (inl refl, tt); full = (refl, tt); opening = ((λ x o. open_made (open_first (open_first (open_token o)))), tt); apart = after_name_apart n v us p.1 }),
         axis_test_sorted at right us p.0,
         after_name_sorted n v us p.0,
       )
-  after_axis_sorted n None v us e = after_name_sorted n v us (both (not_open us) (all_apart shape_of (word_of word.Colons ∷ []) us) e).0
+  after_axis_sorted n None v us e = after_name_sorted n v us (both (not_open us) (all_apart shape_of_token (word_of word.Colons ∷ []) us) e).0
 
   plain_name_sorted : (t : Token) (v : Made) (us : List Token) → Sorts (behind_plain_name at t v) us
   unfolding behind_plain_name
@@ -290,13 +290,13 @@ module _ (at : ℕ → Place) where
 
   singles_close : AllOf (HasHead (query_language at) (is 125) false) singles
   unfolding is_ncname_start
-  singles_close = computed_heads (query_language at) shape_of (shaped at) 125 false singles refl
+  singles_close = computed_heads (query_language at) shape_of_token (shaped at) 125 false singles refl
 
   braced_sorted : (n : ℕ) (us : List Token) → Sorts (braced at n) us
   unfolding braced expression chain
   braced_sorted n us = (
     character_chooses (query_language at) (is 125) (fronts at) right _ _ us
-        (record { takes = refl; passes = computed_heads (query_language at) shape_of (shaped at) 125 true (word_of word.CloseBrace ∷ []) refl; fails = singles_close }),
+        (record { takes = refl; passes = computed_heads (query_language at) shape_of_token (shaped at) 125 true (word_of word.CloseBrace ∷ []) refl; fails = singles_close }),
     (tt, (tt, tt)),
     (expression_sorted n (word_of word.CloseBrace ∷ []) refl (inr (inr (inr (inr (inr (inl refl))))), tt), (tt, tt)),
   )
@@ -307,19 +307,19 @@ module _ (at : ℕ → Place) where
 
   kind_content_heads : (k : Option KindWord) (us : List Token) → not_brace us ≡ true → AllOf (HasHead (query_language at) (is 123) false) (first_behind (query_language at) (fronts at) (kind_content at k) us)
   unfolding kind_content content named_content declared_content nothing_inside document tested declared
-  kind_content_heads (Some kind.Node) us e = computed_heads (query_language at) shape_of (shaped at) 123 false (word_of word.Open ∷ us) e
-  kind_content_heads (Some kind.Text) us e = computed_heads (query_language at) shape_of (shaped at) 123 false (word_of word.Open ∷ us) e
-  kind_content_heads (Some kind.Document) us e = computed_heads (query_language at) shape_of (shaped at) 123 false (word_of word.Open ∷ us) e
-  kind_content_heads (Some kind.Element) us e = computed_heads (query_language at) shape_of (shaped at) 123 false (word_of word.Open ∷ us) e
-  kind_content_heads (Some kind.Attribute) us e = computed_heads (query_language at) shape_of (shaped at) 123 false (word_of word.Open ∷ us) e
-  kind_content_heads (Some kind.SchemaElement) us e = computed_heads (query_language at) shape_of (shaped at) 123 false (word_of word.Open ∷ us) e
-  kind_content_heads None us e = computed_heads (query_language at) shape_of (shaped at) 123 false us e
+  kind_content_heads (Some kind.Node) us e = computed_heads (query_language at) shape_of_token (shaped at) 123 false (word_of word.Open ∷ us) e
+  kind_content_heads (Some kind.Text) us e = computed_heads (query_language at) shape_of_token (shaped at) 123 false (word_of word.Open ∷ us) e
+  kind_content_heads (Some kind.Document) us e = computed_heads (query_language at) shape_of_token (shaped at) 123 false (word_of word.Open ∷ us) e
+  kind_content_heads (Some kind.Element) us e = computed_heads (query_language at) shape_of_token (shaped at) 123 false (word_of word.Open ∷ us) e
+  kind_content_heads (Some kind.Attribute) us e = computed_heads (query_language at) shape_of_token (shaped at) 123 false (word_of word.Open ∷ us) e
+  kind_content_heads (Some kind.SchemaElement) us e = computed_heads (query_language at) shape_of_token (shaped at) 123 false (word_of word.Open ∷ us) e
+  kind_content_heads None us e = computed_heads (query_language at) shape_of_token (shaped at) 123 false us e
 
   after_name_heads : (n : ℕ) (v : Made) (us : List Token) → not_brace us ≡ true → AllOf (HasHead (query_language at) (is 123) false) (first_behind (query_language at) (fronts at) (after_name at n v) us)
   unfolding after_name arguments
   after_name_heads n v us e =
       elim (is_reserved v) as (λ b. AllOf (HasHead (query_language at) (is 123) false) (first_behind (query_language at) (fronts at) (if b then (kind_content at (kind_word v)) else (choose (by_character (is 40)) (arguments at n) empty)) us))
-      [ true ↦ kind_content_heads (kind_word v) us e | false ↦ computed_heads (query_language at) shape_of (shaped at) 123 false (word_of word.Open ∷ us) e ]
+      [ true ↦ kind_content_heads (kind_word v) us e | false ↦ computed_heads (query_language at) shape_of_token (shaped at) 123 false (word_of word.Open ∷ us) e ]
 
   no_node_sorted : (n : ℕ) (v : Made) (us : List Token) → axis_fits us ≡ true → Sorts (no_node at n v) us
   unfolding no_node
@@ -329,7 +329,7 @@ module _ (at : ℕ → Place) where
   unfolding constructed_by computed named_node constructor_name no_node
   constructed_by_sorted n v (Some c) k us e = (
     character_chooses (query_language at) (is 123) (fronts at) right _ _ us
-        (record { takes = refl; passes = computed_heads (query_language at) shape_of (shaped at) 123 true (word_of word.BraceOpen ∷ []) refl; fails = after_name_heads n v us (both (axis_fits us) (not_brace us) e).1 }),
+        (record { takes = refl; passes = computed_heads (query_language at) shape_of_token (shaped at) 123 true (word_of word.BraceOpen ∷ []) refl; fails = after_name_heads n v us (both (axis_fits us) (not_brace us) e).1 }),
     computed_sorted n c us,
     after_name_sorted n v us (bare_fits us e),
   )
@@ -351,16 +351,16 @@ module _ (at : ℕ → Place) where
     character_chooses (query_language at) (is 64) (fronts at) right _ _ us
         (record {
           takes = refl;
-          passes = computed_heads (query_language at) shape_of (shaped at) 64 true (word_of word.AtSign ∷ []) refl;
-          fails = computed_heads (query_language at) shape_of (shaped at) 64 false (word_of word.AnyPrefix ∷ word_of word.AnyName ∷ word_of word.Quote ∷ word_of word.Apostrophe ∷ number ∷ []) refl;
+          passes = computed_heads (query_language at) shape_of_token (shaped at) 64 true (word_of word.AtSign ∷ []) refl;
+          fails = computed_heads (query_language at) shape_of_token (shaped at) 64 false (word_of word.AnyPrefix ∷ word_of word.AnyName ∷ word_of word.Quote ∷ word_of word.Apostrophe ∷ number ∷ []) refl;
         }),
     attribute_step_sorted at right us e,
     (
       character_chooses (query_language at) (is 42) (fronts at) right _ _ us
           (record {
             takes = refl;
-            passes = computed_heads (query_language at) shape_of (shaped at) 42 true (word_of word.AnyPrefix ∷ word_of word.AnyName ∷ []) refl;
-            fails = computed_heads (query_language at) shape_of (shaped at) 42 false (word_of word.Quote ∷ word_of word.Apostrophe ∷ number ∷ []) refl;
+            passes = computed_heads (query_language at) shape_of_token (shaped at) 42 true (word_of word.AnyPrefix ∷ word_of word.AnyName ∷ []) refl;
+            fails = computed_heads (query_language at) shape_of_token (shaped at) 42 false (word_of word.Quote ∷ word_of word.Apostrophe ∷ number ∷ []) refl;
           }),
       wildcard_step_sorted at right us,
       literal_sorted us,
@@ -373,24 +373,24 @@ module _ (at : ℕ → Place) where
     character_chooses (query_language at) (is 36) (fronts at) right _ _ us
         (record {
           takes = refl;
-          passes = computed_heads (query_language at) shape_of (shaped at) 36 true (word_of word.Dollar ∷ []) refl;
-          fails = computed_heads (query_language at) shape_of (shaped at) 36 false (word_of word.Open ∷ word_of word.TagOpen ∷ one_of set.Dots ∷ word_of word.AtSign ∷ word_of word.AnyPrefix ∷ word_of word.AnyName ∷ word_of word.Quote ∷ word_of word.Apostrophe ∷ number ∷ []) refl;
+          passes = computed_heads (query_language at) shape_of_token (shaped at) 36 true (word_of word.Dollar ∷ []) refl;
+          fails = computed_heads (query_language at) shape_of_token (shaped at) 36 false (word_of word.Open ∷ word_of word.TagOpen ∷ one_of set.Dots ∷ word_of word.AtSign ∷ word_of word.AnyPrefix ∷ word_of word.AnyName ∷ word_of word.Quote ∷ word_of word.Apostrophe ∷ number ∷ []) refl;
         }),
     variable_sorted us,
     (
       character_chooses (query_language at) (is 40) (fronts at) right _ _ us
           (record {
             takes = refl;
-            passes = computed_heads (query_language at) shape_of (shaped at) 40 true (word_of word.Open ∷ []) refl;
-            fails = computed_heads (query_language at) shape_of (shaped at) 40 false (word_of word.TagOpen ∷ one_of set.Dots ∷ word_of word.AtSign ∷ word_of word.AnyPrefix ∷ word_of word.AnyName ∷ word_of word.Quote ∷ word_of word.Apostrophe ∷ number ∷ []) refl;
+            passes = computed_heads (query_language at) shape_of_token (shaped at) 40 true (word_of word.Open ∷ []) refl;
+            fails = computed_heads (query_language at) shape_of_token (shaped at) 40 false (word_of word.TagOpen ∷ one_of set.Dots ∷ word_of word.AtSign ∷ word_of word.AnyPrefix ∷ word_of word.AnyName ∷ word_of word.Quote ∷ word_of word.Apostrophe ∷ number ∷ []) refl;
           }),
       parenthesised_sorted n us,
       (
         character_chooses (query_language at) (is 60) (fronts at) right _ _ us
             (record {
               takes = refl;
-              passes = computed_heads (query_language at) shape_of (shaped at) 60 true (word_of word.TagOpen ∷ []) refl;
-              fails = computed_heads (query_language at) shape_of (shaped at) 60 false (one_of set.Dots ∷ word_of word.AtSign ∷ word_of word.AnyPrefix ∷ word_of word.AnyName ∷ word_of word.Quote ∷ word_of word.Apostrophe ∷ number ∷ []) refl;
+              passes = computed_heads (query_language at) shape_of_token (shaped at) 60 true (word_of word.TagOpen ∷ []) refl;
+              fails = computed_heads (query_language at) shape_of_token (shaped at) 60 false (one_of set.Dots ∷ word_of word.AtSign ∷ word_of word.AnyPrefix ∷ word_of word.AnyName ∷ word_of word.Quote ∷ word_of word.Apostrophe ∷ number ∷ []) refl;
             }),
         direct_sorted at right n us,
         (
@@ -405,8 +405,8 @@ module _ (at : ℕ → Place) where
 
   -- names, and what begins otherwise
 
-  words_no_name : (ts : List Token) → list_all (λ t. words_begin is_ncname_start false (shape_of t)) ts ≡ true → AllOf (HasHead (query_language at) is_ncname_start false) ts
-  words_no_name ts e = computed_words (query_language at) shape_of (shaped at) is_ncname_start false ts e
+  words_no_name : (ts : List Token) → list_all (λ t. words_begin is_ncname_start false (shape_of_token t)) ts ≡ true → AllOf (HasHead (query_language at) is_ncname_start false) ts
+  words_no_name ts e = computed_words (query_language at) shape_of_token (shaped at) is_ncname_start false ts e
 
   step_fails : AllOf (HasHead (query_language at) is_ncname_start false) (word_of word.Dollar ∷ word_of word.Open ∷ word_of word.TagOpen ∷ one_of set.Dots ∷ word_of word.AtSign ∷ word_of word.AnyPrefix ∷ word_of word.AnyName ∷ word_of word.Quote ∷ word_of word.Apostrophe ∷ number ∷ [])
   unfolding is_ncname_start
@@ -436,7 +436,7 @@ module _ (at : ℕ → Place) where
   predicate_sorted n us = ((tt, tt), (expression_sorted n (word_of word.CloseBracket ∷ []) refl (inr (inr (inr (inr (inl refl)))), tt), (tt, tt)))
 
   abbrev predicates_fit : List Token → Bool
-  predicates_fit us = all_apart shape_of (word_of word.OpenBracket ∷ []) us && all_apart shape_of (barred barrier.Predicate ∷ []) us
+  predicates_fit us = all_apart shape_of_token (word_of word.OpenBracket ∷ []) us && all_apart shape_of_token (barred barrier.Predicate ∷ []) us
 
   more_predicates_sorted : (n k : ℕ) (us : List Token) → predicates_fit us ≡ true → Sorts (more_predicates at n k) us
   unfolding more_predicates predicate
@@ -447,7 +447,7 @@ module _ (at : ℕ → Place) where
           first = (inl refl, tt);
           full = (refl, tt);
           opening = ((λ x o. open_token o), tt);
-          apart = apart (barred barrier.Predicate ∷ []) us (both (all_apart shape_of (word_of word.OpenBracket ∷ []) us) _ e).1;
+          apart = apart (barred barrier.Predicate ∷ []) us (both (all_apart shape_of_token (word_of word.OpenBracket ∷ []) us) _ e).1;
         }),
     tt,
     tt,
@@ -459,7 +459,7 @@ module _ (at : ℕ → Place) where
           first = (inl refl, tt);
           full = (refl, tt);
           opening = ((λ x o. open_first (open_made (open_first (open_first (open_token o))))), tt);
-          apart = apart (word_of word.OpenBracket ∷ []) us (both (all_apart shape_of (word_of word.OpenBracket ∷ []) us) _ e).0;
+          apart = apart (word_of word.OpenBracket ∷ []) us (both (all_apart shape_of_token (word_of word.OpenBracket ∷ []) us) _ e).0;
         }),
     (predicate_sorted n (first_behind (query_language at) (fronts at) (more_predicates at n k) us), more_predicates_sorted n k us e),
     tt,
@@ -470,18 +470,18 @@ module _ (at : ℕ → Place) where
   filtered_sorted n first us e f = (f, more_predicates_sorted n 64 us e)
 
   abbrev path_fits : List Token → Bool
-  path_fits us = all_apart shape_of (one_of set.Slashes ∷ []) us && (predicates_fit (one_of set.Slashes ∷ us) && name_fits (word_of word.OpenBracket ∷ one_of set.Slashes ∷ us))
+  path_fits us = all_apart shape_of_token (one_of set.Slashes ∷ []) us && (predicates_fit (one_of set.Slashes ∷ us) && name_fits (word_of word.OpenBracket ∷ one_of set.Slashes ∷ us))
 
   path_sorted : (n : ℕ) (first : Phrase) (us : List Token) → path_fits us ≡ true → Sorts first (word_of word.OpenBracket ∷ one_of set.Slashes ∷ us) → Sorts (path_from at n first) us
   unfolding path_from
   path_sorted n first us e f =
-      let p = both (all_apart shape_of (one_of set.Slashes ∷ []) us) _ e in
+      let p = both (all_apart shape_of_token (one_of set.Slashes ∷ []) us) _ e in
       let q = both (predicates_fit (one_of set.Slashes ∷ us)) _ p.1 in
       chain_sorted join_path set.Slashes (filtered_step at n first) (filtered_step at n (step at n)) barrier.Step us p.0 (filtered_sorted n first (one_of set.Slashes ∷ us) q.0 f)
       (filtered_sorted n (step at n) (one_of set.Slashes ∷ us) q.0 (step_sorted n (word_of word.OpenBracket ∷ one_of set.Slashes ∷ us) q.1))
 
   step_fits : (us : List Token) → path_fits us ≡ true → name_fits (word_of word.OpenBracket ∷ one_of set.Slashes ∷ us) ≡ true
-  step_fits us e = (both (predicates_fit (one_of set.Slashes ∷ us)) _ (both (all_apart shape_of (one_of set.Slashes ∷ []) us) _ e).1).1
+  step_fits us e = (both (predicates_fit (one_of set.Slashes ∷ us)) _ (both (all_apart shape_of_token (one_of set.Slashes ∷ []) us) _ e).1).1
 
   abbrev steps : List Token
   steps = qname ∷ word_of word.Dollar ∷ word_of word.Open ∷ word_of word.TagOpen ∷ one_of set.Dots ∷ word_of word.AtSign ∷ word_of word.AnyPrefix ∷ word_of word.AnyName ∷ word_of word.Quote ∷ word_of word.Apostrophe ∷ number ∷ []
@@ -543,14 +543,14 @@ module _ (at : ℕ → Place) where
   abbrev operands_fit : ℕ → List Token → Bool
   operands_fit zero us = path_fits (behind_cast us) && casts_fit us
   operands_fit (suc k) us =
-      all_apart shape_of (operators (level_at k) ∷ []) us && (operands_fit k (operators (level_at k) ∷ us) && (if is_single (level_at k) then (operands_fit k us) else true))
+      all_apart shape_of_token (operators (level_at k) ∷ []) us && (operands_fit k (operators (level_at k) ∷ us) && (if is_single (level_at k) then (operands_fit k us) else true))
 
   -- what follows the first operand
   abbrev pub innermost : ℕ → List Token → List Token
   innermost zero us = behind_cast us
   innermost (suc k) us = innermost k (operators (level_at k) ∷ us)
 
-  level_sorted : (k n : ℕ) (first : Phrase) (us : List Token) → all_apart shape_of (operators (level_at k) ∷ []) us ≡ true → (if is_single (level_at k) then (operands_fit k us) else true) ≡ true
+  level_sorted : (k n : ℕ) (first : Phrase) (us : List Token) → all_apart shape_of_token (operators (level_at k) ∷ []) us ≡ true → (if is_single (level_at k) then (operands_fit k us) else true) ≡ true
       → (operands_fit k us ≡ true → Sorts (ladder at k n (signed_path at n 64)) us) → Sorts (ladder at k n (signed_path at n 64)) (operators (level_at k) ∷ us) → Sorts (ladder at k n first) (operators (level_at k) ∷ us) → Sorts (ladder at (suc k) n first) us
   unfolding ladder
   level_sorted k n first us e h one operand inner = go (is_single (level_at k)) refl h
@@ -564,7 +564,7 @@ module _ (at : ℕ → Place) where
   unfolding ladder
   operand_sorted zero n us e = let p = both (path_fits (behind_cast us)) (casts_fit us) e in casts_sorted at right (signed_path at n 64) us p.1 (signed_sorted n 64 (behind_cast us) p.0)
   operand_sorted (suc k) n us e =
-      let p = both (all_apart shape_of (operators (level_at k) ∷ []) us) _ e in
+      let p = both (all_apart shape_of_token (operators (level_at k) ∷ []) us) _ e in
       let q = both (operands_fit k (operators (level_at k) ∷ us)) _ p.1 in
       level_sorted k n (signed_path at n 64) us p.0 q.1 (λ f. operand_sorted k n us f) (operand_sorted k n (operators (level_at k) ∷ us) q.0) (operand_sorted k n (operators (level_at k) ∷ us) q.0)
 
@@ -572,7 +572,7 @@ module _ (at : ℕ → Place) where
   unfolding ladder
   ladder_sorted zero n first us e f = let p = both (path_fits (behind_cast us)) (casts_fit us) e in casts_sorted at right first us p.1 f
   ladder_sorted (suc k) n first us e f =
-      let p = both (all_apart shape_of (operators (level_at k) ∷ []) us) _ e in
+      let p = both (all_apart shape_of_token (operators (level_at k) ∷ []) us) _ e in
       let q = both (operands_fit k (operators (level_at k) ∷ us)) _ p.1 in
       level_sorted k n first us p.0 q.1 (λ g. operand_sorted k n us g) (operand_sorted k n (operators (level_at k) ∷ us) q.0) (ladder_sorted k n first (operators (level_at k) ∷ us) q.0 f)
 
@@ -647,7 +647,7 @@ module _ (at : ℕ → Place) where
       word_of word.OpenBracket ∷ one_of set.Slashes ∷ word_of word.Cast ∷ word_of word.Castable ∷ word_of word.Treat ∷ word_of word.Instance ∷ operators level.Intersect ∷ operators level.Union ∷ operators level.Product ∷ operators level.Sum ∷ operators level.Range ∷ operators level.Comparison
       ∷ operators level.And ∷ operators level.Or ∷ behind_single at
 
-  keyword_sorted : (n : ℕ) (v : Made) (us : List Token) → all_apart shape_of (gap_then_open ∷ []) us ≡ true → Sorts (behind_keyword at n v) us
+  keyword_sorted : (n : ℕ) (v : Made) (us : List Token) → all_apart shape_of_token (gap_then_open ∷ []) us ≡ true → Sorts (behind_keyword at n v) us
   unfolding behind_keyword behind_plain_name
   keyword_sorted n v us e = (
     tokens_choose (query_language at) (lawful at) (fronts at) right (gap_then_open ∷ []) _ _ us

@@ -8,7 +8,7 @@ use Rattle.gx_grammar.proofs.PublicLaws.{character_chooses, computed_apart, comp
 use Rattle.gx_parse_grammar.specs.declared.runs.Quote.{Quote}
 use Rattle.gx_parse_grammar.specs.declared.runs.Quote.TheVariants as quote
 use Rattle.gx_parse_grammar.specs.declared.runs.Run.TheVariants as run
-use Rattle.gx_parse_grammar.specs.Tokens.{Token, text_run, reference, shape_of}
+use Rattle.gx_parse_grammar.specs.Tokens.{Token, text_run, reference, shape_of_token}
 use Rattle.gx_parse_grammar.specs.Grammar.{Phrase, word_of, query_language}
 use Rattle.gx_parse_grammar.specs.Fronts.{fronts}
 use Rattle.gx_parse_grammar.specs.Strings.{closing_of, doubled_of, string_part, string_parts, quoted, string_of}
@@ -25,14 +25,14 @@ module _ (at : ℕ → Place) (right : AreFronts (query_language at) (fronts at)
   unfolding string_part
   part_sorted quote.Double us = (
     character_chooses (query_language at) (is 38) (fronts at) right _ _ us
-        (record { takes = refl; passes = (reference_passes, tt); fails = computed_heads (query_language at) shape_of (shaped at) 38 false (word_of (doubled_of quote.Double) ∷ text_run (run.String quote.Double) ∷ []) refl }),
+        (record { takes = refl; passes = (reference_passes, tt); fails = computed_heads (query_language at) shape_of_token (shaped at) 38 false (word_of (doubled_of quote.Double) ∷ text_run (run.String quote.Double) ∷ []) refl }),
     tt,
     (
       character_chooses (query_language at) (is 34) (fronts at) right _ _ us
           (record {
             takes = refl;
-            passes = computed_heads (query_language at) shape_of (shaped at) 34 true (word_of (doubled_of quote.Double) ∷ []) refl;
-            fails = computed_heads (query_language at) shape_of (shaped at) 34 false (text_run (run.String quote.Double) ∷ []) refl;
+            passes = computed_heads (query_language at) shape_of_token (shaped at) 34 true (word_of (doubled_of quote.Double) ∷ []) refl;
+            fails = computed_heads (query_language at) shape_of_token (shaped at) 34 false (text_run (run.String quote.Double) ∷ []) refl;
           }),
       tt,
       tt,
@@ -40,14 +40,14 @@ module _ (at : ℕ → Place) (right : AreFronts (query_language at) (fronts at)
   )
   part_sorted quote.Single us = (
     character_chooses (query_language at) (is 38) (fronts at) right _ _ us
-        (record { takes = refl; passes = (reference_passes, tt); fails = computed_heads (query_language at) shape_of (shaped at) 38 false (word_of (doubled_of quote.Single) ∷ text_run (run.String quote.Single) ∷ []) refl }),
+        (record { takes = refl; passes = (reference_passes, tt); fails = computed_heads (query_language at) shape_of_token (shaped at) 38 false (word_of (doubled_of quote.Single) ∷ text_run (run.String quote.Single) ∷ []) refl }),
     tt,
     (
       character_chooses (query_language at) (is 39) (fronts at) right _ _ us
           (record {
             takes = refl;
-            passes = computed_heads (query_language at) shape_of (shaped at) 39 true (word_of (doubled_of quote.Single) ∷ []) refl;
-            fails = computed_heads (query_language at) shape_of (shaped at) 39 false (text_run (run.String quote.Single) ∷ []) refl;
+            passes = computed_heads (query_language at) shape_of_token (shaped at) 39 true (word_of (doubled_of quote.Single) ∷ []) refl;
+            fails = computed_heads (query_language at) shape_of_token (shaped at) 39 false (text_run (run.String quote.Single) ∷ []) refl;
           }),
       tt,
       tt,
@@ -57,7 +57,7 @@ module _ (at : ℕ → Place) (right : AreFronts (query_language at) (fronts at)
   abbrev parts : Quote → List Token
   parts q = text_run (run.String q) ∷ word_of (doubled_of q) ∷ reference ∷ []
 
-  closing_apart : (q : Quote) → all_apart shape_of (parts q) (word_of (closing_of q) ∷ []) ≡ true
+  closing_apart : (q : Quote) → all_apart shape_of_token (parts q) (word_of (closing_of q) ∷ []) ≡ true
   closing_apart quote.Double = refl
   closing_apart quote.Single = refl
 
@@ -70,7 +70,7 @@ module _ (at : ℕ → Place) (right : AreFronts (query_language at) (fronts at)
           first = (inr (inr (inl refl)), (inr (inl refl), (inl refl, tt)));
           full = (refl, (refl, (refl, tt)));
           opening = ((λ x o. open_right (open_right (open_token o))), ((λ x o. open_right (open_left (open_token o))), ((λ x o. open_left (open_token o)), tt)));
-          apart = computed_apart (query_language at) shape_of (shaped at) (parts q) (word_of (closing_of q) ∷ []) (closing_apart q);
+          apart = computed_apart (query_language at) shape_of_token (shaped at) (parts q) (word_of (closing_of q) ∷ []) (closing_apart q);
         }),
     refl,
     part_sorted q _,

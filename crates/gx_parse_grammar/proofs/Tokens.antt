@@ -19,9 +19,9 @@ use Rattle.gx_base.specs.NameCharacters.{is_ncname_start, is_ncname_character, i
 use Rattle.gx_parse_grammar.specs.Characters.{is_digit, no_character}
 use Rattle.gx_parse_grammar.specs.Words.{letters_of, ends_at, ending_of, words_of}
 use Rattle.gx_parse_grammar.specs.Nodes.{Node, Made, Found}
-use Rattle.gx_parse_grammar.specs.Numeral.{together, IsDigits, scan_digits, IsFraction, scan_fraction, starts_point, HasFraction, scan_with_fraction, IsPointed, OpensNumeral, scan_pointed, seen_numeral, has_digit, is_small, IsLiteral, scan_literal}
+use Rattle.gx_parse_grammar.specs.Numeral.{together, IsDigits, scan_numeral_digits, IsFraction, scan_fraction, starts_point, HasFraction, scan_with_fraction, IsPointed, OpensNumeral, scan_pointed, seen_numeral, has_digit, is_small, IsLiteral, scan_literal}
 use Rattle.gx_parse_grammar.specs.Tokens.{Token, one_of, qname, number, number_end, gap, gap_then_open, gap_not_open, barred, indication, entries, IsNCName, scan_ncname, behind_colon, IsColon, scan_colon, OpensColon, IsLocalPart, OpensLocalPart, scan_local_part, seen_local_part, starts_local_part, HasLocalPart, scan_has_local_part, IsQName, OpensQName, no_value, IsGapHere, scan_gap_here, IsParenthesis, scan_parenthesis, OpensParenthesis, scan_no_parenthesis, OpensNothing, indicators, first_of_two, IsIndicator, OpensIndicator, scan_indicator, seen_indicator, stops_type, IsNoIndicator, scan_no_indicator, barrier_fault, limit_code, number_code, derives, opens, scan, seen, faults, takes, begins_number, text_run, reference, white, blank, no_attribute, no_element, tag_open, element_fault, tag_name, cdata_text, ncname, local_wildcard, wildcard_letters, IsLocalWildcard, scan_local_wildcard, starts_local_wildcard, no_characters, begins_attribute, cdata_value, cdata_walk, entity_words, gap_then_dollar, gap_then_neither, barred_words, IsDollar, scan_dollar, OpensDollar, stops_name, IsNeither, scan_neither, word_fault, leading, second_of_two, IsGapWith, OpensGapWith, scan_gap_with, seen_gap_with, IsTheWord, OpensTheWord, scan_the_word}
-use Rattle.gx_parse_grammar.specs.References.{is_text, text_value}
+use Rattle.gx_parse_grammar.specs.References.{is_run_character, text_value}
 use Rattle.gx_parse_grammar.proofs.ReferenceTokens.{reference_lawful, number_shorter}
 use Rattle.gx_parse_grammar.specs.Tokens.{scan_qname, seen_qname, constructor, no_constructor, IsBrace, OpensBrace, scan_brace, IsGapBrace, OpensGapBrace, scan_gap_brace, seen_gap_brace, IsConstructor, OpensConstructor, scan_constructor, seen_constructor, front_of_two, word_end, starts_fraction, OpensPoint}
 use Rattle.gx_parse_grammar.proofs.ConstructorTokens.{no_constructor_lawful}
@@ -116,7 +116,7 @@ qname_lawful =
 
 -- numbers
 
-digits_lawful : LawfulToken {V = Made} IsDigits (opens_run is_digit) scan_digits (seen_run is_digit) no_fault
+digits_lawful : LawfulToken {V = Made} IsDigits (opens_run is_digit) scan_numeral_digits (seen_run is_digit) no_fault
 digits_lawful = lawful_run characters is_digit no_character
 
 fraction_lawful : LawfulToken {V = Made} IsFraction (opens_name (is 46) is_digit) scan_fraction (seen_name (is 46) is_digit) no_fault
@@ -133,7 +133,7 @@ has_fraction_lawful =
 
 pointed_lawful : LawfulToken {V = Made} IsPointed (OpensNumeral Node) scan_pointed (seen_numeral Node) no_fault
 pointed_lawful =
-    lawful_joined IsDigits (opens_run is_digit) scan_digits (seen_run is_digit) digits_lawful HasFraction (opens_name (is 46) is_digit) scan_with_fraction (seen_name (is 46) is_digit) has_fraction_lawful together
+    lawful_joined IsDigits (opens_run is_digit) scan_numeral_digits (seen_run is_digit) digits_lawful HasFraction (opens_name (is 46) is_digit) scan_with_fraction (seen_name (is 46) is_digit) has_fraction_lawful together
 
 pub literal_lawful : LawfulToken {V = Made} IsLiteral (OpensNumeral Node) scan_literal (seen_numeral Node) no_fault
 literal_lawful = lawful_fitting IsPointed (OpensNumeral Node) scan_pointed (seen_numeral Node) no_fault pointed_lawful has_digit no_fault (λ v x y d e. refl) refl
@@ -392,7 +392,7 @@ token_lawful gap_then_open = then_open_lawful
 token_lawful gap_not_open = not_open_lawful
 token_lawful (barred b) = lawful_barred (barrier_fault b) refl
 token_lawful indication = indication_lawful
-token_lawful (text_run r) = lawful_name (text_value r) (is_text r) (is_text r) no_character
+token_lawful (text_run r) = lawful_name (text_value r) (is_run_character r) (is_run_character r) no_character
 token_lawful reference = reference_lawful
 token_lawful white = lawful_name no_characters is_white_space is_white_space no_character
 token_lawful blank = lawful_run no_characters is_white_space no_character
@@ -470,7 +470,7 @@ tokens_taken gap_then_open v x y e d = let g = gap_behind d.front x d.between d.
 tokens_taken gap_not_open v x y e d = absurd (cc)
 tokens_taken (barred b) v x y e d = absurd d
 tokens_taken indication v x y e d = absurd (cc)
-tokens_taken (text_run r) v x y e d = named_shorter (is_text r) (is_text r) no_character v x y d
+tokens_taken (text_run r) v x y e d = named_shorter (is_run_character r) (is_run_character r) no_character v x y d
 tokens_taken reference v x y e (inl d) = word_shorter entity_words d.inner x y d.stands
 tokens_taken reference v x y e (inr d) = number_shorter v x y d
 tokens_taken white v x y e d = named_shorter is_white_space is_white_space no_character v x y d

@@ -16,7 +16,7 @@ use Rattle.gx_parse_grammar.specs.declared.kind_words.TypeWord.{TypeWord}
 use Rattle.gx_parse_grammar.specs.declared.kind_words.TypeWord.TheVariants as type_word_is
 use Rattle.gx_base.specs.NameCharacters.{is_ncname_start}
 use Rattle.gx_parse_grammar.specs.Nodes.{Node, Made}
-use Rattle.gx_parse_grammar.specs.Tokens.{Token, qname, indication, indicators, OpensIndicator, stops_type, shape_of, derives, opens, faults}
+use Rattle.gx_parse_grammar.specs.Tokens.{Token, qname, indication, indicators, OpensIndicator, stops_type, shape_of_token, derives, opens, faults}
 use Rattle.gx_parse_grammar.specs.Grammar.{Phrase, word_of, name, query_language}
 use Rattle.gx_parse_grammar.specs.Types.{type_word, written_name, tested_name, behind_comma, tested, declared, nothing_inside, document_test, document, content, named_content, declared_content, bare_tail, item_tail, empty_tail, type_tail, behind_type, sequence_type, single_type}
 use Rattle.gx_parse_grammar.specs.Fronts.{fronts}
@@ -48,8 +48,8 @@ module _ (at : ℕ → Place) (right : AreFronts (query_language at) (fronts at)
   abbrev Sorts : Phrase → List Token → Type 0
   Sorts A us = IsSorted (query_language at) (fronts at) A us
 
-  abbrev apart : (ts us : List Token) → all_apart shape_of ts us ≡ true → AllOf (λ u. AllOf (λ t. AreApart (query_language at) t u) ts) us
-  apart ts us e = computed_apart (query_language at) shape_of (shaped at) ts us e
+  abbrev apart : (ts us : List Token) → all_apart shape_of_token ts us ≡ true → AllOf (λ u. AllOf (λ t. AreApart (query_language at) t u) ts) us
+  apart ts us e = computed_apart (query_language at) shape_of_token (shaped at) ts us e
 
   abbrev Stood : Token → List ℕ → Type 0
   Stood t x = Stands {Node = Node} derives faults t x
@@ -97,14 +97,14 @@ module _ (at : ℕ → Place) (right : AreFronts (query_language at) (fronts at)
     character_chooses (query_language at) (is 42) (fronts at) right _ _ us
         (record {
           takes = refl;
-          passes = computed_heads (query_language at) shape_of (shaped at) 42 true (word_of word.Times ∷ []) refl;
-          fails = computed_heads (query_language at) shape_of (shaped at) 42 false (qname ∷ []) refl;
+          passes = computed_heads (query_language at) shape_of_token (shaped at) 42 true (word_of word.Times ∷ []) refl;
+          fails = computed_heads (query_language at) shape_of_token (shaped at) 42 false (qname ∷ []) refl;
         }),
     (tt, tt),
     (tt, tt),
   )
 
-  behind_comma_sorted : (us : List Token) → all_apart shape_of (word_of word.Comma ∷ []) us ≡ true → Sorts (behind_comma at) us
+  behind_comma_sorted : (us : List Token) → all_apart shape_of_token (word_of word.Comma ∷ []) us ≡ true → Sorts (behind_comma at) us
   unfolding behind_comma
   behind_comma_sorted us e = (
     tokens_choose (query_language at) (lawful at) (fronts at) right (word_of word.Comma ∷ []) _ _ us
@@ -121,8 +121,8 @@ module _ (at : ℕ → Place) (right : AreFronts (query_language at) (fronts at)
       character_chooses (query_language at) (is 41) (fronts at) right _ _ us
           (record {
             takes = refl;
-            passes = computed_heads (query_language at) shape_of (shaped at) 41 true (word_of word.Close ∷ []) refl;
-            fails = computed_heads (query_language at) shape_of (shaped at) 41 false (word_of word.Times ∷ qname ∷ []) refl;
+            passes = computed_heads (query_language at) shape_of_token (shaped at) 41 true (word_of word.Close ∷ []) refl;
+            fails = computed_heads (query_language at) shape_of_token (shaped at) 41 false (word_of word.Times ∷ qname ∷ []) refl;
           }),
       (tt, tt),
       ((tested_name_sorted _, behind_comma_sorted (word_of word.Close ∷ []) refl), (tt, tt)),
@@ -160,8 +160,8 @@ module _ (at : ℕ → Place) (right : AreFronts (query_language at) (fronts at)
       character_chooses (query_language at) (is 41) (fronts at) right _ _ us
           (record {
             takes = refl;
-            passes = computed_heads (query_language at) shape_of (shaped at) 41 true (word_of word.Close ∷ []) refl;
-            fails = computed_heads (query_language at) shape_of (shaped at) 41 false (word_of word.Element ∷ word_of word.SchemaElement ∷ []) refl;
+            passes = computed_heads (query_language at) shape_of_token (shaped at) 41 true (word_of word.Close ∷ []) refl;
+            fails = computed_heads (query_language at) shape_of_token (shaped at) 41 false (word_of word.Element ∷ word_of word.SchemaElement ∷ []) refl;
           }),
       (tt, tt),
       (document_test_sorted _, (tt, tt)),
@@ -198,7 +198,7 @@ module _ (at : ℕ → Place) (right : AreFronts (query_language at) (fronts at)
 
   -- types
 
-  item_tail_sorted : (A : Phrase) (us : List Token) → BeginsOpen A → Sorts A (indication ∷ us) → all_apart shape_of (word_of word.Open ∷ []) us ≡ true → Sorts (item_tail at A) us
+  item_tail_sorted : (A : Phrase) (us : List Token) → BeginsOpen A → Sorts A (indication ∷ us) → all_apart shape_of_token (word_of word.Open ∷ []) us ≡ true → Sorts (item_tail at A) us
   unfolding item_tail
   item_tail_sorted A us b s e = (
     (
@@ -210,7 +210,7 @@ module _ (at : ℕ → Place) (right : AreFronts (query_language at) (fronts at)
     tt,
   )
 
-  empty_tail_sorted : (us : List Token) → all_apart shape_of (word_of word.Open ∷ []) us ≡ true → Sorts (empty_tail at) us
+  empty_tail_sorted : (us : List Token) → all_apart shape_of_token (word_of word.Open ∷ []) us ≡ true → Sorts (empty_tail at) us
   unfolding empty_tail bare_tail nothing_inside
   empty_tail_sorted us e = (
     tokens_choose (query_language at) (lawful at) (fronts at) right (word_of word.Open ∷ []) _ _ us
@@ -225,7 +225,7 @@ module _ (at : ℕ → Place) (right : AreFronts (query_language at) (fronts at)
     tt,
   )
 
-  type_tail_sorted : (w : TypeWord) (us : List Token) → all_apart shape_of (word_of word.Open ∷ []) us ≡ true → Sorts (type_tail at w) us
+  type_tail_sorted : (w : TypeWord) (us : List Token) → all_apart shape_of_token (word_of word.Open ∷ []) us ≡ true → Sorts (type_tail at w) us
   unfolding type_tail bare_tail
   type_tail_sorted type_word_is.EmptySequence us e = empty_tail_sorted us e
   type_tail_sorted type_word_is.Item us e = item_tail_sorted (nothing_inside at) us inside_begins (inside_sorted (indication ∷ us)) e
@@ -233,12 +233,12 @@ module _ (at : ℕ → Place) (right : AreFronts (query_language at) (fronts at)
   type_tail_sorted type_word_is.Atomic us e = tt
 
   -- A sequence type is sorted before tokens that do not begin with `(`.
-  pub sequence_type_sorted : (us : List Token) → all_apart shape_of (word_of word.Open ∷ []) us ≡ true → Sorts (sequence_type at) us
+  pub sequence_type_sorted : (us : List Token) → all_apart shape_of_token (word_of word.Open ∷ []) us ≡ true → Sorts (sequence_type at) us
   unfolding sequence_type behind_type
   sequence_type_sorted us e = λ v. (tt, type_tail_sorted (type_word v) us e)
 
   -- The type of a cast is sorted before tokens that do not begin with `?`.
-  pub single_type_sorted : (us : List Token) → all_apart shape_of (word_of word.Question ∷ []) us ≡ true → Sorts (single_type at) us
+  pub single_type_sorted : (us : List Token) → all_apart shape_of_token (word_of word.Question ∷ []) us ≡ true → Sorts (single_type at) us
   unfolding single_type
   single_type_sorted us e = (
     written_sorted _,

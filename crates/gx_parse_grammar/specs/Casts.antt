@@ -17,7 +17,7 @@ use Rattle.gx_parse_grammar.specs.declared.casts.TypeTest.TheVariants as test
 use Rattle.gx_parse_grammar.specs.declared.casts.CastTest.{CastTest}
 use Rattle.gx_parse_grammar.specs.declared.casts.CastTest.TheVariants as cast
 use Rattle.gx_parse_grammar.specs.Nodes.{Made, Tree, Operator, TypeOf, Casting, tree}
-use Rattle.gx_parse_grammar.specs.Tokens.{Token, shape_of}
+use Rattle.gx_parse_grammar.specs.Tokens.{Token, shape_of_token}
 use Rattle.gx_parse_grammar.specs.Basics.{Phrase, word_of, lexeme, at_tokens, operator}
 use Rattle.gx_parse_grammar.specs.Types.{sequence_type, single_type}
 
@@ -48,10 +48,10 @@ test_value o (pair (node (Tree t)) (pair (node (Operator place w)) (pair second 
 test_value o (pair (node (Tree t)) nothing) = tree t
 test_value o _ = nothing
 
-abbrev pub cast_value : CastTest → Made → Made
-cast_value o (pair (node (Tree t)) (pair (node (Operator place w)) (pair second (node (Casting k))))) = tree (located place (cast_form o t k))
-cast_value o (pair (node (Tree t)) nothing) = tree t
-cast_value o _ = nothing
+abbrev pub cast_made : CastTest → Made → Made
+cast_made o (pair (node (Tree t)) (pair (node (Operator place w)) (pair second (node (Casting k))))) = tree (located place (cast_form o t k))
+cast_made o (pair (node (Tree t)) nothing) = tree t
+cast_made o _ = nothing
 
 -- The place of a token is `at` of the number of characters that are left there.
 module _ (at : ℕ → Place) where
@@ -61,7 +61,7 @@ module _ (at : ℕ → Place) where
 
   unfoldable pub cast_test : CastTest → Phrase → Phrase
   cast_test o operand =
-      made (λ left v. cast_value o v) (operand & choose (at_tokens (word_of (cast_word o) ∷ [])) (operator at (set.Only (cast_word o)) & lexeme (word_of word.As) & single_type at) empty)
+      made (λ left v. cast_made o v) (operand & choose (at_tokens (word_of (cast_word o) ∷ [])) (operator at (set.Only (cast_word o)) & lexeme (word_of word.As) & single_type at) empty)
 
   -- an operand with the operators behind it, each at most once
   unfoldable pub casts : Phrase → Phrase
@@ -84,6 +84,6 @@ behind_cast us = word_of word.Cast ∷ behind_castable us
 -- the tokens stand apart from what they follow
 abbrev pub casts_fit : List Token → Bool
 casts_fit us =
-    all_apart shape_of (word_of word.Open ∷ word_of word.Instance ∷ []) us
-    && (all_apart shape_of (word_of word.Open ∷ word_of word.Treat ∷ []) (behind_instance us)
-    && (all_apart shape_of (word_of word.Question ∷ word_of word.Castable ∷ []) (behind_treat us) && all_apart shape_of (word_of word.Question ∷ word_of word.Cast ∷ []) (behind_castable us)))
+    all_apart shape_of_token (word_of word.Open ∷ word_of word.Instance ∷ []) us
+    && (all_apart shape_of_token (word_of word.Open ∷ word_of word.Treat ∷ []) (behind_instance us)
+    && (all_apart shape_of_token (word_of word.Question ∷ word_of word.Castable ∷ []) (behind_treat us) && all_apart shape_of_token (word_of word.Question ∷ word_of word.Cast ∷ []) (behind_castable us)))

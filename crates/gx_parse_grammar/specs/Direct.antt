@@ -19,7 +19,7 @@ use Rattle.gx_parse_grammar.specs.declared.runs.Run.{Run}
 use Rattle.gx_parse_grammar.specs.declared.runs.Run.TheVariants as run
 use Rattle.gx_parse_grammar.specs.declared.pieces.Piece.{Piece}
 use Rattle.gx_parse_grammar.specs.declared.pieces.Piece.TheVariants.{Literal, Kept, Element, Enclosed}
-use Rattle.gx_parse_grammar.specs.Pieces.{content_of, attribute_value_of}
+use Rattle.gx_parse_grammar.specs.Pieces.{content_of_pieces, attribute_value_of}
 use Rattle.gx_parse_grammar.specs.Nodes.{Made, Tree, Name, PieceOf, ValueIs, AttributeIs, AttributesAre, PartsAre, first_value, tree, name_at}
 use Rattle.gx_base.specs.NameCharacters.{is_ncname_start}
 use Rattle.gx_parse_grammar.specs.References.{quote_of}
@@ -145,7 +145,7 @@ unfoldable pub content_pieces : Phrase → Phrase → Token → Phrase
 content_pieces expr element start = many (at_tokens (content_pieces_of start)) (content_piece expr element)
 
 abbrev pub content_made : Made → Made
-content_made v = node (PartsAre (parts_of (content_of (pieces_in v))))
+content_made v = node (PartsAre (parts_of (content_of_pieces (pieces_in v))))
 
 unfoldable pub content : Phrase → Phrase → Token → Phrase
 content expr element start = made (λ left v. content_made v) (content_pieces expr element start)

@@ -21,8 +21,8 @@ together _ _ = nothing
 abbrev pub IsDigits : {Node : Type 0} → Value Node → List ℕ → List ℕ → Type 0
 IsDigits = IsRun characters is_digit no_character
 
-abbrev pub scan_digits : {Node : Type 0} → List ℕ → Option (Value Node × List ℕ)
-scan_digits x = scan_run characters is_digit no_character x
+abbrev pub scan_numeral_digits : {Node : Type 0} → List ℕ → Option (Value Node × List ℕ)
+scan_numeral_digits x = scan_run characters is_digit no_character x
 
 -- a point with the digits behind it
 abbrev pub IsFraction : {Node : Type 0} → Value Node → List ℕ → List ℕ → Type 0
@@ -48,10 +48,10 @@ abbrev pub OpensNumeral : (Node : Type 0) → List ℕ → Type 0
 OpensNumeral Node = OpensJoined {V = Value Node} IsDigits (opens_run is_digit) (opens_name (is 46) is_digit)
 
 abbrev pub scan_pointed : {Node : Type 0} → List ℕ → Option (Value Node × List ℕ)
-scan_pointed x = scan_joined scan_digits scan_with_fraction together x
+scan_pointed x = scan_joined scan_numeral_digits scan_with_fraction together x
 
 abbrev pub seen_numeral : (Node : Type 0) → List ℕ → ℕ
-seen_numeral Node x = seen_joined {V = Value Node} scan_digits (seen_run is_digit) (seen_name (is 46) is_digit) x
+seen_numeral Node x = seen_joined {V = Value Node} scan_numeral_digits (seen_run is_digit) (seen_name (is 46) is_digit) x
 
 abbrev pub any_digit : List ℕ → Bool
 any_digit [] = false

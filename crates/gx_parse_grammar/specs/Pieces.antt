@@ -42,8 +42,8 @@ abbrev pub content_from : List Part × Pending → List Piece → List Part × P
 content_from c [] = c
 content_from c (p ∷ ps) = content_from (content_behind c p) ps
 
-unfoldable pub content_of : List Piece → List Part
-content_of ps = let c = content_from ([], pending.Nothing) ps in c.0 ++ pending_parts c.1
+unfoldable pub content_of_pieces : List Piece → List Part
+content_of_pieces ps = let c = content_from ([], pending.Nothing) ps in c.0 ++ pending_parts c.1
 
 -- attribute values
 

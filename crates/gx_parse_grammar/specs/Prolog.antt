@@ -38,13 +38,13 @@ use Rattle.gx_parse_grammar.specs.Nodes.{Made, Tree, Found, Name, MaybeBound, Ma
 use Rattle.gx_parse_grammar.specs.Tokens.{one_of, ncname, gap, version_words, setter_words, import_words, definer_words}
 use Rattle.gx_parse_grammar.specs.Basics.{Phrase, single, word_of, lexeme, at_tokens}
 use Rattle.gx_parse_grammar.specs.Types.{written_name}
-use Rattle.gx_parse_grammar.specs.Strings.{text_in, quoted}
+use Rattle.gx_parse_grammar.specs.Strings.{text_of_parts, quoted}
 use Rattle.gx_parse_grammar.specs.Bound.{bound, bound_type}
 use Rattle.gx_parse_grammar.specs.Grammar.{expression}
 
 -- a text in quotes, with the gap behind it
 abbrev pub text_value : Made → Made
-text_value (pair v space) = characters (text_in v)
+text_value (pair v space) = characters (text_of_parts v)
 text_value _ = nothing
 
 abbrev pub prefix_value : Place → Made → Made

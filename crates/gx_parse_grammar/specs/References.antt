@@ -22,20 +22,20 @@ quote_of quote.Double = 34
 quote_of quote.Single = 39
 
 -- the character stands for itself there
-abbrev pub is_text : Run → ℕ → Bool
-is_text (run.String q) = λ c. not (c == 38) && (not (c == quote_of q) && is_xml_character c)
-is_text (run.Attribute q) = λ c. not (c == 38) && (not (c == quote_of q) && (not (c == 60) && (not (c == 123) && (not (c == 125) && is_xml_character c))))
-is_text run.Content = λ c. not (c == 38) && (not (c == 60) && (not (c == 123) && (not (c == 125) && is_xml_character c)))
+abbrev pub is_run_character : Run → ℕ → Bool
+is_run_character (run.String q) = λ c. not (c == 38) && (not (c == quote_of q) && is_xml_character c)
+is_run_character (run.Attribute q) = λ c. not (c == 38) && (not (c == quote_of q) && (not (c == 60) && (not (c == 123) && (not (c == 125) && is_xml_character c))))
+is_run_character run.Content = λ c. not (c == 38) && (not (c == 60) && (not (c == 123) && (not (c == 125) && is_xml_character c)))
 
 -- Tabs and line feeds in attribute values are spaces (XML 1.0, section 3.3.3).
-abbrev pub shown : Run → ℕ → ℕ
-shown (run.Attribute q) = λ c. if (c == 9) || (c == 10) then 32 else c
-shown _ = λ c. c
+abbrev pub shown_character : Run → ℕ → ℕ
+shown_character (run.Attribute q) = λ c. if (c == 9) || (c == 10) then 32 else c
+shown_character _ = λ c. c
 
 -- A carriage return, with the line feed behind it if one stands there, is a line feed (XML 1.0, section 2.11).
 -- What a character is, `after` a carriage return or not.
 abbrev pub shown_at : Run → Bool → ℕ → List ℕ
-shown_at r after c = if (c == 10) && after then [] else (shown r (if c == 13 then 10 else c) ∷ [])
+shown_at r after c = if (c == 10) && after then [] else (shown_character r (if c == 13 then 10 else c) ∷ [])
 
 abbrev pub text_of : Run → Bool → List ℕ → List ℕ
 text_of r after [] = []
@@ -50,9 +50,9 @@ abbrev pub prefix_of : Radix → List ℕ
 prefix_of radix.Decimal = codes "&#"
 prefix_of radix.Hexadecimal = codes "&#x"
 
-abbrev pub base_of : Radix → ℕ
-base_of radix.Decimal = 10
-base_of radix.Hexadecimal = 16
+abbrev pub radix_base : Radix → ℕ
+radix_base radix.Decimal = 10
+radix_base radix.Hexadecimal = 16
 
 -- the digits, and what each is worth
 abbrev pub is_figure : Radix → ℕ → Bool
@@ -63,7 +63,7 @@ abbrev pub worth : ℕ → ℕ
 worth c = if nat_le c 57 then (c - 48) else (if nat_le c 70 then (c - 55) else (c - 87))
 
 abbrev pub grown : Radix → ℕ → ℕ → ℕ
-grown r n c = base_of r * n + worth c
+grown r n c = radix_base r * n + worth c
 
 -- the greatest code point
 abbrev pub greatest : ℕ
@@ -124,8 +124,8 @@ abbrev pub seen_ended : Radix → List ℕ → ℕ
 seen_ended r x = seen_joined (scan_numbered r) (seen_walk (numbering r) 0) (seen_word (59 ∷ [])) x
 
 -- `&#`, digits and `;`, or `&#x`, hexadecimal digits and `;`
-abbrev pub IsWritten : Radix → Made → List ℕ → List ℕ → Type 0
-IsWritten r = AreJoined (IsPrefix r) (IsEnded r) back_value
+abbrev pub IsReferenceWritten : Radix → Made → List ℕ → List ℕ → Type 0
+IsReferenceWritten r = AreJoined (IsPrefix r) (IsEnded r) back_value
 
 abbrev pub OpensNumeric : Radix → List ℕ → Type 0
 OpensNumeric r = OpensJoined (IsPrefix r) (OpensPrefix r) (OpensEnded r)
@@ -143,7 +143,7 @@ names_char _ = false
 
 -- A character reference, whose value is its character.
 abbrev pub IsNumeric : Radix → Made → List ℕ → List ℕ → Type 0
-IsNumeric r = IsFitting (IsWritten r) names_char
+IsNumeric r = IsFitting (IsReferenceWritten r) names_char
 
 abbrev pub scan_numeric : Radix → List ℕ → Option (Made × List ℕ)
 scan_numeric r x = scan_fitting (scan_written r) names_char x

@@ -41,13 +41,13 @@ texts_in (an_item v others) = part_text v ++ texts_in others
 texts_in _ = []
 
 -- what stands between the quotes
-abbrev pub text_in : Made → List ℕ
-text_in (pair opening (pair parts closing)) = texts_in parts
-text_in _ = []
+abbrev pub text_of_parts : Made → List ℕ
+text_of_parts (pair opening (pair parts closing)) = texts_in parts
+text_of_parts _ = []
 
-abbrev pub string_value : Place → Made → Made
-string_value place (pair v behind) = tree (located place (string (text_in v)))
-string_value place _ = nothing
+abbrev pub string_made : Place → Made → Made
+string_made place (pair v behind) = tree (located place (string (text_of_parts v)))
+string_made place _ = nothing
 
 unfoldable pub string_part : Quote → Phrase
 string_part q = choose (by_character (is 38)) (token reference) (choose (by_character (is (quote_of q))) (token (word_of (doubled_of q))) (token (text_run (run.String q))))
@@ -64,4 +64,4 @@ quoted q = token (word_of (opening_of q)) & string_parts q & token (word_of (clo
 
 module _ (at : ℕ → Place) where
   unfoldable pub string_of : Quote → Phrase
-  string_of q = made (λ left v. string_value (at left) v) (quoted q & token gap)
+  string_of q = made (λ left v. string_made (at left) v) (quoted q & token gap)

@@ -24,7 +24,7 @@ use Rattle.gx_base.specs.NameCharacters.{is_ncname_start, is_ncname_character, i
 use Rattle.gx_parse_grammar.specs.Characters.{is_digit, no_character}
 use Rattle.gx_parse_grammar.specs.Words.{letters_of, ends_at, ending_of, spelling_of, words_of}
 use Rattle.gx_parse_grammar.specs.Nodes.{Node, Found, Made}
-use Rattle.gx_parse_grammar.specs.References.{is_text, text_value, IsNumeric, OpensNumeric, scan_numeric, seen_numeric, closes}
+use Rattle.gx_parse_grammar.specs.References.{is_run_character, text_value, IsNumeric, OpensNumeric, scan_numeric, seen_numeric, closes}
 use Rattle.gx_parse_grammar.specs.Numeral.{IsNumeral, OpensNumeral, scan_literal, scan_numeral, seen_numeral, is_small}
 
 pub data Token : Type 0 where
@@ -468,7 +468,7 @@ derives gap_then_open = AreJoined IsGapHere IsParenthesis no_value
 derives gap_not_open = AreJoined IsGapHere IsNoParenthesis no_value
 derives (barred b) = Never
 derives indication = IsEither IsIndicator IsNoIndicator
-derives (text_run r) = IsNamed (text_value r) (is_text r) (is_text r) no_character
+derives (text_run r) = IsNamed (text_value r) (is_run_character r) (is_run_character r) no_character
 derives reference = IsReference
 derives white = IsNamed no_characters is_white_space is_white_space no_character
 derives blank = IsRun no_characters is_white_space no_character
@@ -498,7 +498,7 @@ opens gap_then_open = OpensJoined IsGapHere (OpensGap is_xml_character 0) OpensP
 opens gap_not_open = OpensJoined IsGapHere (OpensGap is_xml_character 0) OpensNothing
 opens (barred b) = IsEmpty
 opens indication = OpensEither OpensIndicator OpensNothing
-opens (text_run r) = opens_name (is_text r) (is_text r)
+opens (text_run r) = opens_name (is_run_character r) (is_run_character r)
 opens reference = OpensReference
 opens white = opens_name is_white_space is_white_space
 opens blank = opens_run is_white_space
@@ -528,7 +528,7 @@ scan gap_then_open = scan_joined scan_gap_here scan_parenthesis no_value
 scan gap_not_open = scan_joined scan_gap_here scan_no_parenthesis no_value
 scan (barred b) = scan_never
 scan indication = scan_either scan_indicator scan_no_indicator
-scan (text_run r) = scan_name (text_value r) (is_text r) (is_text r) no_character
+scan (text_run r) = scan_name (text_value r) (is_run_character r) (is_run_character r) no_character
 scan reference = scan_reference
 scan white = scan_name no_characters is_white_space is_white_space no_character
 scan blank = scan_run no_characters is_white_space no_character
@@ -558,7 +558,7 @@ seen gap_then_open = seen_joined scan_gap_here (seen_gap is_xml_character 0) (se
 seen gap_not_open = seen_joined scan_gap_here (seen_gap is_xml_character 0) (seen_word [])
 seen (barred b) = length
 seen indication = seen_either seen_indicator (seen_word [])
-seen (text_run r) = seen_name (is_text r) (is_text r)
+seen (text_run r) = seen_name (is_run_character r) (is_run_character r)
 seen reference = seen_reference
 seen white = seen_name is_white_space is_white_space
 seen blank = seen_run is_white_space
@@ -614,33 +614,33 @@ abbrev pub begins_number : ℕ → Bool
 begins_number c = is_digit c || is 46 c
 
 -- how the tokens look
-abbrev pub shape_of : Token → Shape
-shape_of (one_of ws) = spelled (spellings (entries (words_of ws)))
-shape_of qname = headed is_ncname_start
-shape_of number = headed begins_number
-shape_of number_end = shapeless
-shape_of gap = shapeless
-shape_of gap_then_open = headed begins_gap
-shape_of gap_not_open = shapeless
-shape_of (barred b) = headed (begins_at b)
-shape_of indication = shapeless
-shape_of (text_run r) = headed (is_text r)
-shape_of reference = headed (is 38)
-shape_of white = headed is_white_space
-shape_of blank = shapeless
-shape_of no_attribute = shapeless
-shape_of no_element = spelled (spellings tag_open)
-shape_of (tag_name cs) = shapeless
-shape_of cdata_text = shapeless
-shape_of ncname = headed is_ncname_start
-shape_of (local_wildcard b) = shapeless
-shape_of gap_then_dollar = headed begins_dollar
-shape_of gap_then_neither = shapeless
-shape_of (barred_words ws) = spelled (spellings (entries (words_of ws)))
-shape_of (leading w ws) = headed (begins_word w)
-shape_of constructor = headed is_ncname_start
-shape_of no_constructor = shapeless
-shape_of (word_end b) = shapeless
+abbrev pub shape_of_token : Token → Shape
+shape_of_token (one_of ws) = spelled (spellings (entries (words_of ws)))
+shape_of_token qname = headed is_ncname_start
+shape_of_token number = headed begins_number
+shape_of_token number_end = shapeless
+shape_of_token gap = shapeless
+shape_of_token gap_then_open = headed begins_gap
+shape_of_token gap_not_open = shapeless
+shape_of_token (barred b) = headed (begins_at b)
+shape_of_token indication = shapeless
+shape_of_token (text_run r) = headed (is_run_character r)
+shape_of_token reference = headed (is 38)
+shape_of_token white = headed is_white_space
+shape_of_token blank = shapeless
+shape_of_token no_attribute = shapeless
+shape_of_token no_element = spelled (spellings tag_open)
+shape_of_token (tag_name cs) = shapeless
+shape_of_token cdata_text = shapeless
+shape_of_token ncname = headed is_ncname_start
+shape_of_token (local_wildcard b) = shapeless
+shape_of_token gap_then_dollar = headed begins_dollar
+shape_of_token gap_then_neither = shapeless
+shape_of_token (barred_words ws) = spelled (spellings (entries (words_of ws)))
+shape_of_token (leading w ws) = headed (begins_word w)
+shape_of_token constructor = headed is_ncname_start
+shape_of_token no_constructor = shapeless
+shape_of_token (word_end b) = shapeless
 
 -- the words that begin a declaration
 abbrev pub version_words : Token

@@ -82,8 +82,8 @@ type_with type_word_is.Item q (Some c) i = sequence.Items (item.Item q.place) i
 type_with (type_word_is.Kind k) q (Some c) i = sequence.Items (item.Kind (kind_test k q.place c)) i
 type_with type_word_is.Atomic q (Some c) i = sequence.Items (item.Atomic q) i
 
-abbrev pub type_of : TypeWord → QName → TypeTail → SequenceType
-type_of w q t = type_with w q t.content t.indicator
+abbrev pub type_of_word : TypeWord → QName → TypeTail → SequenceType
+type_of_word w q t = type_with w q t.content t.indicator
 
 -- values of the parts
 
@@ -131,9 +131,9 @@ abbrev pub element_value : Place → Made → Made
 element_value place (pair w (node (Tested t))) = content_made (content_is.Element place t)
 element_value place _ = nothing
 
-abbrev pub declared_value : Place → Made → Made
-declared_value place (pair w (node (Name q))) = content_made (content_is.Declared place q)
-declared_value place _ = nothing
+abbrev pub declared_content_made : Place → Made → Made
+declared_content_made place (pair w (node (Name q))) = content_made (content_is.Declared place q)
+declared_content_made place _ = nothing
 
 abbrev pub document_value : Made → Made
 document_value (pair opening (pair (node (Content c)) close)) = content_made c
@@ -163,7 +163,7 @@ no_items_value (node (Content c)) = tail_made (record { content = Some c; indica
 no_items_value _ = nothing
 
 abbrev pub type_value : TypeWord → QName → Made → Made
-type_value w q (pair space (node (Tail t))) = type_made (type_of w q t)
+type_value w q (pair space (node (Tail t))) = type_made (type_of_word w q t)
 type_value w q _ = nothing
 
 abbrev pub casting_value : Made → Made
@@ -201,7 +201,7 @@ module _ (at : ℕ → Place) where
   -- the test of an element in that of a document
   unfoldable pub document_test : Phrase
   document_test =
-      choose (at_tokens (word_of word.Element ∷ [])) (made (λ left v. element_value (at left) v) (lexeme (word_of word.Element) & tested)) (made (λ left v. declared_value (at left) v) (lexeme (word_of word.SchemaElement) & declared))
+      choose (at_tokens (word_of word.Element ∷ [])) (made (λ left v. element_value (at left) v) (lexeme (word_of word.Element) & tested)) (made (λ left v. declared_content_made (at left) v) (lexeme (word_of word.SchemaElement) & declared))
 
   unfoldable pub document : Phrase
   document =

@@ -1,4 +1,4 @@
-//! Laws of the query grammar.
+// Laws of the query grammar.
 
 ghost use Rattle.gx_base.specs.declared.place.Place.{Place};
 ghost use Rattle.gx_grammar.specs.Avoiding.{Avoids};

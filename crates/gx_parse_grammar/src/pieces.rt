@@ -5,7 +5,7 @@ ghost use Rattle.gx_ast.specs.declared.expression.AttributePart.TheVariants as a
 ghost use Rattle.gx_base.specs.WhiteSpace.{is_white_space};
 ghost use Rattle.gx_grammar.specs.Tokens.{all_pass};
 ghost use Rattle.gx_parse_grammar.specs.declared.pieces.Pending.TheVariants as pendings;
-ghost use Rattle.gx_parse_grammar.specs.Pieces.{content_behind, content_of, pending_parts, text_parts, value_behind, attribute_value_of, with_kept, with_literal};
+ghost use Rattle.gx_parse_grammar.specs.Pieces.{content_behind, content_of_pieces, pending_parts, text_parts, value_behind, attribute_value_of, with_kept, with_literal};
 
 use gx_ast::expression::{AttributePart, Expr, Part};
 use gx_base::characters::{is_white_space, next_character};
@@ -165,8 +165,8 @@ impl Content {
 }
 
 /// The parts that the pieces of the content of an element come to (XQuery 1.0, section 3.7.1.4).
-pub fn content_of(alloc: Global, pieces: Vec<Piece>) -> Result<Vec<Part>, AllocError>
-    ensures { IfOk result (λ list. list.items ≡ content_of pieces.items) }
+pub fn content_of_pieces(alloc: Global, pieces: Vec<Piece>) -> Result<Vec<Part>, AllocError>
+    ensures { IfOk result (λ list. list.items ≡ content_of_pieces pieces.items) }
 {
     let mut content = Content {
         parts: Vec::new(alloc),

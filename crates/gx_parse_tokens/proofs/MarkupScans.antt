@@ -17,7 +17,7 @@ use Rattle.gx_parse_grammar.specs.declared.word.Word.{Word}
 use Rattle.gx_parse_grammar.specs.declared.word.Word.TheVariants as word
 use Rattle.gx_parse_tokens.specs.declared.markup.Looked.{Looked}
 use Rattle.gx_parse_grammar.specs.Nodes.{Made}
-use Rattle.gx_parse_grammar.specs.References.{is_text, text_of}
+use Rattle.gx_parse_grammar.specs.References.{is_run_character, text_of}
 use Rattle.gx_parse_grammar.specs.Tokens.{Token, text_run, scan, seen, faults, reference, reference_fault, reference_code, no_element, element_fault, starts_element, limit_code, cdata_text, cdata_walk, constructor, scan_qname, scan_ncname, seen_qname, seen_local_part, seen_by_number, entity_words, scan_gap_brace, seen_gap_brace, white}
 use Rattle.gx_parse_grammar.specs.Words.{letters_of}
 use Rattle.gx_parse_grammar.specs.Basics.{word_of}
@@ -70,7 +70,7 @@ name_short first test [] = omega arith
 name_short first test (c ∷ x) = let h = run_short test x in elim (first c) as (λ b. (if b then (length (behind_run test x)) else (length (c ∷ x))) ≤ length (c ∷ x)) [ true ↦ omega arith | false ↦ omega arith ]
 
 pub text_looked : (r : Run) (x : List ℕ) (l : Looked) → l.stands ≡ is_some (scan (text_run r) x) → l.seen ≡ seen (text_run r) x → LooksAt (text_run r ∷ []) x l
-text_looked r x l e f = looks_one (text_run r) x l (e ∙ sym (or_false (is_some (scan (text_run r) x)))) f (name_short (is_text r) (is_text r) x)
+text_looked r x l e f = looks_one (text_run r) x l (e ∙ sym (or_false (is_some (scan (text_run r) x)))) f (name_short (is_run_character r) (is_run_character r) x)
 
 pub white_looked : (x : List ℕ) (l : Looked) → l.stands ≡ is_some (scan white x) → l.seen ≡ seen white x → LooksAt (white ∷ []) x l
 white_looked x l e f = looks_one white x l (e ∙ sym (or_false (is_some (scan white x)))) f (name_short is_white_space is_white_space x)

@@ -13,8 +13,8 @@ use Rattle.std.proofs.lemmas.Bool.{and_parts}
 use Rattle.gx_grammar.proofs.PublicLaws.{run_passes, run_short, run_whole}
 use Rattle.gx_parse_grammar.specs.Characters.{is_digit, no_character}
 use Rattle.gx_parse_grammar.specs.Nodes.{Node, Made}
-use Rattle.gx_parse_grammar.specs.Numeral.{together, scan_digits, scan_fraction, scan_with_fraction, scan_pointed, seen_numeral, has_digit, any_digit, is_small, is_right, number_of, number_or_zero, scan_literal, scan_numeral}
-use Rattle.gx_parse_tokens.specs.Numbers.{behind_point, behind_literal, IsNoNumber}
+use Rattle.gx_parse_grammar.specs.Numeral.{together, scan_numeral_digits, scan_fraction, scan_with_fraction, scan_pointed, seen_numeral, has_digit, any_digit, is_small, is_right, number_of, number_or_zero, scan_literal, scan_numeral}
+use Rattle.gx_parse_tokens.specs.Numbers.{digits_behind_point, behind_literal, IsNoNumber}
 use Rattle.gx_parse_grammar.specs.Tokens.{begins_number, number_code}
 use Rattle.gx_parse_tokens.proofs.NameScans.{unless_none}
 
@@ -32,9 +32,9 @@ take_front (c ∷ a) r n e = rw e (ap (λ q. c ∷ q) (take_front a r (length a)
 -- a point with its digits, or nothing
 pub record Fraction (x : List ℕ) : Type 0 where
   pub front : List ℕ
-  pub whole : x ≡ front ++ behind_point x
-  pub scanned : scan_with_fraction {Node = Node} x ≡ Some (characters front, behind_point x)
-  pub seen : min (length x) (seen_name (is 46) is_digit x) ≡ length (behind_point x)
+  pub whole : x ≡ front ++ digits_behind_point x
+  pub scanned : scan_with_fraction {Node = Node} x ≡ Some (characters front, digits_behind_point x)
+  pub seen : min (length x) (seen_name (is 46) is_digit x) ≡ length (digits_behind_point x)
   pub passes : all_pass begins_number front ≡ true
 
 digits_pass : (x : List ℕ) → all_pass is_digit x ≡ true → all_pass begins_number x ≡ true
@@ -67,7 +67,7 @@ all_both (c ∷ x) y e f = let p = and_parts (begins_number c) (all_pass begins_
 literal_is : (x : List ℕ) → (front : List ℕ) × (x ≡ front ++ behind_literal x) × Literal x front
 literal_is x =
     let f = fraction (behind_run is_digit x) in
-    let d : scan_digits {Node = Node} x ≡ Some (characters (run_of is_digit x), behind_run is_digit x) = unless_none (characters (run_of is_digit x)) (behind_run is_digit x) in (
+    let d : scan_numeral_digits {Node = Node} x ≡ Some (characters (run_of is_digit x), behind_run is_digit x) = unless_none (characters (run_of is_digit x)) (behind_run is_digit x) in (
       run_of is_digit x ++ f.front,
       run_whole is_digit x ∙ ap (λ q. run_of is_digit x ++ q) f.whole ∙ sym (append_assoc (run_of is_digit x) f.front (behind_literal x)),
       record {

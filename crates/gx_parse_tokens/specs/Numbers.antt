@@ -11,13 +11,13 @@ use Rattle.gx_parse_grammar.specs.Tokens.{number, number_code, scan, seen, fault
 use Rattle.gx_parse_grammar.specs.Characters.{is_digit}
 
 -- what is behind a point with its digits, if one stands there
-abbrev pub behind_point : List ℕ → List ℕ
-behind_point [] = []
-behind_point (c ∷ x) = if c == 46 then (behind_run is_digit x) else (c ∷ x)
+abbrev pub digits_behind_point : List ℕ → List ℕ
+digits_behind_point [] = []
+digits_behind_point (c ∷ x) = if c == 46 then (behind_run is_digit x) else (c ∷ x)
 
 -- what is behind digits, and a point with its digits
 abbrev pub behind_literal : List ℕ → List ℕ
-behind_literal x = behind_point (behind_run is_digit x)
+behind_literal x = digits_behind_point (behind_run is_digit x)
 
 -- no number was read
 abbrev pub IsNoNumber : Result Number NumRead → Type 0

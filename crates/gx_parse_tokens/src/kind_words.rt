@@ -4,7 +4,7 @@ ghost use Rattle.std.specs.Prelude.{◌≡◌};
 ghost use Rattle.gx_parse_tokens.specs.Indications.{found_made};
 ghost use Rattle.gx_parse_tokens.specs.Names.{name_made};
 ghost use Rattle.gx_parse_grammar.specs.NodeTests.{axis_word};
-ghost use Rattle.gx_parse_grammar.specs.Types.{indicator_of, kind_test, kind_word, type_of, type_word};
+ghost use Rattle.gx_parse_grammar.specs.Types.{indicator_of, kind_test, kind_word, type_of_word, type_word};
 
 use crate::names::ReadName;
 use gx_ast::name::{Axis, QName};
@@ -83,8 +83,8 @@ pub fn kind_test(kind: KindWord, place: Place, content: TestContent) -> KindTest
 }
 
 /// The sequence type of a name with what stands behind it.
-pub fn type_of(word: TypeWord, name: QName, tail: TypeTail) -> SequenceType
-    ensures { result ≡ type_of word name tail }
+pub fn type_of_word(word: TypeWord, name: QName, tail: TypeTail) -> SequenceType
+    ensures { result ≡ type_of_word word name tail }
 {
     let TypeTail { content, indicator } = tail;
     let Some(content) = content else {

@@ -2,7 +2,7 @@
 
 ghost use Rattle.std.specs.Prelude.{◌≡◌, ◌++◌, false, IfOk, MatchOption, None, OnErr, OnOk, Some, List, ℕ};
 ghost use Rattle.gx_grammar.specs.Tokens.{behind_run, run_of};
-ghost use Rattle.gx_parse_grammar.specs.References.{is_text, shown, shown_at, text_of, text_value};
+ghost use Rattle.gx_parse_grammar.specs.References.{is_run_character, shown_character, shown_at, text_of, text_value};
 ghost use Rattle.gx_parse_grammar.specs.Tokens.{scan, seen, text_run};
 ghost use Rattle.gx_parse_grammar.specs.declared.runs.Run.TheVariants as runs;
 
@@ -12,8 +12,8 @@ use gx_parse_grammar::runs::Run;
 use std::alloc::AllocError;
 
 /// Whether the character stands for itself there.
-pub fn is_text(run: Run, c: char) -> bool
-    ensures { result ≡ is_text run c }
+pub fn is_run_character(run: Run, c: char) -> bool
+    ensures { result ≡ is_run_character run c }
 {
     match run {
         Run::String(quote) => c != '&' && (c != quote.symbol() && is_char(c)),
@@ -25,9 +25,9 @@ pub fn is_text(run: Run, c: char) -> bool
     }
 }
 
-// What the character is shown as: tabs and line feeds in attribute values are spaces (XML 1.0, section 3.3.3).
-fn shown(run: Run, c: char) -> char
-    ensures { result ≡ shown run c }
+// What the character is shown_character as: tabs and line feeds in attribute values are spaces (XML 1.0, section 3.3.3).
+fn shown_character(run: Run, c: char) -> char
+    ensures { result ≡ shown_character run c }
 {
     match run {
         Run::Attribute(_) if c == '\t' || c == '\n' => ' ',
@@ -44,16 +44,16 @@ fn push_shown(builder: &mut TextBuilder, run: Run, after: bool, c: char) -> Resu
         return Ok(());
     }
     let line_end = if c == '\r' { '\n' } else { c };
-    builder.push(shown(run, line_end))
+    builder.push(shown_character(run, line_end))
 }
 
 /// What is behind the literal text at the front.
 pub fn behind_text(run: Run, text: &[char]) -> &[char]
-    ensures { result.now ≡ behind_run (is_text run) text.now }
+    ensures { result.now ≡ behind_run (is_run_character run) text.now }
 {
     let mut rest = text;
     while let [character, tail @ ..] = rest {
-        if !is_text(run, *character) {
+        if !is_run_character(run, *character) {
             break;
         }
         rest = tail;
@@ -68,14 +68,14 @@ pub fn push_text<'a>(
     run: Run,
     text: &'a [char],
 ) -> Result<&'a [char], AllocError>
-    ensures text { OnOk result (builder.new ≡ builder.old ++ text_of run false (run_of (is_text run) text.now)) }
-    ensures rest { IfOk result (λ rest. rest.now ≡ behind_run (is_text run) text.now) }
+    ensures text { OnOk result (builder.new ≡ builder.old ++ text_of run false (run_of (is_run_character run) text.now)) }
+    ensures rest { IfOk result (λ rest. rest.now ≡ behind_run (is_run_character run) text.now) }
     ensures some { OnErr result ((cs : List ℕ) × (builder.new ≡ builder.old ++ cs)) }
 {
     let mut rest = text;
     let mut after = false;
     while let [character, tail @ ..] = rest {
-        if !is_text(run, *character) {
+        if !is_run_character(run, *character) {
             break;
         }
         push_shown(builder, run, after, *character)?;
@@ -109,11 +109,11 @@ pub struct TextFound<'a> {
 
 /// The literal text at the front, if some stands there.
 pub fn find_text(run: Run, text: &[char]) -> TextFound<'_>
-    ensures behind { MatchOption result.behind (scan (text_run run) text.now ≡ None) (λ rest. (scan (text_run run) text.now ≡ Some (text_value run (run_of (is_text run) text.now), rest.now)) × (rest.now ≡ behind_run (is_text run) text.now)) }
+    ensures behind { MatchOption result.behind (scan (text_run run) text.now ≡ None) (λ rest. (scan (text_run run) text.now ≡ Some (text_value run (run_of (is_run_character run) text.now), rest.now)) × (rest.now ≡ behind_run (is_run_character run) text.now)) }
     ensures seen { result.seen ≡ seen (text_run run) text.now }
 {
     match text {
-        [character, ..] if is_text(run, *character) => {
+        [character, ..] if is_run_character(run, *character) => {
             let behind = behind_text(run, text);
             TextFound {
                 behind: Some(behind),

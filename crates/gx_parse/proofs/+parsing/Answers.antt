@@ -1,38 +1,37 @@
 use Rattle.gx_ast.specs.SyntaxView.{bindings_of, cases_of, clauses_of, keys_of, trees_of}
-use Rattle.std.proofs.Common.{Bool, codes, if◌then◌else◌, ◌≡◌, ◌+◌, ◌-◌, ℕ, suc, zero, refl, sym, ap, subst, ◌∙◌, arith, [], ◌∷◌, ◌++◌, Option, Some, None, inl, inr, false, append-nil}
+use Rattle.std.proofs.Common.{if◌then◌else◌, ◌+◌, ◌-◌, suc, refl, sym, ap, subst, ◌∙◌, arith, [], ◌∷◌, ◌++◌, None, inr, false, append-nil}
 use Rattle.gx_ast.specs.declared.expression.Clause.TheVariants.{Where}
 use Rattle.gx_grammar.specs.Value.{node, nothing, pair}
 use Rattle.gx_grammar.specs.Grammar.{rule, token, ◌&◌}
 use Rattle.gx_grammar.specs.Ran.{Ran, Makes}
-use Rattle.gx_parse_grammar.specs.Nodes.{Arguments, Made, name_at, name_length, tree}
+use Rattle.gx_parse_grammar.specs.Nodes.{Arguments, name_at, name_length, tree}
 use Rattle.gx_parse_grammar.specs.Bound.{bound}
 use Rattle.gx_parse_grammar.specs.Binding.{clause, first_bound, flwor, head, last_clause, more_bindings, more_clauses, quantified}
 use Rattle.gx_parse_grammar.specs.declared.word.Binder.TheVariants as binder
 use Rattle.gx_parse_grammar.specs.Keys.{key, key_made, more_keys}
 use Rattle.gx_parse_grammar.specs.Typeswitch.{case, case_made, more_cases}
-use Rattle.gx_parse.proofs.TypeswitchPhrases.{case_read, cases_none, cases_more, cases_read, typeswitch_read, branched_condition, branched_typeswitch}
-use Rattle.gx_parse.specs.Lists.{Grown, binding_made, clause_made, head_made, items_before}
+use Rattle.gx_parse_types.proofs.TypeswitchPhrases.{case_read, cases_none, cases_more, cases_read, typeswitch_read, branched_condition, branched_typeswitch}
+use Rattle.gx_parse_parts.specs.Lists.{Grown, binding_made, clause_made, head_made, items_before}
 use Rattle.gx_parse_tokens.specs.Names.{name_made}
-use Rattle.gx_parse_grammar.specs.Grammar.{after_axis, filtered_step, more_predicates, path_from, step_of, step_value, is_name, behind_keyword, named_single, more_arguments, other_step, at_tokens, begun, behind_any_name, behind_plain_name, condition, ladder, other_operand, parenthesised_step, place_in, single, step, typeswitch}
+use Rattle.gx_parse_grammar.specs.Grammar.{filtered_step, more_predicates, path_from, step_of, step_value, behind_keyword, named_single, more_arguments, other_step, at_tokens, begun, behind_any_name, behind_plain_name, condition, ladder, other_operand, parenthesised_step, place_in, single, step, typeswitch}
 use Rattle.gx_parse_grammar.specs.Tokens.{gap, gap_then_open, gap_not_open, gap_then_dollar}
-use Rattle.gx_parse.specs.declared.members.Members.TheVariants.{Steps}
 use Rattle.gx_ast.specs.SyntaxTree.{at, conditional, flwor as flwor_form, parenthesised, quantified as quantified_form, typeswitch as typeswitch_form}
 use Rattle.gx_grammar.proofs.PublicLaws.{ran_idle}
 use Rattle.gx_parse_tokens.specs.Reading.{call, read_in}
-use Rattle.gx_parse.specs.Parsing.{Listed, filtered_tree, named_tree, called_tree, most_of, read_chain, chain_of, member_of, wrapped}
+use Rattle.gx_parse_parts.specs.Parsing.{Listed, filtered_tree, named_tree, called_tree, most_of, read_chain, member_of, wrapped}
 use Rattle.gx_parse_tokens.specs.Reading.{Added}
-use Rattle.gx_parse.proofs.Chains.{ran_any, ran_keeps, chain_full}
-use Rattle.gx_parse.proofs.Phrases.{in_rule}
+use Rattle.gx_parse_parts.proofs.Chains.{ran_any, ran_keeps, chain_full}
+use Rattle.gx_parse_parts.proofs.Phrases.{in_rule}
 use Rattle.gx_parse_grammar.specs.NodeTests.{any_step, axis_word, maybe_content, step_tree, test_made, test_of}
-use Rattle.gx_parse.proofs.Phrases.{loses_done, loses_ran}
+use Rattle.gx_parse_parts.proofs.Phrases.{loses_done, loses_ran}
 use Rattle.std.proofs.lemmas.List.{append_assoc}
-use Rattle.gx_parse.proofs.NodeTestsPhrases.{wildcard_stands, no_wildcard}
+use Rattle.gx_parse_types.proofs.NodeTestsPhrases.{wildcard_stands, no_wildcard}
 use Rattle.gx_parse.proofs.Steps.{call_after, filtered_read, kept_value, name_after, name_placed, one_before, predicate_read, predicates_end, predicates_full, predicates_more, predicates_none, reserved_after, step_read}
 use Rattle.gx_parse.proofs.Calls.{arguments_read, arguments_none, arguments_some, arguments_lost, items_begin, items_end, items_more, items_full, items_lost}
 use Rattle.gx_parse.proofs.Expressions.{named_other, named_opened, named_keyword, keyword_plain, keyword_called, operand_signed, operand_other, ladder_next, ladder_none, looked_left, begun_other, begun_branched, begun_plain, plain_read, condition_read, nothing_inside, inner_read, signed_read, expression_read, no_single, single_other, single_named, step_other, step_named, path_read, chain_read, no_more, one_more, step_variable, step_parenthesised, step_dots, step_literal, step_direct}
-use Rattle.gx_parse.proofs.Lists.{one_grown, gone_start, gone_step, gone_end, gone_last, one_added}
-use Rattle.gx_parse.proofs.KeysPhrases.{key_read, keys_none, keys_more, ordered_read, stable_read, unstable_read, unordered_read}
-use Rattle.gx_parse.proofs.BindingPhrases.{binding_read, binding_stops, bindings_read, bindings_none, bindings_more, clause_read, where_part, where_read, no_where, a_where, clauses_none, clauses_more, clauses_full, clauses_end, flwor_read, quantified_read, opened_flwor, opened_quantified}
+use Rattle.gx_parse_parts.proofs.Lists.{one_grown, gone_start, gone_step, gone_end, gone_last, one_added, none_grown}
+use Rattle.gx_parse_types.proofs.KeysPhrases.{key_read, keys_none, keys_more, ordered_read, stable_read, unstable_read, unordered_read}
+use Rattle.gx_parse_types.proofs.BindingPhrases.{binding_read, binding_stops, bindings_read, bindings_none, bindings_more, clause_read, where_part, where_read, no_where, a_where, clauses_none, clauses_more, clauses_full, clauses_end, flwor_read, quantified_read, opened_flwor, opened_quantified}
 use Rattle.gx_ast.specs.SyntaxTree.{direct as direct_form}
 use Rattle.gx_ast.specs.SyntaxView.{attribute_parts_of, attributes_of, parts_of}
 use Rattle.gx_grammar.specs.Value.{no_item}
@@ -40,13 +39,12 @@ use Rattle.gx_grammar.specs.First.{by_character}
 use Rattle.gx_base.specs.NameCharacters.{is_ncname_start}
 use Rattle.gx_parse_grammar.specs.Basics.{within}
 use Rattle.gx_parse_grammar.specs.Nodes.{Found, PartsAre, ValueIs}
-use Rattle.gx_parse.specs.Repeated.{listed_before}
+use Rattle.gx_parse_parts.specs.Repeated.{listed_before}
 use Rattle.gx_parse_grammar.specs.Direct.{attribute, element_at, piece_made, value_piece, value_pieces_of}
-use Rattle.gx_parse.specs.DirectReading.{attribute_made}
-use Rattle.gx_parse.proofs.ContentPhrases.{content_begins, content_ends, content_full, content_more}
-use Rattle.gx_parse.proofs.Repeated.{Begun, all_listed, many_begin, many_end, many_full, many_more}
-use Rattle.gx_parse.proofs.PrologPhrases.{no_more as no_item_added, one_more as item_added}
-use Rattle.gx_parse.proofs.DirectPhrases.{attribute_read, attribute_stops, attributes_read, content_cdata, content_element, content_plain, content_reference, direct_read, doubled_brace, element_read, element_stops, enclosed_read, filled_read, nested_none, nested_read, no_content_read, plain_brace, plain_close, plain_text, value_double, value_doubled, value_plain, value_read, value_reference, value_single, values_are, within_none, within_read}
+use Rattle.gx_parse_constructors.specs.DirectReading.{attribute_made}
+use Rattle.gx_parse_constructors.proofs.ContentPhrases.{content_begins, content_ends, content_full, content_more}
+use Rattle.gx_parse_parts.proofs.Repeated.{Begun, all_listed, many_begin, many_end, many_full, many_more}
+use Rattle.gx_parse_constructors.proofs.DirectPhrases.{attribute_read, attribute_stops, attributes_read, content_cdata, content_element, content_plain, content_reference, direct_read, doubled_brace, element_read, element_stops, enclosed_read, filled_read, nested_none, nested_read, no_content_read, plain_brace, plain_close, plain_text, value_double, value_doubled, value_plain, value_read, value_reference, value_single, values_are, within_none, within_read}
 use Rattle.gx_parse_grammar.specs.Computed.{computed_form, empty_form, named_form, named_node_value}
 use Rattle.gx_parse_grammar.specs.Grammar.{braced, computed, constructed, named_node}
 use Rattle.gx_parse_grammar.specs.NodeTests.{axis_test}
@@ -797,12 +795,12 @@ direct::attributes-returns t c =
 pub direct::attribute-returns-in_default : goal.direct::attribute-returns-in_default
 direct::attribute-returns-in_default t c =
     let done = rw c.in_default.is at (c.bare_name.ensures c.args.levels) in
-    no_item_added attribute_made c.args.list.items _ c.args.reader.now c.bare_name.new.reader (read_in c.args.source.now c.args.levels (attribute (place_in c.args.source.now) (rule (within c.args.levels)))) done.0
+    none_grown attribute_made c.args.list.items _ c.args.reader.now c.bare_name.new.reader (read_in c.args.source.now c.args.levels (attribute (place_in c.args.source.now) (rule (within c.args.levels)))) done.0
     (attribute_stops c.args.source.now c.args.levels nothing nothing c.args.reader.now c.bare_name.new.reader done.0 (done.1 nothing))
 
 pub direct::attribute-returns : goal.direct::attribute-returns
 direct::attribute-returns t c =
-    item_added attribute_made c.args.list.items (c.with_item.result).items (record { name = c.in-Some.name; value = c.attribute_value-value.result }) c.args.reader.now c.behind_attribute.new.reader c.with_item.new.reader
+    one_grown attribute_made c.args.list.items (c.with_item.result).items (record { name = c.in-Some.name; value = c.attribute_value-value.result }) c.args.reader.now c.behind_attribute.new.reader c.with_item.new.reader
     (read_in c.args.source.now c.args.levels (attribute (place_in c.args.source.now) (rule (within c.args.levels))))
     (attribute_read c.args.source.now c.args.levels c.in-Some.name c.attribute_value-value.result.items (node (Found c.word.result)) nothing c.args.reader.now c.bare_name.new.reader c.blank.new.self c.word.new.self c.blank-2.new.self c.attribute_value-value.new.reader c.behind_attribute.new.reader
     (c.in-Some.ensures c.args.levels) c.blank.ensures c.word.ensures c.blank-2.ensures c.attribute_value-value.ensures (c.behind_attribute.ensures c.args.source.now c.args.levels))
@@ -836,7 +834,7 @@ direct::value_pieces-returns-then-left-eq0 t c =
     (all_listed text n g item piece_made c.with_item-list.result.items c.args.reader.now c.with_item-list.new.reader
     (many_full text n g item piece_made [] c.loop-quote.list.items c.with_item-list.result.items c.loop-quote.left c.looks_at_value_piece.result c.args.reader.now c.loop-quote.reader c.looks_at_value_piece.new.self c.with_item-list.new.reader
     c.loop-quote.invariant c.if-left-eq0.true c.loop-quote-test.true c.looks_at_value_piece.ensures
-    (item_added piece_made c.loop-quote.list.items c.with_item-list.result.items c.value_piece-piece.result c.looks_at_value_piece.new.self c.value_piece-piece.new.reader c.with_item-list.new.reader (read_in text n item) c.value_piece-piece.ensures c.with_item-list.ensures)))
+    (one_grown piece_made c.loop-quote.list.items c.with_item-list.result.items c.value_piece-piece.result c.looks_at_value_piece.new.self c.value_piece-piece.new.reader c.with_item-list.new.reader (read_in text n item) c.value_piece-piece.ensures c.with_item-list.ensures)))
 
 pub direct::value_pieces-loop-quote-preserved : goal.direct::value_pieces-loop-quote-preserved
 direct::value_pieces-loop-quote-preserved t c =
@@ -846,7 +844,7 @@ direct::value_pieces-loop-quote-preserved t c =
     let item = value_piece (rule (within n)) c.args.quote in
     many_more text n g item piece_made [] c.loop-quote.list.items c.with_item-list.result.items c.loop-quote.left (c.loop-quote.left - 1) c.looks_at_value_piece.result c.args.reader.now c.loop-quote.reader c.looks_at_value_piece.new.self c.with_item-list.new.reader
     c.loop-quote.invariant (omega (arith, c.if-left-eq0.false)) c.loop-quote-test.true c.looks_at_value_piece.ensures
-    (item_added piece_made c.loop-quote.list.items c.with_item-list.result.items c.value_piece-piece.result c.looks_at_value_piece.new.self c.value_piece-piece.new.reader c.with_item-list.new.reader (read_in text n item) c.value_piece-piece.ensures c.with_item-list.ensures)
+    (one_grown piece_made c.loop-quote.list.items c.with_item-list.result.items c.value_piece-piece.result c.looks_at_value_piece.new.self c.value_piece-piece.new.reader c.with_item-list.new.reader (read_in text n item) c.value_piece-piece.ensures c.with_item-list.ensures)
 
 pub direct::value_pieces-returns : goal.direct::value_pieces-returns
 direct::value_pieces-returns t c =

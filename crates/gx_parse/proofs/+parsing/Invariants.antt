@@ -1,25 +1,25 @@
-use Rattle.std.proofs.Common.{◌≡◌, ◌+◌, ◌-◌, ◌*◌, ℕ, suc, []}
+use Rattle.std.proofs.Common.{◌+◌, ◌-◌, ◌*◌, ℕ, suc, []}
 use Rattle.gx_ast.specs.SyntaxTree.{SyntaxTree}
 use Rattle.gx_grammar.specs.Ran.{Standing, Ran, left_of}
-use Rattle.gx_parse.specs.declared.members.Members.{Members}
-use Rattle.gx_parse.specs.declared.members.Members.TheVariants.{Singles, Operands, Steps}
+use Rattle.gx_parse_parts.specs.declared.members.Members.{Members}
+use Rattle.gx_parse_parts.specs.declared.members.Members.TheVariants.{Singles, Operands, Steps}
 use Rattle.gx_parse_grammar.specs.Nodes.{Made, tree}
 use Rattle.gx_parse_grammar.specs.Grammar.{Phrase, ladder, more_predicates, place_in}
 use Rattle.gx_parse_tokens.specs.Reading.{read_in}
-use Rattle.gx_parse.specs.Parsing.{Passed, predicates_before, most_of, read_chain, read_items}
+use Rattle.gx_parse_parts.specs.Parsing.{Passed, predicates_before, most_of, read_chain, read_items}
 use Rattle.gx_parse_tokens.specs.Reading.{Added}
 use Rattle.gx_parse_grammar.specs.Binding.{more_bindings, more_clauses}
 use Rattle.gx_parse_grammar.specs.Keys.{key_made, more_keys}
 use Rattle.gx_parse_grammar.specs.Typeswitch.{case_made, more_cases}
-use Rattle.gx_parse.specs.Lists.{Gone, binding_made, clause_made}
+use Rattle.gx_parse_parts.specs.Lists.{Gone, binding_made, clause_made}
 use Rattle.gx_grammar.specs.Grammar.{rule}
 use Rattle.gx_grammar.specs.First.{by_character}
 use Rattle.gx_base.specs.NameCharacters.{is_ncname_start}
 use Rattle.gx_parse_grammar.specs.Basics.{within, at_tokens}
 use Rattle.gx_parse_grammar.specs.Direct.{attribute, piece_made, value_piece, value_pieces_of}
-use Rattle.gx_parse.specs.DirectReading.{attribute_made}
-use Rattle.gx_parse.proofs.ContentPhrases.{ContentSoFar}
-use Rattle.gx_parse.proofs.Repeated.{Begun}
+use Rattle.gx_parse_constructors.specs.DirectReading.{attribute_made}
+use Rattle.gx_parse_constructors.proofs.ContentPhrases.{ContentSoFar}
+use Rattle.gx_parse_parts.proofs.Repeated.{Begun}
 use Rattle.gx_parse.proofs.+parsing.Given as goal
 
 abbrev rank : Members → ℕ

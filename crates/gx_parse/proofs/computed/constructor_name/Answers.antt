@@ -7,10 +7,10 @@ use Rattle.gx_parse_tokens.specs.Reading.{read_in, read_one}
 use Rattle.gx_parse_grammar.specs.Tokens.{gap}
 use Rattle.gx_grammar.proofs.PublicLaws.{ran_idle}
 use Rattle.gx_parse_grammar.specs.Types.{named}
-use Rattle.gx_parse.proofs.TypesPhrases.{gave_none, loses_ended, ran_loses}
 use Rattle.gx_parse.proofs.ComputedPhrases.{name_read}
 use Rattle.gx_grammar.specs.Ran.{Ran}
 use Rattle.gx_parse.proofs.computed.constructor_name.Goals as goal
+use Rattle.gx_parse_parts.proofs.Phrases.{gave_none, loses_done, ran_loses}
 
 pub returns-in_default : goal.returns-in_default
 returns-in_default c = λ n.
@@ -25,6 +25,6 @@ returns-in-Ok c = λ n.
 
 pub returns-in-Err : goal.returns-in-Err
 returns-in-Err c = λ n.
-    gave_none named (named (name_at c.place-place.result nothing)) c.args.reader.now c.lose.new.self (read_in c.args.source.now n (constructor_name (place_in c.args.source.now))) (loses_ended c.gap.new.self c.lose.new.self c.lose.ensures)
+    gave_none named (named (name_at c.place-place.result nothing)) c.args.reader.now c.lose.new.self (read_in c.args.source.now n (constructor_name (place_in c.args.source.now))) (loses_done c.gap.new.self c.lose.new.self c.lose.ensures)
     (ran_loses (named (name_at c.place-place.result (name_made c.in-Some.name))) (named (name_at c.place-place.result nothing)) c.args.reader.now c.gap.new.self c.lose.new.self (read_in c.args.source.now n (constructor_name (place_in c.args.source.now)))
     (name_read c.args.source.now n c.place-place.result (name_made c.in-Some.name) c.args.reader.now c.constructor.new.self c.gap.new.self (c.place-place.ensures ∙ ap (place_in c.args.source.now) c.left.ensures) c.in-Some.ensures c.gap.ensures) c.lose.ensures)

@@ -1,4 +1,4 @@
-use Rattle.std.proofs.Common.{◌≡◌, List, ℕ, sym, ap, subst, length, arith}
+use Rattle.std.proofs.Common.{List, ℕ, sym, ap, subst, length, arith}
 use Rattle.gx_parse_grammar.specs.Query.{IsText}
 use Rattle.gx_parse.proofs.Ended.{text_is_shorter, results_parsed, results_refused}
 use Rattle.gx_parse.proofs.parser.parse.Goals as goal

@@ -1,9 +1,0 @@
-use Rattle.std.proofs.Common.{None}
-use Rattle.gx_parse_grammar.specs.Bound.{kind_made}
-use Rattle.gx_parse.proofs.binding.kind_of.Goals as goal
-
-pub returns-in_default : goal.returns-in_default
-returns-in_default c = λ n. let done = rw c.in_default.is at (c.bound_type.ensures n) in done.1 (kind_made None)
-
-pub returns : goal.returns
-returns c = λ n. c.in-Some.ensures n

@@ -1,8 +1,0 @@
-use Rattle.std.proofs.Common.{refl, inl, inr}
-use Rattle.gx_parse.proofs.direct.content_parts.Goals as goal
-
-pub returns-in-Ok : goal.returns-in-Ok
-returns-in-Ok c = inl (c.in-Ok.ensures, refl)
-
-pub returns-in-Err : goal.returns-in-Err
-returns-in-Err c = inr c.lose.ensures

@@ -1,0 +1,3 @@
+pub mod ContentPhrases
+pub mod DirectPhrases
+pub mod StringsPhrases

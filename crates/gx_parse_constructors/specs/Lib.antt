@@ -1,0 +1,2 @@
+pub mod DirectReading
+pub mod TextReading
