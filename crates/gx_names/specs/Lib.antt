@@ -1,16 +1,3 @@
-pub mod Signature
-pub mod Environment
-pub mod TypeNames
-pub mod Steps
-pub mod Refused
 pub mod SettingRefusals
-pub mod StartTags
-pub mod TreeRefusals
-pub mod Uses
-pub mod Reaching
 pub mod Refusals
-pub mod TreeResolution
 pub mod Resolution
-pub mod Resolving
-pub mod Using
-pub mod Searching

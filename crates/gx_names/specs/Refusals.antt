@@ -23,16 +23,17 @@ use Rattle.gx_ast.specs.declared.sequence_type.SequenceType.TheVariants as seque
 use Rattle.gx_ast.specs.SyntaxTree.{SyntaxTree}
 use Rattle.gx_types.specs.SameItemType.{same_type_name}
 use Rattle.gx_types.specs.SchemaSet.{SchemaSet, global_type}
-use Rattle.gx_names.specs.declared.refusal.Refusal.{Refusal}
+use Rattle.gx_names_scope.specs.declared.refusal.Refusal.{Refusal}
 use Rattle.gx_resolved.specs.NestedMap.{innermost_value}
-use Rattle.gx_names.specs.declared.signature.Signature.{Signature}
-use Rattle.gx_names.specs.Signature.{same_signature}
-use Rattle.gx_names.specs.declared.uses.Use.{Use}
-use Rattle.gx_names.specs.Environment.{Namespaces, Functions, Variables, Environment, is_word, plain_name, called_name, called_in, or_nameless, binder_of, with_variable, without_variable}
-use Rattle.gx_names.specs.TypeNames.{refused_if, prefix_refusals, written_type_refusals, element_tested}
-use Rattle.gx_names.specs.TreeRefusals.{binder_refusals, tree_refusals}
-use Rattle.gx_names.specs.Uses.{tree_uses}
-use Rattle.gx_names.specs.Reaching.{Bodies, calls_are_settled}
+use Rattle.gx_names_scope.specs.declared.signature.Signature.{Signature}
+use Rattle.gx_names_scope.specs.Signature.{same_signature}
+use Rattle.gx_names_uses.specs.declared.uses.Use.{Use}
+use Rattle.gx_names_scope.specs.Environment.{Namespaces, Functions, Variables, Environment, is_word, plain_name, called_name, called_in, or_nameless, binder_of, with_variable, without_variable}
+use Rattle.gx_names_scope.specs.Refusing.{refused_if, prefix_refusals}
+use Rattle.gx_names_types.specs.TypeNames.{written_type_refusals, element_tested}
+use Rattle.gx_names_trees.specs.TreeRefusals.{binder_refusals, tree_refusals}
+use Rattle.gx_names_uses.specs.Uses.{tree_uses}
+use Rattle.gx_names_uses.specs.Reaching.{Bodies, calls_are_settled}
 use Rattle.gx_names.specs.SettingRefusals.{settings_refusals, prolog_environment}
 
 -- ---- the functions that are declared, which are in scope everywhere

@@ -26,11 +26,11 @@ use Rattle.gx_resolved.specs.declared.tree.FunctionDeclaration.{FunctionDeclarat
 use Rattle.gx_resolved.specs.declared.tree.Global.{Global}
 use Rattle.gx_resolved.specs.declared.tree.Resolved.{Resolved}
 use Rattle.gx_resolved.specs.declared.tree.Settings.{Settings}
-use Rattle.gx_names.specs.Environment.{Environment, called_name, or_nameless}
+use Rattle.gx_names_scope.specs.Environment.{Environment, called_name, or_nameless}
 use Rattle.gx_names.specs.Refusals.{definition_scope, scope_after, with_functions, with_parameters}
 use Rattle.gx_names.specs.SettingRefusals.{prolog_environment}
-use Rattle.gx_names.specs.TreeResolution.{binder_resolved, tree_resolved}
-use Rattle.gx_names.specs.TypeNames.{type_written}
+use Rattle.gx_names_trees.specs.TreeResolution.{binder_resolved, tree_resolved}
+use Rattle.gx_names_types.specs.TypeNames.{type_written}
 
 -- ---- settings
 

@@ -9,21 +9,11 @@ use Rattle.gx_ast.specs.declared.query.Setting.{Setting}
 use Rattle.gx_ast.specs.declared.query.SettingNode.{SettingNode}
 use Rattle.gx_ast.specs.declared.query.SettingNode.TheVariants as settings
 use Rattle.gx_types.specs.SchemaSet.{SchemaSet}
-use Rattle.gx_names.specs.declared.refusal.Refusal.{Refusal}
+use Rattle.gx_names_scope.specs.declared.refusal.Refusal.{Refusal}
 use Rattle.gx_resolved.specs.NestedMap.{innermost_value}
-use Rattle.gx_names.specs.Environment.{Namespaces, Environment, is_word, known_namespaces}
-use Rattle.gx_names.specs.TypeNames.{refused_if}
-
--- the prefixes `xml` and `xmlns` are not declared, and no other prefix is bound to the URI of either
-unfoldable pub is_reserved_prefix : List ℕ → Bool
-is_reserved_prefix prefix = is_word prefix (codes "xml") || is_word prefix (codes "xmlns")
-
-unfoldable pub is_reserved_uri : List ℕ → Bool
-is_reserved_uri uri = is_word uri (codes "http://www.w3.org/XML/1998/namespace") || is_word uri (codes "http://www.w3.org/2000/xmlns/")
-
--- the prefixes that are declared, with the places of their declarations
-abbrev pub DeclaredPrefixes : Type 0
-DeclaredPrefixes = List (List ℕ × Place)
+use Rattle.gx_names_scope.specs.Environment.{Namespaces, Environment, is_word, known_namespaces}
+use Rattle.gx_names_scope.specs.Prefixes.{DeclaredPrefixes, is_reserved_prefix, is_reserved_uri}
+use Rattle.gx_names_scope.specs.Refusing.{refused_if}
 
 -- the namespaces that are imported, with the places of their imports
 abbrev pub ImportedNamespaces : Type 0

@@ -1,26 +1,19 @@
 // The second part of a prolog.
 
 ghost use Rattle.std.specs.Prelude.{◌≡◌, ◌++◌, [], ◌∷◌, IfOk, OnOk};
-ghost use Rattle.gx_names.specs.Refused.{Judges};
+ghost use Rattle.gx_names_scope.specs.Refused.{Judges};
 ghost use Rattle.gx_base.specs.declared.place.Place.{Place as DeclaredAt};
 ghost use Rattle.gx_resolved.specs.declared.tree.Declaration.TheVariants as declared;
-ghost use Rattle.gx_names.specs.Environment.{Environment as Scope, Functions as FunctionList, called_name, or_nameless, plain_name};
-ghost use Rattle.gx_names.specs.Refusals.{bodies_after, bodies_with, call_order_refusals, definition_refusals, definition_scope, definitions_refusals, doubled_parameter, doubled_variable, external_refusals, function_refusals, functions_with, heading_refusals, is_document_element, is_document_test, is_document_type, is_kept_namespace, is_schema_namespace, is_standard_namespace, parameters_refusals, scope_after, with_functions, with_parameters, with_signature, without_parameters};
+ghost use Rattle.gx_names_scope.specs.Environment.{Environment as Scope, Functions as FunctionList, called_name, or_nameless, plain_name};
+ghost use Rattle.gx_names.specs.Refusals.{bodies_after, bodies_with, call_order_refusals, definition_refusals, definition_scope, definitions_refusals, doubled_parameter, doubled_variable, external_refusals, function_refusals, functions_with, heading_refusals, is_document_element, is_document_test, is_document_type, is_kept_namespace, is_schema_namespace, is_standard_namespace, parameters_refusals, scope_after, seen_with, with_functions, with_parameters, with_signature, without_parameters};
 ghost use Rattle.gx_names.specs.Resolution.{declaration_resolved, declarations_resolved, external_resolved, function_resolved, global_resolved, parameters_resolved, result_resolved};
-ghost use Rattle.gx_names.specs.Searching.{IsSettled};
-ghost use Rattle.gx_names.specs.Uses.{tree_uses};
-ghost use Rattle.gx_names.specs.TypeNames.{prefix_refusals, written_type_refusals};
-ghost use Rattle.gx_names.specs.TreeRefusals.{binder_refusals, tree_refusals};
-ghost use Rattle.gx_names.specs.TreeResolution.{binder_resolved, tree_resolved};
+ghost use Rattle.gx_names_uses.specs.Searching.{IsSettled};
+ghost use Rattle.gx_names_uses.specs.Uses.{tree_uses};
+ghost use Rattle.gx_names_scope.specs.Refusing.{prefix_refusals};
+ghost use Rattle.gx_names_types.specs.TypeNames.{written_type_refusals};
+ghost use Rattle.gx_names_trees.specs.TreeRefusals.{binder_refusals, tree_refusals};
+ghost use Rattle.gx_names_trees.specs.TreeResolution.{binder_resolved, tree_resolved};
 
-use crate::binders::bound_name;
-use crate::names::Names;
-use crate::reaching::{Bodies, Settled, calls_are_settled};
-use crate::refusal::NameRefusal;
-use crate::resolve::resolve_tree;
-use crate::signature::Signature;
-use crate::type_names::{check_written_type, element_tested, refused, type_written};
-use crate::uses::{SharedUses, Use, tree_uses};
 use gx_ast::expression::Expr;
 use gx_ast::items::Items;
 use gx_ast::name::{QName, Variable};
@@ -31,6 +24,14 @@ use gx_base::name::{Name, SharedName};
 use gx_base::place::Place;
 use gx_base::text::Text;
 use gx_base::type_name::{Builtin, TypeName};
+use gx_names_scope::names::Names;
+use gx_names_scope::refusal::{NameRefusal, refused};
+use gx_names_scope::signature::Signature;
+use gx_names_trees::binders::bound_name;
+use gx_names_trees::trees::resolve_tree;
+use gx_names_types::type_names::{check_written_type, element_tested, type_written};
+use gx_names_uses::reaching::{Bodies, Settled, calls_are_settled};
+use gx_names_uses::uses::{SharedUses, Use, tree_uses};
 use gx_resolved::nested_map::NestedMap;
 use gx_resolved::tree::{
     BoundName, Declaration, External, FunctionDeclaration, Global as GlobalVariable, ResolvedExpr,
@@ -82,8 +83,8 @@ fn signature_of(
 
 // ---- what the bodies of functions use
 
-/// What the bodies of all functions use.
-pub(crate) fn bodies_of<'s>(
+// What the bodies of all functions use.
+fn bodies_of<'s>(
     alloc: Global,
     names: Names<'s>,
     definitions: &[Definition],
@@ -125,7 +126,7 @@ fn add_body<'s>(
 }
 
 // What a body uses, but for its parameters.
-#[tactic(auto, using(crate::proofs::ScopeLemmas::parameters_gone))]
+#[tactic(auto, using(crate::proofs::ParameterLemmas::parameters_gone))]
 fn body_uses<'s>(
     alloc: Global,
     names: Names<'s>,
@@ -152,9 +153,22 @@ struct Earlier {
     settled: Settled,
 }
 
-/// Resolves declarations in their order; with the names that stand behind them.
-#[tactic(auto, using(crate::proofs::ResolvingLemmas::refused_before))]
-pub(crate) fn resolve_definitions<'s>(
+/// Resolves all declarations in their order; with the names that stand behind them.
+pub(crate) fn resolve_prolog<'s>(
+    alloc: Global,
+    names: Names<'s>,
+    definitions: &[Definition],
+) -> Result<(Items<Declaration>, Names<'s>), NameRefusal>
+    ensures refusals { Judges result (definitions_refusals definitions.now (bodies_after names.entry definitions.now []) [] names.entry) }
+    ensures declarations { IfOk result (λ r. r.0 ≡ declarations_resolved definitions.now names.entry) }
+    ensures names { IfOk result (λ r. r.1 ≡ scope_after definitions.now names.entry) }
+{
+    let (bodies, names) = bodies_of(alloc, names, definitions)?;
+    resolve_definitions(alloc, names, &bodies, definitions)
+}
+
+// Declarations of which none stands before.
+fn resolve_definitions<'s>(
     alloc: Global,
     names: Names<'s>,
     bodies: &Bodies,
@@ -164,29 +178,44 @@ pub(crate) fn resolve_definitions<'s>(
     ensures declarations { IfOk result (λ r. r.0 ≡ declarations_resolved definitions.now names.entry) }
     ensures names { IfOk result (λ r. r.1 ≡ scope_after definitions.now names.entry) }
 {
-    let mut names = names;
     let mut declarations = Vec::new(alloc);
     let mut earlier = Earlier {
         functions: NestedMap::new(alloc),
         settled: NestedMap::new(alloc),
     };
+    let into = &mut declarations;
+    match add_definitions(alloc, names, bodies, &mut earlier, into, definitions) {
+        Ok(names) => Ok((Items::from_vec(declarations), names)),
+        Err(refusal) => Err(refusal),
+    }
+}
+
+// Declarations behind others; the names that stand behind them.
+#[tactic(auto, using(gx_names_scope::proofs::RefusalLemmas::refused_before))]
+fn add_definitions<'s>(
+    alloc: Global,
+    names: Names<'s>,
+    bodies: &Bodies,
+    earlier: &mut Earlier,
+    declarations: &mut Vec<Declaration>,
+    definitions: &[Definition],
+) -> Result<Names<'s>, NameRefusal>
+    requires { IsSettled names.variables bodies.now earlier.now.settled }
+    ensures refusals { Judges result (definitions_refusals definitions.now bodies.now earlier.old.functions names.entry) }
+    ensures declarations { OnOk result (declarations.new.items ≡ declarations.old.items ++ declarations_resolved definitions.now names.entry) }
+    ensures names { IfOk result (λ n. n ≡ scope_after definitions.now names.entry) }
+{
+    let mut names = names;
     let mut left = definitions;
     while let Some((definition, others)) = left.split_first() {
-        names = resolve_next(
-            alloc,
-            names,
-            bodies,
-            definition,
-            &mut earlier,
-            &mut declarations,
-        )?;
+        names = resolve_next(alloc, names, bodies, definition, earlier, declarations)?;
         left = others;
     }
-    Ok((Items::from_vec(declarations), names))
+    Ok(names)
 }
 
 // A declaration behind others; the names that stand behind it.
-#[tactic(auto, using(crate::proofs::ReachingLemmas::settled_behind))]
+#[tactic(auto, using(crate::proofs::SettledLemmas::settled_behind))]
 fn resolve_next<'s>(
     alloc: Global,
     names: Names<'s>,
@@ -255,7 +284,7 @@ fn declare_variable(
     }
 }
 
-#[tactic(auto, using(crate::proofs::ResolvingLemmas::refused_before))]
+#[tactic(auto, using(gx_names_scope::proofs::RefusalLemmas::refused_before))]
 fn resolve_definition<'s>(
     alloc: Global,
     names: Names<'s>,
@@ -304,7 +333,7 @@ struct Binder<'a> {
     kind: &'a Option<SequenceType>,
 }
 
-#[tactic(auto, using(crate::proofs::ResolvingLemmas::refused_before))]
+#[tactic(auto, using(gx_names_scope::proofs::RefusalLemmas::refused_before))]
 fn resolve_global<'s>(
     alloc: Global,
     names: Names<'s>,
@@ -327,7 +356,7 @@ fn resolve_global<'s>(
 }
 
 // A variable that is not declared before, and what its value calls.
-#[tactic(auto, using(crate::proofs::ResolvingLemmas::refused_before))]
+#[tactic(auto, using(gx_names_scope::proofs::RefusalLemmas::refused_before))]
 fn check_value<'s>(
     alloc: Global,
     names: Names<'s>,
@@ -377,7 +406,7 @@ fn resolve_external<'s>(
     }
 }
 
-#[tactic(auto, using(crate::proofs::ResolvingLemmas::refused_before))]
+#[tactic(auto, using(gx_names_scope::proofs::RefusalLemmas::refused_before))]
 fn external_name(
     alloc: Global,
     names: &Names<'_>,
@@ -391,7 +420,7 @@ fn external_name(
     bound_name(alloc, names, binder.variable, binder.kind)
 }
 
-#[tactic(auto, using(crate::proofs::ResolvingLemmas::refused_before))]
+#[tactic(auto, using(gx_names_scope::proofs::RefusalLemmas::refused_before))]
 fn check_external(
     alloc: Global,
     names: &Names<'_>,
@@ -459,7 +488,7 @@ fn is_document_element(names: &Names<'_>, name: &Option<Name>, kind: &TypeName) 
     ensures { result ≡ is_document_element names.now (name.now, kind.now) }
 {
     match name {
-        Some(name) => match names.schemas.global(name) {
+        Some(name) => match names.schemas().global(name) {
             Some(declared) => declared == kind,
             None => false,
         },
@@ -534,7 +563,7 @@ fn is_standard_namespace(uri: &Text) -> bool
     uri == "http://www.w3.org/XML/1998/namespace" || uri == "http://www.w3.org/2005/xpath-functions"
 }
 
-#[tactic(auto, using(crate::proofs::ResolvingLemmas::refused_before))]
+#[tactic(auto, using(gx_names_scope::proofs::RefusalLemmas::refused_before))]
 fn resolve_heading(
     alloc: Global,
     names: &Names<'_>,
@@ -585,7 +614,6 @@ fn result_checked(
     }
 }
 
-#[tactic(auto, using(crate::proofs::ResolvingLemmas::refused_before))]
 fn resolve_parameters(
     alloc: Global,
     names: &Names<'_>,
@@ -596,18 +624,51 @@ fn resolve_parameters(
 {
     let mut bound = Vec::new(alloc);
     let mut seen = NestedMap::new(alloc);
-    let mut left = parameters;
-    while let Some((parameter, others)) = left.split_first() {
-        let next = resolve_parameter(alloc, names, &seen, parameter)?;
-        seen.bind(next.name.clone()?, next.place)?;
-        bound.push(next)?;
-        left = others;
-    }
+    add_parameters(alloc, names, &mut seen, &mut bound, parameters)?;
     Ok(Items::from_vec(bound))
 }
 
+// Parameters behind those that were seen.
+#[tactic(auto, using(gx_names_scope::proofs::RefusalLemmas::refused_before))]
+fn add_parameters(
+    alloc: Global,
+    names: &Names<'_>,
+    seen: &mut NestedMap<SharedName, Place>,
+    bound: &mut Vec<BoundName>,
+    parameters: &[Parameter],
+) -> Result<(), NameRefusal>
+    ensures refusals { Judges result (parameters_refusals names.now seen.old parameters.now) }
+    ensures bound { OnOk result (bound.new.items ≡ bound.old.items ++ parameters_resolved names.now parameters.now) }
+{
+    let mut left = parameters;
+    while let Some((parameter, others)) = left.split_first() {
+        add_parameter(alloc, names, seen, bound, parameter)?;
+        left = others;
+    }
+    Ok(())
+}
+
+fn add_parameter(
+    alloc: Global,
+    names: &Names<'_>,
+    seen: &mut NestedMap<SharedName, Place>,
+    bound: &mut Vec<BoundName>,
+    parameter: &Parameter,
+) -> Result<(), NameRefusal>
+    ensures refusals { Judges result (doubled_parameter parameter.now.variable.place seen.old (plain_name names.now parameter.now.variable.name) ++ binder_refusals names.now parameter.now.variable parameter.now.kind) }
+    ensures seen { OnOk result (seen.new ≡ seen_with names.now parameter.now.variable seen.old) }
+    ensures bound { OnOk result (bound.new.items ≡ bound.old.items ++ binder_resolved names.now parameter.now.variable parameter.now.kind ∷ []) }
+{
+    let next = match resolve_parameter(alloc, names, seen, parameter) {
+        Ok(next) => next,
+        Err(refusal) => return Err(refusal),
+    };
+    seen.bind(next.name.clone()?, next.place)?;
+    Ok(bound.push(next)?)
+}
+
 // A parameter, behind others.
-#[tactic(auto, using(crate::proofs::ResolvingLemmas::refused_before))]
+#[tactic(auto, using(gx_names_scope::proofs::RefusalLemmas::refused_before))]
 fn resolve_parameter(
     alloc: Global,
     names: &Names<'_>,
@@ -639,7 +700,7 @@ fn check_parameter(
     }
 }
 
-#[tactic(auto, using(crate::proofs::ResolvingLemmas::refused_before))]
+#[tactic(auto, using(gx_names_scope::proofs::RefusalLemmas::refused_before))]
 fn resolve_function<'s>(
     alloc: Global,
     names: Names<'s>,
@@ -693,7 +754,7 @@ fn resolve_body<'s>(
 }
 
 // A body, with the names that stand behind it.
-#[tactic(auto, using(crate::proofs::ScopeLemmas::parameters_gone))]
+#[tactic(auto, using(crate::proofs::ParameterLemmas::parameters_gone))]
 fn behind_parameters<'s>(
     body: ResolvedExpr,
     names: Names<'s>,

@@ -1,26 +1,24 @@
 // Whole queries.
 
 ghost use Rattle.std.specs.Prelude.{◌≡◌, IfOk};
-ghost use Rattle.gx_names.specs.Refused.{Judges};
+ghost use Rattle.gx_names_scope.specs.Refused.{Judges};
 ghost use Rattle.gx_names.specs.Refusals.{main_refusals, query_refusals};
 ghost use Rattle.gx_names.specs.Resolution.{main_resolved, query_resolved};
-ghost use Rattle.gx_names.specs.TreeRefusals.{tree_refusals};
-ghost use Rattle.gx_names.specs.TreeResolution.{tree_resolved};
 
-use crate::declarations::{bodies_of, declare_functions, resolve_definitions};
-use crate::names::Names;
-use crate::refusal::NameRefusal;
-use crate::resolving::Resolving;
+use crate::declarations::{declare_functions, resolve_prolog};
 use crate::settings::{prolog_names, settings_with};
 use gx_ast::expression::Expr;
 use gx_ast::query::{Definition, Query};
-use gx_resolved::tree::{Resolved, ResolvedExpr, Settings};
+use gx_names_scope::names::Names;
+use gx_names_scope::refusal::NameRefusal;
+use gx_names_trees::trees::resolve_tree;
+use gx_resolved::tree::{Resolved, Settings};
 use gx_types::schemas::Schemas;
 use std::alloc::Global;
 
 /// The query with its names resolved, or the first refusal in the order of the text, at one place in the order of the rules (XQuery
 /// 1.0, sections 2.3.2, 3 and 4).
-#[tactic(auto, using(crate::proofs::ResolvingLemmas::refused_before))]
+#[tactic(auto, using(gx_names_scope::proofs::RefusalLemmas::refused_before))]
 pub fn resolve(alloc: Global, query: &Query, schemas: &Schemas) -> Result<Resolved, NameRefusal>
     ensures refusals { Judges result (query_refusals schemas.now query.now) }
     ensures resolved { IfOk result (λ r. r ≡ query_resolved schemas.now query.now) }
@@ -39,7 +37,7 @@ pub fn resolve(alloc: Global, query: &Query, schemas: &Schemas) -> Result<Resolv
 }
 
 // The second part of the prolog, and the body.
-#[tactic(auto, using(crate::proofs::ResolvingLemmas::refused_before))]
+#[tactic(auto, using(gx_names_scope::proofs::RefusalLemmas::refused_before))]
 fn resolve_main(
     alloc: Global,
     names: Names<'_>,
@@ -50,8 +48,7 @@ fn resolve_main(
     ensures refusals { Judges result (main_refusals names.entry definitions.now body.now) }
     ensures resolved { IfOk result (λ r. r ≡ main_resolved names.entry settings definitions.now body.now) }
 {
-    let (bodies, names) = bodies_of(alloc, names, definitions)?;
-    let (declarations, names) = match resolve_definitions(alloc, names, &bodies, definitions) {
+    let (declarations, names) = match resolve_prolog(alloc, names, definitions) {
         Ok(resolved) => resolved,
         Err(refusal) => return Err(refusal),
     };
@@ -63,29 +60,4 @@ fn resolve_main(
         }),
         Err(refusal) => Err(refusal),
     }
-}
-
-// A tree, and what names stand for behind it. The tasks end long before the loop does.
-pub(crate) fn resolve_tree<'s>(
-    alloc: Global,
-    names: Names<'s>,
-    tree: &Expr,
-) -> Result<(ResolvedExpr, Names<'s>), NameRefusal>
-    ensures refusals { Judges result (tree_refusals names.entry tree.now) }
-    ensures tree { IfOk result (λ r. r.0 ≡ tree_resolved names.entry tree.now) }
-    ensures names { IfOk result (λ r. r.1 ≡ names.entry) }
-{
-    let mut resolving = Resolving::new(alloc, names, tree)?;
-    for _ in 0..u64::MAX {
-        match resolving.tasks.pop() {
-            None => return Ok(resolving.result()),
-            Some(task) => {
-                if let Err(refusal) = resolving.step(alloc, task) {
-                    resolving.dismantle(alloc);
-                    return Err(refusal);
-                }
-            }
-        }
-    }
-    Err(NameRefusal::Memory)
 }

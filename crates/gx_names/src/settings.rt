@@ -2,26 +2,24 @@
 
 ghost use Rattle.std.specs.Prelude.{◌≡◌, [], IfOk, OnOk};
 ghost use Rattle.gx_base.specs.declared.code.Code.TheVariants.{XQST0070};
-ghost use Rattle.gx_names.specs.TypeNames.{refused_if};
-ghost use Rattle.gx_names.specs.Refused.{Judges};
+ghost use Rattle.gx_names_scope.specs.Refusing.{refused_if};
+ghost use Rattle.gx_names_scope.specs.Refused.{Judges};
 ghost use Rattle.gx_names.specs.Resolution.{default_settings, setting_with, settings_with};
-ghost use Rattle.gx_names.specs.SettingRefusals.{declared_prefix_refusals, declared_with, has_other_target, import_prefix_refusals, import_refusals, imported_with, is_reserved_prefix, is_reserved_uri, namespaces_after, namespaces_with, prolog_environment, setting_refusals, settings_refusals, targets_behind};
+ghost use Rattle.gx_names.specs.SettingRefusals.{declared_prefix_refusals, declared_with, has_other_target, import_prefix_refusals, import_refusals, imported_with, namespaces_after, namespaces_with, prolog_environment, setting_refusals, settings_refusals, targets_behind};
+ghost use Rattle.gx_names_scope.specs.Prefixes.{is_reserved_prefix, is_reserved_uri};
 
-use crate::names::Names;
-use crate::refusal::NameRefusal;
-use crate::type_names::refused;
 use gx_ast::query::{SchemaPrefix, Setting, SettingNode};
 use gx_ast::sequence_type::EmptyOrder;
 use gx_base::code::Code;
 use gx_base::place::Place;
 use gx_base::text::Text;
+use gx_names_scope::names::Names;
+use gx_names_scope::prefixes::{DeclaredPrefixes, is_reserved_prefix, is_reserved_uri};
+use gx_names_scope::refusal::{NameRefusal, refused};
 use gx_resolved::nested_map::NestedMap;
 use gx_resolved::tree::Settings;
 use gx_types::schemas::Schemas;
 use std::alloc::{AllocError, Global};
-
-// The prefixes that are declared, with the places of their declarations.
-pub(crate) type DeclaredPrefixes = NestedMap<Text, Place>;
 
 // The namespaces that are imported, with the places of their imports.
 type ImportedNamespaces = NestedMap<Text, Place>;
@@ -65,7 +63,7 @@ fn declare_settings(
     add_settings(alloc, names, &mut before, targets, settings)
 }
 
-#[tactic(auto, using(crate::proofs::ResolvingLemmas::refused_before))]
+#[tactic(auto, using(gx_names_scope::proofs::RefusalLemmas::refused_before))]
 fn add_settings(
     alloc: Global,
     names: &mut Names<'_>,
@@ -105,7 +103,7 @@ fn add_setting(
     Ok(bind_prefix(alloc, names, &setting.node)?)
 }
 
-#[tactic(auto, using(crate::proofs::ResolvingLemmas::refused_before))]
+#[tactic(auto, using(gx_names_scope::proofs::RefusalLemmas::refused_before))]
 fn check_setting(
     before: &Before,
     targets: &[Text],
@@ -131,7 +129,7 @@ fn check_setting(
 }
 
 // An import of a namespace that no import before has, of files with that target.
-#[tactic(auto, using(crate::proofs::ResolvingLemmas::refused_before))]
+#[tactic(auto, using(gx_names_scope::proofs::RefusalLemmas::refused_before))]
 fn check_import(
     imported: &ImportedNamespaces,
     targets: &[Text],
@@ -207,7 +205,7 @@ fn check_default(place: Place, uri: &Text) -> Result<(), NameRefusal>
     Ok(())
 }
 
-#[tactic(auto, using(crate::proofs::ResolvingLemmas::refused_before))]
+#[tactic(auto, using(gx_names_scope::proofs::RefusalLemmas::refused_before))]
 fn check_import_prefix(
     declared: &DeclaredPrefixes,
     place: Place,
@@ -227,22 +225,6 @@ fn check_import_prefix(
         }
         SchemaPrefix::Default => check_default(place, uri),
     }
-}
-
-#[tactic(auto, unfolding(crate::specs::SettingRefusals::is_reserved_prefix))]
-pub(crate) fn is_reserved_prefix(prefix: &Text) -> bool
-    ensures { result ≡ is_reserved_prefix prefix.now }
-{
-    let prefix = prefix.as_str();
-    prefix == "xml" || prefix == "xmlns"
-}
-
-#[tactic(auto, unfolding(crate::specs::SettingRefusals::is_reserved_uri))]
-pub(crate) fn is_reserved_uri(uri: &Text) -> bool
-    ensures { result ≡ is_reserved_uri uri.now }
-{
-    let uri = uri.as_str();
-    uri == "http://www.w3.org/XML/1998/namespace" || uri == "http://www.w3.org/2000/xmlns/"
 }
 
 fn declare_prefix(

@@ -5,8 +5,8 @@
 
 use gx_ast::query::Query;
 use gx_base::name::Name;
-use gx_names::refusal::NameRefusal;
 use gx_names::resolve::resolve;
+use gx_names_scope::refusal::NameRefusal;
 use gx_parse::parser::parse;
 use gx_parse_grammar::refusal::SyntaxRefusal;
 use gx_resolved::tree::{Construct, ResolvedExpr};

@@ -1,8 +1,8 @@
 use Rattle.std.proofs.Common.{sym, ap, subst, ◌∙◌}
-use Rattle.gx_names.specs.Environment.{Environment}
+use Rattle.gx_names_scope.specs.Environment.{Environment}
 use Rattle.gx_names.specs.Refusals.{definition_scope}
-use Rattle.gx_names.specs.Searching.{IsSettled}
-use Rattle.gx_names.proofs.ReachingLemmas.{settled_behind}
+use Rattle.gx_names_uses.specs.Searching.{IsSettled}
+use Rattle.gx_names.proofs.SettledLemmas.{settled_behind}
 use Rattle.gx_names.proofs.declarations.resolve_next.Goals as goal
 
 pub returns-in_ok-declare-in-Ok-clause-settled : goal.returns-in_ok-declare-in-Ok-clause-settled

@@ -1,0 +1,5 @@
+pub mod RefusalLemmas
+pub mod ScopeLemmas
+pub mod StartTagLemmas
+pub mod CountLemmas
+mod NameLemmas

@@ -1,0 +1,3 @@
+mod ResolvingLemmas
+mod FilteredLemmas
+mod DirectLemmas

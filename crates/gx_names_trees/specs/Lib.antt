@@ -1,0 +1,3 @@
+pub mod TreeRefusals
+pub mod TreeResolution
+pub mod Resolving

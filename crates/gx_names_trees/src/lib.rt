@@ -1,0 +1,10 @@
+//! Expressions with their names resolved.
+#![tactic(auto)]
+
+pub mod binders;
+mod branches;
+mod constructors;
+mod direct;
+mod opening;
+mod resolving;
+pub mod trees;

@@ -1,0 +1,5 @@
+//! Types and steps as they are written, with their names resolved.
+#![tactic(auto)]
+
+pub mod steps;
+pub mod type_names;

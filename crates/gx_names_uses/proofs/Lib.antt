@@ -1,0 +1,2 @@
+mod UsesLemmas
+mod ReachingLemmas

@@ -1,0 +1,4 @@
+pub mod Uses
+pub mod Reaching
+pub mod Using
+pub mod Searching
