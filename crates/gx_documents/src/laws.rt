@@ -1,4 +1,4 @@
-// Laws over the definitions.
+// Laws of the documents that words bind.
 
 ghost use Rattle.gx_documents.specs.Laws.{DocumentsAreAsAsked, DocumentsAreHonest, RefusedDocumentsHaveNoTrees, HeldTreesAreKept, TreesAreThoseAsked};
 

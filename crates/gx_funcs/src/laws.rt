@@ -1,4 +1,4 @@
-// Laws over the definitions.
+// Laws of the table of built-in functions.
 
 ghost use Rattle.gx_funcs.specs.Laws.{FunctionsAreFoundByName};
 

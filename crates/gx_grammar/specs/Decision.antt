@@ -1,3 +1,4 @@
+-- When the guards of a grammar decide, and what its readings shorten.
 use Rattle.std.specs.Prelude.{ℕ, List, [], ◌≡◌, ◌≢◌, ◌≤◌, ◌++◌, ◌⊎◌, length, true, false}
 use Rattle.gx_grammar.specs.Grammar.{Guard, token, empty, ◌&◌, keyed, choose, many, rule, made}
 use Rattle.gx_grammar.specs.Language.{Language, Part, Made}

@@ -1,3 +1,4 @@
+-- The characters of bytes in UTF-8, and the place where bytes are none.
 use Rattle.std.specs.Prelude.{ℕ, List, ◌++◌, ◌≡◌, true, length, encode_utf8_all}
 use Rattle.std.specs.Str.{IsValidUpTo, all_scalars}
 use Rattle.gx_base.specs.declared.place.Place.{Place}

@@ -1,3 +1,4 @@
+-- What a grammar derives from the front of a text.
 use Rattle.std.specs.Prelude.{ℕ, List, length}
 use Rattle.gx_grammar.specs.Value.{nothing, pair, no_item, an_item}
 use Rattle.gx_grammar.specs.Grammar.{Guard, token, empty, ◌&◌, keyed, choose, many, rule, made}

@@ -1,3 +1,4 @@
+-- What texts of a grammar begin with, and grammars that are decided by it.
 use Rattle.std.specs.Prelude.{ℕ, List, [], ◌∷◌, ◌++◌, ◌≡◌, ◌≢◌, ◌⊎◌, ◌↔◌, Bool, true, false, if◌then◌else◌, is_some, min, length, Option, Some, ◌||◌}
 use Rattle.gx_grammar.specs.Value.{Value}
 use Rattle.gx_grammar.specs.Grammar.{Guard, token, empty, ◌&◌, keyed, choose, many, rule, made}

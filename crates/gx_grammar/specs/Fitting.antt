@@ -1,3 +1,4 @@
+-- Tokens whose value passes a test.
 use Rattle.std.specs.Prelude.{ℕ, List, [], ◌≡◌, Bool, true, if◌then◌else◌, Option, Some, None}
 
 -- A token whose value passes a test, as a number that is not too large.

@@ -1,3 +1,4 @@
+-- White space and comments between tokens.
 use Rattle.gx_base.specs.WhiteSpace.{is_white_space}
 use Rattle.std.specs.Prelude.{ℕ, zero, suc, List, [], ◌∷◌, ◌≡◌, ◌==◌, ◌||◌, ◌&&◌, not, Bool, true, if◌then◌else◌, length, Option, Some, None}
 

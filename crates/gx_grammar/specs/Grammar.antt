@@ -1,3 +1,4 @@
+-- Grammars as data.
 use Rattle.std.specs.Prelude.{ℕ, List, Bool}
 use Rattle.gx_grammar.specs.Value.{Value}
 

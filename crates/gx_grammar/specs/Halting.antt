@@ -1,3 +1,4 @@
+-- Where a limit of a token refuses a text.
 use Rattle.std.specs.Prelude.{ℕ, List, ◌≡◌, length, Some}
 use Rattle.gx_grammar.specs.Grammar.{Guard, token, ◌&◌, keyed, choose, many, rule, made}
 use Rattle.gx_grammar.specs.Language.{Language, Part, Made}

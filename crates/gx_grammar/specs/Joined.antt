@@ -1,3 +1,4 @@
+-- Two tokens as one.
 use Rattle.std.specs.Prelude.{ℕ, List, [], ◌++◌, ◌≡◌, ◌⊎◌, Bool, true, false, if◌then◌else◌, min, Option, Some, None}
 
 -- Two tokens as one, the second right behind the first, whose value is made of both.

@@ -1,3 +1,4 @@
+-- What an instance of grammars gives.
 use Rattle.std.specs.Prelude.{ℕ, List, Option}
 use Rattle.gx_grammar.specs.Value.{Value}
 use Rattle.gx_grammar.specs.Grammar.{Grammar}

@@ -1,3 +1,4 @@
+-- What tokens and languages owe.
 use Rattle.std.specs.Prelude.{ℕ, List, [], ◌≡◌, ◌≢◌, ◌≤◌, ◌++◌, ◌⊎◌, length, Some, None, Ok, Err, IfOk}
 use Rattle.gx_grammar.specs.Grammar.{token}
 use Rattle.gx_grammar.specs.Language.{Language, Part, Made}

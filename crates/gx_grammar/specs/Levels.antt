@@ -1,3 +1,4 @@
+-- How deep the productions of a grammar stand in one another without reading.
 use Rattle.std.specs.Prelude.{ℕ, suc, List, length, Bool, true, false, ◌&&◌, ◌||◌, ◌≡◌, ◌<◌, ◌⊎◌, Ok, Err}
 use Rattle.gx_grammar.specs.Grammar.{token, empty, ◌&◌, keyed, choose, many, rule, made}
 use Rattle.gx_grammar.specs.Language.{Language, Part, Made}

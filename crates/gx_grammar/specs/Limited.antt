@@ -1,3 +1,4 @@
+-- A small language with limits: sums of numbers in parentheses.
 use Rattle.std.specs.Prelude.{ℕ, zero, suc, List, [], ◌∷◌, ◌||◌, nat_le, Bool, true, false, Option, Some, None, if◌then◌else◌, length}
 use Rattle.gx_grammar.specs.Value.{Value, nothing, characters}
 use Rattle.gx_grammar.specs.Grammar.{Grammar, token, empty, ◌&◌, choose, rule}

@@ -1,3 +1,4 @@
+-- Texts that a text of a grammar may begin with.
 use Rattle.std.specs.Prelude.{ℕ, List, [], ◌≡◌, ◌++◌, length}
 use Rattle.gx_grammar.specs.Grammar.{Guard, token, ◌&◌, keyed, choose, many, rule, made}
 use Rattle.gx_grammar.specs.Language.{Language, Part, Made}

@@ -1,3 +1,4 @@
+-- Lines and columns of characters.
 use Rattle.std.specs.Prelude.{ℕ, zero, suc, List, [], ◌∷◌, ◌++◌, ◌+◌, ◌≤◌, ◌≡◌, ◌==◌, ◌⊎◌, Bool, true, false, if◌then◌else◌, length}
 use Rattle.gx_base.specs.declared.place.Place.{Place}
 

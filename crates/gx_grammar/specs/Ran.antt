@@ -1,3 +1,4 @@
+-- What a hand-written reader does.
 use Rattle.std.specs.Prelude.{ℕ, length, ◌≡◌, Bool, Ok, Err}
 use Rattle.gx_grammar.specs.Grammar.{Guard}
 use Rattle.gx_grammar.specs.Reading.{State, Refusal, Reading, notes}

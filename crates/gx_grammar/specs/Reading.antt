@@ -1,3 +1,4 @@
+-- The reading of a text by a grammar.
 use Rattle.std.specs.Prelude.{ℕ, zero, suc, List, length, min, if◌then◌else◌, Option, Some, None, Result, Ok, Err}
 use Rattle.gx_grammar.specs.Value.{Value, nothing, pair, no_item, an_item}
 use Rattle.gx_grammar.specs.Grammar.{Guard, token, empty, ◌&◌, keyed, choose, many, rule, made}

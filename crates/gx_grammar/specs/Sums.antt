@@ -1,3 +1,4 @@
+-- A small language: sums of numbers.
 use Rattle.std.specs.Prelude.{ℕ, List, [], ◌∷◌, ◌&&◌, nat_le, Bool, true, false, Option, None}
 use Rattle.gx_grammar.specs.Value.{Value, nothing, characters, node, pair}
 use Rattle.gx_grammar.specs.Grammar.{Grammar, token, ◌&◌, choose, many, rule, made}

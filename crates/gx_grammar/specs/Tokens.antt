@@ -1,3 +1,4 @@
+-- What a token is, and what it owes.
 use Rattle.std.specs.Prelude.{ℕ, List, [], ◌∷◌, ◌++◌, ◌≡◌, ◌≤◌, ◌==◌, ◌⊎◌, ◌&&◌, Bool, true, false, if◌then◌else◌, length, Option, Some, None}
 use Rattle.gx_grammar.specs.First.{head_passes}
 

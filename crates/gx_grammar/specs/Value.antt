@@ -1,3 +1,4 @@
+-- What a grammar makes of a text.
 use Rattle.std.specs.Prelude.{ℕ, List}
 
 -- What a grammar makes of a text: nothing, characters, a node of the instance's own, a pair, or a list.

@@ -1,3 +1,5 @@
+// Laws of grammars, of their tokens, and of reading.
+
 ghost use Rattle.gx_base.specs.declared.place.Place.{Place};
 ghost use Rattle.gx_grammar.specs.Apart.{HasShape, OpensWord, Shape, Spells, all_apart, all_words_apart, is, shape_begins, words_begin};
 ghost use Rattle.gx_grammar.specs.Decoding.{IsUnreadableAt};

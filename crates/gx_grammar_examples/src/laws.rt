@@ -1,3 +1,5 @@
+// Laws of the small languages.
+
 ghost use Rattle.gx_grammar.specs.Derivation.{Derives};
 ghost use Rattle.gx_grammar.specs.Language.{Made};
 ghost use Rattle.gx_grammar.specs.Reading.{Faulty, Unfit};

@@ -15,7 +15,7 @@ use Rattle.gx_include.specs.Following.{AreComing, IsMask, FollowsMember}
 use Rattle.gx_include.specs.ItemIndex.{items_of}
 use Rattle.gx_include.specs.Positions.{tests_of}
 use Rattle.gx_include.specs.Step.{all_tests}
-use Rattle.gx_include.specs.Transitions.{same_reading, same_feature, places_of, places_at, IsTransition, AreTransitions, AreMasks, AreNumberedAlike, IsAnew}
+use Rattle.gx_include.specs.Transitions.{same_reading, same_feature, places_kept, places_at, IsTransition, AreTransitions, AreMasks, AreNumberedAlike, IsAnew}
 use Rattle.gx_include.proofs.Listed.{tests_are}
 use Rattle.gx_include.proofs.Symbols.{readings_alike, features_alike}
 
@@ -43,7 +43,7 @@ module _ {B : Type 0} where
   place_stays states more alike number h =
       let q = get_there states number h in
       let there = alike number q.0 q.1 in
-      (slice_get_within more number q.0 there, ap places_of (there ∙ sym q.1))
+      (slice_get_within more number q.0 there, ap places_kept (there ∙ sym q.1))
 
 module _ {A B : Type 0} (t : SequenceType) (rows : List (Vec ℕ A)) where
   transition_alike : (one other : ItemType → Bool) → ((kind : ItemType) → one kind ≡ other kind) → (states : List (Vec ℕ B)) (origin target : ℕ) → IsTransition t rows one states origin target

@@ -26,13 +26,13 @@ abbrev pub same_feature : Feature → Feature → Bool
 same_feature = (same_features.ghosts).eq
 
 -- the places of a state, none where there is no state
-abbrev pub places_of : {B : Type 0} → Option (Vec ℕ B) → List ℕ
-places_of None = []
-places_of (Some places) = places.items
+abbrev pub places_kept : {B : Type 0} → Option (Vec ℕ B) → List ℕ
+places_kept None = []
+places_kept (Some places) = places.items
 
 -- the set of places of the state of a number
 abbrev pub places_at : {B : Type 0} → List (Vec ℕ B) → ℕ → List ℕ
-places_at states number = places_of (slice_get states number)
+places_at states number = places_kept (slice_get states number)
 
 -- the places of one state come to those of another one, over item types that pass a test
 pub record IsTransition {A B : Type 0} (t : SequenceType) (rows : List (Vec ℕ A)) (test : ItemType → Bool) (states : List (Vec ℕ B)) (origin target : ℕ) : Type 0 where

@@ -1,4 +1,4 @@
-// Laws over the definitions.
+// Laws of inclusion, and of what types take.
 
 ghost use Rattle.gx_include.specs.Decision.{InclusionIsDecided};
 ghost use Rattle.gx_include.specs.Existence.{AnAnswerOfTypesExists};

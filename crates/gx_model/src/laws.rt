@@ -1,4 +1,4 @@
-// Laws over the definitions.
+// Laws of forests, axes, document order and typed values.
 
 ghost use Rattle.gx_model.specs.Growth.{GrowthIsAnOrder, ValuesStay};
 ghost use Rattle.gx_model.specs.OrderLaws.{DocumentOrderIsTotal, NodesAscend, OrderedNodesAscend};

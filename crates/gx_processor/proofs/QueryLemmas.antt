@@ -22,8 +22,8 @@ use Rattle.gx_documents.specs.Documents.{Files}
 use Rattle.gx_processor.specs.declared.status.Status.TheVariants as status
 use Rattle.gx_processor.specs.Command.{Command, query_file}
 use Rattle.gx_processor.specs.FaultLines.{code_line, placed_line}
-use Rattle.gx_names.specs.declared.refusal.Refusal.{Refusal as NamedRefusal}
-use Rattle.gx_resolved.specs.Stacked.{first}
+use Rattle.gx_names_scope.specs.declared.refusal.Refusal.{Refusal as NamedRefusal}
+use Rattle.gx_base.specs.Stacked.{first}
 use Rattle.gx_names.specs.Refusals.{query_refusals}
 use Rattle.gx_names.specs.Resolution.{query_resolved}
 use Rattle.gx_normal.specs.Normalisation.{query_core}

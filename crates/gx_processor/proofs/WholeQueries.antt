@@ -24,15 +24,16 @@ use Rattle.gx_types.specs.SameItemType.{same_type_name}
 use Rattle.gx_types.specs.SchemaSet.{SchemaSet, global_type}
 use Rattle.gx_types.proofs.EqualNames.{builtins_are_one, type_name_itself}
 use Rattle.gx_core.specs.Queries.{Core}
-use Rattle.gx_names.specs.declared.refusal.Refusal.{Refusal}
+use Rattle.gx_names_scope.specs.declared.refusal.Refusal.{Refusal}
 use Rattle.gx_resolved.specs.declared.tree.Declaration.{Declaration}
-use Rattle.gx_names.specs.Environment.{Environment, Functions, element_name, or_nameless, plain_name}
+use Rattle.gx_names_scope.specs.Environment.{Environment, Functions, element_name, or_nameless, plain_name}
 use Rattle.gx_names.specs.Refusals.{is_declared_type, is_document_element, is_document_test, is_document_type, doubled_variable, external_refusals, definition_refusals, definition_scope, scope_after, definitions_refusals, functions_with, main_refusals, with_functions, bodies_after, query_refusals}
-use Rattle.gx_names.specs.Reaching.{Bodies}
-use Rattle.gx_names.specs.TreeRefusals.{binder_refusals, tree_refusals}
+use Rattle.gx_names_uses.specs.Reaching.{Bodies}
+use Rattle.gx_names_trees.specs.TreeRefusals.{binder_refusals, tree_refusals}
 use Rattle.gx_names.specs.Resolution.{declaration_resolved, declarations_resolved, query_resolved}
 use Rattle.gx_names.specs.SettingRefusals.{prolog_environment, settings_refusals}
-use Rattle.gx_names.specs.TypeNames.{refused_if, where_named, unless_found, prefix_refusals, declared_refusals, test_refusals, written_type_refusals, element_tested, element_declared, type_written, document_item}
+use Rattle.gx_names_scope.specs.Refusing.{refused_if, where_named, unless_found, prefix_refusals}
+use Rattle.gx_names_types.specs.TypeNames.{declared_refusals, test_refusals, written_type_refusals, element_tested, element_declared, type_written, document_item}
 use Rattle.gx_processor.specs.ExternalDocuments.{IsDocumentType, ExternalsAreDocuments, NamedQueriesHaveDocuments}
 use Rattle.gx_normal.specs.Normalisation.{Numbers, declared_type, declarations_of, query_core}
 use Rattle.gx_processor.specs.NamedQuery.{named_query, unless_refused}

@@ -4,7 +4,7 @@ use Rattle.gx_base.specs.declared.place.Place.{Place}
 use Rattle.gx_base.specs.declared.code.Code.{Code}
 use Rattle.gx_ast.specs.declared.query.Query.{Query}
 use Rattle.gx_types.specs.SchemaSet.{SchemaSet}
-use Rattle.gx_names.specs.declared.refusal.Refusal.{Refusal}
+use Rattle.gx_names_scope.specs.declared.refusal.Refusal.{Refusal}
 use Rattle.gx_names.specs.Refusals.{query_refusals}
 use Rattle.gx_names.specs.Resolution.{query_resolved}
 use Rattle.gx_core.specs.Queries.{Core}

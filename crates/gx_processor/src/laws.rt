@@ -1,4 +1,4 @@
-// Laws over the definitions.
+// Laws of the answer.
 
 ghost use Rattle.std.specs.Prelude.{◌≡◌, ℕ, List};
 ghost use Rattle.gx_processor.specs.Answer.{Answer, Answers, AnAnswerExists, ChecksRefuseForRuns};

@@ -1,4 +1,4 @@
-// Laws over the definitions.
+// Laws of meanings by reference, and of circles.
 
 ghost use Rattle.gx_references.specs.Laws.{MeaningsSolve, OneSolution, MoreStepsChangeNothing, EndsAreSoon, CircleIfEndless, EndlessIfCircle, WaysBackAreShort};
 

@@ -13,7 +13,7 @@ use Rattle.gx_types.proofs.EqualNames.{names_are_equivalent}
 use Rattle.gx_references.specs.References.{meaning_in, meaning_within}
 use Rattle.gx_schema_attributes.specs.declared.given.GivenUses.{GivenUses}
 use Rattle.gx_schema_attributes.specs.declared.own.OwnUses.{OwnUses}
-use Rattle.gx_schema_attributes.specs.AllEnd.{all_end}
+use Rattle.gx_schema_attributes.specs.AllEnd.{every_number_ends}
 use Rattle.gx_schema_attributes.specs.GivenUses.{is_name_among, names_of_uses, nothing_given, with_doubled, with_use}
 use Rattle.gx_schema_attributes.specs.OwnUses.{base_named, base_uses, inherited_from}
 use Rattle.gx_schema_attributes.specs.TypeUses.{given_before, own_of_types, uses_over}
@@ -70,4 +70,4 @@ chosen_distinct false uses distinct = tt
 pub uses_are_distinct : UsesAreDistinct
 uses_are_distinct types groups number =
     let own = own_of_types types groups in
-    chosen_distinct (all_end base_named own) (meaning_within uses_over [] own (length own) number) (within_distinct own (length own) number)
+    chosen_distinct (every_number_ends base_named own) (meaning_within uses_over [] own (length own) number) (within_distinct own (length own) number)

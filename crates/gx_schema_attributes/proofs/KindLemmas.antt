@@ -17,7 +17,7 @@ use Rattle.gx_schema_attributes.specs.declared.given.GivenUses.{GivenUses}
 use Rattle.gx_schema_attributes.specs.declared.own.Inherited.{Inherited}
 use Rattle.gx_schema_attributes.specs.declared.own.Inherited.TheVariants.{Nothing, All, Staying}
 use Rattle.gx_schema_attributes.specs.declared.own.OwnUses.{OwnUses}
-use Rattle.gx_schema_attributes.specs.AllEnd.{all_end}
+use Rattle.gx_schema_attributes.specs.AllEnd.{every_number_ends}
 use Rattle.gx_schema_attributes.specs.AttributeKinds.{kinds_in_form, kinds_in_group, kinds_in_parts, kinds_in_type, kind_in_part}
 use Rattle.gx_schema_attributes.specs.GivenUses.{is_name_among, names_of_uses, nothing_given, with_doubled, with_attribute_part, with_use}
 use Rattle.gx_schema_attributes.specs.GroupUses.{given_by_group, group_given, group_parts, groups_named}
@@ -107,7 +107,7 @@ chosen_given test true given here = here
 chosen_given test false given here = refl
 
 groups_pass : (test : TypeName → Bool) (groups : List AttributeGroup) → list_all test (flat_map kinds_in_group groups) ≡ true → (number : ℕ) → all_pass test (given_by_group groups number).uses
-groups_pass test groups all number = chosen_given test (all_end groups_named (group_parts groups)) _ (groups_pass_within test groups all _ number)
+groups_pass test groups all number = chosen_given test (every_number_ends groups_named (group_parts groups)) _ (groups_pass_within test groups all _ number)
 
 -- ---- types
 
@@ -163,4 +163,4 @@ kinds_are_written types groups test number all =
     let of_types = first_passes test (flat_map kinds_in_type types) (flat_map kinds_in_group groups) all in
     let of_groups = rest_passes test (flat_map kinds_in_type types) (flat_map kinds_in_group groups) all in
     let own = own_of_types types groups in
-    chosen_uses test (all_end base_named own) _ (types_pass_within test (given_by_group groups) (groups_pass test groups of_groups) types of_types _ number)
+    chosen_uses test (every_number_ends base_named own) _ (types_pass_within test (given_by_group groups) (groups_pass test groups of_groups) types of_types _ number)

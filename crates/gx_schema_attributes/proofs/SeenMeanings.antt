@@ -6,7 +6,7 @@ use Rattle.std.proofs.lemmas.List.{get_or_past}
 use Rattle.std.proofs.lemmas.Option.{slice_get_past}
 use Rattle.gx_references.specs.References.{ends, meaning_in, meaning_within, meaning_of, AreMeanings, AreEndless}
 use Rattle.gx_references.specs.Known.{known}
-use Rattle.gx_schema_attributes.specs.AllEnd.{all_end, meaning_if_all_end, passes_below}
+use Rattle.gx_schema_attributes.specs.AllEnd.{every_number_ends, meaning_if_all_end, passes_below}
 
 all_pass_below : (passes : ℕ → Bool) (count : ℕ) → ((number : ℕ) → number < count → passes number ≡ true) → passes_below passes count ≡ true
 all_pass_below passes zero each = refl
@@ -31,7 +31,7 @@ means_nothing_outside meant nothing bodies (suc steps) number outside = ap (λ (
 pub table_means : {B M : Type 0} (references : B → List ℕ) (meant : (ℕ → M) → B → M) (nothing : M) (bodies : List B) (table : List (Option M)) →
     AreMeanings references meant nothing bodies table → (number : ℕ) → known nothing table number ≡ meaning_if_all_end references meant nothing bodies number
 table_means references meant nothing bodies table are number =
-    let ended : all_end references bodies ≡ true = all_pass_below (ends references bodies) (length bodies) are.ended in
+    let ended : every_number_ends references bodies ≡ true = all_pass_below (ends references bodies) (length bodies) are.ended in
     let seen : meaning_if_all_end references meant nothing bodies number ≡ meaning_of meant nothing bodies number =
     ap (λ (b : Bool). if b then meaning_of meant nothing bodies number else nothing) ended in
     elim (cases_lt number (length bodies)) [
@@ -45,5 +45,5 @@ table_means references meant nothing bodies table are number =
 pub endless_means : {B M : Type 0} (references : B → List ℕ) (meant : (ℕ → M) → B → M) (nothing : M) (bodies : List B) →
     AreEndless references bodies → (number : ℕ) → nothing ≡ meaning_if_all_end references meant nothing bodies number
 endless_means references meant nothing bodies (other, within, fails) number =
-    let endless : all_end references bodies ≡ false = one_fails_below (ends references bodies) (length bodies) other within fails in
+    let endless : every_number_ends references bodies ≡ false = one_fails_below (ends references bodies) (length bodies) other within fails in
     sym (ap (λ (b : Bool). if b then meaning_of meant nothing bodies number else nothing) endless)

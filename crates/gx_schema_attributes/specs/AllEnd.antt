@@ -8,8 +8,8 @@ passes_below passes zero = true
 passes_below passes (suc number) = passes number && passes_below passes number
 
 -- the references of each declaration come to an end
-abbrev pub all_end : {B : Type 0} → (B → List ℕ) → List B → Bool
-all_end references bodies = passes_below (ends references bodies) (length bodies)
+abbrev pub every_number_ends : {B : Type 0} → (B → List ℕ) → List B → Bool
+every_number_ends references bodies = passes_below (ends references bodies) (length bodies)
 
 abbrev pub meaning_if_all_end : {B M : Type 0} → (B → List ℕ) → ((ℕ → M) → B → M) → M → List B → ℕ → M
-meaning_if_all_end references meant nothing bodies number = if all_end references bodies then meaning_of meant nothing bodies number else nothing
+meaning_if_all_end references meant nothing bodies number = if every_number_ends references bodies then meaning_of meant nothing bodies number else nothing

@@ -10,7 +10,7 @@ use Rattle.gx_schema_components.specs.declared.component.TypeForm.{TypeForm}
 use Rattle.gx_schema_components.specs.declared.component.TypeForm.TheVariants.{Simple, Complex}
 use Rattle.gx_schema_attributes.specs.declared.doubled.DoubledAttribute.{DoubledAttribute}
 use Rattle.gx_schema_attributes.specs.declared.given.GivenUses.{GivenUses}
-use Rattle.gx_schema_attributes.specs.GivenUses.{first_found, with_attribute_part}
+use Rattle.gx_schema_attributes.specs.GivenUses.{first_given, with_attribute_part}
 use Rattle.gx_schema_attributes.specs.GroupUses.{given_by_group}
 use Rattle.gx_schema_attributes.specs.OwnUses.{own_of_complex}
 use Rattle.gx_schema_attributes.specs.TypeUses.{given_before, uses_of_type}
@@ -29,7 +29,7 @@ doubled_at number place (Some name) = Some (record { place = place; number = num
 abbrev pub doubled_in_parts : (ℕ → GivenUses) → (number : ℕ) → GivenUses → List AttributePart → Option DoubledAttribute
 doubled_in_parts groups number given [] = None
 doubled_in_parts groups number given (part ∷ parts) =
-    first_found (doubled_at number (place_of_part part) (with_attribute_part groups given part).doubled) (doubled_in_parts groups number (with_attribute_part groups given part) parts)
+    first_given (doubled_at number (place_of_part part) (with_attribute_part groups given part).doubled) (doubled_in_parts groups number (with_attribute_part groups given part) parts)
 
 -- the first part of a type that gives a name again, over the attributes of types and what attribute groups give. Those of the base have
 -- different names

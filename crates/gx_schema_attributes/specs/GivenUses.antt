@@ -17,9 +17,9 @@ abbrev pub is_name_among : List Name → Name → Bool
 is_name_among names name = list_any (same_name name) names
 
 -- what was found first
-abbrev pub first_found : {A : Type 0} → Option A → Option A → Option A
-first_found None later = later
-first_found (Some found) later = Some found
+abbrev pub first_given : {A : Type 0} → Option A → Option A → Option A
+first_given None later = later
+first_given (Some found) later = Some found
 
 abbrev pub nothing_given : GivenUses
 nothing_given = record { uses = []; doubled = None }
@@ -27,7 +27,7 @@ nothing_given = record { uses = []; doubled = None }
 -- a name is given again
 abbrev pub with_doubled : GivenUses → Option Name → GivenUses
 with_doubled given None = given
-with_doubled given (Some name) = record { uses = given.uses; doubled = first_found given.doubled (Some name) }
+with_doubled given (Some name) = record { uses = given.uses; doubled = first_given given.doubled (Some name) }
 
 -- one more attribute
 abbrev pub with_use : GivenUses → AttributeUse → GivenUses

@@ -2,7 +2,7 @@
 
 ghost use Rattle.std.specs.Prelude.{◌≡◌, [], None, Some, IfOk, OnOk, fold};
 ghost use Rattle.gx_references.specs.Known.{known};
-ghost use Rattle.gx_schema_attributes.specs.GivenUses.{first_found, given_by_parts, nothing_given, with_given, with_attribute_part, with_use};
+ghost use Rattle.gx_schema_attributes.specs.GivenUses.{first_given, given_by_parts, nothing_given, with_given, with_attribute_part, with_use};
 ghost use Rattle.gx_schema_attributes.specs.GivingView.{HasNameSet, given_in};
 
 use gx_base::name::Name;
@@ -132,7 +132,7 @@ fn give_group(giving: &mut Giving, given: &GivenUses) -> Result<(), AllocError>
 
 // Keeps the name that was doubled first.
 fn note_doubled(doubled: &mut Option<Name>, name: &Name) -> Result<(), AllocError>
-    ensures { OnOk result (doubled.new ≡ first_found doubled.old (Some name.now)) }
+    ensures { OnOk result (doubled.new ≡ first_given doubled.old (Some name.now)) }
 {
     if doubled.is_none() {
         *doubled = Some(name.clone()?);

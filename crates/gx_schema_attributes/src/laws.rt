@@ -1,4 +1,4 @@
-// Laws over the definitions.
+// Laws of the attributes of types.
 
 ghost use Rattle.gx_schema_attributes.specs.Laws.{KindsAreWritten, UsesAreDistinct};
 

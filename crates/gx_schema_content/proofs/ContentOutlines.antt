@@ -6,7 +6,7 @@ use Rattle.std.proofs.lemmas.Bool.{and_parts, lt-ltb}
 use Rattle.gx_types.specs.SequenceType.{SequenceType, never, nothing, item, both, either, optional, star, plus}
 use Rattle.gx_types.specs.TypeRules.{followed_by, joined_types}
 use Rattle.gx_types.specs.Indicator.{optional_of, star_of}
-use Rattle.gx_types.specs.Choice.{has_empty, is_member_of, or_else, with_member, with_members}
+use Rattle.gx_types.specs.Choice.{has_empty, is_member_of, choice_with, with_member, with_members}
 use Rattle.gx_references.specs.References.{meaning_in, meaning_within}
 use Rattle.gx_schema_syntax.specs.declared.role.Compositor.{Compositor}
 use Rattle.gx_schema_syntax.specs.declared.role.Compositor.TheVariants.{Sequence, Choice}
@@ -198,7 +198,7 @@ bounded_content bounds o t e = times_outline bounds.least bounds.greatest o t e
 
 -- ---- choices
 
-or_else_is_filled : (choice member : SequenceType) → is_filled choice ≡ true → is_filled member ≡ true → is_filled (or_else choice member) ≡ true
+or_else_is_filled : (choice member : SequenceType) → is_filled choice ≡ true → is_filled member ≡ true → is_filled (choice_with choice member) ≡ true
 or_else_is_filled never member e f = f
 or_else_is_filled nothing member e f = absurd (cc)
 or_else_is_filled (item kind) member e f = f
@@ -209,7 +209,7 @@ or_else_is_filled (star part) member e f = f
 or_else_is_filled (plus part) member e f = f
 
 member_is_filled : (choice member : SequenceType) → is_filled choice ≡ true → is_filled member ≡ true → is_filled (with_member choice member) ≡ true
-member_is_filled choice member e f = elim (is_member_of member choice) as (λ (test : Bool). is_filled (if test then choice else or_else choice member) ≡ true) [
+member_is_filled choice member e f = elim (is_member_of member choice) as (λ (test : Bool). is_filled (if test then choice else choice_with choice member) ≡ true) [
   | true ↦ e
   | false ↦ or_else_is_filled choice member e f
 ]

@@ -8,7 +8,7 @@ use Rattle.gx_base.specs.declared.limits.TheConstants.{CONTENT_POSITIONS}
 use Rattle.gx_types.specs.SequenceType.{SequenceType, never, nothing, item, both, either, optional, star, plus}
 use Rattle.gx_types.specs.TypeRules.{followed_by, joined_types, positions_of}
 use Rattle.gx_types.specs.Indicator.{optional_of, star_of}
-use Rattle.gx_types.specs.Choice.{gathered, has_empty, is_member_of, or_else, with_member, with_members}
+use Rattle.gx_types.specs.Choice.{gathered, has_empty, is_member_of, choice_with, with_member, with_members}
 use Rattle.gx_references.specs.References.{meaning_in, meaning_within}
 use Rattle.gx_schema_syntax.specs.declared.role.Compositor.{Compositor}
 use Rattle.gx_schema_syntax.specs.declared.role.Compositor.TheVariants.{Sequence, Choice}
@@ -119,7 +119,7 @@ bounded_positions bounds positions t few =
 
 -- ---- choices
 
-or_else_positions : (choice member : SequenceType) → positions_of (or_else choice member) ≤ positions_of choice + positions_of member
+or_else_positions : (choice member : SequenceType) → positions_of (choice_with choice member) ≤ positions_of choice + positions_of member
 or_else_positions never member = omega arith
 or_else_positions nothing member = omega arith
 or_else_positions (item kind) member = omega arith
@@ -135,7 +135,7 @@ positions_where false first second positions few others = others
 
 with_member_positions : (choice member : SequenceType) → positions_of (with_member choice member) ≤ positions_of choice + positions_of member
 with_member_positions choice member =
-    positions_where (is_member_of member choice) choice (or_else choice member) (positions_of choice + positions_of member) (omega arith) (or_else_positions choice member)
+    positions_where (is_member_of member choice) choice (choice_with choice member) (positions_of choice + positions_of member) (omega arith) (or_else_positions choice member)
 
 with_members_positions : (choice t : SequenceType) → positions_of (with_members choice t) ≤ positions_of choice + positions_of t
 with_members_positions choice never = omega arith

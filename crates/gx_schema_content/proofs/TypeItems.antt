@@ -5,7 +5,7 @@ use Rattle.std.specs.List.{list_any}
 use Rattle.gx_types.specs.SequenceType.{SequenceType, never, nothing, item, both, either, optional, star, plus}
 use Rattle.gx_types.specs.TypeRules.{joined_types, followed_by}
 use Rattle.gx_types.specs.Indicator.{optional_of, star_of}
-use Rattle.gx_types.specs.Choice.{is_member_of, or_else, with_member, with_members, has_empty, gathered, choice_among}
+use Rattle.gx_types.specs.Choice.{is_member_of, choice_with, with_member, with_members, has_empty, gathered, choice_among}
 use Rattle.gx_types.specs.Prime.{items_of}
 use Rattle.gx_types.specs.SchemaInvariant.{HoldsOfEach}
 use Rattle.gx_types.specs.declared.item_type.ItemType.{ItemType}
@@ -110,7 +110,7 @@ items_bounded P bounds t h =
 
 -- ---- choices
 
-items_or_else : (P : ItemType → Type 0) (choice member : SequenceType) → HoldsOfItems P choice → HoldsOfItems P member → HoldsOfItems P (or_else choice member)
+items_or_else : (P : ItemType → Type 0) (choice member : SequenceType) → HoldsOfItems P choice → HoldsOfItems P member → HoldsOfItems P (choice_with choice member)
 items_or_else P never member h k = k
 items_or_else P nothing member h k = (h, k)
 items_or_else P (item kind) member h k = (h, k)
@@ -125,7 +125,7 @@ items_where P true first second h k = h
 items_where P false first second h k = k
 
 items_with_member : (P : ItemType → Type 0) (choice member : SequenceType) → HoldsOfItems P choice → HoldsOfItems P member → HoldsOfItems P (with_member choice member)
-items_with_member P choice member h k = items_where P (is_member_of member choice) choice (or_else choice member) h (items_or_else P choice member h k)
+items_with_member P choice member h k = items_where P (is_member_of member choice) choice (choice_with choice member) h (items_or_else P choice member h k)
 
 items_with_members : (P : ItemType → Type 0) (choice t : SequenceType) → HoldsOfItems P choice → HoldsOfItems P t → HoldsOfItems P (with_members choice t)
 items_with_members P choice never h k = h

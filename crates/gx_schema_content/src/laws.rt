@@ -1,4 +1,4 @@
-// Laws over the definitions.
+// Laws of the contents of types.
 
 ghost use Rattle.gx_schema_content.specs.Laws.{ContentsAreBounded, ContentsAreWhole, ElementsKeep, OneTypeAName};
 

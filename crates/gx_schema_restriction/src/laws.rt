@@ -1,4 +1,4 @@
-// Laws over the definitions.
+// Laws of restrictions.
 
 ghost use Rattle.gx_schema_restriction.specs.Laws.{AJudgementExists, JudgementsAreOne};
 

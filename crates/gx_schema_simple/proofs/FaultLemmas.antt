@@ -10,7 +10,7 @@ use Rattle.gx_schema_syntax.specs.declared.written.WrittenFacet.{WrittenFacet}
 use Rattle.gx_references.specs.Known.{known}
 use Rattle.gx_types.specs.SimpleType.{SimpleMeaning}
 use Rattle.gx_schema_simple.specs.Circles.{is_circular}
-use Rattle.gx_schema_simple.specs.Faults.{Seen, earlier_fault, facet_fault, facet_faults, fault_if, faults_from, first_type_fault, is_sound_facet, seen_among, type_faults}
+use Rattle.gx_schema_simple.specs.Faults.{Seen, earlier_fault, facet_fault, facet_faults, fault_if, faults_from, first_type_fault, is_sound_facet, values_seen_among, type_faults}
 use Rattle.gx_schema_simple.specs.Forms.{followed_bases, references_of}
 use Rattle.gx_schema_simple.specs.Looks.{seen_by}
 use Rattle.gx_schema_simple.specs.Meanings.{all_facets_of, meaning_seen, own_facets_among, own_facets_over}
@@ -114,7 +114,7 @@ seen_same marks marks' varieties varieties' bases bases' own own' m v b o =
 
 pub looks_right : (types : List TypeForm) (look : Look) → look.forms.now ≡ types → ((number : ℕ) → has_mark look.marks.now number ≡ is_circular (references_of types) number) →
     ((number : ℕ) → known Hidden look.varieties.now number ≡ variety_of types number) → look.bases.now ≡ followed_bases types → look.own.now ≡ map (own_facets_over (known Hidden look.varieties.now)) types →
-    seen_by look ≡ seen_among types
+    seen_by look ≡ values_seen_among types
 unfolding seen_with
 looks_right types look forms marks varieties bases own =
     let same_marks : has_mark look.marks.now ≡ is_circular (references_of types) = fun_ext marks in

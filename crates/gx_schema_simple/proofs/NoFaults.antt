@@ -1,7 +1,7 @@
 -- Where there is no first fault, there is none.
 use Rattle.std.proofs.Common.{◌≡◌, ℕ, zero, suc, ◌+◌, inl, inr, Bool, true, false, ◌||◌, List, [], ◌∷◌, ◌++◌, Option, None, Some, slice_get, refl, ◌∙◌, ap, arith}
 use Rattle.std.proofs.lemmas.Bool.Decides.{leb_tells}
-use Rattle.gx_schema_simple.specs.Faults.{Seen, earlier_fault, facet_faults, fault_if, faults_from, first_type_fault, is_list, seen_among, simple_faults, type_faults}
+use Rattle.gx_schema_simple.specs.Faults.{Seen, earlier_fault, facet_faults, fault_if, faults_from, first_type_fault, is_list, values_seen_among, simple_faults, type_faults}
 use Rattle.gx_schema_simple.specs.Laws.{is_complex_among, NoFirstFault}
 use Rattle.gx_schema_simple.specs.Varieties.{variety_of, variety_of_base}
 use Rattle.gx_schema_simple.specs.declared.faults.Fault.{Fault}
@@ -44,10 +44,10 @@ neither : (a b : Bool) → (a || b) ≡ false → (a ≡ false) × (b ≡ false)
 neither true b e = absurd (cc)
 neither false b e = (refl, e)
 
-none_by_first : (types : List TypeForm) → first_type_fault (simple_faults types) ≡ None → (number : ℕ) (form : TypeForm) → slice_get types number ≡ Some form → type_faults types (seen_among types) number form ≡ []
+none_by_first : (types : List TypeForm) → first_type_fault (simple_faults types) ≡ None → (number : ℕ) (form : TypeForm) → slice_get types number ≡ Some form → type_faults types (values_seen_among types) number form ≡ []
 none_by_first types none number form here =
     let same : number ≡ 0 + number = omega arith in
-    ap (λ (n : ℕ). type_faults types (seen_among types) n form) same ∙ none_of_type types (seen_among types) 0 types number form (empty_by_first (simple_faults types) none) here
+    ap (λ (n : ℕ). type_faults types (values_seen_among types) n form) same ∙ none_of_type types (values_seen_among types) 0 types number form (empty_by_first (simple_faults types) none) here
 
 pub no_first_fault : NoFirstFault
 no_first_fault types none = record {
@@ -57,6 +57,6 @@ no_first_fault types none = record {
       (no_fault (is_complex_among types item || is_list (variety_of_base (variety_of types) item)) place number (none_by_first types none number (forms.List place item) here));
   bases = λ number place base facets here.
       no_fault (is_complex_among types base) place number
-      (both_empty (fault_if (is_complex_among types base) place number) (facet_faults (variety_of_base (variety_of types) base) ((seen_among types).meaning base) number facets)
+      (both_empty (fault_if (is_complex_among types base) place number) (facet_faults (variety_of_base (variety_of types) base) ((values_seen_among types).meaning base) number facets)
       (none_by_first types none number (forms.Restriction place base facets) here)).0;
 }

@@ -111,11 +111,11 @@ abbrev pub faults_from : List TypeForm → Seen → (number : ℕ) → List Type
 faults_from types seen number [] = []
 faults_from types seen number (form ∷ others) = type_faults types seen number form ++ faults_from types seen (suc number) others
 
-abbrev pub seen_among : List TypeForm → Seen
-seen_among types = record { is_on_circle = is_circular (references_of types); variety = variety_of types; meaning = simple_meaning_among types }
+abbrev pub values_seen_among : List TypeForm → Seen
+values_seen_among types = record { is_on_circle = is_circular (references_of types); variety = variety_of types; meaning = simple_meaning_among types }
 
 abbrev pub simple_faults : List TypeForm → List Fault
-simple_faults types = faults_from types (seen_among types) 0 types
+simple_faults types = faults_from types (values_seen_among types) 0 types
 
 -- ---- the first fault
 

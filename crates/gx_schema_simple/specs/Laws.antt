@@ -4,7 +4,7 @@ use Rattle.gx_schema_syntax.specs.declared.written.WrittenFacet.{WrittenFacet}
 use Rattle.gx_schema_simple.specs.Circles.{is_circular}
 use Rattle.gx_schema_simple.specs.CircularTypes.{first_circular, HasNoCircle}
 use Rattle.gx_schema_simple.specs.Ends.{EndSoon, NamesTypes}
-use Rattle.gx_schema_simple.specs.Faults.{first_type_fault, is_complex, is_list, seen_among, simple_faults, type_faults}
+use Rattle.gx_schema_simple.specs.Faults.{first_type_fault, is_complex, is_list, values_seen_among, simple_faults, type_faults}
 use Rattle.gx_schema_simple.specs.Forms.{followed_bases, references_of}
 use Rattle.gx_schema_simple.specs.Varieties.{variety_of, variety_of_base}
 use Rattle.gx_schema_components.specs.declared.component.Base.{Base}
@@ -49,7 +49,7 @@ is_complex_among types base = is_complex (is_circular (references_of types)) typ
 
 -- what types without faults keep to: no type has a fault, no items are complex or lists, and no simple type restricts a complex one
 pub record AreConsistent (types : List TypeForm) : Type 0 where
-  pub faults : (number : ℕ) (form : TypeForm) → slice_get types number ≡ Some form → type_faults types (seen_among types) number form ≡ []
+  pub faults : (number : ℕ) (form : TypeForm) → slice_get types number ≡ Some form → type_faults types (values_seen_among types) number form ≡ []
   pub items : (number place : ℕ) (item : Base) → slice_get types number ≡ Some (forms.List place item) →
       (is_complex_among types item ≡ false) × (is_list (variety_of_base (variety_of types) item) ≡ false)
   pub bases : (number place : ℕ) (base : Base) (facets : List WrittenFacet) → slice_get types number ≡ Some (forms.Restriction place base facets) →

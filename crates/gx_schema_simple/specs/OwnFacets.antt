@@ -18,16 +18,16 @@ use Rattle.gx_types.specs.SimpleValue.{values_at}
 
 -- ---- kinds of facets
 
-abbrev pub same_kind : FacetKind → FacetKind → Bool
-same_kind kinds.Enumeration kinds.Enumeration = true
-same_kind kinds.MinInclusive kinds.MinInclusive = true
-same_kind kinds.MaxInclusive kinds.MaxInclusive = true
-same_kind kinds.MinExclusive kinds.MinExclusive = true
-same_kind kinds.MaxExclusive kinds.MaxExclusive = true
-same_kind kinds.Length kinds.Length = true
-same_kind kinds.MinLength kinds.MinLength = true
-same_kind kinds.MaxLength kinds.MaxLength = true
-same_kind _ _ = false
+abbrev pub same_facet_kind : FacetKind → FacetKind → Bool
+same_facet_kind kinds.Enumeration kinds.Enumeration = true
+same_facet_kind kinds.MinInclusive kinds.MinInclusive = true
+same_facet_kind kinds.MaxInclusive kinds.MaxInclusive = true
+same_facet_kind kinds.MinExclusive kinds.MinExclusive = true
+same_facet_kind kinds.MaxExclusive kinds.MaxExclusive = true
+same_facet_kind kinds.Length kinds.Length = true
+same_facet_kind kinds.MinLength kinds.MinLength = true
+same_facet_kind kinds.MaxLength kinds.MaxLength = true
+same_facet_kind _ _ = false
 
 -- ---- values of the base, and enumerations
 
@@ -50,7 +50,7 @@ value_read base text = only_of (values_read base text)
 
 -- the values of an entry of an enumeration
 abbrev pub entry_read : Option SimpleMeaning → WrittenFacet → Option (List AtomValue)
-entry_read base facet = if same_kind kinds.Enumeration facet.kind then values_read base facet.value else None
+entry_read base facet = if same_facet_kind kinds.Enumeration facet.kind then values_read base facet.value else None
 
 abbrev pub entries_read : Option SimpleMeaning → List WrittenFacet → List (List AtomValue)
 entries_read base [] = []
@@ -60,7 +60,7 @@ entries_read base (facet ∷ facets) = option_to_list (entry_read base facet) ++
 
 -- the value of a bound of this kind
 abbrev pub bound_read : FacetKind → Option SimpleMeaning → WrittenFacet → Option AtomValue
-bound_read kind base facet = if same_kind kind facet.kind then value_read base facet.value else None
+bound_read kind base facet = if same_facet_kind kind facet.kind then value_read base facet.value else None
 
 abbrev pub greater_of : Option AtomValue → Option AtomValue → Option AtomValue
 greater_of None other = other
@@ -91,7 +91,7 @@ length_by (Err TooLarge) = 2 ^ 64 - 1
 length_by (Err TooPrecise) = 0
 
 abbrev pub length_read : FacetKind → WrittenFacet → Option ℕ
-length_read kind facet = if same_kind kind facet.kind || same_kind kinds.Length facet.kind then Some (length_by (integer_of (encode_utf8_all facet.value))) else None
+length_read kind facet = if same_facet_kind kind facet.kind || same_facet_kind kinds.Length facet.kind then Some (length_by (integer_of (encode_utf8_all facet.value))) else None
 
 abbrev pub greater_length : Option ℕ → Option ℕ → Option ℕ
 greater_length None other = other

@@ -1,4 +1,4 @@
-// Laws over the definitions.
+// Laws of simple types, and of circles among types.
 
 ghost use Rattle.gx_schema_simple.specs.Circles.{CirclesAreShort};
 ghost use Rattle.gx_schema_simple.specs.Laws.{NoFirstFault, NoneIsCircular, NothingIsHidden, TypesEnd, VarietiesSolve};

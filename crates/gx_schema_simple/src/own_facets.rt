@@ -5,7 +5,7 @@ ghost use Rattle.std.specs.Option.{option_to_list};
 ghost use Rattle.gx_facets.specs.Admission.{is_less, is_greater, values_of};
 ghost use Rattle.gx_facets.specs.Value.{order_of};
 ghost use Rattle.gx_types.specs.SimpleView.{simple_view};
-ghost use Rattle.gx_schema_simple.specs.OwnFacets.{bound_read, entries_read, entry_read, facets_read, greater_length, greater_of, greatest_bound, greatest_length, least_bound, least_length, length_by, length_read, lesser_length, lesser_of, only_value, same_kind, value_read, values_read};
+ghost use Rattle.gx_schema_simple.specs.OwnFacets.{bound_read, entries_read, entry_read, facets_read, greater_length, greater_of, greatest_bound, greatest_length, least_bound, least_length, length_by, length_read, lesser_length, lesser_of, only_value, same_facet_kind, value_read, values_read};
 
 use gx_base::text::Text;
 use gx_facets::restriction::{AtomValues, Enumeration};
@@ -307,7 +307,7 @@ fn length_by(read: Result<i128, NumRead>) -> u64
 }
 
 fn is_same_kind(kind: FacetKind, other: FacetKind) -> bool
-    ensures { result ≡ same_kind kind other }
+    ensures { result ≡ same_facet_kind kind other }
 {
     match (kind, other) {
         (FacetKind::Enumeration, FacetKind::Enumeration)

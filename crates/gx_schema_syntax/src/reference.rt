@@ -18,10 +18,19 @@ use std::alloc::{AllocError, Global};
 
 /// What a name in the value of an attribute refers to, expanded by the namespace declarations in scope (XML Schema 1.0 part 1,
 /// section 3.15.3). Where its prefix is not bound the name has no URI.
-#[derive(Debug, Drop)]
+#[derive(Debug)]
 pub struct Reference {
     pub name: Name,
     pub is_bound: bool,
+}
+
+impl Drop for Reference {
+    fn drop(self) {
+        let Reference {
+            name: _name,
+            is_bound: _is_bound,
+        } = self;
+    }
 }
 
 // The URI of the prefix `xml`.

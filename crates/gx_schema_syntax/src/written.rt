@@ -9,24 +9,43 @@ use std::marker::Model;
 
 /// A type as something of it is declared: a built-in one, one that a name refers to, or the anonymous one of a number, counted
 /// from 1 over all files in document order.
-#[derive(Debug, Drop)]
+#[derive(Debug)]
 pub enum TypeReference {
     Builtin(Builtin),
     Declared(Reference),
     Anonymous(u32),
 }
 
+impl Drop for TypeReference {
+    fn drop(self) {
+        match self {
+            TypeReference::Builtin(_builtin) => {}
+            TypeReference::Declared(_reference) => {}
+            TypeReference::Anonymous(_u32) => {}
+        }
+    }
+}
+
 /// How often a particle may occur: digits as they are written, of any number; `greatest` is None where it is unbounded (XML Schema
 /// 1.0 part 1, section 3.9).
-#[derive(Debug, Drop)]
+#[derive(Debug)]
 pub struct Bounds {
     pub least: Text,
     pub greatest: Option<Text>,
 }
 
+impl Drop for Bounds {
+    fn drop(self) {
+        let Bounds {
+            least: _least,
+            greatest: _greatest,
+        } = self;
+    }
+}
+
 /// An element in a content or an attribute in a list of attributes: declared there, or a reference to a global one, where the
 /// type that is written beside it is kept.
-#[derive(Debug, Drop)]
+#[derive(Debug)]
 pub enum LocalDeclaration {
     Declared {
         name: Name,
@@ -36,6 +55,21 @@ pub enum LocalDeclaration {
         reference: Reference,
         kind: Option<TypeReference>,
     },
+}
+
+impl Drop for LocalDeclaration {
+    fn drop(self) {
+        match self {
+            LocalDeclaration::Declared {
+                name: _name,
+                kind: _kind,
+            } => {}
+            LocalDeclaration::Referred {
+                reference: _reference,
+                kind: _kind,
+            } => {}
+        }
+    }
 }
 
 /// A particle (XML Schema 1.0 part 1, section 3.9). A `place` here and below is the number of the element in document order over

@@ -26,7 +26,7 @@ use Rattle.gx_model.specs.Belongs.{shape_of, item_shape, ItemFits, HaveShapes}
 use Rattle.gx_model.specs.Honest.{IsHonest}
 use Rattle.gx_model.specs.TypedValue.{untyped_atomic, value_at_type, typed_value_of}
 use Rattle.gx_model.specs.Atomization.{values_of_item, joined_values, atomized}
-use Rattle.gx_steptype.specs.DataType.{untyped_atomic as untyped_item, values_of_type, has_value, value_type_of, have_values, item_has_data, item_data, has_data}
+use Rattle.gx_steptype.specs.DataType.{untyped_atomic_type as untyped_item, values_of_type, has_value, value_type_of, have_values, item_has_data, item_data, has_data}
 use Rattle.gx_steptype.specs.StepType.{is_ur_type}
 use Rattle.gx_steptype.specs.Replaced.{replaced_items}
 use Rattle.gx_steptype.specs.StepLaws.{DataKeepsItsType}

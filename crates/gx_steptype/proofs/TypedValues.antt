@@ -14,7 +14,7 @@ use Rattle.gx_facets.specs.declared.ValueRead.TheVariants.{NotLexical}
 use Rattle.gx_types.specs.BaseChain.{own_content}
 use Rattle.gx_types.specs.SchemaSet.{SchemaSet, declaration_of}
 use Rattle.gx_types.specs.SchemaInvariant.{IsSchemaSet, HoldsOfEach, ContentFits, is_nameable, is_atomic_type, is_simple_type, is_named_type, is_simple_content, is_atomic_content, content_is}
-use Rattle.gx_types.specs.SimpleType.{AtomicMeaning, SimpleMeaning, simple_meaning, meaning_of_content, meaning_of}
+use Rattle.gx_types.specs.SimpleType.{AtomicMeaning, SimpleMeaning, simple_meaning, meaning_of_content, simple_meaning_of}
 use Rattle.gx_types.specs.SimpleValue.{atomic_value, with_first, each_value, item_texts, value_texts, admits_values, admitted_values, values_at}
 use Rattle.gx_types.specs.SequenceType.{SequenceType, nothing}
 use Rattle.gx_types.specs.Derivation.{DerivesFrom}
@@ -31,7 +31,7 @@ use Rattle.gx_model.specs.Belongs.{ValueFits}
 use Rattle.gx_model.specs.DeclaredContent.{is_valued, model_in}
 use Rattle.gx_model.specs.DeclaredContent as declarations
 use Rattle.gx_model.specs.TypedValue.{untyped_atomic, untyped_value, simple_value, value_by_content, declared_value, value_at_type}
-use Rattle.gx_steptype.specs.DataType.{atomic_item, list_of_items, untyped_atomic as untyped_item, simple_values, values_by_content, declared_values, content_values, values_declared, values_of_type, has_value, value_type, value_type_of}
+use Rattle.gx_steptype.specs.DataType.{atomic_item, list_of_items, untyped_atomic_type as untyped_item, simple_values, values_by_content, declared_values, content_values, values_declared, values_of_type, has_value, value_type, value_type_of}
 use Rattle.gx_steptype.proofs.Declarations.{declared_is, builtin_is_undeclared}
 use Rattle.gx_steptype.proofs.Replacing.{star_next}
 use Rattle.gx_steptype.proofs.ReadValues.{ReadsFit, atomic_type_reads}
@@ -174,12 +174,12 @@ content_has : (s : SchemaSet) → IsSchemaSet s → (t : TypeName) (content : Co
     → ContentFits s content → has_value (content_values s t content) ≡ true → (text : List ℕ) → (is_none (model_in content) ≡ true → is_valued s t text ≡ true)
     → HasValue s (value_by_content s t content text) (value_type (content_values s t content))
 content_has s i t (contents.Atomic facets) e at f h text valued =
-    read_has s (meaning_of s t) (atomic_item t) (subst (means_of s t (atomic_item t)) (sym e) (simple_content_means s i t (contents.Atomic facets) at refl f)) text (valued refl)
+    read_has s (simple_meaning_of s t) (atomic_item t) (subst (means_of s t (atomic_item t)) (sym e) (simple_content_means s i t (contents.Atomic facets) at refl f)) text (valued refl)
 content_has s i t (contents.List other facets) e at f h text valued =
-    read_has s (meaning_of s t) (list_of_items other) (subst (means_of s t (list_of_items other)) (sym e) (simple_content_means s i t (contents.List other facets) at refl f)) text (valued refl)
+    read_has s (simple_meaning_of s t) (list_of_items other) (subst (means_of s t (list_of_items other)) (sym e) (simple_content_means s i t (contents.List other facets) at refl f)) text (valued refl)
 content_has s i t (contents.Simple kind facets) e at f h text valued =
     let m = simple_type_means s i kind f in
-    read_has s (meaning_of s t) (simple_values s kind) (subst (means_of s t (simple_values s kind)) (sym e) (record { reads = m.reads; type = m.type })) text (valued refl)
+    read_has s (simple_meaning_of s t) (simple_values s kind) (subst (means_of s t (simple_values s kind)) (sym e) (record { reads = m.reads; type = m.type })) text (valued refl)
 content_has s i t (contents.Complex true model) e at f h text valued = untyped_has s text
 content_has s i t (contents.Complex false nothing) e at f h text valued = record { values = []; are = refl; fitting = record { fit = tt; taken = refl } }
 content_has s i t (contents.Complex false _) e at f h text valued = absurd (cc)
@@ -196,9 +196,9 @@ pub type_has : (s : SchemaSet) → IsSchemaSet s → (t : TypeName) → is_named
 type_has s i (names.Builtin b) n h text valued =
     let r = nameable_rules s b n in
     let e = builtin_is_undeclared s b i in
-    let means : MeansType s (meaning_of s (names.Builtin b)) (value_type_of s (names.Builtin b)) = record { reads = atomic_type_reads s i (names.Builtin b) n; type = sym r.type } in
+    let means : MeansType s (simple_meaning_of s (names.Builtin b)) (value_type_of s (names.Builtin b)) = record { reads = atomic_type_reads s i (names.Builtin b) n; type = sym r.type } in
     subst (λ (v : Option (List Atomic)). HasValue s v (value_type_of s (names.Builtin b))) (sym (r.value text))
-    (read_has s (meaning_of s (names.Builtin b)) (value_type_of s (names.Builtin b)) means text (valued (ap declarations.has_values e)))
+    (read_has s (simple_meaning_of s (names.Builtin b)) (value_type_of s (names.Builtin b)) means text (valued (ap declarations.has_values e)))
 type_has s i (names.Named m) n h text valued = declared_has s i (names.Named m) (declaration_of s (names.Named m)) refl refl (λ e. e) h text valued
 type_has s i (names.Anonymous m) n h text valued = declared_has s i (names.Anonymous m) (declaration_of s (names.Anonymous m)) refl refl (λ e. e) h text valued
 

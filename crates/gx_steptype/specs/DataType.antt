@@ -19,8 +19,8 @@ use Rattle.gx_steptype.specs.Replaced.{replaced_items}
 abbrev pub atomic_item : TypeName → SequenceType
 atomic_item kind = item (items.Atom kind)
 
-abbrev pub untyped_atomic : SequenceType
-untyped_atomic = atomic_item (names.Builtin builtins.UntypedAtomic)
+abbrev pub untyped_atomic_type : SequenceType
+untyped_atomic_type = atomic_item (names.Builtin builtins.UntypedAtomic)
 
 abbrev pub list_of_items : TypeName → SequenceType
 list_of_items kind = star (atomic_item kind)
@@ -53,7 +53,7 @@ is_empty_model _ = false
 
 -- mixed content has its string value, empty content no values, and element-only content no typed value
 abbrev pub model_values : (mixed : Bool) → SequenceType → NodeValues
-model_values true model = has_values untyped_atomic
+model_values true model = has_values untyped_atomic_type
 model_values false model = if is_empty_model model then has_values nothing else has_no_value
 
 abbrev pub content_values : SchemaSet → TypeName → Content → NodeValues
@@ -68,7 +68,7 @@ values_declared schemas kind (Some declared) = content_values schemas kind decla
 
 abbrev pub values_of_type : SchemaSet → TypeName → NodeValues
 values_of_type schemas (names.Builtin builtins.AnyType) = has_no_value
-values_of_type schemas (names.Builtin builtins.Untyped) = has_values untyped_atomic
+values_of_type schemas (names.Builtin builtins.Untyped) = has_values untyped_atomic_type
 values_of_type schemas (names.Builtin builtin) = has_values (simple_values schemas (names.Builtin builtin))
 values_of_type schemas (names.Named name) = values_declared schemas (names.Named name) (declaration_of schemas (names.Named name))
 values_of_type schemas (names.Anonymous number) = values_declared schemas (names.Anonymous number) (declaration_of schemas (names.Anonymous number))
@@ -100,8 +100,8 @@ item_has_data schemas (items.Atom kind) = true
 abbrev pub item_data : SchemaSet → ItemType → SequenceType
 item_data schemas (items.Element name kind) = over_derived schemas (value_type_of schemas) kind
 item_data schemas (items.Attribute name kind) = value_type_of schemas kind
-item_data schemas items.Text = untyped_atomic
-item_data schemas (items.Document element) = untyped_atomic
+item_data schemas items.Text = untyped_atomic_type
+item_data schemas (items.Document element) = untyped_atomic_type
 item_data schemas (items.Atom kind) = atomic_item kind
 
 -- each item type of a type has a typed value

@@ -4,7 +4,7 @@ ghost use Rattle.std.specs.Prelude.{◌≡◌, [], ◌∷◌, IfOk, MatchResult}
 ghost use Rattle.std.specs.List.{list_all};
 ghost use Rattle.gx_types.specs.SchemaSet.{declaration_of};
 ghost use Rattle.gx_steptype.specs.DerivedTypes.{derived_among, listed_names};
-ghost use Rattle.gx_steptype.specs.DataType.{atomic_item, values_by_content as values_of_content, declared_values as values_of_declared, simple_values as values_of_simple, values_of_type, values_declared, content_values, has_value as values_exist, value_type, value_type_of as type_of_values, item_has_data as item_has_values, item_data as data_of_item, has_data as type_has_data, have_values, untyped_atomic as untyped_type, list_of_items};
+ghost use Rattle.gx_steptype.specs.DataType.{atomic_item, values_by_content as values_of_content, declared_values as values_of_declared, simple_values as values_of_simple, values_of_type, values_declared, content_values, has_value as values_exist, value_type, value_type_of as type_of_values, item_has_data as item_has_values, item_data as data_of_item, has_data as type_has_data, have_values, untyped_atomic_type as untyped_type, list_of_items};
 ghost use Rattle.gx_steptype.specs.StepAnswer.{HasDataType, RefusesData};
 
 use crate::children::is_any_type;
@@ -73,7 +73,7 @@ fn item_data(alloc: Global, schemas: &Schemas, item: &ItemType) -> Result<Ty, Al
             over_derived(alloc, schemas, &ValuesOf { schemas }, kind)
         }
         ItemType::Attribute { name: _, kind } => value_type_of(alloc, schemas, kind),
-        ItemType::Text | ItemType::Document(_) => untyped_atomic(alloc),
+        ItemType::Text | ItemType::Document(_) => untyped_atomic_type(alloc),
         ItemType::Atom(kind) => atomic_type(alloc, kind),
     }
 }
@@ -181,7 +181,7 @@ fn value_type_of(alloc: Global, schemas: &Schemas, kind: &TypeName) -> Result<Ty
 {
     match kind {
         TypeName::Builtin(Builtin::AnyType) => Ok(Ty::empty()),
-        TypeName::Builtin(Builtin::Untyped) => untyped_atomic(alloc),
+        TypeName::Builtin(Builtin::Untyped) => untyped_atomic_type(alloc),
         TypeName::Builtin(_) => simple_values(alloc, schemas, kind),
         TypeName::Named(_) | TypeName::Anonymous(_) => declared_value_type(alloc, schemas, kind),
     }
@@ -211,7 +211,7 @@ fn content_value_type(
         Content::Complex {
             mixed: true,
             model: _,
-        } => untyped_atomic(alloc),
+        } => untyped_atomic_type(alloc),
         Content::Complex {
             mixed: false,
             model: _,
@@ -266,7 +266,7 @@ fn atomic_type(alloc: Global, kind: &TypeName) -> Result<Ty, AllocError>
     Ty::of_item(alloc, ItemType::Atom(kind))
 }
 
-fn untyped_atomic(alloc: Global) -> Result<Ty, AllocError>
+fn untyped_atomic_type(alloc: Global) -> Result<Ty, AllocError>
     ensures { IfOk result (λ t. t ≡ untyped_type) }
 {
     atomic_type(alloc, &TypeName::Builtin(Builtin::UntypedAtomic))

@@ -1,4 +1,4 @@
-// Laws over the definitions.
+// Laws of the types of steps and of data.
 
 ghost use Rattle.gx_steptype.specs.StepLaws.{StepsKeepTheirTypes, DataKeepsItsType};
 

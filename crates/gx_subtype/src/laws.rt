@@ -1,4 +1,4 @@
-// Laws over the definitions.
+// Laws of the comparison of type texts.
 
 ghost use Rattle.gx_subtype.specs.Comparison.{AnAnswerTextExists, AnswerTextsAreOne};
 

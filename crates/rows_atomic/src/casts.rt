@@ -51,7 +51,7 @@ pub fn fits_row(alloc: Global, kind: &str, text: &str, to: &str) -> Result<Strin
 fn fits_answer(alloc: Global, a: Atomic, to: TypeName) -> Result<String, AllocError> {
     let schemas = Schemas::empty(alloc)?;
     let a = Atomic {
-        value: a.value,
+        value: a.value.clone()?,
         kind: to,
     };
     format!(in alloc; "{}", fits(&schemas, &a))
