@@ -1,0 +1,9 @@
+pub mod Standing
+pub mod EntryLemmas
+pub mod PlaceLemmas
+pub mod FoundLemmas
+pub mod ParentLemmas
+pub mod NumberOrder
+pub mod RowLemmas
+pub mod HopLemmas
+pub mod NearLemmas

@@ -1,0 +1,5 @@
+pub mod LabelLemmas
+pub mod LoadLemmas
+pub mod StoreLemmas
+pub mod OrderedLemmas
+pub mod TextLemmas

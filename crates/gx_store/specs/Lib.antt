@@ -1,0 +1,6 @@
+pub mod Grown
+pub mod SameLabel
+pub mod RowView
+pub mod Stored
+pub mod Left
+pub mod NumberOrder

@@ -1,0 +1,232 @@
+// The attributes, the children and the descendants of a node, in document order.
+
+ghost use Rattle.std.specs.Prelude.{◌≡◌, suc, ◌+◌, map};
+ghost use Rattle.gx_model.specs.Forest.{Forest as PlainForest};
+ghost use Rattle.gx_model.specs.Growth.{Extends};
+ghost use Rattle.gx_nodes.specs.Entries.{place_of_number};
+ghost use Rattle.gx_nodes.specs.Near.{attributes_in, child_nodes_in, descendants_in};
+ghost use Rattle.gx_store.specs.Stored.{below_in, attributes_at};
+ghost use Rattle.gx_store.specs.Left.{descendants_left};
+
+use crate::number::NodeId;
+use crate::store::Store;
+use std::marker::Model;
+
+/// The children of a node that are left, which contracts see as a list.
+pub struct Children<'a> {
+    store: &'a Store,
+    next: usize,
+    end: usize,
+}
+
+impl<'a> Model for Children<'a> {
+    ghost use Rattle.std.specs.Prelude.{List};
+    ghost use Rattle.gx_store.specs.declared.number.NodeId.{NodeId};
+
+    ghost Value = { List NodeId };
+
+    ghost use Rattle.std.specs.Prelude.{◌≤◌};
+    ghost use Rattle.gx_nodes.specs.Entries.{count_in};
+    ghost use Rattle.gx_store.specs.Left.{children_left};
+
+    ghost view = { λ c. children_left c.store.now c.next c.end };
+
+    ghost invariant = { λ c. c.end ≤ count_in c.store.now };
+}
+
+impl Drop for Children<'_> {
+    fn drop(self) {
+        let Children {
+            store: _store,
+            next: _next,
+            end: _end,
+        } = self;
+    }
+}
+
+impl Iterator for Children<'_> {
+    type Item = NodeId;
+
+    ghost use Rattle.std.specs.Iterator.{YieldsFirst, item_count};
+
+    ghost next_gives = { YieldsFirst (λ c. c) };
+
+    ghost remaining = { item_count (λ c. c) };
+
+    fn next(&mut self) -> Option<NodeId> {
+        if self.next >= self.end {
+            return None;
+        }
+        let number = self.next;
+        self.next = self.store.after(number);
+        Some(NodeId { number })
+    }
+}
+
+/// The attributes of a node that are left, which contracts see as a list.
+pub struct Attributes<'a> {
+    store: &'a Store,
+    next: usize,
+    end: usize,
+}
+
+impl<'a> Model for Attributes<'a> {
+    ghost use Rattle.std.specs.Prelude.{List};
+    ghost use Rattle.gx_store.specs.declared.number.NodeId.{NodeId};
+
+    ghost Value = { List NodeId };
+
+    ghost use Rattle.std.specs.Prelude.{◌≤◌};
+    ghost use Rattle.gx_nodes.specs.Entries.{count_in};
+    ghost use Rattle.gx_store.specs.Left.{attributes_left};
+
+    ghost view = { λ c. attributes_left c.next c.end };
+
+    ghost invariant = { λ c. c.end ≤ count_in c.store.now };
+}
+
+impl Drop for Attributes<'_> {
+    fn drop(self) {
+        let Attributes {
+            store: _store,
+            next: _next,
+            end: _end,
+        } = self;
+    }
+}
+
+impl Iterator for Attributes<'_> {
+    type Item = NodeId;
+
+    ghost use Rattle.std.specs.Iterator.{YieldsFirst, item_count};
+
+    ghost next_gives = { YieldsFirst (λ c. c) };
+
+    ghost remaining = { item_count (λ c. c) };
+
+    fn next(&mut self) -> Option<NodeId> {
+        if self.next >= self.end {
+            return None;
+        }
+        let number = self.next;
+        self.next = number + 1;
+        Some(NodeId { number })
+    }
+}
+
+/// The descendants of a node that are left, which contracts see as a list.
+pub struct Descendants<'a> {
+    store: &'a Store,
+    next: usize,
+    end: usize,
+}
+
+impl<'a> Model for Descendants<'a> {
+    ghost use Rattle.std.specs.Prelude.{List};
+    ghost use Rattle.gx_store.specs.declared.number.NodeId.{NodeId};
+
+    ghost Value = { List NodeId };
+
+    ghost use Rattle.std.specs.Prelude.{◌≤◌};
+    ghost use Rattle.gx_nodes.specs.Entries.{count_in};
+    ghost use Rattle.gx_store.specs.Left.{descendants_left};
+
+    ghost view = { λ c. descendants_left c.store.now c.next c.end };
+
+    ghost invariant = { λ c. c.end ≤ count_in c.store.now };
+}
+
+impl Drop for Descendants<'_> {
+    fn drop(self) {
+        let Descendants {
+            store: _store,
+            next: _next,
+            end: _end,
+        } = self;
+    }
+}
+
+impl Iterator for Descendants<'_> {
+    type Item = NodeId;
+
+    ghost use Rattle.std.specs.Iterator.{YieldsFirst, item_count};
+
+    ghost next_gives = { YieldsFirst (λ c. c) };
+
+    ghost remaining = { item_count (λ c. c) };
+
+    fn next(&mut self) -> Option<NodeId> {
+        if self.next >= self.end {
+            return None;
+        }
+        let number = self.next;
+        self.next = self.store.after_attributes(number);
+        Some(NodeId { number })
+    }
+}
+
+impl Store {
+    /// The children of a node, in order; none where the store has not the node.
+    pub fn children(&self, node: NodeId) -> Children<'_>
+        ensures { (later : PlainForest) → Extends self.now later → map (λ m. place_of_number later m.number) result ≡ child_nodes_in self.now (place_of_number later node.number) }
+    {
+        if self.has(node) {
+            Children {
+                store: self,
+                next: self.after_attributes(node.number),
+                end: self.after(node.number),
+            }
+        } else {
+            Children {
+                store: self,
+                next: 0,
+                end: 0,
+            }
+        }
+    }
+
+    /// The attributes of a node, in order; none where the store has not the node.
+    pub fn attributes(&self, node: NodeId) -> Attributes<'_>
+        ensures { (later : PlainForest) → Extends self.now later → map (λ m. place_of_number later m.number) result ≡ attributes_in self.now (place_of_number later node.number) }
+    {
+        if self.has(node) {
+            Attributes {
+                store: self,
+                next: self.following(node.number),
+                end: self.after_attributes(node.number),
+            }
+        } else {
+            Attributes {
+                store: self,
+                next: 0,
+                end: 0,
+            }
+        }
+    }
+
+    /// The descendants of a node in document order, attributes not among them; none where the store has not the node.
+    pub fn descendants(&self, node: NodeId) -> Descendants<'_>
+        ensures { (later : PlainForest) → Extends self.now later → map (λ m. place_of_number later m.number) result ≡ descendants_in self.now (place_of_number later node.number) }
+    {
+        self.descendants_of(node)
+    }
+
+    // The same, by their numbers.
+    pub(crate) fn descendants_of(&self, node: NodeId) -> Descendants<'_>
+        ensures { result ≡ descendants_left self.now (suc (node.number + attributes_at self.now node.number)) (suc (node.number + below_in self.now node.number)) }
+    {
+        if self.has(node) {
+            Descendants {
+                store: self,
+                next: self.after_attributes(node.number),
+                end: self.after(node.number),
+            }
+        } else {
+            Descendants {
+                store: self,
+                next: 0,
+                end: 0,
+            }
+        }
+    }
+}
