@@ -1,5 +1,5 @@
--- How a code is spelled.
-use Rattle.std.specs.Prelude.{ℕ, List, codes}
+-- The codes of refusals: how one is spelled, and which are raised by an evaluation.
+use Rattle.std.specs.Prelude.{ℕ, List, codes, Bool, true, false, not}
 use Rattle.gx_base.specs.declared.code.Code.{Code}
 use Rattle.gx_base.specs.declared.code.Code.TheVariants.{XPST0003, XPST0005, XPST0008, XPST0017, XPST0051, XPST0080, XPST0081, XPTY0004, XPTY0018, XPTY0019, XPTY0020, XPDY0002, XQST0022, XQST0033, XQST0034, XQST0039, XQST0040, XQST0045, XQST0049, XQST0054, XQST0057, XQST0058, XQST0059, XQST0070, XQST0071, XQST0085, XQST0089, XQST0090, XQTY0024, XQDY0044, FOTY0012, FORG0006, SENR0001, GLXS0001, GLXS0002, GLXS0003, GLXS0004, FOAR0001, FOAR0002, FORG0001, FORG0003, FORG0004, FORG0005, FOCA0001, FOCA0003, FOCA0006, FOCH0001, FOCH0003, FOER0000, XPDY0050, XQDY0025, GLXD0001, GLXD0002, GLXD0003}
 
@@ -59,3 +59,28 @@ spelling XQDY0025 = codes "XQDY0025"
 spelling GLXD0001 = codes "GLXD0001"
 spelling GLXD0002 = codes "GLXD0002"
 spelling GLXD0003 = codes "GLXD0003"
+
+-- the codes of dynamic errors, which an evaluation raises (XQuery 1.0, section 2.3.1)
+abbrev pub is_dynamic : Code → Bool
+is_dynamic FOAR0001 = true
+is_dynamic FOAR0002 = true
+is_dynamic FORG0001 = true
+is_dynamic FORG0003 = true
+is_dynamic FORG0004 = true
+is_dynamic FORG0005 = true
+is_dynamic FOCA0001 = true
+is_dynamic FOCA0003 = true
+is_dynamic FOCA0006 = true
+is_dynamic FOCH0001 = true
+is_dynamic FOCH0003 = true
+is_dynamic FOER0000 = true
+is_dynamic XPDY0050 = true
+is_dynamic XQDY0025 = true
+is_dynamic GLXD0001 = true
+is_dynamic GLXD0002 = true
+is_dynamic GLXD0003 = true
+is_dynamic _ = false
+
+-- the codes of static errors and of type errors, with which a query is refused before it is evaluated
+abbrev pub is_static : Code → Bool
+is_static code = not (is_dynamic code)
