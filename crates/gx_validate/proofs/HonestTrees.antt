@@ -7,9 +7,8 @@ use Rattle.gx_types.specs.SchemaSet.{SchemaSet, declaration_of}
 use Rattle.gx_types.specs.declared.declaration.Declared.{Declared}
 use Rattle.gx_model.specs.TypedTree.{IsWellTyped, AreWellTyped, IsTyped, AreTyped}
 use Rattle.gx_model.specs.Honest.{IsHonestTree}
-use Rattle.gx_xml.specs.SourceTree.{SourceTree, SourceContents, source, no_content, a_child, a_text}
+use Rattle.gx_xml.specs.SourceTree.{SourceTree, SourceContents, source, no_content, a_child, a_text, tree_name}
 use Rattle.gx_xml.specs.declared.source.Declaration.{Declaration}
-use Rattle.gx_schema_syntax.specs.Contents.{tree_name}
 use Rattle.gx_validate.specs.ElementContent.{type_of_child}
 use Rattle.gx_validate.specs.Valid.{IsTypedTree, AreTypedTrees}
 use Rattle.gx_validate.specs.Laws.{ValidTreesAreHonest}
