@@ -6,5 +6,5 @@ pub mod Models
 pub mod TypedAttributes
 pub mod TypedChildren
 pub mod StringValues
-pub mod Outcomes
 pub mod HonestTrees
+pub mod Outcomes
