@@ -1,0 +1,4 @@
+pub mod Kept
+pub mod Items
+pub mod Positions
+pub mod PublicLaws
