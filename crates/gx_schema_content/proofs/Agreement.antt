@@ -14,6 +14,7 @@ use Rattle.gx_types.specs.SequenceType.{SequenceType}
 use Rattle.gx_types.specs.declared.item_type.ItemType.{ItemType}
 use Rattle.gx_types.specs.declared.item_type.ItemType.TheVariants as items
 use Rattle.gx_types.proofs.EqualNames.{names_are_equivalent, type_name_symm, type_name_trans}
+use Rattle.gx_type_laws.proofs.Items.{each_item, items_weaker}
 use Rattle.gx_references.specs.References.{meaning_within}
 use Rattle.gx_schema_components.specs.declared.component.ModelGroup.{ModelGroup}
 use Rattle.gx_schema_components.specs.declared.component.TypeComponent.{TypeComponent}
@@ -28,7 +29,7 @@ use Rattle.gx_schema_content.specs.MixedContents.{model_of}
 use Rattle.gx_schema_content.specs.Sources.{extended_types}
 use Rattle.gx_schema_content.proofs.ContentItems.{HoldsElements, IsAmong, IsElementOf, type_holds}
 use Rattle.gx_schema_content.proofs.KnotLemmas.{outside}
-use Rattle.gx_schema_content.proofs.TypeItems.{each_item, items_mixed, items_weaker}
+use Rattle.gx_schema_content.proofs.TypeItems.{items_mixed}
 
 -- none of some element particles disagrees among all of a content
 abbrev pub NoneDisagrees : List ElementParticle → List ElementParticle → Type 0

@@ -17,6 +17,9 @@ use Rattle.gx_types.specs.SchemaInvariant.{HoldsOfEach}
 use Rattle.gx_types.specs.declared.item_type.ItemType.{ItemType}
 use Rattle.gx_types.specs.declared.item_type.ItemType.TheVariants as items
 use Rattle.gx_types.proofs.EqualNames.{builtins_are_one}
+use Rattle.gx_type_laws.specs.Kept.{HoldsOfItems}
+use Rattle.gx_type_laws.proofs.Kept.{joined_keeps, choice_keeps}
+use Rattle.gx_type_laws.proofs.Items.{items_are_kept, items_weaker}
 use Rattle.gx_references.specs.References.{meaning_in, meaning_within}
 use Rattle.gx_schema_syntax.specs.declared.role.Compositor.{Compositor}
 use Rattle.gx_schema_syntax.specs.declared.role.Compositor.TheVariants.{Sequence, Choice}
@@ -43,7 +46,7 @@ use Rattle.gx_schema_content.specs.Occurrences.{bounded, copies, further_copies,
 use Rattle.gx_schema_content.specs.PositionKnots.{group_fits, positions_of_group, positions_of_type, type_fits}
 use Rattle.gx_schema_content.specs.Sources.{extended_types, source_of}
 use Rattle.gx_schema_content.specs.TypeContents.{content_of_base, written_content, sourced_content, form_content, type_content_that_fits, unknown_content}
-use Rattle.gx_schema_content.proofs.TypeItems.{HoldsOfItems, items_weaker, items_joined, items_bounded, items_among}
+use Rattle.gx_schema_content.proofs.TypeItems.{items_bounded}
 
 -- one of a list
 abbrev pub IsAmong : {A : Type 0} → List A → A → Type 0
@@ -128,12 +131,12 @@ sequence_items : (P : ItemType → Type 0) (contents : ℕ → SequenceType) (pa
     HoldsOfItems P (fold (λ (t : SequenceType) particle. joined_types t (particle_content contents particle)) done particles)
 sequence_items P contents [] done h k = h
 sequence_items P contents (particle ∷ others) done h k =
-    sequence_items P contents others (joined_types done (particle_content contents particle)) (items_joined P done (particle_content contents particle) h k.0) k.1
+    sequence_items P contents others (joined_types done (particle_content contents particle)) (joined_keeps (items_are_kept P) done (particle_content contents particle) h k.0) k.1
 
 composed_items : (P : ItemType → Type 0) (contents : ℕ → SequenceType) (compositor : Compositor) (particles : List Particle) → HoldsOfEach (HoldsOfItems P) (map (particle_content contents) particles) →
     HoldsOfItems P (composed contents compositor particles)
 composed_items P contents Sequence particles h = sequence_items P contents particles nothing tt h
-composed_items P contents Choice particles h = items_among P (map (particle_content contents) particles) h
+composed_items P contents Choice particles h = choice_keeps (items_are_kept P) (map (particle_content contents) particles) h
 
 -- ---- each particle once
 
@@ -251,7 +254,7 @@ sourced_items contents elements holds sources.Simple mixed written own h = tt
 sourced_items contents elements holds sources.Written mixed written own h = h
 sourced_items contents elements holds (sources.Behind base) mixed written own h =
     let first = elements_of_base elements base in
-    items_joined (IsElementOf (first ++ own)) (content_of_base contents base).content written
+    joined_keeps (items_are_kept (IsElementOf (first ++ own))) (content_of_base contents base).content written
     (elements_left first own (content_of_base contents base).content (base_items contents elements holds base)) (elements_right first own written h)
 
 form_items : (groups : ℕ → SequenceType) (lists : ℕ → List ElementParticle) → ((number : ℕ) → HoldsElements (lists number) (groups number)) → (contents : ℕ → Effective) (elements : ℕ → List ElementParticle) →

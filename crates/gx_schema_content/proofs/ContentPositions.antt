@@ -6,9 +6,10 @@ use Rattle.std.proofs.lemmas.Bool.{leb-true}
 use Rattle.std.proofs.lemmas.Nat.{mul-le}
 use Rattle.gx_base.specs.declared.limits.TheConstants.{CONTENT_POSITIONS}
 use Rattle.gx_types.specs.SequenceType.{SequenceType, never, nothing, item, both, either, optional, star, plus}
-use Rattle.gx_types.specs.TypeRules.{followed_by, joined_types, positions_of}
-use Rattle.gx_types.specs.Indicator.{optional_of, star_of}
-use Rattle.gx_types.specs.Choice.{gathered, has_empty, is_member_of, choice_with, with_member, with_members}
+use Rattle.gx_types.specs.TypeRules.{joined_types, positions_of}
+use Rattle.gx_types.specs.Indicator.{optional_of}
+use Rattle.gx_types.specs.Choice.{gathered, has_empty, with_members}
+use Rattle.gx_type_laws.proofs.Positions.{joined_positions, optional_positions, star_positions, members_positions}
 use Rattle.gx_references.specs.References.{meaning_in, meaning_within}
 use Rattle.gx_schema_syntax.specs.declared.role.Compositor.{Compositor}
 use Rattle.gx_schema_syntax.specs.declared.role.Compositor.TheVariants.{Sequence, Choice}
@@ -36,48 +37,6 @@ use Rattle.gx_schema_content.specs.PositionKnots.{counted_group, counted_type, g
 use Rattle.gx_schema_content.specs.Sources.{extended_types, source_of}
 use Rattle.gx_schema_content.specs.TypeContents.{content_of_base, form_content, sourced_content, type_content_that_fits, unknown_content, written_content}
 use Rattle.gx_schema_content.specs.TypePositions.{component_positions, form_positions, positions_of_base, sourced_positions, written_positions}
-
--- ---- sequences and indicators
-
-followed_positions : (first second : SequenceType) → positions_of (followed_by first second) ≤ positions_of first + positions_of second
-followed_positions first never = omega arith
-followed_positions first nothing = omega arith
-followed_positions first (item kind) = omega arith
-followed_positions first (both second third) = omega arith
-followed_positions first (either second third) = omega arith
-followed_positions first (optional part) = omega arith
-followed_positions first (star part) = omega arith
-followed_positions first (plus part) = omega arith
-
-joined_positions : (first second : SequenceType) → positions_of (joined_types first second) ≤ positions_of first + positions_of second
-joined_positions never second = omega arith
-joined_positions nothing second = omega arith
-joined_positions (item kind) second = followed_positions (item kind) second
-joined_positions (both first third) second = followed_positions (both first third) second
-joined_positions (either first third) second = followed_positions (either first third) second
-joined_positions (optional part) second = followed_positions (optional part) second
-joined_positions (star part) second = followed_positions (star part) second
-joined_positions (plus part) second = followed_positions (plus part) second
-
-optional_positions : (t : SequenceType) → positions_of (optional_of t) ≤ positions_of t
-optional_positions never = omega arith
-optional_positions nothing = omega arith
-optional_positions (item kind) = omega arith
-optional_positions (both first second) = omega arith
-optional_positions (either first second) = omega arith
-optional_positions (optional part) = omega arith
-optional_positions (star part) = omega arith
-optional_positions (plus part) = omega arith
-
-star_positions : (t : SequenceType) → positions_of (star_of t) ≤ positions_of t
-star_positions never = omega arith
-star_positions nothing = omega arith
-star_positions (item kind) = omega arith
-star_positions (both first second) = omega arith
-star_positions (either first second) = omega arith
-star_positions (optional part) = omega arith
-star_positions (star part) = omega arith
-star_positions (plus part) = omega arith
 
 -- ---- occurrences
 
@@ -119,36 +78,9 @@ bounded_positions bounds positions t few =
 
 -- ---- choices
 
-or_else_positions : (choice member : SequenceType) → positions_of (choice_with choice member) ≤ positions_of choice + positions_of member
-or_else_positions never member = omega arith
-or_else_positions nothing member = omega arith
-or_else_positions (item kind) member = omega arith
-or_else_positions (both first second) member = omega arith
-or_else_positions (either first second) member = omega arith
-or_else_positions (optional part) member = omega arith
-or_else_positions (star part) member = omega arith
-or_else_positions (plus part) member = omega arith
-
 positions_where : (test : Bool) (first second : SequenceType) (positions : ℕ) → positions_of first ≤ positions → positions_of second ≤ positions → positions_of (if test then first else second) ≤ positions
 positions_where true first second positions few others = few
 positions_where false first second positions few others = others
-
-with_member_positions : (choice member : SequenceType) → positions_of (with_member choice member) ≤ positions_of choice + positions_of member
-with_member_positions choice member =
-    positions_where (is_member_of member choice) choice (choice_with choice member) (positions_of choice + positions_of member) (omega arith) (or_else_positions choice member)
-
-with_members_positions : (choice t : SequenceType) → positions_of (with_members choice t) ≤ positions_of choice + positions_of t
-with_members_positions choice never = omega arith
-with_members_positions choice nothing = omega arith
-with_members_positions choice (item kind) = with_member_positions choice (item kind)
-with_members_positions choice (both first second) = with_member_positions choice (both first second)
-with_members_positions choice (either first second) =
-    let front = with_members_positions choice first in
-    let all = with_members_positions (with_members choice first) second in
-    omega arith
-with_members_positions choice (optional part) = with_member_positions choice (optional part)
-with_members_positions choice (star part) = with_member_positions choice (star part)
-with_members_positions choice (plus part) = with_member_positions choice (plus part)
 
 -- ---- model groups
 
@@ -176,7 +108,7 @@ choice_is_counted : (contents : ℕ → SequenceType) (positions : ℕ → ℕ) 
     positions_of (fold with_members choice (map (particle_content contents) particles)) ≤ fold (λ (sum : ℕ) particle. sum + particle_positions positions particle) total particles
 choice_is_counted contents positions few [] choice total front = front
 choice_is_counted contents positions few (particle ∷ others) choice total front =
-    let joined = with_members_positions choice (particle_content contents particle) in
+    let joined = members_positions choice (particle_content contents particle) in
     let own = particle_is_counted contents positions few particle in
     choice_is_counted contents positions few others (with_members choice (particle_content contents particle)) (total + particle_positions positions particle) (omega arith)
 

@@ -8,6 +8,7 @@ use Rattle.gx_types.specs.Prime.{items_of}
 use Rattle.gx_types.specs.SchemaInvariant.{HoldsOfEach}
 use Rattle.gx_types.specs.SequenceType.{SequenceType}
 use Rattle.gx_types.specs.declared.item_type.ItemType.{ItemType}
+use Rattle.gx_type_laws.proofs.Items.{each_item, items_weaker}
 use Rattle.gx_references.specs.References.{meaning_in, meaning_within}
 use Rattle.gx_schema_components.specs.declared.component.Base.{Base}
 use Rattle.gx_schema_components.specs.declared.component.Base.TheVariants.{Builtin, Declared}
@@ -31,7 +32,7 @@ use Rattle.gx_schema_content.specs.Laws.{ElementsKeep, IsPassingItem}
 use Rattle.gx_schema_content.specs.MixedContents.{model_of}
 use Rattle.gx_schema_content.specs.Sources.{extended_types, source_of}
 use Rattle.gx_schema_content.proofs.ContentItems.{HoldsElements, IsAmong, IsElementOf, type_holds}
-use Rattle.gx_schema_content.proofs.TypeItems.{each_item, items_mixed, items_weaker}
+use Rattle.gx_schema_content.proofs.TypeItems.{items_mixed}
 
 -- the types of element particles pass a test
 abbrev pub Pass : (TypeName → Bool) → List ElementParticle → Type 0

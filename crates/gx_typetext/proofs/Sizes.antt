@@ -1,13 +1,12 @@
 -- The type of a type text keeps the limit on positions.
-use Rattle.std.proofs.Common.{◌≡◌, ℕ, zero, suc, ◌+◌, ◌-◌, ◌≤◌, List, [], ◌∷◌, ◌++◌, nat_le, Bool, true, false, fold, inl, inr, refl, sym, ap, subst, ◌∙◌, Option, None, Some, if◌then◌else◌, arith}
-use Rattle.std.specs.List.{list_any}
+use Rattle.std.proofs.Common.{◌≡◌, ℕ, zero, suc, ◌+◌, ◌-◌, ◌≤◌, List, [], ◌∷◌, ◌++◌, nat_le, Bool, true, false, inl, inr, refl, sym, ap, subst, ◌∙◌, Option, None, Some, if◌then◌else◌, arith}
 use Rattle.std.proofs.lemmas.Bool.{leb-true}
 use Rattle.gx_base.specs.declared.limits.TheConstants.{TYPE_TEXT_POSITIONS}
 use Rattle.gx_types.specs.SchemaSet.{SchemaSet}
-use Rattle.gx_types.specs.SequenceType.{SequenceType, never, nothing, item as one_item, both, either, optional, star, plus}
-use Rattle.gx_types.specs.Choice.{is_member_of, choice_with, with_members, has_empty, gathered}
-use Rattle.gx_types.specs.Indicator.{optional_of, star_of, plus_of}
-use Rattle.gx_types.specs.TypeRules.{positions_of, followed_by, joined_types}
+use Rattle.gx_types.specs.SequenceType.{SequenceType}
+use Rattle.gx_types.specs.TypeRules.{positions_of}
+use Rattle.gx_type_laws.specs.Laws.{all_positions}
+use Rattle.gx_type_laws.proofs.Positions.{joined_positions, optional_positions, star_positions, plus_positions, choice_positions}
 use Rattle.gx_grammar.specs.Value.{nothing as no_value, characters, node, pair, no_item, an_item}
 use Rattle.gx_grammar.specs.Grammar.{token, empty, ◌&◌, keyed, choose, many, rule, made}
 use Rattle.gx_typetext.specs.declared.written.Inside.{Inside}
@@ -22,7 +21,7 @@ use Rattle.gx_typetext.specs.declared.written.Indicator.{Indicator}
 use Rattle.gx_typetext.specs.declared.written.Indicator.TheVariants as indicator
 use Rattle.gx_typetext.specs.declared.written.Piece.{Piece}
 use Rattle.gx_typetext.specs.declared.written.Piece.TheVariants as piece
-use Rattle.gx_typetext.specs.Nodes.{Made, TypeTextNode, Named, MaybeNamed, Content, Pieces, pieces, name_word, put, put_name, put_word, put_empty, with_inside, bare, declared_inside, inside_made, document_of, element_of, attribute_of, declared_of}
+use Rattle.gx_typetext.specs.Nodes.{Made, Named, MaybeNamed, Content, Pieces, pieces, name_word, put, put_name, put_word, put_empty, with_inside, bare, declared_inside}
 use Rattle.gx_typetext.specs.Grammar.{Production, operand, behind, TypePhrase, word_content, tested, declared, room_inside, room_bare, tail, behind_word, item, nested, ending, separated, indicated, rules, type_texts}
 use Rattle.gx_typetext.specs.KnownNames.{written_item_type, written_operand_type}
 use Rattle.gx_typetext.specs.TextLaws.{TypeTextsAreShort}
@@ -316,102 +315,16 @@ unfolding positions_written
 positions_both [] qs = omega arith
 positions_both (p ∷ ps) qs = omega (arith, positions_both ps qs)
 
-followed_short : (a b : SequenceType) → positions_of (followed_by a b) ≤ positions_of a + positions_of b
-followed_short a never = omega arith
-followed_short a nothing = omega arith
-followed_short a (one_item kind) = omega arith
-followed_short a (both b c) = omega arith
-followed_short a (either b c) = omega arith
-followed_short a (optional b) = omega arith
-followed_short a (star b) = omega arith
-followed_short a (plus b) = omega arith
-
-joined_short : (a b : SequenceType) → positions_of (joined_types a b) ≤ positions_of a + positions_of b
-joined_short never b = omega arith
-joined_short nothing b = omega arith
-joined_short (one_item kind) b = followed_short (one_item kind) b
-joined_short (both a c) b = followed_short (both a c) b
-joined_short (either a c) b = followed_short (either a c) b
-joined_short (optional a) b = followed_short (optional a) b
-joined_short (star a) b = followed_short (star a) b
-joined_short (plus a) b = followed_short (plus a) b
-
-optional_short : (a : SequenceType) → positions_of (optional_of a) ≤ positions_of a
-optional_short never = omega arith
-optional_short nothing = omega arith
-optional_short (one_item kind) = omega arith
-optional_short (both a c) = omega arith
-optional_short (either a c) = omega arith
-optional_short (optional a) = omega arith
-optional_short (star a) = omega arith
-optional_short (plus a) = omega arith
-
-star_short : (a : SequenceType) → positions_of (star_of a) ≤ positions_of a
-star_short never = omega arith
-star_short nothing = omega arith
-star_short (one_item kind) = omega arith
-star_short (both a c) = omega arith
-star_short (either a c) = omega arith
-star_short (optional a) = omega arith
-star_short (star a) = omega arith
-star_short (plus a) = omega arith
-
-plus_short : (a : SequenceType) → positions_of (plus_of a) ≤ positions_of a
-plus_short never = omega arith
-plus_short nothing = omega arith
-plus_short (one_item kind) = omega arith
-plus_short (both a c) = omega arith
-plus_short (either a c) = omega arith
-plus_short (optional a) = omega arith
-plus_short (star a) = omega arith
-plus_short (plus a) = omega arith
-
 indicator_short : (i : Option Indicator) (a : SequenceType) → positions_of (with_indicator i a) ≤ positions_of a
 indicator_short None a = omega arith
-indicator_short (Some indicator.Optional) a = optional_short a
-indicator_short (Some indicator.Star) a = star_short a
-indicator_short (Some indicator.Plus) a = plus_short a
-
-or_else_short : (a b : SequenceType) → positions_of (choice_with a b) ≤ positions_of a + positions_of b
-or_else_short never b = omega arith
-or_else_short nothing b = omega arith
-or_else_short (one_item kind) b = omega arith
-or_else_short (both a c) b = omega arith
-or_else_short (either a c) b = omega arith
-or_else_short (optional a) b = omega arith
-or_else_short (star a) b = omega arith
-or_else_short (plus a) b = omega arith
-
-unless_there : (there : Bool) (a b : SequenceType) → positions_of (if there then a else choice_with a b) ≤ positions_of a + positions_of b
-unless_there true a b = omega arith
-unless_there false a b = or_else_short a b
-
-members_short : (c t : SequenceType) → positions_of (with_members c t) ≤ positions_of c + positions_of t
-members_short c never = omega arith
-members_short c nothing = omega arith
-members_short c (one_item kind) = unless_there (is_member_of (one_item kind) c) c (one_item kind)
-members_short c (both a b) = unless_there (is_member_of (both a b) c) c (both a b)
-members_short c (either a b) = let f = members_short c a in let g = members_short (with_members c a) b in omega (arith, f, g)
-members_short c (optional a) = unless_there (is_member_of (optional a) c) c (optional a)
-members_short c (star a) = unless_there (is_member_of (star a) c) c (star a)
-members_short c (plus a) = unless_there (is_member_of (plus a) c) c (plus a)
-
-abbrev all_positions : List SequenceType → ℕ
-all_positions [] = 0
-all_positions (t ∷ ts) = positions_of t + all_positions ts
-
-gathered_short : (c : SequenceType) (ts : List SequenceType) → positions_of (fold with_members c ts) ≤ positions_of c + all_positions ts
-gathered_short c [] = omega arith
-gathered_short c (t ∷ ts) = let f = gathered_short (with_members c t) ts in let g = members_short c t in omega (arith, f, g)
-
-choice_short : (ts : List SequenceType) (empty : Bool) → positions_of (if empty then optional_of (gathered ts) else gathered ts) ≤ all_positions ts
-choice_short ts true = omega (arith, optional_short (gathered ts), gathered_short never ts)
-choice_short ts false = omega (arith, gathered_short never ts)
+indicator_short (Some indicator.Optional) a = optional_positions a
+indicator_short (Some indicator.Star) a = star_positions a
+indicator_short (Some indicator.Plus) a = plus_positions a
 
 units_short : (ts : List SequenceType) → positions_of (choice_of_units ts) ≤ all_positions ts
 units_short [] = omega arith
 units_short (t ∷ []) = omega arith
-units_short (t ∷ u ∷ ts) = choice_short (t ∷ u ∷ ts) (list_any has_empty (t ∷ u ∷ ts))
+units_short (t ∷ u ∷ ts) = choice_positions (t ∷ u ∷ ts)
 
 positions_push : (ts : List SequenceType) (t : SequenceType) → all_positions (ts ++ t ∷ []) ≡ all_positions ts + positions_of t
 positions_push [] t = omega arith
@@ -453,7 +366,7 @@ module _ (s : SchemaSet) where
           type_short w,
           units_short (choice_members s c),
           written_choice_short c,
-          joined_short (written_type s w) (choice_of_units (choice_members s c)),
+          joined_positions (written_type s w) (choice_of_units (choice_members s c)),
           positions_both (type_pieces w) (piece.Comma ∷ choice_pieces c),
         )
 

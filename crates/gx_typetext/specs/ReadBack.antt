@@ -12,6 +12,7 @@ use Rattle.gx_types.specs.Laws.{TakeTheSame}
 use Rattle.gx_types.specs.SchemaSet.{SchemaSet, declaration_of}
 use Rattle.gx_types.specs.SequenceType.{SequenceType, never, nothing, item, both, either, optional, star, plus}
 use Rattle.gx_types.specs.TypeRules.{positions_of}
+use Rattle.gx_type_laws.specs.Kept.{HoldsOfItems}
 use Rattle.gx_typetext.specs.declared.context.Context.{Context}
 use Rattle.gx_typetext.specs.declared.context.Context.TheVariants.{Whole, Sequence, Choice, Indicator}
 use Rattle.gx_base.specs.NameCharacters.{is_ncname_start, is_ncname_character}
@@ -67,14 +68,7 @@ IsKnownItem schemas (items.Document (Some element)) = IsKnownTest schemas elemen
 IsKnownItem schemas (items.Atom kind) = IsKnownKind schemas kind × IsNotNone kind × IsTrue (is_atomic_name schemas kind)
 
 abbrev pub AreKnownItems : SchemaSet → SequenceType → Type 0
-AreKnownItems schemas never = Unit {0}
-AreKnownItems schemas nothing = Unit {0}
-AreKnownItems schemas (item kind) = IsKnownItem schemas kind
-AreKnownItems schemas (both first second) = AreKnownItems schemas first × AreKnownItems schemas second
-AreKnownItems schemas (either first second) = AreKnownItems schemas first × AreKnownItems schemas second
-AreKnownItems schemas (optional part) = AreKnownItems schemas part
-AreKnownItems schemas (star part) = AreKnownItems schemas part
-AreKnownItems schemas (plus part) = AreKnownItems schemas part
+AreKnownItems schemas t = HoldsOfItems (IsKnownItem schemas) t
 
 -- limits
 
