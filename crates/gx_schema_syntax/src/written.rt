@@ -76,22 +76,11 @@ impl Drop for LocalDeclaration {
 /// A particle (XML Schema 1.0 part 1, section 3.9). A `place` here and below is the number of the element in document order over
 /// all files, counted from 1, without annotations and what stands in them.
 #[cycle(particle)]
-#[derive(Debug)]
+#[derive(Debug, Drop)]
 pub struct Particle {
     pub place: u64,
     pub bounds: Bounds,
     pub term: Term,
-}
-
-impl Drop for Particle {
-    #[cycle(particle)]
-    fn drop(self) {
-        let Particle {
-            place: _place,
-            bounds: _bounds,
-            term: _term,
-        } = self;
-    }
 }
 
 /// What a particle puts into a content: an element, a group that is referred to, or a model group.
