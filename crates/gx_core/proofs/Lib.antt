@@ -3,3 +3,4 @@ pub mod PlainMeaning
 pub mod KeptFacts
 pub mod SoundQueries
 pub mod SlotLemmas
+pub mod DynamicCodes

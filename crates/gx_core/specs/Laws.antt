@@ -1,5 +1,7 @@
 -- What outcomes keep.
-use Rattle.std.specs.Prelude.{◌≡◌, List, [], ◌∷◌}
+use Rattle.std.specs.Prelude.{◌≡◌, true, List, [], ◌∷◌}
+use Rattle.gx_base.specs.declared.code.Code.{Code}
+use Rattle.gx_base.specs.Code.{is_dynamic}
 use Rattle.gx_types.specs.SequenceType.{SequenceType}
 use Rattle.gx_model.specs.Forest.{Forest}
 use Rattle.gx_model.specs.Honest.{IsHonest}
@@ -7,9 +9,9 @@ use Rattle.gx_model.specs.Item.{Items}
 use Rattle.gx_model.specs.Belongs.{Belongs}
 use Rattle.gx_model.specs.Growth.{Extends}
 use Rattle.gx_core.specs.declared.expression.Binder.{Binder}
-use Rattle.gx_core.specs.Expression.{plain}
+use Rattle.gx_core.specs.Expression.{CoreExpression, plain}
 use Rattle.gx_core.specs.Bindings.{Types}
-use Rattle.gx_core.specs.Outcome.{Outcome, after}
+use Rattle.gx_core.specs.Outcome.{Outcome, raises, after}
 use Rattle.gx_core.specs.Meaning.{Context, Bindings, Denotation, all_of, meaning}
 use Rattle.gx_core.specs.Soundness.{TypedExpression, Setting, KeepsFact, AreOfTypes, Keeps, Fits, Situation}
 
@@ -49,3 +51,11 @@ abbrev pub OperandsKeepTheirTypes : Type 0
 OperandsKeepTheirTypes =
     (setting : Setting) (types : Types) (parts : List Denotation) (ts : List SequenceType) (situation : Situation setting types) → AllKeep setting types parts ts
     → KeepsFact setting situation.forest (AreOfTypes setting.schemas ts) (all_of parts situation.bindings situation.forest)
+
+-- where an outcome is an error, the code is that of a dynamic error
+abbrev pub RaisesDynamicCodes : {R : Type 0} → Outcome R → Type 0
+RaisesDynamicCodes outcome = (code : Code) → outcome ≡ raises code → is_dynamic code ≡ true
+
+-- the evaluation of an expression raises the codes of dynamic errors alone
+abbrev pub ExpressionsRaiseDynamicCodes : Type 0
+ExpressionsRaiseDynamicCodes = (context : Context) (e : CoreExpression) (bindings : Bindings) (forest : Forest) → RaisesDynamicCodes (meaning context e bindings forest)

@@ -1,5 +1,7 @@
 -- Whole queries: what one means, and when one with its types is sound.
-use Rattle.std.specs.Prelude.{List, [], ◌∷◌, ◌++◌, map, Option, None, Some, option_map}
+use Rattle.std.specs.Prelude.{◌≡◌, true, List, [], ◌∷◌, ◌++◌, map, Option, None, Some, option_map}
+use Rattle.gx_base.specs.declared.code.Code.{Code}
+use Rattle.gx_base.specs.Code.{is_dynamic}
 use Rattle.gx_types.specs.SchemaSet.{SchemaSet}
 use Rattle.gx_types.specs.SequenceType.{SequenceType}
 use Rattle.gx_model.specs.Forest.{PlainNode, Forest}
@@ -11,7 +13,7 @@ use Rattle.gx_core.specs.Queries.{Core, TypedCore, CoreDeclaration, TypedDeclara
 use Rattle.gx_core.specs.declared.expression.Declaration.TheVariants.{Global}
 use Rattle.gx_core.specs.Expression.{plain, annotation_of}
 use Rattle.gx_core.specs.Bindings.{Types}
-use Rattle.gx_core.specs.Outcome.{Outcome, gives, wrong, after}
+use Rattle.gx_core.specs.Outcome.{Outcome, gives, raises, wrong, after}
 use Rattle.gx_core.specs.Meaning.{Context, Bindings, meaning}
 use Rattle.gx_core.specs.Soundness.{Setting, typed_setting, Keeps, IsSound}
 
@@ -105,3 +107,11 @@ SoundQueriesKeepTheirTypes =
     (schemas : SchemaSet) (query : TypedCore) (documents : List PlainNode) (forest : Forest)
     → IsHonest schemas forest → DocumentsFit schemas forest (plain_query query).declarations documents → IsSoundQuery schemas query
     → Keeps (typed_setting schemas) forest (query_type query) (query_outcome schemas (plain_query query) documents forest)
+
+-- ---- errors
+
+-- the evaluation of a query raises the codes of dynamic errors alone
+abbrev pub QueriesRaiseDynamicCodes : Type 0
+QueriesRaiseDynamicCodes =
+    (schemas : SchemaSet) (core : Core) (documents : List PlainNode) (forest : Forest) (code : Code)
+    → query_outcome schemas core documents forest ≡ raises code → is_dynamic code ≡ true

@@ -1,7 +1,7 @@
 // Laws of the meaning of Core.
 
-ghost use Rattle.gx_core.specs.Laws.{MeaningLooksAtNoType, AfterKeeps, BindingsFitStill, BindingFits, OperandsKeepTheirTypes};
-ghost use Rattle.gx_core.specs.QueryMeaning.{NoneNeedsNoDocument, SoundQueriesKeepTheirTypes};
+ghost use Rattle.gx_core.specs.Laws.{MeaningLooksAtNoType, AfterKeeps, BindingsFitStill, BindingFits, OperandsKeepTheirTypes, ExpressionsRaiseDynamicCodes};
+ghost use Rattle.gx_core.specs.QueryMeaning.{NoneNeedsNoDocument, SoundQueriesKeepTheirTypes, QueriesRaiseDynamicCodes};
 
 /// The meaning of a typed expression is that of the same expression without its types.
 pub fn meaning_looks_at_no_type()
@@ -34,4 +34,14 @@ pub fn no_document_is_needed()
 /// A query that is sound is no type error, and its value belongs to its type.
 pub fn sound_queries_keep_their_types()
     ensures { SoundQueriesKeepTheirTypes }
+{}
+
+/// The evaluation of an expression raises the codes of dynamic errors alone (XQuery 1.0, section 2.3.1).
+pub fn expressions_raise_dynamic_codes()
+    ensures { ExpressionsRaiseDynamicCodes }
+{}
+
+/// The evaluation of a query raises the codes of dynamic errors alone (XQuery 1.0, section 2.3.1).
+pub fn queries_raise_dynamic_codes()
+    ensures { QueriesRaiseDynamicCodes }
 {}

@@ -8,7 +8,7 @@ use Rattle.gx_model.specs.Honest.{IsHonestTree}
 use Rattle.gx_model.proofs.UntypedTrees.{untyped_is_typed}
 use Rattle.gx_xml.specs.Reading.{IsDocumentOf}
 use Rattle.gx_xml.specs.Sound.{IsSoundSource}
-use Rattle.gx_xml.specs.SourceTree.{SourceTree, source}
+use Rattle.gx_xml.specs.SourceTree.{SourceTree, source, tree_name}
 use Rattle.gx_xml.specs.Untyped.{untyped_document}
 use Rattle.gx_xml.proofs.OneReading.{sound_source}
 use Rattle.gx_xml.proofs.UntypedDocuments.{document_is_proper, document_is_untyped, document_has_own_names}
@@ -23,20 +23,24 @@ use Rattle.gx_types.specs.ItemTakes.{ItemTakes}
 use Rattle.gx_types.proofs.EqualNames.{names_are_equivalent}
 use Rattle.gx_types.proofs.PublicLaws.{derivation_is_a_preorder}
 use Rattle.gx_model.specs.Belongs.{shape_of}
-use Rattle.gx_schema_syntax.specs.Contents.{tree_name}
 use Rattle.gx_xml.specs.declared.source.Declaration.{Declaration}
 use Rattle.gx_xml.specs.declared.source.SourceAttribute.{SourceAttribute}
 use Rattle.gx_validate.specs.Outcome.{root_type}
-use Rattle.gx_validate.specs.Valid.{IsAnnotation, IsTypedTree, IsValidTree}
+use Rattle.gx_validate.specs.Valid.{IsAnnotation, IsTypedTree, IsTreeOfDocument}
 use Rattle.gx_validate.proofs.Outcomes as validation
-use Rattle.gx_validate.proofs.HonestTrees.{valid_trees_are_honest}
+use Rattle.gx_documents.proofs.UntypedTexts.{document_has_separate_texts}
 use Rattle.gx_documents.specs.Documents.{Files, Asked, HoldsKept, HoldsTree, IsKept, IsGlobal, item_asked, tree_request}
 use Rattle.gx_documents.specs.Laws.{TreesAreThoseAsked, HeldTreesAreKept, RefusedDocumentsHaveNoTrees, DocumentsAreAsAsked, DocumentsAreHonest}
+
+-- the root of a document is sound
+document_is_sound : (bytes : List ℕ) (root : SourceTree) → IsDocumentOf bytes root → IsSoundSource root
+document_is_sound bytes root h = (sound_source h.0 root h.2.derived).0
 
 untyped_document_is_honest : (schemas : SchemaSet) (bytes : List ℕ) (root : SourceTree) → IsDocumentOf bytes root → IsHonestTree schemas (untyped_document root)
 untyped_document_is_honest schemas bytes root h = record {
   proper = document_is_proper root;
   typed = untyped_is_typed schemas (untyped_document root) (document_is_untyped root);
+  texts = document_has_separate_texts root (document_is_sound bytes root h);
   names = document_has_own_names bytes root h;
 }
 
@@ -44,10 +48,6 @@ pub trees_are_those_asked : TreesAreThoseAsked
 trees_are_those_asked schemas (file, None) root t is global sound =
     (λ e. let same : t ≡ untyped_document root = cc in same, λ e. ap (λ (u : PlainTree). Ok u) (sym e))
 trees_are_those_asked schemas (file, Some name) root t is global sound = validation.outcomes_are_valid schemas name root t is global sound
-
--- the root of a document is sound
-document_is_sound : (bytes : List ℕ) (root : SourceTree) → IsDocumentOf bytes root → IsSoundSource root
-document_is_sound bytes root h = (sound_source h.0 root h.2.derived).0
 
 held_tree_is_kept : (schemas : SchemaSet) (files : Files) (asked : Asked) (t : PlainTree) → IsSchemaSet schemas → IsGlobal schemas asked → HoldsTree schemas files asked t ↔ HoldsKept files (tree_request schemas asked) t
 held_tree_is_kept schemas files asked t is global = (
@@ -86,7 +86,7 @@ top_as_asked schemas name (source own declarations attributes cs) top named h =
     subst (λ (t : PlainTree). ItemTakes schemas (Document None) (shape_of (document (a_tree t no_trees))) × ItemTakes schemas (item_asked schemas (Some name)) (shape_of (document (a_tree t no_trees)))) (sym h.3)
     (tt, (sym (names_are_equivalent.symm own name) ∙ named, annotation_derives schemas (declarations ++ []) (root_type schemas name) h.0 attributes h.4.annotation))
 
-valid_as_asked : (schemas : SchemaSet) (name : Name) (u : SourceTree) (t : PlainTree) → IsValidTree schemas name u t → ItemTakes schemas (Document None) (shape_of t) × ItemTakes schemas (item_asked schemas (Some name)) (shape_of t)
+valid_as_asked : (schemas : SchemaSet) (name : Name) (u : SourceTree) (t : PlainTree) → IsTreeOfDocument schemas name u t → ItemTakes schemas (Document None) (shape_of t) × ItemTakes schemas (item_asked schemas (Some name)) (shape_of t)
 valid_as_asked schemas name u t h =
     subst (λ (v : PlainTree). ItemTakes schemas (Document None) (shape_of v) × ItemTakes schemas (item_asked schemas (Some name)) (shape_of v)) (sym h.whole) (top_as_asked schemas name u h.top h.named h.of_root)
 
@@ -95,7 +95,7 @@ documents_are_as_asked schemas (file, None) t is global (bytes, root, h, e) =
     let same : untyped_document root ≡ t = cc in
     subst (λ (u : PlainTree). ItemTakes schemas (Document None) (shape_of u) × ItemTakes schemas (item_asked schemas None) (shape_of u)) same (untyped_as_asked schemas root)
 documents_are_as_asked schemas (file, Some name) t is global (bytes, root, h, e) =
-    valid_as_asked schemas name root t ((validation.outcomes_are_valid schemas name root t is global (document_is_sound bytes root h)).0 e)
+    let valid = (validation.outcomes_are_valid schemas name root t is global (document_is_sound bytes root h)).0 e in valid_as_asked schemas name root t valid.of_document
 
 -- ---- honesty
 
@@ -103,7 +103,7 @@ tree_is_honest : (schemas : SchemaSet) (asked : Asked) (t : PlainTree) → IsSch
 tree_is_honest schemas (file, None) t is global (bytes, root, h, e) =
     let same : untyped_document root ≡ t = cc in subst (IsHonestTree schemas) same (untyped_document_is_honest schemas bytes root h)
 tree_is_honest schemas (file, Some name) t is global (bytes, root, h, e) =
-    valid_trees_are_honest schemas name root t ((validation.outcomes_are_valid schemas name root t is global (document_is_sound bytes root h)).0 e)
+    let valid = (validation.outcomes_are_valid schemas name root t is global (document_is_sound bytes root h)).0 e in valid.honest
 
 pub documents_are_honest : DocumentsAreHonest
 documents_are_honest schemas [] [] is global h = tt

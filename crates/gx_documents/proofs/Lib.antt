@@ -1,3 +1,4 @@
 pub mod Words
+pub mod UntypedTexts
 pub mod DocumentTrees
 pub mod ReadLemmas

@@ -9,7 +9,7 @@ mutual
   pub untyped_is_typed : (s : SchemaSet) (t : PlainTree) → IsUntyped t → IsTyped s t
   untyped_is_typed s (document ts) h = untyped_are_typed s ts h
   untyped_is_typed s (element n k l ts) h = inl h
-  untyped_is_typed s (attribute a) h = h
+  untyped_is_typed s (attribute a) h = inl h
   untyped_is_typed s (text x) h = tt
 
   pub untyped_are_typed : (s : SchemaSet) (ts : PlainTrees) → AreUntyped ts → AreTyped s ts

@@ -14,5 +14,6 @@ pub mod Atomization
 pub mod Stepping
 pub mod Search
 pub mod DeclaredContent
+pub mod SeparateTexts
 pub mod TypedTree
 pub mod Honest

@@ -1,2 +1,3 @@
 mod ParameterLemmas
 mod SettledLemmas
+pub mod StaticCodes

@@ -1,3 +1,4 @@
 pub mod SettingRefusals
 pub mod Refusals
 pub mod Resolution
+pub mod Laws

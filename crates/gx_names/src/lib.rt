@@ -2,5 +2,6 @@
 #![tactic(auto)]
 
 mod declarations;
+pub mod laws;
 pub mod resolve;
 mod settings;

@@ -166,7 +166,7 @@ node_is_well_formed : (s : SchemaSet) (t : PlainTree) → PlaceFact s t → IsWe
 node_is_well_formed s (document ts) h = document_is_well_formed s ts h
 node_is_well_formed s (element n k l ts) h = element_is_well_formed s n k l ts h
 node_is_well_formed s (attribute a) (inl e) = subst (λ (t : TypeName). IsAmongTypes t (plain_types s)) (sym e) refl
-node_is_well_formed s (attribute a) (inr h) = let allowed = h.allowed in valued_is_plain s a.kind a.value allowed.value
+node_is_well_formed s (attribute a) (inr typed) = valued_is_plain s a.kind a.value typed.value
 node_is_well_formed s (text x) h = tt
 
 found_is_well_formed : (s : SchemaSet) (forest : Forest) (place : PlainNode) (shape : Shape) (o : Option PlainTree) → IsHonest s forest → node_in forest place ≡ o → option_map shape_of o ≡ Some shape

@@ -67,8 +67,8 @@ formed_is_mixed s (a_tree (attribute a) ts) p h = absurd p.0
 formed_is_mixed s (a_tree (element n k l us) ts) p h = (h.0, formed_is_mixed s ts p.1 h.1)
 formed_is_mixed s (a_tree (text x) ts) p h = (tt, formed_is_mixed s ts p.1 h.1)
 
-any_content_takes : (s : SchemaSet) → Grounded (bases_of s) → (ts : PlainTrees) → AreContent ts → AreTyped s ts → Takes s (mixed_with (names.Builtin builtins.AnyType)) (map shape_of (list_of ts))
-any_content_takes s g ts p h = mixed_takes s (names.Builtin builtins.AnyType) (map shape_of (list_of ts)) (formed_is_mixed s ts p (children_are_formed s g ts h))
+any_content_takes : (s : SchemaSet) → IsSchemaSet s → (ts : PlainTrees) → AreContent ts → AreTyped s ts → Takes s (mixed_with (names.Builtin builtins.AnyType)) (map shape_of (list_of ts))
+any_content_takes s is ts p h = mixed_takes s (names.Builtin builtins.AnyType) (map shape_of (list_of ts)) (formed_is_mixed s ts p (children_are_formed s is ts h))
 
 -- of an element without a type
 untyped_children : (s : SchemaSet) → Grounded (bases_of s) → (kind : TypeName) (ts : PlainTrees) → DerivesFrom s (names.Builtin builtins.Untyped) kind → AreContent ts → AreUntyped ts
@@ -90,7 +90,7 @@ ur_type_is _ h = absurd (cc)
 typed_children : (s : SchemaSet) → IsSchemaSet s → (kind t : TypeName) (l : List Attribute) (ts : PlainTrees) → DerivesFrom s t kind → AreContent ts → IsTypedElement s t l ts
     → (ur : Bool) → is_ur_type kind ≡ ur → Takes s (if ur then content_of s kind else over_derived s (content_of s) kind) (map shape_of (list_of ts))
 typed_children s is kind t l ts d p k true e =
-    subst (λ (u : TypeName). Takes s (content_of s u) (map shape_of (list_of ts))) (sym (ur_type_is kind e)) (any_content_takes s is.grounded ts p k.below)
+    subst (λ (u : TypeName). Takes s (content_of s u) (map shape_of (list_of ts))) (sym (ur_type_is kind e)) (any_content_takes s is ts p k.below)
 typed_children s is kind t l ts d p k false e =
     choice_covers s is.grounded kind t d (content_of s) (contents_agree s) (named_is_listed s t k.keeps.known) (map shape_of (list_of ts)) (own_content_takes s t l ts is k.keeps)
 
@@ -111,7 +111,7 @@ only_child_takes s e (a_tree (text x) no_trees) h = absurd h
 only_child_takes s e (a_tree (text x) (a_tree t ts)) h = absurd h
 
 pub child_takes : (s : SchemaSet) → IsSchemaSet s → (u : PlainTree) → IsHonestTree s u → (kind : ItemType) → ItemTakes s kind (shape_of u) → Takes s (child_type s kind) (map shape_of (children_of u))
-child_takes s is (document ts) h (items.Document None) k = any_content_takes s is.grounded ts h.proper h.typed
+child_takes s is (document ts) h (items.Document None) k = any_content_takes s is ts h.proper h.typed
 child_takes s is (document ts) h (items.Document (Some e)) k = only_child_takes s e ts k
 child_takes s is (document ts) h (items.Element w t) k = absurd k
 child_takes s is (document ts) h (items.Attribute w t) k = absurd k

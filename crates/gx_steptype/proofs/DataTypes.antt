@@ -166,8 +166,8 @@ tree_values s i (element n k l ts) (inr keeps) v =
 tree_values s i (attribute a) (inl e) v =
     of_attribute s a (subst (IsSimpleKind s) (sym e) refl)
     (subst (λ (u : TypeName). HasValue s (value_at_type s u a.value) (value_type_of s u)) (sym e) (untyped_has s a.value))
-tree_values s i (attribute a) (inr fact) v =
-    of_attribute s a (simple_kind s a.kind fact.0) (type_has s i a.kind (simple_is_named s a.kind fact.0) (simple_gives s a.kind fact.0) a.value (λ _. fact.1))
+tree_values s i (attribute a) (inr typed) v =
+    of_attribute s a (simple_kind s a.kind typed.simple) (type_has s i a.kind (simple_is_named s a.kind typed.simple) (simple_gives s a.kind typed.simple) a.value (λ _. typed.value))
 
 -- ---- the typed values of an item, and of items
 
@@ -187,7 +187,7 @@ node_values : (s : SchemaSet) → IsSchemaSet s → (forest : Forest) (place : P
 node_values s i forest place shape None honest e f v = absurd (cc)
 node_values s i forest place shape (Some t) honest e f v =
     let same : shape_of t ≡ shape = cc in
-    let r = tree_values s i t (found_fact s i forest place t honest e) (subst (Valued s) (sym same) v) in record {
+    let r = tree_values s i t (found_fact s forest place t honest e) (subst (Valued s) (sym same) v) in record {
       values = atoms r.values;
       are = ap (λ (found : Option PlainTree). option_map atoms (then_found found (typed_value_of s))) e ∙ ap (option_map atoms) r.are;
       seen = map atom_shape r.values;

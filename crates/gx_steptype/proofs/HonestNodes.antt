@@ -16,12 +16,13 @@ use Rattle.gx_tree.specs.Erasure.{AreUntypedAtomic, AreUntyped}
 use Rattle.gx_tree.specs.OwnNames.{AllHaveOwnNames}
 use Rattle.gx_model.specs.Forest.{Forest, then_found, children_of, own_attributes, tree_at}
 use Rattle.gx_model.specs.Belongs.{shape_of}
+use Rattle.gx_model.specs.SeparateTexts.{AllHaveSeparateTexts}
 use Rattle.gx_model.specs.TypedTree.{KeepsToType, IsTyped, AreTyped}
 use Rattle.gx_model.specs.Honest.{IsHonestTree, IsHonest}
 use Rattle.gx_model.proofs.UntypedTrees.{untyped_are_typed}
 use Rattle.gx_steptype.proofs.FormedShapes.{IsFormed, derives_along, untyped_under_any}
 use Rattle.gx_steptype.proofs.OwnAttributes.{AreDerived, attribute_shape, untyped_are_derived, own_are_simple}
-use Rattle.gx_steptype.proofs.SimpleKinds.{named_is_any}
+use Rattle.gx_steptype.proofs.SimpleKinds.{named_is_any, simple_is_derived}
 use Rattle.gx_steptype.proofs.UntypedKinds.{untyped_atomic_is_simple}
 
 -- an element
@@ -67,21 +68,22 @@ document_is_formed s g (a_tree (attribute a) (a_tree t ts)) h = tt
 document_is_formed s g (a_tree (text x) no_trees) h = tt
 document_is_formed s g (a_tree (text x) (a_tree t ts)) h = tt
 
-pub shape_is_formed : (s : SchemaSet) → Grounded (bases_of s) → (t : PlainTree) → IsTyped s t → IsFormed s (shape_of t)
-shape_is_formed s g (document ts) h = document_is_formed s g ts h
-shape_is_formed s g (element n k l ts) h = element_is_any s k l ts g (element_is_honest s n k l ts h)
-shape_is_formed s g (attribute a) h = derives_along s a.kind (names.Builtin UntypedAtomic) (names.Builtin AnySimple) h (untyped_atomic_is_simple s)
-shape_is_formed s g (text x) h = tt
+pub shape_is_formed : (s : SchemaSet) → IsSchemaSet s → (t : PlainTree) → IsTyped s t → IsFormed s (shape_of t)
+shape_is_formed s is (document ts) h = document_is_formed s is.grounded ts h
+shape_is_formed s is (element n k l ts) h = element_is_any s k l ts is.grounded (element_is_honest s n k l ts h)
+shape_is_formed s is (attribute a) (inl e) = derives_along s a.kind (names.Builtin UntypedAtomic) (names.Builtin AnySimple) e (untyped_atomic_is_simple s)
+shape_is_formed s is (attribute a) (inr typed) = simple_is_derived s a.kind is typed.simple
+shape_is_formed s is (text x) h = tt
 
-pub children_are_formed : (s : SchemaSet) → Grounded (bases_of s) → (ts : PlainTrees) → AreTyped s ts → EachShape (IsFormed s) (map shape_of (list_of ts))
-children_are_formed s g no_trees h = tt
-children_are_formed s g (a_tree t ts) h = (shape_is_formed s g t h.0, children_are_formed s g ts h.1)
+pub children_are_formed : (s : SchemaSet) → IsSchemaSet s → (ts : PlainTrees) → AreTyped s ts → EachShape (IsFormed s) (map shape_of (list_of ts))
+children_are_formed s is no_trees h = tt
+children_are_formed s is (a_tree t ts) h = (shape_is_formed s is t h.0, children_are_formed s is ts h.1)
 
-pub all_children_are_formed : (s : SchemaSet) → Grounded (bases_of s) → (t : PlainTree) → IsTyped s t → EachShape (IsFormed s) (map shape_of (children_of t))
-all_children_are_formed s g (document ts) h = children_are_formed s g ts h
-all_children_are_formed s g (element n k l ts) h = children_are_formed s g ts (below_is_typed s k l ts (element_is_honest s n k l ts h))
-all_children_are_formed s g (attribute a) h = tt
-all_children_are_formed s g (text x) h = tt
+pub all_children_are_formed : (s : SchemaSet) → IsSchemaSet s → (t : PlainTree) → IsTyped s t → EachShape (IsFormed s) (map shape_of (children_of t))
+all_children_are_formed s is (document ts) h = children_are_formed s is ts h
+all_children_are_formed s is (element n k l ts) h = children_are_formed s is ts (below_is_typed s k l ts (element_is_honest s n k l ts h))
+all_children_are_formed s is (attribute a) h = tt
+all_children_are_formed s is (text x) h = tt
 
 pub attributes_are_formed : (s : SchemaSet) (l : List Attribute) → AreDerived s (names.Builtin AnySimple) l → EachShape (IsFormed s) (map attribute_shape l)
 attributes_are_formed s [] h = tt
@@ -116,16 +118,16 @@ content_is_proper (element n k l ts) h = h
 content_is_proper (attribute a) h = absurd h
 content_is_proper (text x) h = tt
 
-child_among : (s : SchemaSet) (ts : PlainTrees) (n : ℕ) (c : PlainTree) → AreContent ts → AreTyped s ts → AllHaveOwnNames ts → slice_get (list_of ts) n ≡ Some c → IsHonestChild s c
-child_among s no_trees n c p k o e = absurd (cc)
-child_among s (a_tree t ts) zero c p k o e =
+child_among : (s : SchemaSet) (ts : PlainTrees) (n : ℕ) (c : PlainTree) → AreContent ts → AreTyped s ts → AllHaveSeparateTexts ts → AllHaveOwnNames ts → slice_get (list_of ts) n ≡ Some c → IsHonestChild s c
+child_among s no_trees n c p k x o e = absurd (cc)
+child_among s (a_tree t ts) zero c p k x o e =
     let same : t ≡ c = cc in
-    subst (IsHonestChild s) same (record { content = p.0; honest = record { proper = content_is_proper t p.0; typed = k.0; names = o.0 } })
-child_among s (a_tree t ts) (suc n) c p k o e = child_among s ts n c p.1 k.1 o.1 e
+    subst (IsHonestChild s) same (record { content = p.0; honest = record { proper = content_is_proper t p.0; typed = k.0; texts = x.0; names = o.0 } })
+child_among s (a_tree t ts) (suc n) c p k x o e = child_among s ts n c p.1 k.1 x.1 o.1 e
 
 pub child_is_honest : (s : SchemaSet) (t : PlainTree) (n : ℕ) (c : PlainTree) → IsHonestTree s t → slice_get (children_of t) n ≡ Some c → IsHonestChild s c
-child_is_honest s (document ts) n c h e = child_among s ts n c h.proper h.typed h.names e
-child_is_honest s (element m k l ts) n c h e = child_among s ts n c h.proper (below_is_typed s k l ts (element_is_honest s m k l ts h.typed)) h.names.1 e
+child_is_honest s (document ts) n c h e = child_among s ts n c h.proper h.typed h.texts.1 h.names e
+child_is_honest s (element m k l ts) n c h e = child_among s ts n c h.proper (below_is_typed s k l ts (element_is_honest s m k l ts h.typed)) h.texts.1 h.names.1 e
 child_is_honest s (attribute a) n c h e = absurd (cc)
 child_is_honest s (text x) n c h e = absurd (cc)
 

@@ -3,7 +3,6 @@ use Rattle.std.proofs.Common.{◌≡◌, ℕ, zero, suc, List, [], ◌∷◌, �
 use Rattle.std.specs.List.{slice_get}
 use Rattle.std.specs.Option.{option_map}
 use Rattle.gx_base.specs.declared.type_name.Builtin.TheVariants.{UntypedAtomic}
-use Rattle.gx_base.specs.declared.type_name.TypeName.{TypeName}
 use Rattle.gx_base.specs.declared.type_name.TypeName.TheVariants.{Builtin}
 use Rattle.gx_types.specs.SchemaSet.{SchemaSet, declaration_of}
 use Rattle.gx_types.specs.SchemaInvariant.{HoldsOfEach}
@@ -12,26 +11,21 @@ use Rattle.gx_tree.specs.PlainTree.{PlainTree, document, element, attribute, tex
 use Rattle.gx_tree.specs.Erasure.{AreUntypedAtomic}
 use Rattle.gx_model.specs.Forest.{Forest, PlainNode, then_found, own_attributes, tree_at, attribute_at, node_in}
 use Rattle.gx_model.specs.DeclaredContent.{uses_allowed}
-use Rattle.gx_model.specs.TypedTree.{IsAllowedAttribute, IsTyped}
+use Rattle.gx_model.specs.TypedTree.{IsAllowedAttribute, IsTypedAttribute, IsTyped}
 use Rattle.gx_model.specs.Honest.{IsHonestTree, IsHonest}
 use Rattle.gx_steptype.proofs.HonestNodes.{tree_is_honest, honest_at}
-
--- a type allows an attribute of its elements
-pub record IsAllowedSomewhere (s : SchemaSet) (a : Attribute) : Type 0 where
-  pub owner : TypeName
-  pub allowed : IsAllowedAttribute s (uses_allowed (declaration_of s owner)) a
 
 -- what is known of what stands there
 abbrev pub PlaceFact : SchemaSet → PlainTree → Type 0
 PlaceFact s (document ts) = IsTyped s (document ts)
 PlaceFact s (element n k l ts) = IsTyped s (element n k l ts)
-PlaceFact s (attribute a) = (a.kind ≡ Builtin UntypedAtomic) ⊎ IsAllowedSomewhere s a
+PlaceFact s (attribute a) = (a.kind ≡ Builtin UntypedAtomic) ⊎ IsTypedAttribute s a
 PlaceFact s (text x) = Unit {0}
 
 tree_fact : (s : SchemaSet) (t : PlainTree) → IsTyped s t → PlaceFact s t
 tree_fact s (document ts) h = h
 tree_fact s (element n k l ts) h = h
-tree_fact s (attribute a) h = inl h
+tree_fact s (attribute a) h = h
 tree_fact s (text x) h = tt
 
 -- attributes
@@ -51,7 +45,7 @@ attribute_fact s (document ts) n a h e = absurd (cc)
 attribute_fact s (element m k l ts) n a (inl u) e = inl (untyped_among l n a u.1 e)
 attribute_fact s (element m k l ts) n a (inr h) e =
     let keeps = h.0 in
-    inr (record { owner = k; allowed = one_holds (IsAllowedAttribute s (uses_allowed (declaration_of s k))) l n a keeps.allowed e })
+    let allowed = one_holds (IsAllowedAttribute s (uses_allowed (declaration_of s k))) l n a keeps.allowed e in inr allowed.typed
 attribute_fact s (attribute b) n a h e = absurd (cc)
 attribute_fact s (text x) n a h e = absurd (cc)
 

@@ -60,7 +60,7 @@ child_step s is test t u path e h = record {
       subst (λ (ls : List Location). Found t ls (flat_map (passing s test) (map shape_of (children_of u))))
       (sym (ap (λ (o : Option PlainTree). found_at o (λ v. passing_children (node_passes s test) path 0 (children_of v))) e) ∙ children_are_found (node_passes s test) (at path None) t)
       (children_have s test t u path e 0 (children_of u) (λ i. ap (slice_get (children_of u)) (omega arith)));
-  takes = λ kind i. all_tested s is.grounded test (child_type s kind) (map shape_of (children_of u)) (all_children_are_formed s is.grounded u h.typed) (child_takes s is u h kind i);
+  takes = λ kind i. all_tested s is.grounded test (child_type s kind) (map shape_of (children_of u)) (all_children_are_formed s is u h.typed) (child_takes s is u h kind i);
 }
 
 -- attributes
@@ -180,7 +180,7 @@ parent_in_tree s is test t u path up h e f r (Some w) k =
     let i = honest_at s up t w h k in
     let there : slice_get (children_of w) r.position ≡ Some u = below t w u up r.position k (ap (tree_at t) (sym r.is) ∙ e) in
     let c = child_is_honest s w r.position u i there in
-    parent_is s is.grounded test t w (at path None) up (shape_of u) f k (shape_is_formed s is.grounded w i.typed) (λ kind j. parent_takes s is.grounded w u r.position i there c.content kind j)
+    parent_is s is.grounded test t w (at path None) up (shape_of u) f k (shape_is_formed s is w i.typed) (λ kind j. parent_takes s is.grounded w u r.position i there c.content kind j)
 
 parent_by_path : (s : SchemaSet) → IsSchemaSet s → (test : KindTest) (t u : PlainTree) (path : List ℕ) → IsHonestTree s t → tree_at t path ≡ Some u → (o : Option (List ℕ)) → path_up path ≡ o
     → StepTakes s test axes.Parent t (at path None) (shape_of u)
@@ -197,7 +197,7 @@ from_node : (s : SchemaSet) → IsSchemaSet s → (test : KindTest) (axis : Axis
 from_node s is test axes.Child t u path near h e = child_step s is test t u path e (honest_at s path t u h e)
 from_node s is test axes.Attribute t u path near h e = attribute_step s is test t u path e (honest_at s path t u h e)
 from_node s is test axes.SelfAxis t u path near h e =
-    self_step s is.grounded test t u path None (ap (λ (o : Option PlainTree). then_found o (attribute_at None)) e) (shape_is_formed s is.grounded u (honest_at s path t u h e).typed)
+    self_step s is.grounded test t u path None (ap (λ (o : Option PlainTree). then_found o (attribute_at None)) e) (shape_is_formed s is u (honest_at s path t u h e).typed)
 from_node s is test axes.Parent t u path near h e = parent_step s is test t u path h e
 from_node s is test axes.Descendant t u path near h e = absurd (true≢false (sym near))
 from_node s is test axes.DescendantOrSelf t u path near h e = absurd (true≢false (sym near))
@@ -213,7 +213,7 @@ from_attribute s is test axes.SelfAxis t u path n a near h e f =
     (ap (λ (o : Option PlainTree). then_found o (attribute_at (Some n))) e ∙ ap (option_map attribute) f) (attribute_is_formed s is u n a (honest_at s path t u h e).typed f)
 from_attribute s is test axes.Parent t u path n a near h e f =
     let i = honest_at s path t u h e in
-    parent_is s is.grounded test t u (at path (Some n)) path (attribute_shape a) refl e (shape_is_formed s is.grounded u i.typed) (λ kind j. owner_takes s is.grounded u a n i f kind j)
+    parent_is s is.grounded test t u (at path (Some n)) path (attribute_shape a) refl e (shape_is_formed s is u i.typed) (λ kind j. owner_takes s is.grounded u a n i f kind j)
 from_attribute s is test axes.Descendant t u path n a near h e f = absurd (true≢false (sym near))
 from_attribute s is test axes.DescendantOrSelf t u path n a near h e f = absurd (true≢false (sym near))
 from_attribute s is test axes.Ancestor t u path n a near h e f = absurd (true≢false (sym near))

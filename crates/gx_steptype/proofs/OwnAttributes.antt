@@ -13,7 +13,7 @@ use Rattle.gx_types.specs.declared.item_type.ItemType.TheVariants as items
 use Rattle.gx_types.specs.declared.shape.Shape.{Shape}
 use Rattle.gx_types.specs.declared.shape.Shape.TheVariants as shapes
 use Rattle.gx_types.specs.SchemaSet.{SchemaSet, declaration_of}
-use Rattle.gx_types.specs.SchemaInvariant.{is_simple_type, HoldsOfEach, AreDistinctBy, IsSchemaSet}
+use Rattle.gx_types.specs.SchemaInvariant.{HoldsOfEach, AreDistinctBy, IsSchemaSet}
 use Rattle.gx_types.specs.Derivation.{DerivesFrom}
 use Rattle.gx_types.specs.SequenceType.{SequenceType, nothing, item, optional}
 use Rattle.gx_types.specs.Takes.{Takes}
@@ -114,7 +114,7 @@ allowed_behind s u us a e k = record {
   use_of_it = k.use_of_it;
   allowed = sym (ap (λ b. cond b (Some u) (use_named us a.name)) e) ∙ k.allowed;
   kind = k.kind;
-  value = k.value;
+  typed = k.typed;
 }
 
 all_allowed_behind : (s : SchemaSet) (u : AttributeUse) (us : List AttributeUse) (l : List Attribute) → has_name u.name l ≡ false → HoldsOfEach (IsAllowedAttribute s (u ∷ us)) l → HoldsOfEach (IsAllowedAttribute s us) l
@@ -214,16 +214,12 @@ in_order s (u ∷ us) l k = in_order_by s u us l k (λ m j. in_order s us m j) (
 
 -- the uses of a type
 
-pub record UsesFit (s : SchemaSet) (uses : List AttributeUse) : Type 0 where
-  pub simple : HoldsOfEach (λ (u : AttributeUse). is_simple_type s u.kind ≡ true) uses
-  pub distinct : AreDistinctBy same_name (map (λ (u : AttributeUse). u.name) uses)
+distinct_in : (s : SchemaSet) (t : TypeName) → IsSchemaSet s → (o : Option Declared) → declaration_of s t ≡ o → AreDistinctBy same_name (map (λ (u : AttributeUse). u.name) (uses_allowed o))
+distinct_in s t is None e = tt
+distinct_in s t is (Some d) e = let own = declared_is s t d is e in own.distinct
 
-fits : (s : SchemaSet) (t : TypeName) → IsSchemaSet s → (o : Option Declared) → declaration_of s t ≡ o → UsesFit s (uses_allowed o)
-fits s t is None e = record { simple = tt; distinct = tt }
-fits s t is (Some d) e = let own = declared_is s t d is e in record { simple = own.attributes; distinct = own.distinct }
-
-uses_fit : (s : SchemaSet) (t : TypeName) → IsSchemaSet s → UsesFit s (uses_allowed (declaration_of s t))
-uses_fit s t is = fits s t is (declaration_of s t) refl
+uses_are_distinct : (s : SchemaSet) (t : TypeName) → IsSchemaSet s → AreDistinctBy same_name (map (λ (u : AttributeUse). u.name) (uses_allowed (declaration_of s t)))
+uses_are_distinct s t is = distinct_in s t is (declaration_of s t) refl
 
 uses_declared : (o : Option Declared) → uses_type (uses_allowed o) ≡ declared_attributes o
 uses_declared None = refl
@@ -243,7 +239,7 @@ pub record OwnInOrder (s : SchemaSet) (kind : TypeName) (l : List Attribute) : T
 pub own_in_order : (s : SchemaSet) (kind : TypeName) (l : List Attribute) (ts : PlainTrees) → IsSchemaSet s → KeepsToType s kind l ts → OwnInOrder s kind l
 own_in_order s kind l ts is k =
     let uses = uses_allowed (declaration_of s kind) in
-    let found = in_order s uses l (record { allowed = k.allowed; required = k.required; names = k.distinct; distinct = (uses_fit s kind is).distinct }) in
+    let found = in_order s uses l (record { allowed = k.allowed; required = k.required; names = k.distinct; distinct = uses_are_distinct s kind is }) in
     record {
       list = found.list;
       rearranged = found.rearranged;
@@ -260,23 +256,9 @@ pub untyped_are_derived : (s : SchemaSet) (kind : TypeName) (l : List Attribute)
 untyped_are_derived s kind [] d h = tt
 untyped_are_derived s kind (a ∷ l) d h = (derives_along s a.kind (names.Builtin UntypedAtomic) kind h.0 d, untyped_are_derived s kind l d h.1)
 
-abbrev IsSimpleUse : SchemaSet → AttributeUse → Type 0
-IsSimpleUse s u = is_simple_type s u.kind ≡ true
-
-simple_here : (s : SchemaSet) (v u : AttributeUse) (o : Option AttributeUse) (here : Bool) → IsSimpleUse s v → (o ≡ Some u → IsSimpleUse s u) → cond here (Some v) o ≡ Some u → IsSimpleUse s u
-simple_here s v u o true h next e = subst (IsSimpleUse s) (inside v u e) h
-simple_here s v u o false h next e = next e
-
-simple_use : (s : SchemaSet) (w : Name) (uses : List AttributeUse) (u : AttributeUse) → HoldsOfEach (IsSimpleUse s) uses → use_named uses w ≡ Some u → IsSimpleUse s u
-simple_use s w [] u h e = absurd (cc)
-simple_use s w (v ∷ uses) u h e = simple_here s v u (use_named uses w) (same_name v.name w) h.0 (λ f. simple_use s w uses u h.1 f) e
-
-allowed_are_simple : (s : SchemaSet) (uses : List AttributeUse) → IsSchemaSet s → UsesFit s uses → (l : List Attribute) → HoldsOfEach (IsAllowedAttribute s uses) l → AreDerived s (names.Builtin AnySimple) l
-allowed_are_simple s uses is fit [] h = tt
-allowed_are_simple s uses is fit (a ∷ l) h = (
-  derives_along s a.kind h.0.use_of_it.kind (names.Builtin AnySimple) h.0.kind (simple_is_derived s h.0.use_of_it.kind is (simple_use s a.name uses h.0.use_of_it fit.simple h.0.allowed)),
-  allowed_are_simple s uses is fit l h.1,
-)
+allowed_are_simple : (s : SchemaSet) (uses : List AttributeUse) → IsSchemaSet s → (l : List Attribute) → HoldsOfEach (IsAllowedAttribute s uses) l → AreDerived s (names.Builtin AnySimple) l
+allowed_are_simple s uses is [] h = tt
+allowed_are_simple s uses is (a ∷ l) h = let typed = h.0.typed in (simple_is_derived s a.kind is typed.simple, allowed_are_simple s uses is l h.1)
 
 pub own_are_simple : (s : SchemaSet) (kind : TypeName) (l : List Attribute) (ts : PlainTrees) → IsSchemaSet s → KeepsToType s kind l ts → AreDerived s (names.Builtin AnySimple) l
-own_are_simple s kind l ts is k = allowed_are_simple s (uses_allowed (declaration_of s kind)) is (uses_fit s kind is) l k.allowed
+own_are_simple s kind l ts is k = allowed_are_simple s (uses_allowed (declaration_of s kind)) is l k.allowed

@@ -1,6 +1,4 @@
 pub mod Tests
-pub mod ScopeLemmas
-pub mod CharacterLemmas
 pub mod Takings
 pub mod ModelsKept
 pub mod Annotations
@@ -8,5 +6,5 @@ pub mod Models
 pub mod TypedAttributes
 pub mod TypedChildren
 pub mod StringValues
-pub mod Outcomes
 pub mod HonestTrees
+pub mod Outcomes

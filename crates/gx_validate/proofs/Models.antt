@@ -22,16 +22,16 @@ use Rattle.gx_types.specs.declared.item_type.ItemType.TheVariants as items
 use Rattle.gx_types.specs.declared.shape.Shape.{Shape}
 use Rattle.gx_types.specs.declared.shape.Shape.TheVariants as shapes
 use Rattle.gx_types.proofs.PublicLaws.{items_take_each_shape}
-use Rattle.gx_xml.specs.SourceTree.{SourceContents, no_content, a_child, a_text}
+use Rattle.gx_xml.specs.SourceTree.{SourceContents, no_content, a_child, a_text, tree_name}
 use Rattle.gx_xml.specs.declared.source.Declaration.{Declaration}
-use Rattle.gx_schema_syntax.specs.Contents.{tree_name}
-use Rattle.gx_schema_syntax.specs.Lexical.{is_blank}
-use Rattle.gx_model.specs.DeclaredContent.{text_model, model_in, complex_model, content_model, has_values}
+use Rattle.gx_qnames.specs.Lexical.{is_blank}
+use Rattle.gx_model.specs.DeclaredContent.{text_model, model_in, complex_model, content_model, has_values, uses_allowed}
 use Rattle.gx_validate.specs.ElementContent.{texts_allowed_by, texts_allowed_in, texts_allowed, type_of_element_item, element_type_in, type_of_child, text_shapes, child_shapes}
 use Rattle.gx_validate.specs.Rules.{child_texts, is_stray, has_stray_text}
 use Rattle.gx_validate.specs.declared.content.Texts.{Texts}
 use Rattle.gx_validate.specs.declared.content.Texts.TheVariants.{Kept, Ignored, Forbidden}
 use Rattle.gx_validate.proofs.Annotations.{holds_of_found}
+use Rattle.gx_validate.proofs.TypedAttributes.{IsSimpleUse}
 
 -- ---- lists
 
@@ -139,6 +139,14 @@ holder_step s t (Some d) i e = let q = holds_of_found (IsDeclarationOf s) s.type
 
 pub holder_fits : (s : SchemaSet) (t : TypeName) → IsSchemaSet s → HolderFits s (declaration_of s t)
 holder_fits s t i = holder_step s t (declaration_of s t) i refl
+
+uses_step : (s : SchemaSet) (t : TypeName) (o : Option Declared) → IsSchemaSet s → declaration_of s t ≡ o → HoldsOfEach (IsSimpleUse s) (uses_allowed o)
+uses_step s t None i e = tt
+uses_step s t (Some d) i e = let q = holds_of_found (IsDeclarationOf s) s.types t d i.types e in q.attributes
+
+-- the attributes that a type allows have simple types
+pub uses_are_simple : (s : SchemaSet) (t : TypeName) → IsSchemaSet s → HoldsOfEach (IsSimpleUse s) (uses_allowed (declaration_of s t))
+uses_are_simple s t i = uses_step s t (declaration_of s t) i refl
 
 some_is_known : (s : SchemaSet) (mixed : Bool) (t : SequenceType) (name : Name) (o : Option TypeName) → element_type_in t name ≡ o → HoldsOfEach (IsModelItem s mixed) (items_of t) → is_some o ≡ true
     → is_named_type s (unwrap_or o (names.Builtin Untyped)) ≡ true

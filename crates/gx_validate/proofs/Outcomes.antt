@@ -15,10 +15,9 @@ use Rattle.gx_types.specs.Takes.{Takes}
 use Rattle.gx_types.specs.declared.declaration.Declared.{Declared}
 use Rattle.gx_types.specs.declared.shape.Shape.{Shape}
 use Rattle.gx_xml.specs.Sound.{IsSoundSource, AreSoundContents, HasNoRepeats}
-use Rattle.gx_xml.specs.SourceTree.{SourceTree, SourceContents, source, no_content, a_child, a_text}
+use Rattle.gx_xml.specs.SourceTree.{SourceTree, SourceContents, source, no_content, a_child, a_text, tree_name}
 use Rattle.gx_xml.specs.declared.source.Declaration.{Declaration}
 use Rattle.gx_xml.specs.declared.source.SourceAttribute.{SourceAttribute}
-use Rattle.gx_schema_syntax.specs.Contents.{tree_name}
 use Rattle.gx_validate.specs.InstanceAttributes.{has_nil}
 use Rattle.gx_validate.specs.Annotation.{annotation}
 use Rattle.gx_model.specs.DeclaredContent.{content_model, has_values, uses_allowed, is_valued}
@@ -27,15 +26,16 @@ use Rattle.gx_validate.specs.Taking.{takes_shapes}
 use Rattle.gx_validate.specs.Rules.{has_extra, lacks_required, has_stray_text, child_texts, has_bad_attribute, has_bad_text, broken_rule, unless_rule_broken, element_judged_as, element_judged}
 use Rattle.gx_validate.specs.Outcome.{Fault, path_step, number_among_siblings, within_step, typed_attributes, and_then, at_itself, with_kept_text, typed_element, typed_contents, root_type, typed_root, validated}
 use Rattle.gx_model.specs.TypedTree.{KeepsToType, IsWellTyped, AreWellTyped, IsGivenWhereRequired}
-use Rattle.gx_validate.specs.Valid.{IsTypedStart, IsTypedTree, AreTypedTrees, IsValidTree}
+use Rattle.gx_validate.specs.Valid.{IsTypedStart, IsTypedTree, AreTypedTrees, IsTreeOfDocument, IsValidTree}
 use Rattle.gx_validate.specs.Laws.{OutcomesAreValid, ValidTreesAreOne, FaultsExcludeTrees}
 use Rattle.gx_validate.specs.declared.invalid.InvalidRule.{InvalidRule}
 use Rattle.gx_validate.specs.declared.invalid.InvalidRule.TheVariants as rules
 use Rattle.gx_validate.proofs.Annotations.{annotation_is, is_annotation, annotation_is_known, root_is_known}
-use Rattle.gx_validate.proofs.Models.{holder_fits, AreKnown, children_are_known, no_stray_text}
+use Rattle.gx_validate.proofs.HonestTrees.{honest_tree, root_keeps}
+use Rattle.gx_validate.proofs.Models.{holder_fits, uses_are_simple, AreKnown, children_are_known, no_stray_text}
 use Rattle.gx_validate.proofs.Takings.{takes_where_tested, tested_where_takes}
 use Rattle.gx_validate.proofs.TypedAttributes.{AreAllowed, allowed_are, given_where_required, required_are_given, attributes_are_allowed, own_names, typed_are_same}
-use Rattle.gx_validate.proofs.TypedChildren.{shapes_are, texts_are_separate, value_is_text}
+use Rattle.gx_validate.proofs.TypedChildren.{shapes_are, value_is_text}
 use Rattle.gx_validate.proofs.Tests.{or_left_false, or_right_false, either_false}
 
 -- ---- results
@@ -142,19 +142,18 @@ element_judged_is s scope declared attributes cs kind h =
 
 -- an element that breaks no rule, with the trees of its children, keeps to its type
 keeps_to_type : (s : SchemaSet) (scope : List Declaration) (kind : TypeName) (attributes : List SourceAttribute) (cs : SourceContents) (ts : PlainTrees) → IsSchemaSet s
-    → is_named_type s kind ≡ true → KeepsRules s scope kind (declaration_of s kind) attributes cs → HasNoRepeats same_name (map (λ (a : SourceAttribute). a.name) attributes) → AreSoundContents cs → AreTypedTrees s scope (declaration_of s kind) cs ts
+    → is_named_type s kind ≡ true → KeepsRules s scope kind (declaration_of s kind) attributes cs → HasNoRepeats same_name (map (λ (a : SourceAttribute). a.name) attributes) → AreTypedTrees s scope (declaration_of s kind) cs ts
     → KeepsToType s kind (typed_attributes (uses_allowed (declaration_of s kind)) attributes) ts
-keeps_to_type s scope kind attributes cs ts i known k own sound trees =
+keeps_to_type s scope kind attributes cs ts i known k own trees =
     let holder : Option Declared = declaration_of s kind in
     let takes : Takes s (content_model holder) (child_shapes s scope holder cs) = takes_where_tested s (content_model holder) (child_shapes s scope holder cs) i.grounded k.taken in record {
       known = known;
-      allowed = attributes_are_allowed s (uses_allowed holder) attributes k.no_extra k.no_bad_attribute;
+      allowed = attributes_are_allowed s (uses_allowed holder) attributes (uses_are_simple s kind i) k.no_extra k.no_bad_attribute;
       required = required_are_given (uses_allowed holder) attributes k.none_lacking;
       distinct = own_names (uses_allowed holder) attributes own;
       children = subst (λ (xs : List Shape). Takes s (content_model holder) xs) (sym (shapes_are s scope holder cs ts i.grounded trees)) takes;
       value = λ has. ap (is_valued s kind) (value_is_text s scope holder cs ts has takes trees)
           ∙ value_step (has_values holder) (is_valued s kind (texts_joined (child_texts cs))) k.no_bad_text has;
-      separate = texts_are_separate s scope holder cs ts sound trees;
     }
 
 -- the trees of children behind others that are done
@@ -187,7 +186,7 @@ mutual
       sym (ok_same (element name kind typed (trees_of second.0)) v (Ok (element name kind typed (trees_of second.0))) refl second.2) ∙ ap (λ (ts : List PlainTree). element name kind typed (trees_of ts)) all in (
         (kind, typed, trees_of rest.0, e, record { annotation = note; not_nil = found.keeps.not_nil; same = typed_are_same (uses_allowed holder) attributes }, rest.2),
         subst (IsWellTyped s) (sym e)
-            (keeps_to_type s inner kind attributes cs (trees_of rest.0) i (annotation_is_known s inner declared attributes kind known note) found.keeps sound.1 sound.2 rest.2, rest.3),
+            (keeps_to_type s inner kind attributes cs (trees_of rest.0) i (annotation_is_known s inner declared attributes kind known note) found.keeps sound.1 rest.2, rest.3),
       )
 
   trees_from : (s : SchemaSet) (scope : List Declaration) (holder : Option Declared) (cs : SourceContents) (done all : List PlainTree) → IsSchemaSet s → AreSoundContents cs → AreKnown s holder cs
@@ -285,20 +284,27 @@ valid_from : (s : SchemaSet) (root : Name) (u : SourceTree) (v : PlainTree) → 
 valid_from s root u v i g sound h =
     let first = then_parts (within_step (path_step (tree_name u) 1) (typed_root s root u)) _ v h in
     let q = root_from s root u first.0 (same_name (tree_name u) root) i g sound refl (step_parts (path_step (tree_name u) 1) (typed_root s root u) first.0 first.1) in
-    record { top = first.0; whole = sym (ok_same (document (a_tree first.0 no_trees)) v (Ok (document (a_tree first.0 no_trees))) refl first.2); named = q.0; of_root = q.1; well_typed = q.2 }
+    let whole : v ≡ document (a_tree first.0 no_trees) = sym (ok_same (document (a_tree first.0 no_trees)) v (Ok (document (a_tree first.0 no_trees))) refl first.2) in
+    let tree : IsTreeOfDocument s root u v = record { top = first.0; whole = whole; named = q.0; of_root = q.1 } in
+    record { honest = honest_tree s root u v sound tree (subst (IsWellTyped s) (sym whole) (q.2, tt)); of_document = tree }
 
-valid_to : (s : SchemaSet) (root : Name) (u : SourceTree) (v : PlainTree) → IsSchemaSet s → IsValidTree s root u v → validated s root u ≡ Ok v
-valid_to s root u v i h =
+tree_of_document_to : (s : SchemaSet) (root : Name) (u : SourceTree) (v : PlainTree) → IsSchemaSet s → (h : IsTreeOfDocument s root u v) → IsWellTyped s h.top → validated s root u ≡ Ok v
+tree_of_document_to s root u v i h well =
     let go : PlainTree → Result PlainTree Fault = λ tree. Ok (document (a_tree tree no_trees)) in
     ap (λ (b : Bool). and_then (within_step (path_step (tree_name u) 1) (if b then (typed_element s [] (root_type s root) u) else Err (record { rule = rules.WrongRoot; path = [] }))) go) h.named
-    ∙ ap (λ (r : Result PlainTree Fault). and_then (within_step (path_step (tree_name u) 1) r) go) (tree_to s [] (root_type s root) u h.top i h.of_root h.well_typed)
+    ∙ ap (λ (r : Result PlainTree Fault). and_then (within_step (path_step (tree_name u) 1) r) go) (tree_to s [] (root_type s root) u h.top i h.of_root well)
     ∙ ap Ok (sym h.whole)
 
+valid_to : (s : SchemaSet) (root : Name) (u : SourceTree) (v : PlainTree) → IsSchemaSet s → IsSome (global_type s root) → IsValidTree s root u v → validated s root u ≡ Ok v
+valid_to s root u v i g h =
+    let honest = h.honest in
+    tree_of_document_to s root u v i h.of_document (root_keeps s root u v i g h.of_document honest.typed)
+
 pub outcomes_are_valid : OutcomesAreValid
-outcomes_are_valid s root u v i g sound = (valid_from s root u v i g sound, valid_to s root u v i)
+outcomes_are_valid s root u v i g sound = (valid_from s root u v i g sound, valid_to s root u v i g)
 
 pub valid_trees_are_one : ValidTreesAreOne
-valid_trees_are_one s root u v w i g sound h k = ok_same v w (validated s root u) (valid_to s root u v i h) (valid_to s root u w i k)
+valid_trees_are_one s root u v w i g sound h k = ok_same v w (validated s root u) (valid_to s root u v i g h) (valid_to s root u w i g k)
 
 no_fault_beside : (r : Result PlainTree Fault) (v : PlainTree) → r ≡ Ok v → ((fault : Fault) × (r ≡ Err fault)) → ⊥
 no_fault_beside r v h k = let e = k.1 in absurd (cc)
@@ -309,6 +315,6 @@ fault_or_tree (Err fault) h = (fault, refl)
 
 pub faults_exclude_trees : FaultsExcludeTrees
 faults_exclude_trees s root u i g sound = (
-  λ k v h. no_fault_beside (validated s root u) v (valid_to s root u v i h) k,
+  λ k v h. no_fault_beside (validated s root u) v (valid_to s root u v i g h) k,
   λ h. fault_or_tree (validated s root u) (λ v e. h v (valid_from s root u v i g sound e)),
 )

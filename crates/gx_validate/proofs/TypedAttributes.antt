@@ -1,5 +1,5 @@
 -- The attributes of elements with their types.
-use Rattle.std.proofs.Common.{◌≡◌, ℕ, Bool, true, false, not, ◌||◌, ◌&&◌, List, [], ◌∷◌, refl, sym, ◌∙◌, ap, subst, map, Option, Some, None, if◌then◌else◌}
+use Rattle.std.proofs.Common.{◌≡◌, ℕ, Bool, true, false, not, cond, ◌||◌, ◌&&◌, List, [], ◌∷◌, refl, sym, ◌∙◌, ap, subst, map, Option, Some, None, if◌then◌else◌}
 use Rattle.std.specs.Prelude.{is_none}
 use Rattle.std.specs.List.{list_any}
 use Rattle.std.proofs.lemmas.Bool.{not-false}
@@ -10,7 +10,7 @@ use Rattle.gx_tree.specs.Erasure.{erased_attribute}
 use Rattle.gx_tree.specs.OwnNames.{has_attribute, HaveOwnNames}
 use Rattle.gx_tree.specs.declared.attribute.Attribute.{Attribute}
 use Rattle.gx_types.specs.SchemaSet.{SchemaSet}
-use Rattle.gx_types.specs.SchemaInvariant.{HoldsOfEach}
+use Rattle.gx_types.specs.SchemaInvariant.{HoldsOfEach, is_simple_type}
 use Rattle.gx_types.specs.declared.declaration.AttributeUse.{AttributeUse}
 use Rattle.gx_xml.specs.Sound.{HasNoRepeats}
 use Rattle.gx_xml.specs.Untyped.{is_instance_namespace, attribute_as_untyped, untyped_attributes}
@@ -76,24 +76,38 @@ own_names uses (a ∷ others) h =
 
 -- ---- attributes that are allowed
 
-use_step : (s : SchemaSet) (uses : List AttributeUse) (a : Attribute) (o : Option AttributeUse) → use_named uses a.name ≡ o → a.kind ≡ type_of_use o → is_none o ≡ false → is_valued s a.kind a.value ≡ true
-    → IsAllowedAttribute s uses a
-use_step s uses a None e k h v = absurd (cc)
-use_step s uses a (Some u) e k h v = record { use_of_it = u; allowed = e; kind = k; value = v }
+-- the types of attributes are simple
+abbrev pub IsSimpleUse : SchemaSet → AttributeUse → Type 0
+IsSimpleUse s u = is_simple_type s u.kind ≡ true
 
-allowed_step : (s : SchemaSet) (uses : List AttributeUse) (b : Bool) (first : Attribute) (others : List Attribute) → first.kind ≡ type_of_attribute uses first.name
+simple_here : (s : SchemaSet) (v u : AttributeUse) (others : Option AttributeUse) (here : Bool) → IsSimpleUse s v → (others ≡ Some u → IsSimpleUse s u) → cond here (Some v) others ≡ Some u → IsSimpleUse s u
+simple_here s v u others true h next e = let same : v ≡ u = cc in subst (IsSimpleUse s) same h
+simple_here s v u others false h next e = next e
+
+simple_use : (s : SchemaSet) (w : Name) (uses : List AttributeUse) (u : AttributeUse) → HoldsOfEach (IsSimpleUse s) uses → use_named uses w ≡ Some u → IsSimpleUse s u
+simple_use s w [] u h e = absurd (cc)
+simple_use s w (v ∷ uses) u h e = simple_here s v u (use_named uses w) (same_name v.name w) h.0 (λ f. simple_use s w uses u h.1 f) e
+
+use_step : (s : SchemaSet) (uses : List AttributeUse) (a : Attribute) (o : Option AttributeUse) → HoldsOfEach (IsSimpleUse s) uses → use_named uses a.name ≡ o → a.kind ≡ type_of_use o → is_none o ≡ false
+    → is_valued s a.kind a.value ≡ true → IsAllowedAttribute s uses a
+use_step s uses a None p e k h v = absurd (cc)
+use_step s uses a (Some u) p e k h v =
+    let simple : is_simple_type s a.kind ≡ true = ap (is_simple_type s) k ∙ simple_use s a.name uses u p e in
+    record { use_of_it = u; allowed = e; kind = k; typed = record { simple = simple; value = v } }
+
+allowed_step : (s : SchemaSet) (uses : List AttributeUse) (b : Bool) (first : Attribute) (others : List Attribute) → HoldsOfEach (IsSimpleUse s) uses → first.kind ≡ type_of_attribute uses first.name
     → (not b && is_none (use_named uses first.name)) ≡ false → (not b && not (is_valued s first.kind first.value)) ≡ false
     → HoldsOfEach (IsAllowedAttribute s uses) others → HoldsOfEach (IsAllowedAttribute s uses) (behind_first b first others)
-allowed_step s uses true first others k e v h = h
-allowed_step s uses false first others k e v h = (use_step s uses first (use_named uses first.name) refl k e (not-false (is_valued s first.kind first.value) v), h)
+allowed_step s uses true first others p k e v h = h
+allowed_step s uses false first others p k e v h = (use_step s uses first (use_named uses first.name) p refl k e (not-false (is_valued s first.kind first.value) v), h)
 
-pub attributes_are_allowed : (s : SchemaSet) (uses : List AttributeUse) (attributes : List SourceAttribute) → has_extra uses attributes ≡ false → has_bad_attribute s uses attributes ≡ false
-    → HoldsOfEach (IsAllowedAttribute s uses) (typed_attributes uses attributes)
-attributes_are_allowed s uses [] e v = tt
-attributes_are_allowed s uses (a ∷ others) e v =
-    allowed_step s uses (is_instance_namespace a.name.uri) (typed_one uses a) (typed_attributes uses others) refl
+pub attributes_are_allowed : (s : SchemaSet) (uses : List AttributeUse) (attributes : List SourceAttribute) → HoldsOfEach (IsSimpleUse s) uses → has_extra uses attributes ≡ false
+    → has_bad_attribute s uses attributes ≡ false → HoldsOfEach (IsAllowedAttribute s uses) (typed_attributes uses attributes)
+attributes_are_allowed s uses [] p e v = tt
+attributes_are_allowed s uses (a ∷ others) p e v =
+    allowed_step s uses (is_instance_namespace a.name.uri) (typed_one uses a) (typed_attributes uses others) p refl
     (or_left_false (is_extra uses a) (has_extra uses others) e) (or_left_false (is_bad_attribute s uses a) (has_bad_attribute s uses others) v)
-    (attributes_are_allowed s uses others (or_right_false (is_extra uses a) (has_extra uses others) e) (or_right_false (is_bad_attribute s uses a) (has_bad_attribute s uses others) v))
+    (attributes_are_allowed s uses others p (or_right_false (is_extra uses a) (has_extra uses others) e) (or_right_false (is_bad_attribute s uses a) (has_bad_attribute s uses others) v))
 
 -- ---- attributes that are required
 
@@ -143,6 +157,7 @@ one_allowed : (s : SchemaSet) (uses : List AttributeUse) (b : Attribute) (a : So
     → (is_none (use_named uses a.name) ≡ false) × (is_valued s (type_of_attribute uses a.name) a.value ≡ true) × (b ≡ typed_one uses a)
 one_allowed s uses b a e h =
     let q = use_is s uses b h in
+    let typed = h.typed in
     let name : b.name ≡ a.name = ap (λ (x : Attribute). x.name) e in
     let value : b.value ≡ a.value = ap (λ (x : Attribute). x.value) e in
     let kind : b.kind ≡ type_of_attribute uses a.name = q.1 ∙ ap (type_of_attribute uses) name in
@@ -150,7 +165,7 @@ one_allowed s uses b a e h =
     let of_kind : TypeName → Attribute = λ k. record { name = a.name; kind = k; value = b.value } in
     let of_value : List ℕ → Attribute = λ x. record { name = a.name; kind = type_of_attribute uses a.name; value = x } in (
       subst (λ (n : Name). is_none (use_named uses n) ≡ false) name q.0,
-      ap (λ k. is_valued s k a.value) (sym kind) ∙ ap (λ x. is_valued s b.kind x) (sym value) ∙ h.value,
+      ap (λ k. is_valued s k a.value) (sym kind) ∙ ap (λ x. is_valued s b.kind x) (sym value) ∙ typed.value,
       ap of_name name ∙ ap of_kind kind ∙ ap of_value value,
     )
 

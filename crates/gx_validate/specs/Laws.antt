@@ -5,10 +5,11 @@ use Rattle.gx_tree.specs.PlainTree.{PlainTree}
 use Rattle.gx_types.specs.SchemaSet.{SchemaSet, global_type}
 use Rattle.gx_types.specs.SchemaInvariant.{IsSchemaSet}
 use Rattle.gx_model.specs.Honest.{IsHonestTree}
+use Rattle.gx_model.specs.TypedTree.{IsWellTyped}
 use Rattle.gx_xml.specs.SourceTree.{SourceTree}
 use Rattle.gx_xml.specs.Sound.{IsSoundSource}
 use Rattle.gx_validate.specs.Outcome.{Fault, validated}
-use Rattle.gx_validate.specs.Valid.{IsValidTree}
+use Rattle.gx_validate.specs.Valid.{IsTreeOfDocument, IsValidTree}
 
 -- a tree is what validation comes to, exactly where it is valid
 abbrev pub OutcomesAreValid : Type 0
@@ -28,6 +29,13 @@ FaultsExcludeTrees =
     (schemas : SchemaSet) (root : Name) (u : SourceTree) → IsSchemaSet schemas → IsSome (global_type schemas root) → IsSoundSource u
     → ((fault : Fault) × (validated schemas root u ≡ Err fault)) ↔ ((v : PlainTree) → IsValidTree schemas root u v → ⊥)
 
--- a valid tree is honest
+-- a tree is valid exactly where it is honest and the document's
 abbrev pub ValidTreesAreHonest : Type 0
-ValidTreesAreHonest = (schemas : SchemaSet) (root : Name) (u : SourceTree) (v : PlainTree) → IsValidTree schemas root u v → IsHonestTree schemas v
+ValidTreesAreHonest =
+    (schemas : SchemaSet) (root : Name) (u : SourceTree) (v : PlainTree) → IsValidTree schemas root u v ↔ (IsHonestTree schemas v × IsTreeOfDocument schemas root u v)
+
+-- and exactly where it is the document's and all of its elements keep to their types: none is without a type
+abbrev pub ValidTreesAreWellTyped : Type 0
+ValidTreesAreWellTyped =
+    (schemas : SchemaSet) (root : Name) (u : SourceTree) (v : PlainTree) → IsSchemaSet schemas → IsSome (global_type schemas root) → IsSoundSource u
+    → IsValidTree schemas root u v ↔ (IsWellTyped schemas v × IsTreeOfDocument schemas root u v)

@@ -9,14 +9,13 @@ use Rattle.gx_tree.specs.declared.attribute.Attribute.{Attribute}
 use Rattle.gx_types.specs.SchemaSet.{SchemaSet, declaration_of}
 use Rattle.gx_types.specs.Derivation.{DerivesFrom}
 use Rattle.gx_types.specs.declared.declaration.Declared.{Declared}
-use Rattle.gx_xml.specs.SourceTree.{SourceTree, SourceContents, source, no_content, a_child, a_text}
+use Rattle.gx_xml.specs.SourceTree.{SourceTree, SourceContents, source, no_content, a_child, a_text, tree_name}
 use Rattle.gx_xml.specs.Untyped.{untyped_attributes}
 use Rattle.gx_xml.specs.declared.source.Declaration.{Declaration}
 use Rattle.gx_xml.specs.declared.source.SourceAttribute.{SourceAttribute}
-use Rattle.gx_schema_syntax.specs.Contents.{tree_name}
 use Rattle.gx_validate.specs.InstanceAttributes.{given_type, has_nil}
 use Rattle.gx_validate.specs.Annotation.{type_named_in, without_space_around}
-use Rattle.gx_model.specs.TypedTree.{IsWellTyped}
+use Rattle.gx_model.specs.Honest.{IsHonestTree}
 use Rattle.gx_validate.specs.ElementContent.{texts_allowed, is_ignored, type_of_child}
 use Rattle.gx_validate.specs.Outcome.{root_type}
 
@@ -49,10 +48,14 @@ abbrev mutual
       ((is_ignored (texts_allowed holder) x ≡ true) × AreTypedTrees schemas scope holder cs ts)
       ⊎ ((is_ignored (texts_allowed holder) x ≡ false) × ((vs : PlainTrees) × (ts ≡ a_tree (text x) vs) × AreTypedTrees schemas scope holder cs vs))
 
--- a document node over one element of this name, which is the tree of the root and keeps to its types
-pub record IsValidTree (schemas : SchemaSet) (root : Name) (u : SourceTree) (v : PlainTree) : Type 0 where
+-- a document node over one element of this name, which is the tree of the root
+pub record IsTreeOfDocument (schemas : SchemaSet) (root : Name) (u : SourceTree) (v : PlainTree) : Type 0 where
   pub top : PlainTree
   pub whole : v ≡ document (a_tree top no_trees)
   pub named : same_name (tree_name u) root ≡ true
   pub of_root : IsTypedTree schemas [] (root_type schemas root) u top
-  pub well_typed : IsWellTyped schemas top
+
+-- a tree is valid for a document where it is honest and the document's
+pub record IsValidTree (schemas : SchemaSet) (root : Name) (u : SourceTree) (v : PlainTree) : Type 0 where
+  pub honest : IsHonestTree schemas v
+  pub of_document : IsTreeOfDocument schemas root u v

@@ -1,0 +1,271 @@
+-- An evaluation raises the codes of dynamic errors alone.
+use Rattle.std.proofs.Common.{◌≡◌, Bool, true, false, not, List, [], ◌∷◌, ◌++◌, map, Option, None, Some, Result, Ok, Err, refl, subst, if◌then◌else◌}
+use Rattle.std.specs.Prelude.{nat_le, option_map}
+use Rattle.std.specs.List.{list_all, list_any}
+use Rattle.gx_base.specs.declared.code.Code.{Code}
+use Rattle.gx_base.specs.declared.code.Code.TheVariants.{GLXD0002}
+use Rattle.gx_base.specs.Code.{is_dynamic}
+use Rattle.gx_base.specs.declared.type_name.TypeName.{TypeName}
+use Rattle.gx_base.specs.declared.limits.TheConstants.{RANGE_ITEMS}
+use Rattle.gx_num.specs.declared.Number.{Number}
+use Rattle.gx_num.specs.declared.NumFault.{NumFault}
+use Rattle.gx_num.specs.declared.NumFault.TheVariants.{Overflow, DivZero}
+use Rattle.gx_num.specs.Arithmetic.{exact_negation, in_range_or_overflow}
+use Rattle.gx_facets.specs.declared.Atomic.{Atomic}
+use Rattle.gx_types.specs.SchemaSet.{SchemaSet}
+use Rattle.gx_types.specs.declared.step.Axis.{Axis}
+use Rattle.gx_types.specs.declared.step.Test.{Test}
+use Rattle.gx_atomic.specs.declared.casting.CastError.{CastError}
+use Rattle.gx_atomic.specs.declared.casting.CastError.TheVariants as casts
+use Rattle.gx_atomic.specs.declared.comparison.Op.{Op}
+use Rattle.gx_atomic.specs.Cast.{cast_of}
+use Rattle.gx_atomic.specs.Comparison.{Decision, value_comparison, general_comparison}
+use Rattle.gx_funcs.specs.declared.function.Function.{Function}
+use Rattle.gx_funcs.specs.declared.function.Function.TheVariants as functions
+use Rattle.gx_funcs.specs.Function.{ItemView, effective_boolean, string_of_items, one_answer, truth_atom, string_atom, applied}
+use Rattle.gx_model.specs.Forest.{Forest, PlainNode}
+use Rattle.gx_model.specs.Item.{Item, atom, node, Items, atoms}
+use Rattle.gx_model.specs.Atomization.{atomized}
+use Rattle.gx_model.specs.DocumentOrder.{in_document_order}
+use Rattle.gx_core.specs.declared.operator.Operator.{Operator}
+use Rattle.gx_core.specs.declared.operator.Operator.TheVariants as operators
+use Rattle.gx_core.specs.declared.expression.ArithmeticOp.{ArithmeticOp}
+use Rattle.gx_core.specs.declared.expression.BinaryClass.{BinaryClass}
+use Rattle.gx_core.specs.declared.expression.BinaryClass.TheVariants.{Arithmetic, Value, General, Range}
+use Rattle.gx_core.specs.declared.expression.Declaration.TheVariants.{Global}
+use Rattle.gx_core.specs.Queries.{CoreDeclaration}
+use Rattle.gx_core.specs.BinaryOperators.{class_of}
+use Rattle.gx_core.specs.Expression.{Expression, At, Parts, no_parts, a_part}
+use Rattle.gx_core.specs.Bindings.{look_up}
+use Rattle.gx_core.specs.Outcome.{Outcome, gives, raises, wrong, after, given}
+use Rattle.gx_core.specs.Operands.{on_one, on_two}
+use Rattle.gx_core.specs.Arithmetic.{number_of_item, computed, result_of, computed_of_items, negation_of_item}
+use Rattle.gx_core.specs.Comparing.{truth_value, condition_of, value_of_item, compared_items, cast_failure, decided, atoms_among, generally_compared}
+use Rattle.gx_core.specs.Ranging.{integer_of_item, range_length, integers_from, range_between, range_of_items}
+use Rattle.gx_core.specs.Casting.{cast_outcome, cast_items, castable_items}
+use Rattle.gx_core.specs.Calling.{views_of, answered}
+use Rattle.gx_core.specs.Paths.{is_node, places_of, stepped, put_in_order}
+use Rattle.gx_core.specs.Meaning.{Context, Bindings, Denotation, binary_meaning, acts, all_of, for_each, branch, denoted, meaning, meanings}
+use Rattle.gx_core.specs.QueryMeaning.{globals_bound, query_outcome, QueriesRaiseDynamicCodes}
+use Rattle.gx_core.specs.Laws.{RaisesDynamicCodes, ExpressionsRaiseDynamicCodes}
+
+-- the same by cases: a result, a dynamic code, or a type error
+abbrev IsDynamic : {R : Type 0} → Outcome R → Type 0
+IsDynamic (gives result forest) = Unit {0}
+IsDynamic (raises code) = is_dynamic code ≡ true
+IsDynamic wrong = Unit {0}
+
+by_cases : {R : Type 0} (outcome : Outcome R) → IsDynamic outcome → RaisesDynamicCodes outcome
+by_cases (gives result forest) h code e = absurd (cc)
+by_cases (raises other) h code e = let same : other ≡ code = cc in subst (λ (c : Code). is_dynamic c ≡ true) same h
+by_cases wrong h code e = absurd (cc)
+
+-- ---- what follows
+
+dynamic_after : {R S : Type 0} (outcome : Outcome R) (next : R → Forest → Outcome S) → IsDynamic outcome → ((result : R) (forest : Forest) → IsDynamic (next result forest)) → IsDynamic (after outcome next)
+dynamic_after (gives result forest) next h k = k result forest
+dynamic_after (raises code) next h k = h
+dynamic_after wrong next h k = tt
+
+dynamic_given : {R S : Type 0} (x : Option R) (next : R → Outcome S) → ((r : R) → IsDynamic (next r)) → IsDynamic (given x next)
+dynamic_given None next k = tt
+dynamic_given (Some x) next k = k x
+
+dynamic_on_one : (xs : Items) (forest : Forest) (next : Item → Forest → Outcome Items) → ((x : Item) → IsDynamic (next x forest)) → IsDynamic (on_one xs forest next)
+dynamic_on_one [] forest next k = tt
+dynamic_on_one (x ∷ []) forest next k = k x
+dynamic_on_one (x ∷ y ∷ xs) forest next k = tt
+
+dynamic_on_two : (xs ys : Items) (forest : Forest) (next : Item → Item → Forest → Outcome Items) → ((x y : Item) → IsDynamic (next x y forest)) → IsDynamic (on_two xs ys forest next)
+dynamic_on_two (x ∷ []) (y ∷ []) forest next k = k x y
+dynamic_on_two [] [] forest next k = tt
+dynamic_on_two [] (y ∷ []) forest next k = tt
+dynamic_on_two (x ∷ []) [] forest next k = tt
+dynamic_on_two _ _ forest next k = tt
+
+-- ---- arithmetic and ranges
+
+dynamic_computed : (result : Result Number NumFault) (forest : Forest) → IsDynamic (computed result forest)
+dynamic_computed (Ok n) forest = tt
+dynamic_computed (Err Overflow) forest = refl
+dynamic_computed (Err DivZero) forest = refl
+
+dynamic_arithmetic : (operation : ArithmeticOp) (x y : Item) (forest : Forest) → IsDynamic (computed_of_items operation x y forest)
+dynamic_arithmetic operation x y forest =
+    dynamic_given (number_of_item x) (λ m. given (number_of_item y) (λ n. computed (result_of operation m n) forest))
+    (λ m. dynamic_given (number_of_item y) (λ n. computed (result_of operation m n) forest) (λ n. dynamic_computed (result_of operation m n) forest))
+
+dynamic_negation : (x : Item) (forest : Forest) → IsDynamic (negation_of_item x forest)
+dynamic_negation x forest =
+    dynamic_given (number_of_item x) (λ n. computed (in_range_or_overflow (exact_negation n)) forest) (λ n. dynamic_computed (in_range_or_overflow (exact_negation n)) forest)
+
+dynamic_choice : (b : Bool) (chosen otherwise : Outcome Items) → IsDynamic chosen → IsDynamic otherwise → IsDynamic (if b then chosen else otherwise)
+dynamic_choice true chosen otherwise h k = h
+dynamic_choice false chosen otherwise h k = k
+
+dynamic_range : (x y : Item) (forest : Forest) → IsDynamic (range_of_items x y forest)
+dynamic_range x y forest =
+    dynamic_given (integer_of_item x) (λ first. given (integer_of_item y) (λ last. range_between first last forest))
+    (λ first. dynamic_given (integer_of_item y) (λ last. range_between first last forest)
+    (λ last. dynamic_choice (nat_le (range_length first last) RANGE_ITEMS) (gives (atoms (integers_from first (range_length first last))) forest) (raises GLXD0002) tt refl))
+
+-- ---- casts and comparisons
+
+dynamic_failure : (error : CastError) → IsDynamic (cast_failure error)
+dynamic_failure casts.FORG0001 = refl
+dynamic_failure casts.FOCA0001 = refl
+dynamic_failure casts.FOCA0003 = refl
+dynamic_failure casts.FOCA0006 = refl
+dynamic_failure casts.Memory = tt
+
+dynamic_cast_outcome : (result : Result Atomic CastError) (forest : Forest) → IsDynamic (cast_outcome result forest)
+dynamic_cast_outcome (Ok a) forest = tt
+dynamic_cast_outcome (Err error) forest = dynamic_failure error
+
+dynamic_cast : (schemas : SchemaSet) (kind : TypeName) (optional : Bool) (xs : Items) (forest : Forest) → IsDynamic (cast_items schemas kind optional xs forest)
+dynamic_cast schemas kind optional [] forest = dynamic_choice optional (gives [] forest) wrong tt tt
+dynamic_cast schemas kind optional (atom a ∷ []) forest = dynamic_cast_outcome (cast_of schemas a kind) forest
+dynamic_cast schemas kind optional (atom a ∷ y ∷ xs) forest = tt
+dynamic_cast schemas kind optional (node place ∷ xs) forest = tt
+
+dynamic_castable : (schemas : SchemaSet) (kind : TypeName) (optional : Bool) (xs : Items) (forest : Forest) → IsDynamic (castable_items schemas kind optional xs forest)
+dynamic_castable schemas kind optional [] forest = tt
+dynamic_castable schemas kind optional (atom a ∷ []) forest = tt
+dynamic_castable schemas kind optional (atom a ∷ y ∷ xs) forest = tt
+dynamic_castable schemas kind optional (node place ∷ xs) forest = tt
+
+dynamic_comparison : (op : Op) (x y : Item) (forest : Forest) → IsDynamic (compared_items op x y forest)
+dynamic_comparison op x y forest =
+    dynamic_given (value_of_item x) (λ a. given (value_of_item y) (λ b. given (value_comparison op a b) (λ truth. gives (truth_value truth) forest)))
+    (λ a. dynamic_given (value_of_item y) (λ b. given (value_comparison op a b) (λ truth. gives (truth_value truth) forest))
+    (λ b. dynamic_given (value_comparison op a b) (λ truth. gives (truth_value truth) forest) (λ truth. tt)))
+
+dynamic_decision : (decision : Decision) (forest : Forest) → IsDynamic (decided decision forest)
+dynamic_decision (Some (Ok truth)) forest = tt
+dynamic_decision (Some (Err error)) forest = dynamic_failure error
+dynamic_decision None forest = tt
+
+dynamic_general : (op : Op) (xs ys : Items) (forest : Forest) → IsDynamic (generally_compared op xs ys forest)
+dynamic_general op [] ys forest = tt
+dynamic_general op (x ∷ xs) [] forest = tt
+dynamic_general op (x ∷ xs) (y ∷ ys) forest =
+    dynamic_given (atoms_among (x ∷ xs)) (λ as'. given (atoms_among (y ∷ ys)) (λ bs. decided (general_comparison op as' bs) forest))
+    (λ as'. dynamic_given (atoms_among (y ∷ ys)) (λ bs. decided (general_comparison op as' bs) forest) (λ bs. dynamic_decision (general_comparison op as' bs) forest))
+
+dynamic_binary : (class : BinaryClass) (xs ys : Items) (forest : Forest) → IsDynamic (binary_meaning class xs ys forest)
+dynamic_binary (Arithmetic operation) xs ys forest = dynamic_on_two xs ys forest (computed_of_items operation) (λ x y. dynamic_arithmetic operation x y forest)
+dynamic_binary (Value op) xs ys forest = dynamic_on_two xs ys forest (compared_items op) (λ x y. dynamic_comparison op x y forest)
+dynamic_binary (General op) xs ys forest = dynamic_general op xs ys forest
+dynamic_binary Range xs ys forest = dynamic_on_two xs ys forest range_of_items (λ x y. dynamic_range x y forest)
+
+-- ---- paths and calls
+
+dynamic_step : (schemas : SchemaSet) (axis : Axis) (asks : Test) (xs : Items) (forest : Forest) → IsDynamic (stepped schemas axis asks xs forest)
+dynamic_step schemas axis asks (node place ∷ []) forest = tt
+dynamic_step schemas axis asks [] forest = tt
+dynamic_step schemas axis asks (node place ∷ y ∷ xs) forest = tt
+dynamic_step schemas axis asks (atom a ∷ xs) forest = tt
+
+dynamic_order : (xs : Items) (forest : Forest) → IsDynamic (put_in_order xs forest)
+dynamic_order xs forest =
+    dynamic_choice (list_all is_node xs) (gives (map node (in_document_order forest (places_of xs))) forest) (if list_any is_node xs then wrong else gives xs forest) tt
+    (dynamic_choice (list_any is_node xs) wrong (gives xs forest) tt tt)
+
+-- a function answers no error
+dynamic_answer : {V : Type 0} (x : Option V) (answer : V → Atomic) (forest : Forest) → IsDynamic (given (option_map (λ v. one_answer (answer v)) x) (λ answer. answered answer forest))
+dynamic_answer None answer forest = tt
+dynamic_answer (Some x) answer forest = tt
+
+dynamic_call : (function : Function) (views : List (List ItemView)) (forest : Forest) → IsDynamic (given (applied function views) (λ answer. answered answer forest))
+dynamic_call functions.True [] forest = tt
+dynamic_call functions.False [] forest = tt
+dynamic_call functions.Boolean (items ∷ []) forest = dynamic_answer (effective_boolean items) truth_atom forest
+dynamic_call functions.Not (items ∷ []) forest = dynamic_answer (effective_boolean items) (λ truth. truth_atom (not truth)) forest
+dynamic_call functions.Count (items ∷ []) forest = tt
+dynamic_call functions.Empty (items ∷ []) forest = tt
+dynamic_call functions.Exists (items ∷ []) forest = tt
+dynamic_call functions.String (items ∷ []) forest = dynamic_answer (string_of_items items) string_atom forest
+dynamic_call _ _ forest = tt
+
+-- ---- operators
+
+dynamic_act : (context : Context) (operator : Operator) (values : List Items) (forest : Forest) → IsDynamic (acts context operator values forest)
+dynamic_act context (operators.Lit value) [] forest = tt
+dynamic_act context operators.Empty [] forest = tt
+dynamic_act context operators.Seq (xs ∷ ys ∷ []) forest = tt
+dynamic_act context operators.Nodes (xs ∷ []) forest = dynamic_choice (list_all is_node xs) (gives xs forest) wrong tt tt
+dynamic_act context operators.Order (xs ∷ []) forest = dynamic_order xs forest
+dynamic_act context operators.DataOf (xs ∷ []) forest = dynamic_given (atomized context.schemas forest xs) (λ ys. gives ys forest) (λ ys. tt)
+dynamic_act context (operators.Cast kind optional) (xs ∷ []) forest = dynamic_cast context.schemas kind optional xs forest
+dynamic_act context (operators.Castable kind optional) (xs ∷ []) forest = dynamic_castable context.schemas kind optional xs forest
+dynamic_act context (operators.Call function) values forest = dynamic_call function (map (views_of forest) values) forest
+dynamic_act context operators.Neg (xs ∷ []) forest = dynamic_on_one xs forest negation_of_item (λ x. dynamic_negation x forest)
+dynamic_act context (operators.Binary operator) (xs ∷ ys ∷ []) forest = dynamic_binary (class_of operator) xs ys forest
+dynamic_act context _ _ forest = tt
+
+-- each part raises the codes of dynamic errors alone, wherever it stands
+abbrev AreDynamic : List Denotation → Type 0
+AreDynamic [] = Unit {0}
+AreDynamic (part ∷ parts) = ((bindings : Bindings) (forest : Forest) → IsDynamic (part bindings forest)) × AreDynamic parts
+
+dynamic_all : (parts : List Denotation) (bindings : Bindings) (forest : Forest) → AreDynamic parts → IsDynamic (all_of parts bindings forest)
+dynamic_all [] bindings forest h = tt
+dynamic_all (part ∷ parts) bindings forest h =
+    dynamic_after (part bindings forest) (λ value left. after (all_of parts bindings left) (λ values last. gives (value ∷ values) last)) (h.0 bindings forest)
+    (λ value left. dynamic_after (all_of parts bindings left) (λ values last. gives (value ∷ values) last) (dynamic_all parts bindings left h.1) (λ values last. tt))
+
+dynamic_each : (next : Item → Forest → Outcome Items) (done xs : Items) (forest : Forest) → ((x : Item) (now : Forest) → IsDynamic (next x now)) → IsDynamic (for_each next done xs forest)
+dynamic_each next done [] forest k = tt
+dynamic_each next done (x ∷ xs) forest k =
+    dynamic_after (next x forest) (λ more left. for_each next (done ++ more) xs left) (k x forest) (λ more left. dynamic_each next (done ++ more) xs left k)
+
+dynamic_branch : (b : Bool) (chosen otherwise : Denotation) (bindings : Bindings) (forest : Forest)
+    → IsDynamic (chosen bindings forest) → IsDynamic (otherwise bindings forest) → IsDynamic (branch b chosen otherwise bindings forest)
+dynamic_branch true chosen otherwise bindings forest h k = h
+dynamic_branch false chosen otherwise bindings forest h k = k
+
+dynamic_operator : (context : Context) (operator : Operator) (parts : List Denotation) (bindings : Bindings) (forest : Forest) → AreDynamic parts → IsDynamic (denoted context operator parts bindings forest)
+dynamic_operator context (operators.Var number) [] bindings forest h = dynamic_given (look_up bindings number) (λ value. gives value forest) (λ value. tt)
+dynamic_operator context (operators.For binder) (source ∷ body ∷ []) bindings forest h =
+    dynamic_after (source bindings forest) (λ xs left. for_each (λ x now. body ((binder.variable, x ∷ []) ∷ bindings) now) [] xs left) (h.0 bindings forest)
+    (λ xs left. dynamic_each (λ x now. body ((binder.variable, x ∷ []) ∷ bindings) now) [] xs left (λ x now. h.1.0 ((binder.variable, x ∷ []) ∷ bindings) now))
+dynamic_operator context (operators.Step axis asks number) [] bindings forest h =
+    dynamic_given (look_up bindings number) (λ value. stepped context.schemas axis asks value forest) (λ value. dynamic_step context.schemas axis asks value forest)
+dynamic_operator context (operators.Let binder) (value ∷ body ∷ []) bindings forest h =
+    dynamic_after (value bindings forest) (λ xs left. body ((binder.variable, xs) ∷ bindings) left) (h.0 bindings forest) (λ xs left. h.1.0 ((binder.variable, xs) ∷ bindings) left)
+dynamic_operator context operators.If (condition ∷ chosen ∷ otherwise ∷ []) bindings forest h =
+    dynamic_after (condition bindings forest) (λ xs left. given (condition_of xs) (λ truth. branch truth chosen otherwise bindings left)) (h.0 bindings forest)
+    (λ xs left. dynamic_given (condition_of xs) (λ truth. branch truth chosen otherwise bindings left)
+    (λ truth. dynamic_branch truth chosen otherwise bindings left (h.1.0 bindings left) (h.1.1.0 bindings left)))
+dynamic_operator context operator parts bindings forest h =
+    dynamic_after (all_of parts bindings forest) (acts context operator) (dynamic_all parts bindings forest h) (λ values left. dynamic_act context operator values left)
+
+-- ---- expressions and queries
+
+mutual
+  dynamic_expression : (A : Type 0) (context : Context) (e : Expression A) (bindings : Bindings) (forest : Forest) → IsDynamic (meaning context e bindings forest)
+  dynamic_expression A context (At place outer annotation operator parts) bindings forest = dynamic_operator context operator (meanings context parts) bindings forest (dynamic_parts A context parts)
+
+  dynamic_parts : (A : Type 0) (context : Context) (parts : Parts A) → AreDynamic (meanings context parts)
+  dynamic_parts A context no_parts = tt
+  dynamic_parts A context (a_part first others) = (dynamic_expression A context first, dynamic_parts A context others)
+
+pub expressions_raise_dynamic_codes : ExpressionsRaiseDynamicCodes
+expressions_raise_dynamic_codes context e bindings forest = by_cases (meaning context e bindings forest) (dynamic_expression (Unit {0}) context e bindings forest)
+
+dynamic_globals : (context : Context) (declarations : List CoreDeclaration) (documents : List PlainNode) (bindings : Bindings) (forest : Forest)
+    → IsDynamic (globals_bound context declarations documents bindings forest)
+dynamic_globals context [] documents bindings forest = tt
+dynamic_globals context (Global name binder (Some value) ∷ others) documents bindings forest =
+    dynamic_after (meaning context value bindings forest) (λ items left. globals_bound context others documents ((binder.variable, items) ∷ bindings) left)
+    (dynamic_expression (Unit {0}) context value bindings forest) (λ items left. dynamic_globals context others documents ((binder.variable, items) ∷ bindings) left)
+dynamic_globals context (Global name binder None ∷ others) [] bindings forest = tt
+dynamic_globals context (Global name binder None ∷ others) (document ∷ documents) bindings forest =
+    dynamic_globals context others documents ((binder.variable, node document ∷ []) ∷ bindings) forest
+
+pub queries_raise_dynamic_codes : QueriesRaiseDynamicCodes
+queries_raise_dynamic_codes schemas core documents forest =
+    let context : Context = record { schemas = schemas } in
+    by_cases (query_outcome schemas core documents forest)
+    (dynamic_after (globals_bound context core.declarations documents [] forest) (λ bindings left. meaning context core.body bindings left)
+    (dynamic_globals context core.declarations documents [] forest) (λ bindings left. dynamic_expression (Unit {0}) context core.body bindings left))
