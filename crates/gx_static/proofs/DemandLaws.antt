@@ -1,5 +1,5 @@
 -- The tests of the static rules are inclusion.
-use Rattle.std.proofs.Common.{◌≡◌, ◌≤◌, Bool, true, ◌&&◌, List, [], ◌∷◌, ◌++◌, inl, inr, length, refl, ap, arith}
+use Rattle.std.proofs.Common.{◌≡◌, ◌≤◌, Bool, true, ◌&&◌, List, [], ◌∷◌, inl, inr, length, refl, ap, arith}
 use Rattle.std.proofs.lemmas.Bool.{and_from, and_parts, cases_lt, le-leb, leb-true}
 use Rattle.gx_types.specs.declared.item_type.ItemType.{ItemType}
 use Rattle.gx_types.specs.declared.shape.Shape.{Shape}
@@ -13,6 +13,7 @@ use Rattle.gx_types.specs.ItemTakes.{ItemTakes}
 use Rattle.gx_types.specs.Prime.{items_of}
 use Rattle.gx_types.specs.Takes.{Takes, EachShape, SomeItemTakes}
 use Rattle.gx_types.proofs.PublicLaws.{occurrence_bounds_length, items_take_each_shape}
+use Rattle.gx_type_laws.proofs.Items.{both_hold}
 use Rattle.gx_include.specs.Inclusion.{IsWellFormedShape}
 use Rattle.gx_static.specs.declared.comparison.Family.TheVariants as families
 use Rattle.gx_static.specs.Rule.{all_items, is_at_most_one, is_at_least_one}
@@ -23,18 +24,14 @@ use Rattle.gx_static.proofs.DemandLemmas.{IsDemanded, type_demanded, family_dema
 
 -- ---- item types of a type
 
-kinds_joined : (P : ItemType → Type 0) (ks ls : List ItemType) → HoldsOfEach P ks → HoldsOfEach P ls → HoldsOfEach P (ks ++ ls)
-kinds_joined P [] ls h k = k
-kinds_joined P (kind ∷ ks) ls h k = (h.0, kinds_joined P ks ls h.1 k)
-
 kinds_pass : (test : ItemType → Bool) (t : SequenceType) → all_items test t ≡ true → HoldsOfEach (λ kind. test kind ≡ true) (items_of t)
 kinds_pass test never e = tt
 kinds_pass test nothing e = tt
 kinds_pass test (item kind) e = (e, tt)
 kinds_pass test (both a b) e =
-    let p = and_parts (all_items test a) (all_items test b) e in kinds_joined (λ kind. test kind ≡ true) (items_of a) (items_of b) (kinds_pass test a p.0) (kinds_pass test b p.1)
+    let p = and_parts (all_items test a) (all_items test b) e in both_hold (λ kind. test kind ≡ true) (items_of a) (items_of b) (kinds_pass test a p.0) (kinds_pass test b p.1)
 kinds_pass test (either a b) e =
-    let p = and_parts (all_items test a) (all_items test b) e in kinds_joined (λ kind. test kind ≡ true) (items_of a) (items_of b) (kinds_pass test a p.0) (kinds_pass test b p.1)
+    let p = and_parts (all_items test a) (all_items test b) e in both_hold (λ kind. test kind ≡ true) (items_of a) (items_of b) (kinds_pass test a p.0) (kinds_pass test b p.1)
 kinds_pass test (optional a) e = kinds_pass test a e
 kinds_pass test (star a) e = kinds_pass test a e
 kinds_pass test (plus a) e = kinds_pass test a e
@@ -43,8 +40,8 @@ kinds_known : (s : SchemaSet) (t : SequenceType) → IsMadeOfItems s t → Holds
 kinds_known s never m = absurd m
 kinds_known s nothing m = absurd m
 kinds_known s (item kind) m = (m, tt)
-kinds_known s (both a b) m = kinds_joined (IsOfKnownType s) (items_of a) (items_of b) (kinds_known s a m.0) (kinds_known s b m.1)
-kinds_known s (either a b) m = kinds_joined (IsOfKnownType s) (items_of a) (items_of b) (kinds_known s a m.0) (kinds_known s b m.1)
+kinds_known s (both a b) m = both_hold (IsOfKnownType s) (items_of a) (items_of b) (kinds_known s a m.0) (kinds_known s b m.1)
+kinds_known s (either a b) m = both_hold (IsOfKnownType s) (items_of a) (items_of b) (kinds_known s a m.0) (kinds_known s b m.1)
 kinds_known s (optional a) m = kinds_known s a m
 kinds_known s (star a) m = kinds_known s a m
 kinds_known s (plus a) m = kinds_known s a m

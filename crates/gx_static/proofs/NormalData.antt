@@ -25,8 +25,8 @@ use Rattle.gx_steptype.proofs.Declarations.{declared_is}
 use Rattle.gx_static.specs.NormalTypes.{IsOfKnownType, IsNormalType}
 use Rattle.gx_static.proofs.AtomicTypes.{IsAtomic, top, untyped_is_atomic, nameable_is_atomic}
 use Rattle.gx_static.proofs.DemandLaws.{normal_kinds}
-use Rattle.gx_static.proofs.NormalTypes.{limited_is_normal}
-use Rattle.gx_static.proofs.NormalParts.{each_so, each_made, choice_of_normal, replaced_is_normal}
+use Rattle.gx_static.proofs.NormalTypes.{limited_is_normal, choice_of_normal}
+use Rattle.gx_static.proofs.NormalParts.{each_so, each_made, replaced_is_normal}
 
 -- ---- declared atomic types are derived from xs:anyAtomicType
 

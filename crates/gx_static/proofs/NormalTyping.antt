@@ -17,7 +17,7 @@ use Rattle.gx_static.specs.Rule.{Ruling, has_type, has_none, rule, variable_ruli
 use Rattle.gx_static.specs.Judgement.{Judged, typed, rejected, with_typed, judged, parts_judged, concluded}
 use Rattle.gx_static.specs.NormalTypes.{IsNormalType, GivesNormalType, CastsToAtomicType, HaveNormalTypes, CastsToAtomicTypes, PartsCastToAtomicTypes, IsNormalThroughout, AreNormalThroughout, TypingGivesNormalTypes}
 use Rattle.gx_static.proofs.NormalTypes.{prime_is_normal}
-use Rattle.gx_static.proofs.NormalParts.{both_hold}
+use Rattle.gx_type_laws.proofs.Items.{both_hold}
 use Rattle.gx_static.proofs.NormalRules.{rules_give_normal_types}
 
 -- ---- what variables have

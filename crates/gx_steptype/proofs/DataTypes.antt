@@ -17,6 +17,7 @@ use Rattle.gx_types.specs.declared.item_type.ItemType.TheVariants as items
 use Rattle.gx_types.specs.declared.shape.Shape.{Shape}
 use Rattle.gx_types.specs.declared.shape.Shape.TheVariants as shapes
 use Rattle.gx_types.proofs.PublicLaws.{limited_takes_type}
+use Rattle.gx_type_laws.specs.Kept.{HoldsOfItems}
 use Rattle.gx_tree.specs.declared.attribute.Attribute.{Attribute}
 use Rattle.gx_tree.specs.PlainTree.{PlainTree, PlainTrees, document, element, attribute, text}
 use Rattle.gx_tree.specs.StringValue.{string_values}
@@ -30,7 +31,6 @@ use Rattle.gx_steptype.specs.DataType.{untyped_atomic_type as untyped_item, valu
 use Rattle.gx_steptype.specs.StepType.{is_ur_type}
 use Rattle.gx_steptype.specs.Replaced.{replaced_items}
 use Rattle.gx_steptype.specs.StepLaws.{DataKeepsItsType}
-use Rattle.gx_steptype.proofs.Replacing.{EachItem}
 use Rattle.gx_steptype.proofs.GivenLists.{Given, ServesGiven, given_takes}
 use Rattle.gx_steptype.proofs.TypedNodes.{NodeFact, found_fact}
 use Rattle.gx_steptype.proofs.TypedValues.{atom_shape, FitsItsType, HasValue, untyped_has, type_has, simple_is_named, simple_gives}
@@ -83,7 +83,7 @@ data_serves s i (items.Atom kind) h (shapes.Attr n t) out took g = absurd took
 data_serves s i (items.Atom kind) h shapes.Text out took g = absurd took
 data_serves s i (items.Atom kind) h (shapes.Doc c) out took g = absurd took
 
-all_serve : (s : SchemaSet) → IsSchemaSet s → (t : SequenceType) → has_data s t ≡ true → EachItem (ServesGiven s (Gives s) (item_data s)) t
+all_serve : (s : SchemaSet) → IsSchemaSet s → (t : SequenceType) → has_data s t ≡ true → HoldsOfItems (ServesGiven s (Gives s) (item_data s)) t
 all_serve s i never h = tt
 all_serve s i nothing h = tt
 all_serve s i (item kind) h = data_serves s i kind h

@@ -7,8 +7,9 @@ use Rattle.gx_types.specs.SequenceType.{SequenceType, never, nothing, item, both
 use Rattle.gx_types.specs.ItemTakes.{ItemTakes}
 use Rattle.gx_types.specs.Takes.{Takes, Each, SomeTakes, all_joined}
 use Rattle.gx_types.proofs.PublicLaws.{joined_types_are_a_sequence, choice_takes_some, indicators_are_exact}
+use Rattle.gx_type_laws.specs.Kept.{HoldsOfItems}
 use Rattle.gx_steptype.specs.Replaced.{replaced_items, alternatives}
-use Rattle.gx_steptype.proofs.Replacing.{EachItem, append_nil, some_first, some_second}
+use Rattle.gx_steptype.proofs.Replacing.{append_nil, some_first, some_second}
 
 -- the lists that the shapes of a list give, one behind another
 abbrev pub Given : (Shape → List Shape → Type 0) → List Shape → List Shape → Type 0
@@ -58,7 +59,7 @@ parts_given G A B h (part ∷ parts) out g e =
 abbrev BothTake : SchemaSet → (ItemType → SequenceType) → SequenceType → List Shape → Type 0
 BothTake s f t out = Takes s (replaced_items f t) out × SomeTakes s (alternatives f t) out
 
-both_take : (s : SchemaSet) (G : Shape → List Shape → Type 0) (f : ItemType → SequenceType) (t : SequenceType) → EachItem (ServesGiven s G f) t
+both_take : (s : SchemaSet) (G : Shape → List Shape → Type 0) (f : ItemType → SequenceType) (t : SequenceType) → HoldsOfItems (ServesGiven s G f) t
     → (ss out : List Shape) → Given G ss out → Takes s t ss → BothTake s f t out
 both_take s G f never e ss out g h = absurd h
 both_take s G f nothing e ss out g h = let none : out ≡ [] = subst (λ l. Given G l out) h g in (none, inl none)
@@ -96,6 +97,6 @@ both_take s G f (plus a) e ss out g (front, parts, is, l, k) =
     (indicators_are_exact.plus s (replaced_items f a) out).0 (r.first, q.parts, r.is ∙ ap (λ l. r.first ++ l) q.is, (both_take s G f a e front r.first r.by_first l).0, q.each) in
     (taken, inl taken)
 
-pub given_takes : (s : SchemaSet) (G : Shape → List Shape → Type 0) (f : ItemType → SequenceType) (t : SequenceType) → EachItem (ServesGiven s G f) t
+pub given_takes : (s : SchemaSet) (G : Shape → List Shape → Type 0) (f : ItemType → SequenceType) (t : SequenceType) → HoldsOfItems (ServesGiven s G f) t
     → (ss out : List Shape) → Given G ss out → Takes s t ss → Takes s (replaced_items f t) out
 given_takes s G f t e ss out g h = (both_take s G f t e ss out g h).0

@@ -17,6 +17,7 @@ use Rattle.gx_types.specs.SequenceType.{SequenceType}
 use Rattle.gx_types.specs.ItemTakes.{ItemTakes}
 use Rattle.gx_types.specs.Takes.{Takes}
 use Rattle.gx_types.proofs.PublicLaws.{limited_takes_type}
+use Rattle.gx_type_laws.proofs.Items.{all_items_hold}
 use Rattle.gx_tree.specs.declared.attribute.Attribute.{Attribute}
 use Rattle.gx_tree.specs.PlainTree.{PlainTree, attribute}
 use Rattle.gx_model.specs.Forest.{Forest, PlainNode, then_found, children_of, own_attributes, tree_at, attribute_at}
@@ -31,7 +32,7 @@ use Rattle.gx_model.proofs.AxisLemmas.{children_are_found, attributes_are_found,
 use Rattle.gx_steptype.specs.Replaced.{replaced_items}
 use Rattle.gx_steptype.specs.StepType.{is_near, item_step, child_type, parent_type, step_type}
 use Rattle.gx_steptype.specs.StepLaws.{StepsKeepTheirTypes}
-use Rattle.gx_steptype.proofs.Replacing.{Serves, each_item, replaced_takes, append_nil}
+use Rattle.gx_steptype.proofs.Replacing.{Serves, replaced_takes, append_nil}
 use Rattle.gx_steptype.proofs.Testing.{tested_takes}
 use Rattle.gx_steptype.proofs.FormedShapes.{IsFormed}
 use Rattle.gx_steptype.proofs.PassingShapes.{passing, all_tested, one_tested}
@@ -245,7 +246,7 @@ in_context : (s : SchemaSet) (test : KindTest) (axis : Axis) (t : PlainTree) (fr
 in_context s test axis t from x context step h =
     subst (Takes s (replaced_items (item_step s axis test) context)) (append_nil step.out)
     (replaced_takes s (λ y. y ≡ x) (λ y. step.out) (item_step s axis test) context
-    (each_item (Serves s (λ y. y ≡ x) (λ y. step.out) (item_step s axis test)) (λ kind y e i. step.takes kind (subst (ItemTakes s kind) e i)) context)
+    (all_items_hold (Serves s (λ y. y ≡ x) (λ y. step.out) (item_step s axis test)) (λ kind y e i. step.takes kind (subst (ItemTakes s kind) e i)) context)
     (x ∷ []) (refl, tt) h)
 
 step_in_tree : (s : SchemaSet) (forest : Forest) (from : PlainNode) (axis : Axis) (test : Test) (context : SequenceType) (x : Shape) (t : PlainTree) → slice_get forest from.tree ≡ Some t

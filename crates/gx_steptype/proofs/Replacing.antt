@@ -9,28 +9,8 @@ use Rattle.gx_types.specs.SequenceType.{SequenceType, never, nothing, item, both
 use Rattle.gx_types.specs.ItemTakes.{ItemTakes}
 use Rattle.gx_types.specs.Takes.{Takes, Each, EachShape, SomeTakes, all_joined}
 use Rattle.gx_types.proofs.PublicLaws.{joined_types_are_a_sequence, choice_takes_some, indicators_are_exact}
+use Rattle.gx_type_laws.specs.Kept.{HoldsOfItems}
 use Rattle.gx_steptype.specs.Replaced.{replaced_items, alternatives}
-
--- a fact of each item type of a type
-abbrev pub EachItem : (ItemType → Type 0) → SequenceType → Type 0
-EachItem Fact never = Unit {0}
-EachItem Fact nothing = Unit {0}
-EachItem Fact (item kind) = Fact kind
-EachItem Fact (both a b) = EachItem Fact a × EachItem Fact b
-EachItem Fact (either a b) = EachItem Fact a × EachItem Fact b
-EachItem Fact (optional a) = EachItem Fact a
-EachItem Fact (star a) = EachItem Fact a
-EachItem Fact (plus a) = EachItem Fact a
-
-pub each_item : (Fact : ItemType → Type 0) → ((kind : ItemType) → Fact kind) → (t : SequenceType) → EachItem Fact t
-each_item Fact h never = tt
-each_item Fact h nothing = tt
-each_item Fact h (item kind) = h kind
-each_item Fact h (both a b) = (each_item Fact h a, each_item Fact h b)
-each_item Fact h (either a b) = (each_item Fact h a, each_item Fact h b)
-each_item Fact h (optional a) = each_item Fact h a
-each_item Fact h (star a) = each_item Fact h a
-each_item Fact h (plus a) = each_item Fact h a
 
 -- what stands for an item type takes what is made of each shape that the item type takes
 abbrev pub Serves : SchemaSet → (Shape → Type 0) → (Shape → List Shape) → (ItemType → SequenceType) → ItemType → Type 0
@@ -75,7 +55,7 @@ each_made P g A B h (part ∷ parts) p e =
 abbrev BothTake : SchemaSet → (ItemType → SequenceType) → SequenceType → List Shape → Type 0
 BothTake s f t out = Takes s (replaced_items f t) out × SomeTakes s (alternatives f t) out
 
-both_take : (s : SchemaSet) (P : Shape → Type 0) (g : Shape → List Shape) (f : ItemType → SequenceType) (t : SequenceType) → EachItem (Serves s P g f) t
+both_take : (s : SchemaSet) (P : Shape → Type 0) (g : Shape → List Shape) (f : ItemType → SequenceType) (t : SequenceType) → HoldsOfItems (Serves s P g f) t
     → (ss : List Shape) → EachShape P ss → Takes s t ss → BothTake s f t (flat_map g ss)
 both_take s P g f never e ss p h = absurd h
 both_take s P g f nothing e ss p h = (ap (flat_map g) h, inl (ap (flat_map g) h))
@@ -127,6 +107,6 @@ both_take s P g f (plus a) e ss p (front, parts, is, l, k) =
     )
     in (taken, inl taken)
 
-pub replaced_takes : (s : SchemaSet) (P : Shape → Type 0) (g : Shape → List Shape) (f : ItemType → SequenceType) (t : SequenceType) → EachItem (Serves s P g f) t
+pub replaced_takes : (s : SchemaSet) (P : Shape → Type 0) (g : Shape → List Shape) (f : ItemType → SequenceType) (t : SequenceType) → HoldsOfItems (Serves s P g f) t
     → (ss : List Shape) → EachShape P ss → Takes s t ss → Takes s (replaced_items f t) (flat_map g ss)
 replaced_takes s P g f t e ss p h = (both_take s P g f t e ss p h).0
