@@ -51,7 +51,7 @@ module _ (coded_places : Coded Place) (coded_names : Coded QName) (coded_numbers
     store_form context_item = gcons (gnum 5) gnil
     store_form (call name arguments) = gcons (gnum 6) (gcons (coded_names.code name) (gcons (store_syntaxes arguments) gnil))
     store_form (comma first second) = gcons (gnum 7) (gcons (store_syntax first) (gcons (store_syntax second) gnil))
-    store_form (flwor clauses stable keys returned) = gcons (gnum 8) (gcons (store_clauses clauses) (gcons (store_bool stable) (gcons (store_keys keys) (gcons (store_syntax returned) gnil))))
+    store_form (flwor clauses order stable keys returned) = gcons (gnum 8) (gcons (store_clauses clauses) (gcons (coded_places.code order) (gcons (store_bool stable) (gcons (store_keys keys) (gcons (store_syntax returned) gnil)))))
     store_form (quantified every bindings condition) = gcons (gnum 9) (gcons (store_bool every) (gcons (store_bindings bindings) (gcons (store_syntax condition) gnil)))
     store_form (typeswitch operand cases default otherwise) = gcons (gnum 10) (gcons (store_syntax operand) (gcons (store_cases cases) (gcons (coded_defaults.code default) (gcons (store_syntax otherwise) gnil))))
     store_form (conditional test chosen otherwise) = gcons (gnum 11) (gcons (store_syntax test) (gcons (store_syntax chosen) (gcons (store_syntax otherwise) gnil)))
@@ -64,7 +64,7 @@ module _ (coded_places : Coded Place) (coded_names : Coded QName) (coded_numbers
     store_form (path descendants left right) = gcons (gnum 18) (gcons (store_bool descendants) (gcons (store_syntax left) (gcons (store_syntax right) gnil)))
     store_form (axis_step step) = gcons (gnum 19) (gcons (coded_steps.code step) gnil)
     store_form parent_step = gcons (gnum 20) gnil
-    store_form (filtered operand predicates) = gcons (gnum 21) (gcons (store_syntax operand) (gcons (store_syntaxes predicates) gnil))
+    store_form (filtered bracket operand predicates) = gcons (gnum 21) (gcons (coded_places.code bracket) (gcons (store_syntax operand) (gcons (store_syntaxes predicates) gnil)))
     store_form (direct name attributes content) = gcons (gnum 22) (gcons (coded_names.code name) (gcons (store_attributes attributes) (gcons (store_parts content) gnil)))
     store_form (document_node content) = gcons (gnum 23) (gcons (store_syntax content) gnil)
     store_form (text_node content) = gcons (gnum 24) (gcons (store_syntax content) gnil)
@@ -141,12 +141,13 @@ module _ (coded_places : Coded Place) (coded_names : Coded QName) (coded_numbers
         let first_same : first ≡ first' = same_syntax first first' (ap (λ g. head (tail g)) e) in
         let second_same : second ≡ second' = same_syntax second second' (ap (λ g. head (tail (tail g))) e) in
         λ i. comma (first_same i) (second_same i)
-    same_form (flwor clauses stable keys returned) (flwor clauses' stable' keys' returned') e =
+    same_form (flwor clauses order stable keys returned) (flwor clauses' order' stable' keys' returned') e =
         let clauses_same : clauses ≡ clauses' = same_clauses clauses clauses' (ap (λ g. head (tail g)) e) in
-        let stable_same : stable ≡ stable' = same_bool stable stable' (ap (λ g. head (tail (tail g))) e) in
-        let keys_same : keys ≡ keys' = same_keys keys keys' (ap (λ g. head (tail (tail (tail g)))) e) in
-        let returned_same : returned ≡ returned' = same_syntax returned returned' (ap (λ g. head (tail (tail (tail (tail g))))) e) in
-        λ i. flwor (clauses_same i) (stable_same i) (keys_same i) (returned_same i)
+        let order_same : order ≡ order' = coded_places.inj order order' (ap (λ g. head (tail (tail g))) e) in
+        let stable_same : stable ≡ stable' = same_bool stable stable' (ap (λ g. head (tail (tail (tail g)))) e) in
+        let keys_same : keys ≡ keys' = same_keys keys keys' (ap (λ g. head (tail (tail (tail (tail g))))) e) in
+        let returned_same : returned ≡ returned' = same_syntax returned returned' (ap (λ g. head (tail (tail (tail (tail (tail g)))))) e) in
+        λ i. flwor (clauses_same i) (order_same i) (stable_same i) (keys_same i) (returned_same i)
     same_form (quantified every bindings condition) (quantified every' bindings' condition') e =
         let every_same : every ≡ every' = same_bool every every' (ap (λ g. head (tail g)) e) in
         let bindings_same : bindings ≡ bindings' = same_bindings bindings bindings' (ap (λ g. head (tail (tail g))) e) in
@@ -197,10 +198,11 @@ module _ (coded_places : Coded Place) (coded_names : Coded QName) (coded_numbers
         let step_same : step ≡ step' = coded_steps.inj step step' (ap (λ g. head (tail g)) e) in
         λ i. axis_step (step_same i)
     same_form parent_step parent_step e = λ i. parent_step
-    same_form (filtered operand predicates) (filtered operand' predicates') e =
-        let operand_same : operand ≡ operand' = same_syntax operand operand' (ap (λ g. head (tail g)) e) in
-        let predicates_same : predicates ≡ predicates' = same_syntaxes predicates predicates' (ap (λ g. head (tail (tail g))) e) in
-        λ i. filtered (operand_same i) (predicates_same i)
+    same_form (filtered bracket operand predicates) (filtered bracket' operand' predicates') e =
+        let bracket_same : bracket ≡ bracket' = coded_places.inj bracket bracket' (ap (λ g. head (tail g)) e) in
+        let operand_same : operand ≡ operand' = same_syntax operand operand' (ap (λ g. head (tail (tail g))) e) in
+        let predicates_same : predicates ≡ predicates' = same_syntaxes predicates predicates' (ap (λ g. head (tail (tail (tail g)))) e) in
+        λ i. filtered (bracket_same i) (operand_same i) (predicates_same i)
     same_form (direct name attributes content) (direct name' attributes' content') e =
         let name_same : name ≡ name' = coded_names.inj name name' (ap (λ g. head (tail g)) e) in
         let attributes_same : attributes ≡ attributes' = same_attributes attributes attributes' (ap (λ g. head (tail (tail g))) e) in

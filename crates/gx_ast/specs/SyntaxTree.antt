@@ -27,7 +27,7 @@ mutual
     context_item : SyntaxForm
     call : (name : QName) → (arguments : SyntaxTrees) → SyntaxForm
     comma : (first : SyntaxTree) → (second : SyntaxTree) → SyntaxForm
-    flwor : (clauses : Clauses) → (stable : Bool) → (keys : Keys) → (returned : SyntaxTree) → SyntaxForm
+    flwor : (clauses : Clauses) → (order : Place) → (stable : Bool) → (keys : Keys) → (returned : SyntaxTree) → SyntaxForm
     quantified : (every : Bool) → (bindings : Bindings) → (condition : SyntaxTree) → SyntaxForm
     typeswitch : (operand : SyntaxTree) → (cases : Cases) → (default : DefaultHead) → (otherwise : SyntaxTree) → SyntaxForm
     conditional : (test : SyntaxTree) → (chosen : SyntaxTree) → (otherwise : SyntaxTree) → SyntaxForm
@@ -40,7 +40,7 @@ mutual
     path : (descendants : Bool) → (left : SyntaxTree) → (right : SyntaxTree) → SyntaxForm
     axis_step : (step : AxisStep) → SyntaxForm
     parent_step : SyntaxForm
-    filtered : (operand : SyntaxTree) → (predicates : SyntaxTrees) → SyntaxForm
+    filtered : (bracket : Place) → (operand : SyntaxTree) → (predicates : SyntaxTrees) → SyntaxForm
     direct : (name : QName) → (attributes : Attributes) → (content : Parts) → SyntaxForm
     document_node : (content : SyntaxTree) → SyntaxForm
     text_node : (content : SyntaxTree) → SyntaxForm
@@ -109,7 +109,7 @@ abbrev mutual
   form_size context_item = 1
   form_size (call name arguments) = 1 + syntaxes_size arguments
   form_size (comma first second) = 1 + syntax_size first + syntax_size second
-  form_size (flwor clauses stable keys returned) = 1 + clauses_size clauses + keys_size keys + syntax_size returned
+  form_size (flwor clauses order stable keys returned) = 1 + clauses_size clauses + keys_size keys + syntax_size returned
   form_size (quantified every bindings condition) = 1 + bindings_size bindings + syntax_size condition
   form_size (typeswitch operand cases default otherwise) = 1 + syntax_size operand + cases_size cases + syntax_size otherwise
   form_size (conditional test chosen otherwise) = 1 + syntax_size test + syntax_size chosen + syntax_size otherwise
@@ -122,7 +122,7 @@ abbrev mutual
   form_size (path descendants left right) = 1 + syntax_size left + syntax_size right
   form_size (axis_step step) = 1
   form_size parent_step = 1
-  form_size (filtered operand predicates) = 1 + syntax_size operand + syntaxes_size predicates
+  form_size (filtered bracket operand predicates) = 1 + syntax_size operand + syntaxes_size predicates
   form_size (direct name attributes content) = 1 + attributes_size attributes + parts_size content
   form_size (document_node content) = 1 + syntax_size content
   form_size (text_node content) = 1 + syntax_size content

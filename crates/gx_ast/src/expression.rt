@@ -147,11 +147,13 @@ pub struct Call {
     pub arguments: Vec<Expr>,
 }
 
-/// A FLWOR, and whether its order is stable (XQuery 1.0, section 3.8).
+/// A FLWOR, and whether its order is stable (XQuery 1.0, section 3.8). `order` is the place of the first word of the clause that
+/// orders, or, where there is none, that of `return`.
 #[cycle(expression)]
 #[derive(Drop)]
 pub struct Flwor {
     pub clauses: Vec<Clause>,
+    pub order: Place,
     pub stable: bool,
     pub keys: Vec<Key>,
     pub returned: Expr,
@@ -176,10 +178,11 @@ pub struct Typeswitch {
     pub otherwise: Expr,
 }
 
-/// An expression with its predicates (XQuery 1.0, sections 3.2.2 and 3.3.2).
+/// An expression with its predicates, of which the first `[` has the place (XQuery 1.0, sections 3.2.2 and 3.3.2).
 #[cycle(expression)]
 #[derive(Drop)]
 pub struct Filtered {
+    pub place: Place,
     pub operand: Expr,
     pub predicates: Vec<Expr>,
 }

@@ -8,7 +8,7 @@ use Rattle.gx_model.specs.Honest.{IsHonestTree}
 use Rattle.gx_model.proofs.UntypedTrees.{untyped_is_typed}
 use Rattle.gx_xml.specs.Reading.{IsDocumentOf}
 use Rattle.gx_xml.specs.Sound.{IsSoundSource}
-use Rattle.gx_xml.specs.SourceTree.{SourceTree, source}
+use Rattle.gx_xml.specs.SourceTree.{SourceTree, source, tree_name}
 use Rattle.gx_xml.specs.Untyped.{untyped_document}
 use Rattle.gx_xml.proofs.OneReading.{sound_source}
 use Rattle.gx_xml.proofs.UntypedDocuments.{document_is_proper, document_is_untyped, document_has_own_names}
@@ -23,7 +23,6 @@ use Rattle.gx_types.specs.ItemTakes.{ItemTakes}
 use Rattle.gx_types.proofs.EqualNames.{names_are_equivalent}
 use Rattle.gx_types.proofs.PublicLaws.{derivation_is_a_preorder}
 use Rattle.gx_model.specs.Belongs.{shape_of}
-use Rattle.gx_schema_syntax.specs.Contents.{tree_name}
 use Rattle.gx_xml.specs.declared.source.Declaration.{Declaration}
 use Rattle.gx_xml.specs.declared.source.SourceAttribute.{SourceAttribute}
 use Rattle.gx_validate.specs.Outcome.{root_type}

@@ -112,7 +112,7 @@ abbrev mutual
   form_refusals environment place context_item = []
   form_refusals environment place (call name arguments) = call_refusals environment place name (count_trees arguments) ++ trees_refusals environment arguments
   form_refusals environment place (comma first second) = tree_refusals environment first ++ tree_refusals environment second
-  form_refusals environment place (flwor clauses stable keys returned) =
+  form_refusals environment place (flwor clauses order stable keys returned) =
       clauses_refusals clauses (λ inner. keys_refusals inner keys ++ tree_refusals inner returned) environment
   form_refusals environment place (quantified every bindings condition) = bindings_refusals bindings (λ inner. tree_refusals inner condition) environment
   form_refusals environment place (typeswitch operand cases default otherwise) =
@@ -130,7 +130,7 @@ abbrev mutual
   form_refusals environment place (path descendants left right) = tree_refusals environment left ++ tree_refusals environment right
   form_refusals environment place (axis_step step) = step_refusals environment step
   form_refusals environment place parent_step = []
-  form_refusals environment place (filtered operand predicates) = tree_refusals environment operand ++ trees_refusals environment predicates
+  form_refusals environment place (filtered bracket operand predicates) = tree_refusals environment operand ++ trees_refusals environment predicates
   form_refusals environment place (direct name attributes content) =
       namespaces_refusals [] attributes
       ++ (prefix_refusals (element_name (with_namespaces attributes environment) name) name.place

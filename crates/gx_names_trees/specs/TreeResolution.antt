@@ -87,7 +87,7 @@ abbrev mutual
   form_resolved environment place (call name arguments) = resolved_at place (call_resolved environment name (count_trees arguments)) (trees_resolved environment arguments)
   form_resolved environment place (comma first second) =
       resolved_at place constructs.Sequence (two_resolved (tree_resolved environment first) (tree_resolved environment second))
-  form_resolved environment place (flwor clauses stable keys returned) =
+  form_resolved environment place (flwor clauses order stable keys returned) =
       resolved_at place constructs.Flwor
       (clauses_resolved clauses (λ inner. and_parts (keys_resolved inner keys) (one_resolved (tree_resolved inner returned))) environment)
   form_resolved environment place (quantified every bindings condition) =
@@ -115,7 +115,7 @@ abbrev mutual
       resolved_at place (constructs.Path descendants) (two_resolved (tree_resolved environment left) (tree_resolved environment right))
   form_resolved environment place (axis_step step) = resolved_at place (constructs.Step (axis_of_step step) (step_tested environment step)) no_resolved
   form_resolved environment place parent_step = resolved_at place constructs.ParentStep no_resolved
-  form_resolved environment place (filtered operand predicates) =
+  form_resolved environment place (filtered bracket operand predicates) =
       resolved_at place constructs.Filtered (a_resolved (tree_resolved environment operand) (trees_resolved environment predicates))
   form_resolved environment place (direct name attributes content) =
       resolved_at place (direct_element_resolved (with_namespaces attributes environment) name)

@@ -376,8 +376,8 @@ impl<'a, 's> Resolving<'a, 's> {
         operand: &'a Expr,
         predicates: &'a [Expr],
     ) -> Result<(), AllocError>
-        ensures refusals { OnOk result (refusals_of_rest self.new ≡ form_refusals self.old.names place (filtered operand.now (trees_of predicates.now)) ++ refusals_of_rest self.old) }
-        ensures trees { OnOk result (trees_of_rest self.new ≡ trees_behind (form_resolved self.old.names place (filtered operand.now (trees_of predicates.now))) self.old) }
+        ensures refusals { OnOk result (refusals_of_rest self.new ≡ form_refusals self.old.names place (filtered place operand.now (trees_of predicates.now)) ++ refusals_of_rest self.old) }
+        ensures trees { OnOk result (trees_of_rest self.new ≡ trees_behind (form_resolved self.old.names place (filtered place operand.now (trees_of predicates.now))) self.old) }
     {
         let tasks = &mut self.tasks;
         let unfinished = &mut self.unfinished;

@@ -32,7 +32,7 @@ abbrev mutual
   form_uses environment context_item = []
   form_uses environment (call name arguments) = function_used (called_name environment name) (count_trees arguments) ++ trees_uses environment arguments
   form_uses environment (comma first second) = tree_uses environment first ++ tree_uses environment second
-  form_uses environment (flwor clauses stable keys returned) =
+  form_uses environment (flwor clauses order stable keys returned) =
       clauses_uses clauses (λ inner. keys_uses inner keys ++ tree_uses inner returned) environment
   form_uses environment (quantified every bindings condition) = bindings_uses bindings (λ inner. tree_uses inner condition) environment
   form_uses environment (typeswitch operand cases default otherwise) =
@@ -47,7 +47,7 @@ abbrev mutual
   form_uses environment (path descendants left right) = tree_uses environment left ++ tree_uses environment right
   form_uses environment (axis_step step) = []
   form_uses environment parent_step = []
-  form_uses environment (filtered operand predicates) = tree_uses environment operand ++ trees_uses environment predicates
+  form_uses environment (filtered bracket operand predicates) = tree_uses environment operand ++ trees_uses environment predicates
   form_uses environment (direct name attributes content) =
       attributes_uses (with_namespaces attributes environment) attributes ++ parts_uses (with_namespaces attributes environment) content
   form_uses environment (document_node content) = tree_uses environment content

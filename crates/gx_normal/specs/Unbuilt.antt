@@ -17,9 +17,6 @@ abbrev pub earlier_place : Option Place → Option Place → Option Place
 earlier_place None later = later
 earlier_place (Some place) later = Some place
 
-abbrev pub place_of_tree : SyntaxTree → Place
-place_of_tree (at place form) = place
-
 -- an operator, at its place
 abbrev pub unbuilt_operator : BinaryOperator → Place → Option Place
 unbuilt_operator Is place = Some place
@@ -42,15 +39,10 @@ abbrev pub unbuilt_if : Bool → Place → Option Place
 unbuilt_if true place = Some place
 unbuilt_if false place = None
 
--- predicates, at the first of them
-abbrev pub unbuilt_predicates : SyntaxTrees → Place → Place
-unbuilt_predicates no_tree place = place
-unbuilt_predicates (a_tree first others) place = place_of_tree first
-
--- sort keys, at the first of them
-abbrev pub unbuilt_keys : Keys → Option Place
-unbuilt_keys no_key = None
-unbuilt_keys (a_key value order others) = Some (place_of_tree value)
+-- a clause that orders, at its first word
+abbrev pub unbuilt_keys : Keys → Place → Option Place
+unbuilt_keys no_key place = None
+unbuilt_keys (a_key value order others) place = Some place
 
 abbrev mutual
   pub first_unbuilt : SyntaxTree → Option Place
@@ -64,7 +56,7 @@ abbrev mutual
   unbuilt_form place (parenthesised inner) = first_unbuilt inner
   unbuilt_form place (call name arguments) = unbuilt_trees arguments
   unbuilt_form place (comma first second) = earlier_place (first_unbuilt first) (first_unbuilt second)
-  unbuilt_form place (flwor clauses stable keys returned) = earlier_place (unbuilt_clauses clauses) (earlier_place (unbuilt_keys keys) (first_unbuilt returned))
+  unbuilt_form place (flwor clauses order stable keys returned) = earlier_place (unbuilt_clauses clauses) (earlier_place (unbuilt_keys keys order) (first_unbuilt returned))
   unbuilt_form place (conditional test chosen otherwise) = earlier_place (first_unbuilt test) (earlier_place (first_unbuilt chosen) (first_unbuilt otherwise))
   unbuilt_form place (binary operator left right) = earlier_place (first_unbuilt left) (earlier_place (unbuilt_operator operator place) (first_unbuilt right))
   unbuilt_form place (castable_as operand kind) = first_unbuilt operand
@@ -76,7 +68,7 @@ abbrev mutual
   unbuilt_form place (path descendants left right) = earlier_place (first_unbuilt left) (earlier_place (unbuilt_if descendants place) (first_unbuilt right))
   unbuilt_form place (axis_step step) = unbuilt_if (is_far_axis step.axis) place
   unbuilt_form place parent_step = None
-  unbuilt_form place (filtered operand predicates) = earlier_place (first_unbuilt operand) (Some (unbuilt_predicates predicates place))
+  unbuilt_form place (filtered bracket operand predicates) = earlier_place (first_unbuilt operand) (Some bracket)
   unbuilt_form place _ = Some place
 
   pub unbuilt_trees : SyntaxTrees → Option Place

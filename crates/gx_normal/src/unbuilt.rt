@@ -4,7 +4,7 @@ ghost use Rattle.std.specs.Prelude.{◌≡◌, ◌∷◌, IfOk, OnOk};
 ghost use Rattle.gx_ast.specs.SyntaxView.{keys_of, trees_of};
 ghost use Rattle.gx_normal.specs.declared.unbuilt.Pending.TheVariants as pendings;
 ghost use Rattle.gx_normal.specs.Searching.{first_of_all};
-ghost use Rattle.gx_normal.specs.Unbuilt.{first_unbuilt, earlier_place, unbuilt_definition, unbuilt_definitions, unbuilt_keys, unbuilt_operator, unbuilt_predicates, unbuilt_query, unbuilt_if, is_far_axis};
+ghost use Rattle.gx_normal.specs.Unbuilt.{first_unbuilt, earlier_place, unbuilt_definition, unbuilt_definitions, unbuilt_keys, unbuilt_operator, unbuilt_query, unbuilt_if, is_far_axis};
 
 use gx_ast::expression::{BinaryOperator, Binding, Clause, Expr, ExprNode, Key};
 use gx_ast::name::Axis;
@@ -191,7 +191,7 @@ fn open_tree<'a>(tree: &'a Expr, pending: &mut Stack<Pending<'a>>) -> Result<(),
         }
         ExprNode::Flwor(flwor) => {
             pending.push(Pending::Tree(&flwor.returned))?;
-            pending.push(Pending::Found(unbuilt_keys(flwor.keys.as_slice())))?;
+            pending.push(Pending::Found(unbuilt_keys(&flwor.keys, flwor.order)))?;
             pending.push(Pending::Clauses(flwor.clauses.as_slice()))
         }
         ExprNode::InstanceOf(operand, _) | ExprNode::TreatAs(operand, _) => {
@@ -200,11 +200,7 @@ fn open_tree<'a>(tree: &'a Expr, pending: &mut Stack<Pending<'a>>) -> Result<(),
         ExprNode::Path(descendants, left, right) => {
             open_three(left, unbuilt_if(*descendants, tree.place), right, pending)
         }
-        ExprNode::Filtered(filtered) => open_front(
-            &filtered.operand,
-            unbuilt_predicates(filtered.predicates.as_slice(), tree.place),
-            pending,
-        ),
+        ExprNode::Filtered(filtered) => open_front(&filtered.operand, filtered.place, pending),
         _ => pending.push(Pending::Found(Some(tree.place))),
     }
 }
@@ -251,20 +247,11 @@ fn unbuilt_operator(operator: BinaryOperator, place: Place) -> Option<Place>
     }
 }
 
-fn unbuilt_keys(keys: &[Key]) -> Option<Place>
-    ensures { result ≡ unbuilt_keys (keys_of keys.now) }
+fn unbuilt_keys(keys: &[Key], order: Place) -> Option<Place>
+    ensures { result ≡ unbuilt_keys (keys_of keys.now) order }
 {
     match keys {
         [] => None,
-        [first, ..] => Some(first.value.place),
-    }
-}
-
-fn unbuilt_predicates(predicates: &[Expr], place: Place) -> Place
-    ensures { result ≡ unbuilt_predicates (trees_of predicates.now) place }
-{
-    match predicates {
-        [] => place,
-        [first, ..] => first.place,
+        [_, ..] => Some(order),
     }
 }

@@ -16,7 +16,7 @@ use Rattle.gx_parse_grammar.specs.declared.kind_words.KindWord.{KindWord}
 use Rattle.gx_parse_grammar.specs.declared.kind_words.TestContent.{TestContent}
 use Rattle.gx_parse_tokens.specs.declared.names.ReadName.{ReadName}
 use Rattle.gx_parse_tokens.specs.Names.{name_made, part_made}
-use Rattle.gx_parse_grammar.specs.Nodes.{Made, name_at, name_length, predicate_value, predicates_in, filtered_value, place_of, tree}
+use Rattle.gx_parse_grammar.specs.Nodes.{Made, name_at, name_length, predicate_value, predicates_in, filtered_value, placed_value, place_of, tree}
 use Rattle.gx_parse_grammar.specs.Tokens.{gap, barred}
 use Rattle.gx_parse_grammar.specs.Types.{kind_word}
 use Rattle.gx_parse_grammar.specs.NodeTests.{test_of, step_tree, maybe_content, kind_content}
@@ -45,9 +45,9 @@ predicates_are : (us : List SyntaxTree) → predicates_in (predicates_before us 
 predicates_are [] = refl
 predicates_are (u ∷ us) = ap (a_tree u) (predicates_are us)
 
-pub filtered_is : (t : SyntaxTree) (us : List SyntaxTree) → filtered_value (pair (tree t) (predicates_before us nothing)) ≡ tree (filtered_tree t us)
-filtered_is t [] = refl
-filtered_is t (u ∷ us) = ap (λ ts. tree (located (place_of t) (filtered t (a_tree u ts)))) (predicates_are us)
+pub filtered_is : (t : SyntaxTree) (bracket : Place) (us : List SyntaxTree) → filtered_value (pair (tree t) (placed_value bracket (predicates_before us nothing))) ≡ tree (filtered_tree t bracket us)
+filtered_is t bracket [] = refl
+filtered_is t bracket (u ∷ us) = ap (λ ts. tree (located (place_of t) (filtered bracket t (a_tree u ts)))) (predicates_are us)
 
 pub one_before : (us : List SyntaxTree) (u : SyntaxTree) (w : Made) → predicates_before (us ++ u ∷ []) w ≡ predicates_before us (pair (tree u) w)
 one_before [] u w = refl
@@ -115,8 +115,16 @@ module _ (text : List ℕ) (n : ℕ) where
   unfolding more_predicates
   predicates_full taken a b c t h i = in_left text n (at_tokens (barred barrier.Predicate ∷ [])) (token (barred barrier.Predicate)) empty nothing taken a b c t h (in_token text n (barred barrier.Predicate) nothing b c i)
 
-  pub filtered_read : (before : Phrase) (t : SyntaxTree) (us : List SyntaxTree) (a b c : Standing) → Ran (tree t) a b (reading before) → Ran (predicates_before us nothing) b c (reading (more_predicates (place_in text) n 64)) → Ran (tree (filtered_tree t us)) a c (reading (filtered_step (place_in text) n before))
+  -- predicates, behind the place of the first `[`
+  abbrev placed_predicates : Phrase
+  placed_predicates = made (λ left v. placed_value (place_in text left) v) (more_predicates (place_in text) n 64)
+
+  pub filtered_read : (before : Phrase) (t : SyntaxTree) (bracket : Place) (us : List SyntaxTree) (a b c : Standing) → bracket ≡ place_in text (left_of b) → Ran (tree t) a b (reading before)
+      → Ran (predicates_before us nothing) b c (reading (more_predicates (place_in text) n 64)) → Ran (tree (filtered_tree t bracket us)) a c (reading (filtered_step (place_in text) n before))
   unfolding filtered_step
-  filtered_read before t us a b c h k =
-      subst (λ v. Ran v a c (reading (made (λ left v. filtered_value v) (before & more_predicates (place_in text) n 64)))) (filtered_is t us)
-      (in_made text n (λ left v. filtered_value v) (before & more_predicates (place_in text) n 64) (pair (tree t) (predicates_before us nothing)) a c (in_both text n before (more_predicates (place_in text) n 64) (tree t) (predicates_before us nothing) a b c h k))
+  filtered_read before t bracket us a b c e h k =
+      subst (λ p. Ran (tree (filtered_tree t p us)) a c (reading (made (λ left v. filtered_value v) (before & placed_predicates)))) (sym e)
+      (subst (λ v. Ran v a c (reading (made (λ left v. filtered_value v) (before & placed_predicates)))) (filtered_is t (place_in text (left_of b)) us)
+      (in_made text n (λ left v. filtered_value v) (before & placed_predicates) (pair (tree t) (placed_value (place_in text (left_of b)) (predicates_before us nothing))) a c
+      (in_both text n before placed_predicates (tree t) (placed_value (place_in text (left_of b)) (predicates_before us nothing)) a b c h
+      (in_made text n (λ left v. placed_value (place_in text left) v) (more_predicates (place_in text) n 64) (predicates_before us nothing) b c k))))

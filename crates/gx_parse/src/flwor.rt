@@ -68,11 +68,20 @@ pub fn flwor(
     let first = clause_of(word, place, list);
     let begun = with_clause(reader, Vec::new(source.alloc()), first);
     let clauses = more_clauses(reader, source, levels, begun);
+    let order = source.place(reader.left());
     let stable = reader.looks_at(WordSet::Only(Word::Stable));
     let keys = order_clause(reader, source, levels, stable);
     keyword(reader, Word::Return);
     let returned = single(reader, source, levels);
-    let made = trees::flwor(source.alloc(), place, clauses, stable, keys, returned);
+    let made = trees::flwor(
+        source.alloc(),
+        place,
+        clauses,
+        order,
+        stable,
+        keys,
+        returned,
+    );
     keep(reader, made)
 }
 

@@ -49,8 +49,9 @@ pub fn path(reader: &mut Reader<'_>, source: &Source<'_>, levels: u8, first: Exp
 pub fn filtered(reader: &mut Reader<'_>, source: &Source<'_>, levels: u8, first: Expr) -> Expr
     ensures { (before : Phrase) (a : Standing) → Ran (tree first) a reader.old (read_in source.now levels before) → Ran (tree result) a reader.new (read_in source.now levels (filtered_step (place_in source.now) levels before)) }
 {
+    let bracket = source.place(reader.left());
     let list = more_predicates(reader, source, levels, Vec::new(source.alloc()), PREDICATES);
-    let made = trees::filtered(source.alloc(), first, list);
+    let made = trees::filtered(source.alloc(), first, bracket, list);
     keep(reader, made)
 }
 

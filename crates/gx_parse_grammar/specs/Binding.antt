@@ -18,7 +18,7 @@ use Rattle.gx_parse_grammar.specs.declared.word.Opening.TheVariants as opening_i
 use Rattle.gx_parse_grammar.specs.declared.word.Binder.{Binder}
 use Rattle.gx_parse_grammar.specs.declared.word.Binder.TheVariants as binder
 use Rattle.gx_parse_grammar.specs.Words.{clause_word_of, binder_in, binding_word, is_keyword}
-use Rattle.gx_parse_grammar.specs.Nodes.{Made, Tree, Found, MaybeBound, MaybeType, Binds, BindingClause, WhereClause, second_value, name_length, tree}
+use Rattle.gx_parse_grammar.specs.Nodes.{Made, Tree, Found, MaybeBound, MaybeType, Binds, BindingClause, WhereClause, second_value, name_length, tree, At, placed_value}
 use Rattle.gx_parse_grammar.specs.Tokens.{one_of, gap, gap_then_dollar, barred_words}
 use Rattle.gx_parse_grammar.specs.Basics.{Phrase, single, word_of, lexeme, word_gap, keyword, at_tokens, is_name}
 use Rattle.gx_parse_grammar.specs.Types.{written_name}
@@ -67,7 +67,8 @@ where_value place _ = nothing
 
 -- a `$`, the first bindings, the other clauses, how they are ordered, `return` and an expression
 abbrev pub flwor_value : ClauseWord → Place → Made → Made
-flwor_value b place (pair dollar (pair bs (pair cs (pair order (pair w (node (Tree t))))))) = tree (located place (flwor_form (clause_before b place (bindings_in bs) (clauses_in cs)) (is_stable order) (clause_keys order) t))
+flwor_value b place (pair dollar (pair bs (pair cs (pair (pair (node (At behind)) order) (pair w (node (Tree t))))))) =
+    tree (located place (flwor_form (clause_before b place (bindings_in bs) (clauses_in cs)) behind (is_stable order) (clause_keys order) t))
 flwor_value b place _ = nothing
 
 -- a `$`, the bindings, `satisfies` and an expression
@@ -130,7 +131,7 @@ module _ (at : ℕ → Place) where
   unfoldable pub flwor : ℕ → ClauseWord → Made → Phrase
   flwor n b v =
       made (λ left u. flwor_value b (at (left + name_length v)) u)
-      (token gap_then_dollar & bindings n (binder_in b) first_bound & more_clauses n 63 & order_clause at n & keyword word.Return & rule (single n))
+      (token gap_then_dollar & bindings n (binder_in b) first_bound & more_clauses n 63 & made (λ left v. placed_value (at left) v) (order_clause at n) & keyword word.Return & rule (single n))
 
   -- a quantified expression behind its first word
   unfoldable pub quantified : ℕ → Bool → Made → Phrase

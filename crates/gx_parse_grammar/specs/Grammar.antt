@@ -49,7 +49,7 @@ use Rattle.gx_parse_grammar.specs.Strings.{string_of}
 use Rattle.gx_parse_grammar.specs.Direct.{start_of, element_at, direct_step}
 use Rattle.gx_parse_grammar.specs.Types.{kind_word}
 use Rattle.gx_parse_grammar.specs.NodeTests.{axis_word, test_of, step_tree, wildcard_or, any_step, axis_test, attribute_step, wildcard_step, kind_content}
-use Rattle.gx_parse_grammar.specs.Nodes.{Node, Made, Arguments, Constructs, Content, Test, predicate_value, filtered_value, Join, join_binary, join_path, join_comma, second_value, chain_value, signed_value, number_value, name_at, name_length, variable_value, arguments_value, named_value, dots_value, parenthesised_value, condition_value, tree}
+use Rattle.gx_parse_grammar.specs.Nodes.{Node, Made, Arguments, Constructs, Content, Test, predicate_value, filtered_value, placed_value, Join, join_binary, join_path, join_comma, second_value, chain_value, signed_value, number_value, name_at, name_length, variable_value, arguments_value, named_value, dots_value, parenthesised_value, condition_value, tree}
 
 -- an operand stands beside at most one other
 abbrev pub is_single : Level → Bool
@@ -209,7 +209,7 @@ module _ (at : ℕ → Place) where
 
   -- a step with its predicates
   unfoldable pub filtered_step : ℕ → Phrase → Phrase
-  filtered_step n first = made (λ left v. filtered_value v) (first & more_predicates n 64)
+  filtered_step n first = made (λ left v. filtered_value v) (first & made (λ left v. placed_value (at left) v) (more_predicates n 64))
 
   -- a path with its first step
   unfoldable pub path_from : ℕ → Phrase → Phrase

@@ -40,6 +40,7 @@ pub data Node : Type 0 where
   Tree : SyntaxTree → Node
   Found : Word → Node
   Operator : Place → Word → Node
+  At : Place → Node
   Name : QName → Node
   Arguments : SyntaxTrees → Node
   -- of types: a name or none, what stands in the parentheses of a test, what stands behind a type's name, a type, and
@@ -242,9 +243,13 @@ abbrev pub predicates_in : Made → SyntaxTrees
 predicates_in (pair (node (Tree t)) others) = a_tree t (predicates_in others)
 predicates_in _ = no_tree
 
+-- a part, behind the place where it stands
+abbrev pub placed_value : Place → Made → Made
+placed_value place v = pair (node (At place)) v
+
 -- a step with its predicates, if any stand there
 abbrev pub filtered_value : Made → Made
-filtered_value (pair (node (Tree t)) (pair p others)) = tree (at (place_of t) (filtered t (predicates_in (pair p others))))
+filtered_value (pair (node (Tree t)) (pair (node (At bracket)) (pair p others))) = tree (at (place_of t) (filtered bracket t (predicates_in (pair p others))))
 filtered_value (pair (node (Tree t)) _) = tree t
 filtered_value _ = nothing
 

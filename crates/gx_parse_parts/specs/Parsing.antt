@@ -85,9 +85,9 @@ abbrev pub predicates_before : List SyntaxTree → Made → Made
 predicates_before [] w = w
 predicates_before (u ∷ us) w = pair (tree u) (predicates_before us w)
 
-abbrev pub filtered_tree : SyntaxTree → List SyntaxTree → SyntaxTree
-filtered_tree t [] = t
-filtered_tree t (u ∷ us) = located (place_of t) (filtered t (trees_of (u ∷ us)))
+abbrev pub filtered_tree : SyntaxTree → (bracket : Place) → List SyntaxTree → SyntaxTree
+filtered_tree t bracket [] = t
+filtered_tree t bracket (u ∷ us) = located (place_of t) (filtered bracket t (trees_of (u ∷ us)))
 
 -- signs that were read, and the operand with them
 abbrev pub signs_before : List Sign → Made → Made

@@ -171,14 +171,16 @@ pub fn flwor(
     alloc: Global,
     place: Place,
     clauses: Vec<Clause>,
+    order: Place,
     stable: bool,
     keys: Vec<Key>,
     returned: Expr,
 ) -> Result<Expr, AllocError>
-    ensures { IfOk result (λ e. e ≡ at place (flwor_form (clauses_of clauses.items) stable (keys_of keys.items) returned)) }
+    ensures { IfOk result (λ e. e ≡ at place (flwor_form (clauses_of clauses.items) order stable (keys_of keys.items) returned)) }
 {
     let flwor = Flwor {
         clauses,
+        order,
         stable,
         keys,
         returned,
@@ -287,15 +289,21 @@ pub fn tested(
     Ok(step(place, None, test))
 }
 
-/// A step with its predicates, if there are any.
-pub fn filtered(alloc: Global, step: Expr, predicates: Vec<Expr>) -> Result<Expr, AllocError>
-    ensures { IfOk result (λ e. e ≡ filtered_tree step predicates.items) }
+/// A step with its predicates, if there are any, the first `[` of which has the place.
+pub fn filtered(
+    alloc: Global,
+    step: Expr,
+    bracket: Place,
+    predicates: Vec<Expr>,
+) -> Result<Expr, AllocError>
+    ensures { IfOk result (λ e. e ≡ filtered_tree step bracket predicates.items) }
 {
     if predicates.is_empty() {
         return Ok(step);
     }
     let place = step.place;
     let filtered = Filtered {
+        place: bracket,
         operand: step,
         predicates,
     };

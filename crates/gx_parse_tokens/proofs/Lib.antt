@@ -1,6 +1,5 @@
 pub mod EqualTexts
 pub mod Finding
-pub mod GapSteps
 pub mod MarkupScans
 pub mod NameScans
 pub mod NameTables

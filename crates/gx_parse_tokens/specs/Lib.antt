@@ -1,4 +1,3 @@
-pub mod GapSteps
 pub mod Indications
 pub mod Markup
 pub mod Names

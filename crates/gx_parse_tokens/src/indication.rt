@@ -5,8 +5,8 @@ ghost use Rattle.gx_grammar.specs.First.{head_passes};
 ghost use Rattle.gx_parse_tokens.specs.Indications.{found_made};
 ghost use Rattle.gx_parse_grammar.specs.Tokens.{indication, scan, seen, stops_type};
 
-use crate::gap::gap;
 use crate::scan::find;
+use gx_gaps::gap::gap;
 use gx_parse_grammar::word::{Word, WordSet};
 
 /// An indicator at the front of a text.

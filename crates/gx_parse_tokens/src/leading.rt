@@ -5,8 +5,8 @@ ghost use Rattle.gx_grammar.specs.Value.{node};
 ghost use Rattle.gx_parse_grammar.specs.Nodes.{Found as the_word};
 ghost use Rattle.gx_parse_grammar.specs.Tokens.{leading, scan, seen};
 
-use crate::gap::gap;
 use crate::scan::{Found, find, find_word};
+use gx_gaps::gap::gap;
 use gx_parse_grammar::word::{Word, WordSet};
 
 /// The word with one of the others behind it, which is the one that was found.

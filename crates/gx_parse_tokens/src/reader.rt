@@ -22,7 +22,7 @@ ghost use Rattle.gx_parse_grammar.specs.Types.{Gave};
 
 use crate::characters::{begins_at, begins_attribute};
 use crate::constructor::{find_constructor, look_at_constructor, starts_constructor};
-use crate::gap;
+use crate::gap::{dollar, neither, no_parenthesis, parenthesis};
 use crate::indication::find_indication;
 use crate::leading::find_leading;
 use crate::markup::{
@@ -38,6 +38,7 @@ use crate::shared_texts::SharedTexts;
 use gx_base::characters::is_name_start;
 use gx_base::text::Text;
 use gx_base::text_builder::TextBuilder;
+use gx_gaps::gap::gap;
 use gx_num::Number;
 use gx_parse_grammar::runs::{Quote, Run};
 use gx_parse_grammar::word::{Barrier, Word, WordSet};
@@ -131,7 +132,7 @@ impl Reader<'_> {
         if self.end.is_some() {
             return;
         }
-        let found = gap::gap(self.rest);
+        let found = gap(self.rest);
         self.far = self.far.min(found.seen);
         match found.behind {
             Some(behind) => self.rest = behind,
@@ -385,7 +386,7 @@ impl Reader<'_> {
         if self.end.is_some() {
             return false;
         }
-        let found = gap::parenthesis(self.rest);
+        let found = parenthesis(self.rest);
         self.far = self.far.min(found.seen);
         found.behind.is_some()
     }
@@ -398,7 +399,7 @@ impl Reader<'_> {
         if self.end.is_some() {
             return;
         }
-        let found = gap::parenthesis(self.rest);
+        let found = parenthesis(self.rest);
         self.far = self.far.min(found.seen);
         match found.behind {
             Some(behind) => self.rest = behind,
@@ -414,7 +415,7 @@ impl Reader<'_> {
         if self.end.is_some() {
             return;
         }
-        let found = gap::no_parenthesis(self.rest);
+        let found = no_parenthesis(self.rest);
         self.far = self.far.min(found.seen);
         match found.behind {
             Some(behind) => self.rest = behind,
@@ -429,7 +430,7 @@ impl Reader<'_> {
         if self.end.is_some() {
             return false;
         }
-        let found = gap::dollar(self.rest);
+        let found = dollar(self.rest);
         self.far = self.far.min(found.seen);
         found.behind.is_some()
     }
@@ -442,7 +443,7 @@ impl Reader<'_> {
         if self.end.is_some() {
             return;
         }
-        let found = gap::dollar(self.rest);
+        let found = dollar(self.rest);
         self.far = self.far.min(found.seen);
         match found.behind {
             Some(behind) => self.rest = behind,
@@ -458,7 +459,7 @@ impl Reader<'_> {
         if self.end.is_some() {
             return;
         }
-        let found = gap::neither(self.rest);
+        let found = neither(self.rest);
         self.far = self.far.min(found.seen);
         match found.behind {
             Some(behind) => self.rest = behind,

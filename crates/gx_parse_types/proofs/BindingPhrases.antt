@@ -19,7 +19,7 @@ use Rattle.gx_parse_grammar.specs.declared.word.Opening.TheVariants as opening_i
 use Rattle.gx_parse_grammar.specs.declared.word.Binder.{Binder}
 use Rattle.gx_parse_grammar.specs.declared.word.Binder.TheVariants as binder
 use Rattle.gx_parse_grammar.specs.Words.{clause_word_of, binder_in, binding_word, is_keyword}
-use Rattle.gx_parse_grammar.specs.Nodes.{Made, Found, BindingClause, WhereClause, second_value, name_length, tree}
+use Rattle.gx_parse_grammar.specs.Nodes.{Made, Found, BindingClause, WhereClause, second_value, name_length, tree, placed_value}
 use Rattle.gx_parse_grammar.specs.Tokens.{one_of, gap, gap_then_dollar, barred_words, word_end}
 use Rattle.gx_parse_grammar.specs.Basics.{word_gap}
 use Rattle.gx_parse_grammar.specs.Grammar.{Phrase, single, word_of, lexeme, keyword, at_tokens, place_in}
@@ -196,47 +196,53 @@ module _ (text : List ℕ) (n : ℕ) where
 
   -- a whole FLWOR
 
+  -- how a FLWOR is ordered, behind the place where that stands
+  abbrev placed_order : Phrase
+  placed_order = made (λ left v. placed_value (place_in text left) v) (order_clause (place_in text) n)
+
   abbrev flwor_parts : ClauseWord → Phrase
-  flwor_parts b = token gap_then_dollar & bindings (place_in text) n (binder_in b) (first_bound (place_in text)) & more_clauses (place_in text) n 63 & order_clause (place_in text) n & keyword word.Return & rule (single n)
+  flwor_parts b = token gap_then_dollar & bindings (place_in text) n (binder_in b) (first_bound (place_in text)) & more_clauses (place_in text) n 63 & placed_order & keyword word.Return & rule (single n)
 
   parts_read : (b : ClauseWord) (v bs cs o x : Made) (t : SyntaxTree) (s0 s1 s2 s3 s4 s5 s6 : Standing) → Ran nothing s0 s1 (read_one gap_then_dollar)
       → reads bs s1 s2 ((head (place_in text) n (binder_in b) (first_bound (place_in text)) & rule (single n)) & more_bindings (place_in text) n (binder_in b) 63) → reads cs s2 s3 (more_clauses (place_in text) n 63) → reads o s3 s4 (order_clause (place_in text) n)
-      → reads x s4 s5 (keyword word.Return) → Ran (tree t) s5 s6 (call text (suc n) (single n)) → reads (flwor_value b (place_in text (left_of s0 + name_length v)) (pair nothing (pair bs (pair cs (pair o (pair x (tree t))))))) s0 s6 (flwor (place_in text) n b v)
+      → reads x s4 s5 (keyword word.Return) → Ran (tree t) s5 s6 (call text (suc n) (single n)) → reads (flwor_value b (place_in text (left_of s0 + name_length v)) (pair nothing (pair bs (pair cs (pair (placed_value (place_in text (left_of s3)) o) (pair x (tree t))))))) s0 s6 (flwor (place_in text) n b v)
   unfolding flwor
   parts_read b v bs cs o x t s0 s1 s2 s3 s4 s5 s6 h i j m k l =
-      in_made text n (λ left u. flwor_value b (place_in text (left + name_length v)) u) (flwor_parts b) (pair nothing (pair bs (pair cs (pair o (pair x (tree t)))))) s0 s6
+      in_made text n (λ left u. flwor_value b (place_in text (left + name_length v)) u) (flwor_parts b) (pair nothing (pair bs (pair cs (pair (placed_value (place_in text (left_of s3)) o) (pair x (tree t)))))) s0 s6
       (in_both text n (token gap_then_dollar) _ nothing _ s0 s1 s6 (in_token text n gap_then_dollar nothing s0 s1 h)
       (in_both text n (bindings (place_in text) n (binder_in b) (first_bound (place_in text))) _ bs _ s1 s2 s6 (bindings_are (binder_in b) (first_bound (place_in text)) bs s1 s2 i)
       (in_both text n (more_clauses (place_in text) n 63) _ cs _ s2 s3 s6 j
-      (in_both text n (order_clause (place_in text) n) _ o _ s3 s4 s6 m (in_both text n (keyword word.Return) (rule (single n)) x (tree t) s4 s5 s6 k (in_rule text n n (tree t) s5 s6 l))))))
+      (in_both text n placed_order _ (placed_value (place_in text (left_of s3)) o) _ s3 s4 s6 (in_made text n (λ left v. placed_value (place_in text left) v) (order_clause (place_in text) n) o s3 s4 m) (in_both text n (keyword word.Return) (rule (single n)) x (tree t) s4 s5 s6 k (in_rule text n n (tree t) s5 s6 l))))))
 
   clause_seen : (b : ClauseWord) (place : Place) (bs : List Binding) (c : Clause) (others : List Clause) → clause_made c ≡ node (BindingClause b place (bindings_of bs)) → clause_before b place (bindings_of bs) (clauses_of others) ≡ clauses_of (c ∷ others)
   clause_seen b place bs c others e = sym (ap (clause_before b place (bindings_of bs)) (clauses_seen others)) ∙ ap (λ v. clauses_in (pair v (items_before clause_made others nothing))) (sym e) ∙ clauses_seen (c ∷ others)
 
-  pub flwor_read : (b : ClauseWord) (d : Binder) (v x : Made) (place : Place) (bs : List Binding) (first : Clause) (begun clauses : List Clause) (stable : Bool) (keys : List Key) (t : SyntaxTree) (s0 s1 s2 s3 s4 s5 s6 s7 : Standing) → d ≡ binder_in b → place ≡ place_in text (left_of s0 + name_length v)
+  pub flwor_read : (b : ClauseWord) (d : Binder) (v x : Made) (place : Place) (bs : List Binding) (first : Clause) (begun clauses : List Clause) (behind : Place) (stable : Bool) (keys : List Key) (t : SyntaxTree) (s0 s1 s2 s3 s4 s5 s6 s7 : Standing) → d ≡ binder_in b → place ≡ place_in text (left_of s0 + name_length v)
+      → behind ≡ place_in text (left_of s4)
       → Ran nothing s0 s1 (read_one gap_then_dollar) → reads (items_before binding_made bs nothing) s1 s2 ((head (place_in text) n d (first_bound (place_in text)) & rule (single n)) & more_bindings (place_in text) n d 63)
       → clause_made first ≡ node (BindingClause b place (bindings_of bs)) → Grown [] first begun s2 s3
       → Added begun clauses (λ others. reads (items_before clause_made others nothing) s3 s4 (more_clauses (place_in text) n 63)) → reads (order_clause_made stable (items_before key_made keys nothing)) s4 s5 (order_clause (place_in text) n)
       → reads x s5 s6 (keyword word.Return) → Ran (tree t) s6 s7 (call text (suc n) (single n))
-      → reads (tree (located place (flwor_form (clauses_of clauses) stable (keys_of keys) t))) s0 s7 (flwor (place_in text) n b v)
-  flwor_read b d v x place bs first begun clauses stable keys t s0 s1 s2 s3 s4 s5 s6 s7 y e h i f (inl g) m o k l =
+      → reads (tree (located place (flwor_form (clauses_of clauses) behind stable (keys_of keys) t))) s0 s7 (flwor (place_in text) n b v)
+  flwor_read b d v x place bs first begun clauses behind stable keys t s0 s1 s2 s3 s4 s5 s6 s7 y e p h i f (inl g) m o k l =
       let others = m.others in
       let order = order_clause_made stable (items_before key_made keys nothing) in
       let are : clause_before b place (bindings_in (items_before binding_made bs nothing)) (clauses_in (items_before clause_made others nothing)) ≡ clauses_of clauses =
       ap (λ us. clause_before b place us (clauses_in (items_before clause_made others nothing))) (bindings_seen bs) ∙ ap (clause_before b place (bindings_of bs)) (clauses_seen others) ∙ clause_seen b place bs first others f ∙ ap clauses_of (ap (λ us. us ++ others) (sym g.0) ∙ sym m.is)
       in
-      subst (λ cs. reads (tree (located place (flwor_form cs stable (keys_of keys) t))) s0 s7 (flwor (place_in text) n b v)) are
-      (subst (λ is. reads (tree (located place (flwor_form (clause_before b place (bindings_in (items_before binding_made bs nothing)) (clauses_in (items_before clause_made others nothing))) is (keys_of keys) t))) s0 s7 (flwor (place_in text) n b v)) (stable_seen stable (items_before key_made keys nothing))
-      (subst (λ ks. reads (tree (located place (flwor_form (clause_before b place (bindings_in (items_before binding_made bs nothing)) (clauses_in (items_before clause_made others nothing))) (is_stable order) ks t))) s0 s7 (flwor (place_in text) n b v)) (clause_keys_seen stable keys)
-      (subst (λ p. reads (flwor_value b p (pair nothing (pair (items_before binding_made bs nothing) (pair (items_before clause_made others nothing) (pair order (pair x (tree t))))))) s0 s7 (flwor (place_in text) n b v)) (sym e)
-      (parts_read b v (items_before binding_made bs nothing) (items_before clause_made others nothing) order x t s0 s1 s2 s4 s5 s6 s7 h (of_binder b d (first_bound (place_in text)) (items_before binding_made bs nothing) s1 s2 y i) (subst (λ s. reads (items_before clause_made others nothing) s s4 (more_clauses (place_in text) n 63)) g.1 m.holds) o k l))))
-  flwor_read b d v x place bs first begun clauses stable keys t s0 s1 s2 s3 s4 s5 s6 s7 y e h i f (inr g) m o k l =
+      subst (λ q. reads (tree (located place (flwor_form (clauses_of clauses) q stable (keys_of keys) t))) s0 s7 (flwor (place_in text) n b v)) (sym p)
+      (subst (λ cs. reads (tree (located place (flwor_form cs (place_in text (left_of s4)) stable (keys_of keys) t))) s0 s7 (flwor (place_in text) n b v)) are
+      (subst (λ is. reads (tree (located place (flwor_form (clause_before b place (bindings_in (items_before binding_made bs nothing)) (clauses_in (items_before clause_made others nothing))) (place_in text (left_of s4)) is (keys_of keys) t))) s0 s7 (flwor (place_in text) n b v)) (stable_seen stable (items_before key_made keys nothing))
+      (subst (λ ks. reads (tree (located place (flwor_form (clause_before b place (bindings_in (items_before binding_made bs nothing)) (clauses_in (items_before clause_made others nothing))) (place_in text (left_of s4)) (is_stable order) ks t))) s0 s7 (flwor (place_in text) n b v)) (clause_keys_seen stable keys)
+      (subst (λ p. reads (flwor_value b p (pair nothing (pair (items_before binding_made bs nothing) (pair (items_before clause_made others nothing) (pair (placed_value (place_in text (left_of s4)) order) (pair x (tree t))))))) s0 s7 (flwor (place_in text) n b v)) (sym e)
+      (parts_read b v (items_before binding_made bs nothing) (items_before clause_made others nothing) order x t s0 s1 s2 s4 s5 s6 s7 h (of_binder b d (first_bound (place_in text)) (items_before binding_made bs nothing) s1 s2 y i) (subst (λ s. reads (items_before clause_made others nothing) s s4 (more_clauses (place_in text) n 63)) g.1 m.holds) o k l)))))
+  flwor_read b d v x place bs first begun clauses behind stable keys t s0 s1 s2 s3 s4 s5 s6 s7 y e p h i f (inr g) m o k l =
       let d3 = loses_done s2 s3 g.1 in
       let d4 = stays_done (items_before clause_made m.others nothing) s3 s4 (read_in text n (more_clauses (place_in text) n 63)) d3 m.holds in
       let d5 = stays_done (order_clause_made stable (items_before key_made keys nothing)) s4 s5 (read_in text n (order_clause (place_in text) n)) d4 o in
       let d6 = stays_done x s5 s6 (read_in text n (keyword word.Return)) d5 k in
       let d7 = stays_done (tree t) s6 s7 (call text (suc n) (single n)) d6 l in
-      ran_any _ (tree (located place (flwor_form (clauses_of clauses) stable (keys_of keys) t))) s0 s7 (read_in text n (flwor (place_in text) n b v)) d7
+      ran_any _ (tree (located place (flwor_form (clauses_of clauses) behind stable (keys_of keys) t))) s0 s7 (read_in text n (flwor (place_in text) n b v)) d7
       (parts_read b v nothing (items_before clause_made m.others nothing) (order_clause_made stable (items_before key_made keys nothing)) x t s0 s1 s3 s4 s5 s6 s7 h
       (ran_loses (items_before binding_made bs nothing) nothing s1 s2 s3 (read_in text n ((head (place_in text) n (binder_in b) (first_bound (place_in text)) & rule (single n)) & more_bindings (place_in text) n (binder_in b) 63)) (of_binder b d (first_bound (place_in text)) (items_before binding_made bs nothing) s1 s2 y i) g.1) m.holds o k l)
 

@@ -6,7 +6,7 @@ use Rattle.gx_base.specs.declared.name.Name.{Name}
 use Rattle.gx_base.specs.declared.type_name.TypeName.{TypeName}
 use Rattle.gx_base.specs.declared.type_name.TypeName.TheVariants as names
 use Rattle.gx_types.specs.SchemaInvariant.{HoldsOfEach, is_built_in}
-use Rattle.gx_schema_syntax.specs.declared.reference.Reference.{Reference}
+use Rattle.gx_qnames.specs.declared.reference.Reference.{Reference}
 use Rattle.gx_schema_syntax.specs.declared.written.ContentKind.{ContentKind}
 use Rattle.gx_schema_syntax.specs.declared.written.ContentKind.TheVariants as contents
 use Rattle.gx_schema_syntax.specs.declared.written.Derivation.{Derivation as WrittenDerivation}
@@ -21,7 +21,7 @@ use Rattle.gx_schema_syntax.specs.declared.written.TypeReference.{TypeReference}
 use Rattle.gx_schema_syntax.specs.declared.written.TypeReference.TheVariants as types
 use Rattle.gx_schema_syntax.specs.declared.written.WrittenFacet.{WrittenFacet}
 use Rattle.gx_schema_syntax.specs.DocumentTree.{DocumentTree}
-use Rattle.gx_schema_syntax.specs.Words.{is_schema_uri}
+use Rattle.gx_qnames.specs.Words.{is_schema_uri}
 use Rattle.gx_schema_components.specs.declared.component.Base.{Base}
 use Rattle.gx_schema_components.specs.declared.component.DerivedFrom.{DerivedFrom}
 use Rattle.gx_schema_components.specs.declared.component.ModelGroup.{ModelGroup}

@@ -1,6 +1,5 @@
 -- A table of complex types says of each what the documents say.
-use Rattle.std.proofs.Common.{◌≡◌, ◌∙◌, ℕ, Bool, false, List, ◌∷◌, ◌++◌, map, slice_get, Option, None, Some, refl, ap}
-use Rattle.std.proofs.lemmas.List.{map-append}
+use Rattle.std.proofs.Common.{◌≡◌, ◌∙◌, ℕ, Bool, false, List, map, slice_get, Option, None, Some, refl, ap}
 use Rattle.std.proofs.lemmas.Option.{slice_get-map}
 use Rattle.std.specs.Option.{option_map, option_map_or}
 use Rattle.std.specs.Prelude.{unwrap_or}
@@ -14,11 +13,6 @@ use Rattle.gx_schema_components.specs.NamesView.{number_in_tables}
 use Rattle.gx_schema.specs.declared.attribute_types.ComplexTypes.{ComplexTypes}
 use Rattle.gx_schema.specs.AttributeTypes.{complex_attribute_type, complex_from, is_complex_declaration, is_complex_number, is_complex_type}
 use Rattle.gx_schema.specs.ComplexTypesView.{is_complex_in_table, is_marked, AreComplexTypes}
-
--- the types of documents one after another
-pub marks_more : (document : DocumentTree) (documents : List DocumentTree)
-    → map is_complex_declaration (types_in (document ∷ documents)) ≡ map is_complex_declaration document.types ++ map is_complex_declaration (types_in documents)
-marks_more document documents = map-append is_complex_declaration document.types (types_in documents)
 
 marked_number : (declarations : List TypeDeclaration) (number : ℕ) → is_marked (map is_complex_declaration declarations) number ≡ is_complex_number declarations number
 marked_number declarations number =

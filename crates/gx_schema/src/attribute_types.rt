@@ -12,7 +12,7 @@ use gx_schema_components::mention::ComponentKind;
 use gx_schema_components::names::{
     DeclaredNumbers, declared_numbers, number_in_tables, type_names_in,
 };
-use gx_schema_syntax::reference::Reference;
+use gx_qnames::reference::Reference;
 use gx_schema_syntax::written::{
     AttributeMember, GlobalDeclaration, LocalDeclaration, SchemaDocument, TypeDeclaration,
     TypeDefinition, TypeReference,

@@ -8,6 +8,7 @@ ghost use Rattle.gx_schema.specs.MeaningsView.{effective_at, meanings_view};
 use crate::simple_bases::simple_base;
 use gx_base::type_name::{Builtin, TypeName};
 use gx_facets::Facets;
+use gx_schema_attributes::given::copy_of;
 use gx_schema_components::component::{Base, Declaration};
 use gx_schema_content::effective::Effective;
 use gx_schema_content::mixed::model_of;
@@ -164,17 +165,6 @@ fn copies_of(alloc: Global, uses: &[AttributeUse]) -> Result<Vec<AttributeUse>, 
         left = others;
     }
     Ok(copies)
-}
-
-fn copy_of(attribute: &AttributeUse) -> Result<AttributeUse, AllocError>
-    ensures { IfOk result (λ copy. copy ≡ attribute.now) }
-{
-    let name = attribute.name.clone()?;
-    Ok(AttributeUse {
-        name,
-        kind: attribute.kind.clone()?,
-        required: attribute.required,
-    })
 }
 
 fn derived_from_name(declared: &[TypeName], form: &TypeForm) -> Result<TypeName, AllocError>

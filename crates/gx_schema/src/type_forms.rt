@@ -7,7 +7,7 @@ use gx_schema_components::component::{
     Base, Derivation, SimpleType, TypeComponent, TypeForm as ComponentForm,
 };
 use gx_schema_simple::type_form::TypeForm;
-use gx_schema_syntax::written::{ContentKind, WrittenFacet, WrittenFacets};
+use gx_schema_syntax::written::{ContentKind, WrittenFacets};
 use std::alloc::{AllocError, Global};
 
 /// The forms of types.
@@ -29,7 +29,7 @@ fn form_of_type(alloc: Global, form: &ComponentForm) -> Result<TypeForm, AllocEr
     match form {
         ComponentForm::Simple(definition) => form_of_simple_type(alloc, definition),
         ComponentForm::Complex(definition) => {
-            form_of_derivation(alloc, definition.derivation, definition.facets.as_slice())
+            form_of_derivation(alloc, definition.derivation, &definition.facets)
         }
     }
 }
@@ -45,7 +45,7 @@ fn form_of_simple_type(alloc: Global, definition: &SimpleType) -> Result<TypeFor
         } => Ok(TypeForm::Restriction {
             place: *place,
             base: *base,
-            facets: copy_of(alloc, facets.as_slice())?,
+            facets: facets.copied(alloc)?,
         }),
         SimpleType::List { place, item } => Ok(TypeForm::List {
             place: *place,
@@ -57,7 +57,7 @@ fn form_of_simple_type(alloc: Global, definition: &SimpleType) -> Result<TypeFor
 fn form_of_derivation(
     alloc: Global,
     derivation: Derivation,
-    facets: &[WrittenFacet],
+    facets: &WrittenFacets,
 ) -> Result<TypeForm, AllocError>
     ensures { IfOk result (λ form. form ≡ form_of_derivation derivation facets.now) }
 {
@@ -73,31 +73,15 @@ fn form_of_content(
     alloc: Global,
     content: ContentKind,
     base: Base,
-    facets: &[WrittenFacet],
+    facets: &WrittenFacets,
 ) -> Result<TypeForm, AllocError>
     ensures { IfOk result (λ form. form ≡ form_of_content content base facets.now) }
 {
     match content {
         ContentKind::Simple => Ok(TypeForm::SimpleContent {
             base,
-            facets: copy_of(alloc, facets)?,
+            facets: facets.copied(alloc)?,
         }),
         ContentKind::Complex => Ok(TypeForm::ComplexContent { base: Some(base) }),
     }
-}
-
-fn copy_of(alloc: Global, facets: &[WrittenFacet]) -> Result<WrittenFacets, AllocError>
-    ensures { IfOk result (λ copy. copy ≡ facets.now) }
-{
-    let mut copies = Vec::with_capacity(alloc, facets.len())?;
-    let mut left = facets;
-    while let Some((facet, others)) = left.split_first() {
-        copies.push(WrittenFacet {
-            place: facet.place,
-            kind: facet.kind,
-            value: facet.value.clone()?,
-        })?;
-        left = others;
-    }
-    Ok(WrittenFacets::from_vec(copies))
 }

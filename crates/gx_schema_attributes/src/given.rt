@@ -140,7 +140,8 @@ fn note_doubled(doubled: &mut Option<Name>, name: &Name) -> Result<(), AllocErro
     Ok(())
 }
 
-fn copy_of(attribute: &AttributeUse) -> Result<AttributeUse, AllocError>
+/// A copy of an attribute.
+pub fn copy_of(attribute: &AttributeUse) -> Result<AttributeUse, AllocError>
     ensures { IfOk result (λ copy. copy ≡ attribute.now) }
 {
     Ok(AttributeUse {

@@ -2,7 +2,7 @@
 use Rattle.std.specs.Prelude.{◌≡◌, ℕ, ◌-◌, ◌^◌, true, false, List, [], ◌∷◌, codes, None, Some, refl}
 use Rattle.gx_base.specs.declared.name.Name.{Name}
 use Rattle.gx_base.specs.declared.type_name.TypeName.TheVariants as names
-use Rattle.gx_schema_syntax.specs.declared.reference.Reference.{Reference}
+use Rattle.gx_qnames.specs.declared.reference.Reference.{Reference}
 use Rattle.gx_schema_syntax.specs.declared.role.Compositor.TheVariants.{Choice, Sequence}
 use Rattle.gx_schema_syntax.specs.declared.written.Bounds.{Bounds as WrittenBounds}
 use Rattle.gx_schema_syntax.specs.declared.written.GlobalDeclaration.TheVariants as globals

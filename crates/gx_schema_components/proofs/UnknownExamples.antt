@@ -10,7 +10,7 @@ use Rattle.gx_schema_syntax.specs.declared.written.TypeDefinition.TheVariants as
 use Rattle.gx_schema_syntax.specs.declared.written.TypeReference.{TypeReference}
 use Rattle.gx_schema_syntax.specs.declared.written.TypeReference.TheVariants as types
 use Rattle.gx_schema_syntax.specs.DocumentTree.{DocumentTree}
-use Rattle.gx_schema_syntax.specs.Words.{is_schema_uri}
+use Rattle.gx_qnames.specs.Words.{is_schema_uri}
 use Rattle.gx_schema_components.specs.declared.unknown.UnknownName.{UnknownName}
 use Rattle.gx_schema_components.specs.Unknown.{earliest_unknown, unknown_name}
 

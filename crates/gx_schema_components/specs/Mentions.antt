@@ -1,7 +1,7 @@
 -- The references of schema documents to components (XML Schema 1.0 part 1, section 3.15.3), with their places, in the order of the declarations.
 use Rattle.std.specs.Prelude.{ℕ, List, [], ◌∷◌, ◌++◌, Option, None, Some}
 use Rattle.std.specs.List.{flat_map}
-use Rattle.gx_schema_syntax.specs.declared.reference.Reference.{Reference}
+use Rattle.gx_qnames.specs.declared.reference.Reference.{Reference}
 use Rattle.gx_schema_syntax.specs.declared.written.AttributeMember.{AttributeMember}
 use Rattle.gx_schema_syntax.specs.declared.written.AttributeMember.TheVariants as members
 use Rattle.gx_schema_syntax.specs.declared.written.ComplexTypeDefinition.{ComplexTypeDefinition}

@@ -4,7 +4,7 @@ use Rattle.gx_base.specs.declared.name.Name.{Name}
 use Rattle.gx_base.specs.declared.type_name.Builtin.TheVariants as builtins
 use Rattle.gx_base.specs.declared.type_name.TypeName.{TypeName}
 use Rattle.gx_base.specs.declared.type_name.TypeName.TheVariants as names
-use Rattle.gx_schema_syntax.specs.declared.reference.Reference.{Reference}
+use Rattle.gx_qnames.specs.declared.reference.Reference.{Reference}
 use Rattle.gx_schema_syntax.specs.declared.written.LocalDeclaration.{LocalDeclaration}
 use Rattle.gx_schema_syntax.specs.declared.written.LocalDeclaration.TheVariants as locals
 use Rattle.gx_schema_syntax.specs.declared.written.TypeReference.{TypeReference}

@@ -1,8 +1,9 @@
 -- How references are shown in refusals.
 use Rattle.std.specs.Prelude.{ℕ, List, [], ◌∷◌, ◌++◌, bytes_eq, if◌then◌else◌}
 use Rattle.gx_base.specs.declared.name.Name.{Name}
-use Rattle.gx_schema_syntax.specs.declared.reference.Reference.{Reference}
-use Rattle.gx_schema_syntax.specs.Words.{is_schema_uri, shown_in_schema_namespace, written_name}
+use Rattle.gx_qnames.specs.declared.reference.Reference.{Reference}
+use Rattle.gx_schema_syntax.specs.Words.{shown_in_schema_namespace}
+use Rattle.gx_qnames.specs.Words.{is_schema_uri, written_name}
 
 -- a name with its URI in braces
 abbrev pub shown_in_namespace : Name → List ℕ

@@ -2,9 +2,9 @@
 use Rattle.std.specs.Prelude.{ℕ, suc, Bool, true, not, ◌&&◌, nat_lt, List, [], ◌∷◌, filter, Option, None, Some, is_some, if◌then◌else◌}
 use Rattle.std.specs.Option.{option_or, option_map}
 use Rattle.gx_base.specs.declared.name.Name.{Name}
-use Rattle.gx_schema_syntax.specs.declared.reference.Reference.{Reference}
+use Rattle.gx_qnames.specs.declared.reference.Reference.{Reference}
 use Rattle.gx_schema_syntax.specs.DocumentTree.{DocumentTree}
-use Rattle.gx_schema_syntax.specs.Words.{is_schema_uri}
+use Rattle.gx_qnames.specs.Words.{is_schema_uri}
 use Rattle.gx_schema_components.specs.declared.mention.ComponentKind.{ComponentKind}
 use Rattle.gx_schema_components.specs.declared.mention.Mention.{Mention}
 use Rattle.gx_schema_components.specs.declared.unknown.UnknownName.{UnknownName}

@@ -25,10 +25,22 @@ pub struct Bounds {
 }
 
 /// What a particle holds: an element with its type, or the model group of a number (XML Schema 1.0 part 1, section 3.9.1).
-#[derive(Debug, Drop)]
+#[derive(Debug)]
 pub enum Term {
     Element { name: Name, kind: TypeName },
     Group(usize),
+}
+
+impl Drop for Term {
+    fn drop(self) {
+        match self {
+            Term::Element {
+                name: _name,
+                kind: _kind,
+            } => {}
+            Term::Group(_usize) => {}
+        }
+    }
 }
 
 /// A part of a content (XML Schema 1.0 part 1, section 3.9). A `place` here and below is the number of the element that it was
@@ -91,11 +103,30 @@ pub struct GroupDefinition {
 
 /// An attribute that is allowed, one that is prohibited, or the attribute group of a number (XML Schema 1.0 part 1, sections 3.2.2
 /// and 3.6.2).
-#[derive(Debug, Drop)]
+#[derive(Debug)]
 pub enum AttributePart {
     Use { place: u64, attribute: AttributeUse },
     Prohibited { place: u64, name: Name },
     Group { place: u64, number: usize },
+}
+
+impl Drop for AttributePart {
+    fn drop(self) {
+        match self {
+            AttributePart::Use {
+                place: _place,
+                attribute: _attribute,
+            } => {}
+            AttributePart::Prohibited {
+                place: _place,
+                name: _name,
+            } => {}
+            AttributePart::Group {
+                place: _place,
+                number: _number,
+            } => {}
+        }
+    }
 }
 
 /// The parts of a list of attributes in their order, which contracts see as a list.
@@ -148,7 +179,7 @@ pub struct Declaration {
 }
 
 /// A simple type: a restriction of its base by facets, or lists of items of a type (XML Schema 1.0 part 1, section 3.14).
-#[derive(Debug, Drop)]
+#[derive(Debug)]
 pub enum SimpleType {
     Restriction {
         place: u64,
@@ -159,6 +190,22 @@ pub enum SimpleType {
         place: u64,
         item: Base,
     },
+}
+
+impl Drop for SimpleType {
+    fn drop(self) {
+        match self {
+            SimpleType::Restriction {
+                place: _place,
+                base: _base,
+                facets: _facets,
+            } => {}
+            SimpleType::List {
+                place: _place,
+                item: _item,
+            } => {}
+        }
+    }
 }
 
 /// What a complex type is derived from, as simple or as complex content.
@@ -179,7 +226,7 @@ pub enum Derivation {
 
 /// A complex type with what is written at it (XML Schema 1.0 part 1, section 3.4): whether it is mixed, the facets of simple
 /// content, its content and its attributes.
-#[derive(Debug, Drop)]
+#[derive(Debug)]
 pub struct ComplexType {
     pub mixed: bool,
     pub derivation: Derivation,
@@ -188,19 +235,50 @@ pub struct ComplexType {
     pub attributes: AttributeParts,
 }
 
+impl Drop for ComplexType {
+    fn drop(self) {
+        let ComplexType {
+            mixed: _mixed,
+            derivation: _derivation,
+            facets: _facets,
+            content: _content,
+            attributes: _attributes,
+        } = self;
+    }
+}
+
 /// What a type is.
-#[derive(Debug, Drop)]
+#[derive(Debug)]
 pub enum TypeForm {
     Simple(SimpleType),
     Complex(ComplexType),
 }
 
+impl Drop for TypeForm {
+    fn drop(self) {
+        match self {
+            TypeForm::Simple(_simple_type) => {}
+            TypeForm::Complex(_complex_type) => {}
+        }
+    }
+}
+
 /// A type definition, global or anonymous. Its number is its place among the types of all documents.
-#[derive(Debug, Drop)]
+#[derive(Debug)]
 pub struct TypeComponent {
     pub place: u64,
     pub name: TypeName,
     pub form: TypeForm,
+}
+
+impl Drop for TypeComponent {
+    fn drop(self) {
+        let TypeComponent {
+            place: _place,
+            name: _name,
+            form: _form,
+        } = self;
+    }
 }
 
 /// The components of schema documents (XML Schema 1.0 part 1, section 2.2), each list in the order of the documents. A number is

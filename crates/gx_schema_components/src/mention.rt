@@ -1,6 +1,6 @@
 // References to schema components.
 
-use gx_schema_syntax::reference::Reference;
+use gx_qnames::reference::Reference;
 
 /// The kinds of schema components that are referred to by name (XML Schema 1.0 part 1, section 2.2).
 #[derive(Clone, Copy, Debug, PartialEq, Eq)]

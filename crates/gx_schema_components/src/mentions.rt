@@ -10,7 +10,7 @@ ghost use Rattle.gx_schema_components.specs.Unknown.{earliest_unknown, is_later,
 use crate::mention::{ComponentKind, Mention};
 use crate::names::{DeclaredNumbers, number_in_tables};
 use crate::shown::is_schema_uri;
-use gx_schema_syntax::reference::Reference;
+use gx_qnames::reference::Reference;
 use gx_schema_syntax::written::{
     AttributeMember, ComplexTypeDefinition, Derivation, GlobalDeclaration, LocalDeclaration,
     Particle, SchemaDocument, SimpleTypeDefinition, Term, TypeDeclaration, TypeDefinition,

@@ -10,7 +10,7 @@ use crate::mention::ComponentKind;
 use crate::names::{DeclaredNumbers, number_in_tables};
 use gx_base::name::Name;
 use gx_base::type_name::{Builtin, TypeName};
-use gx_schema_syntax::reference::Reference;
+use gx_qnames::reference::Reference;
 use gx_schema_syntax::written::{LocalDeclaration, TypeReference};
 use std::alloc::AllocError;
 

@@ -1,17 +1,18 @@
 // How references are shown in refusals.
 
 ghost use Rattle.std.specs.Prelude.{◌≡◌, IfOk};
-ghost use Rattle.gx_schema_syntax.specs.Words.{is_schema_uri, shown_in_schema_namespace, written_name};
+ghost use Rattle.gx_schema_syntax.specs.Words.{shown_in_schema_namespace};
+ghost use Rattle.gx_qnames.specs.Words.{is_schema_uri, written_name};
 ghost use Rattle.gx_schema_components.specs.Shown.{shown_expanded, shown_in_namespace, shown_reference};
 
 use gx_base::name::Name;
 use gx_base::text::Text;
 use gx_base::text_builder::TextBuilder;
-use gx_schema_syntax::reference::Reference;
+use gx_qnames::reference::Reference;
 use std::alloc::{AllocError, Global};
 
 /// Whether the URI is that of the namespace of schema documents (XML Schema 1.0 part 1, section 2.6).
-#[tactic(auto, unfolding(gx_schema_syntax::specs::Words::is_schema_uri))]
+#[tactic(auto, unfolding(gx_qnames::specs::Words::is_schema_uri))]
 pub fn is_schema_uri(uri: &Text) -> bool
     ensures { result ≡ is_schema_uri uri.now }
 {

@@ -13,25 +13,8 @@ use crate::referred::{GlobalTables, base_referred};
 use gx_schema_syntax::written;
 use gx_schema_syntax::written::{
     ComplexTypeDefinition, DerivationMethod, SimpleTypeDefinition, TypeDeclaration, TypeDefinition,
-    WrittenFacet, WrittenFacets,
 };
 use std::alloc::{AllocError, Global};
-
-fn copy_of_facets(alloc: Global, facets: &[WrittenFacet]) -> Result<WrittenFacets, AllocError>
-    ensures { IfOk result (λ copy. copy ≡ facets.now) }
-{
-    let mut copies = Vec::with_capacity(alloc, facets.len())?;
-    let mut left = facets;
-    while let Some((facet, others)) = left.split_first() {
-        copies.push(WrittenFacet {
-            place: facet.place,
-            kind: facet.kind,
-            value: facet.value.clone()?,
-        })?;
-        left = others;
-    }
-    Ok(WrittenFacets::from_vec(copies))
-}
 
 fn simple_type_of(
     alloc: Global,
@@ -48,7 +31,7 @@ fn simple_type_of(
         } => Ok(SimpleType::Restriction {
             place: *place,
             base: base_referred(&globals.numbers, base),
-            facets: copy_of_facets(alloc, facets.as_slice())?,
+            facets: facets.copied(alloc)?,
         }),
         SimpleTypeDefinition::List { place, item } => Ok(SimpleType::List {
             place: *place,
@@ -90,7 +73,7 @@ fn complex_type_of(
 ) -> Result<ComplexType, AllocError>
     ensures { IfOk result (λ complex. complex ≡ complex_type_of (globals_in globals.now) definition.now content) }
 {
-    let facets = copy_of_facets(alloc, definition.facets.as_slice())?;
+    let facets = definition.facets.copied(alloc)?;
     let attributes = parts_of_members(alloc, globals, definition.attributes.as_slice())?;
     Ok(ComplexType {
         mixed: definition.is_mixed,

@@ -110,10 +110,6 @@ none_is_circular types none number = elim (cases_lt number (length types)) [
 
 -- ---- steps of a search for the first
 
-pub first_here : (bases : List (Option ℕ)) (number left : ℕ) (found : Option ℕ) → 0 < left → is_circular bases number ≡ true → first_circular_from bases number left ≡ found → Some number ≡ found
-first_here bases number zero found some circular first = absurd (omega arith)
-first_here bases number (suc left) found some circular first = sym (ap (λ (t : Bool). if t then Some number else first_circular_from bases (suc number) left) circular) ∙ first
-
 pub first_later : (bases : List (Option ℕ)) (number left less : ℕ) → left ≡ suc less → is_circular bases number ≡ false → first_circular_from bases (suc number) less ≡ first_circular_from bases number left
 first_later bases number left less size straight =
     sym (ap (λ (t : Bool). if t then Some number else first_circular_from bases (suc number) less) straight) ∙ sym (ap (first_circular_from bases number) size)

@@ -2,7 +2,7 @@
 use mathlib.Core.Path.{fun_ext}
 use Rattle.std.proofs.Common.{◌≡◌, ℕ, suc, ◌+◌, map, length, drop, get_or, true, false, ◌<◌, ◌≤◌, ◌⊎◌, inl, inr, Bool, List, [], ◌∷◌, ◌++◌, Option, None, Some, refl, sym, ◌∙◌, ap, arith, if◌then◌else◌}
 use Rattle.std.proofs.lemmas.Bool.Decides.{leb_tells}
-use Rattle.std.specs.Prelude.{cond, not, filter, Result, Ok, Err, OnOk}
+use Rattle.std.specs.Prelude.{cond, not, filter}
 use Rattle.std.proofs.Math.Seq.{drop-cons}
 use Rattle.std.proofs.lemmas.List.{drop_all}
 use Rattle.gx_facets.specs.declared.restriction.Facets.{Facets}
@@ -67,9 +67,6 @@ first_type_fault-append (x ∷ xs) ys = ap (earlier_fault (Some x)) (first_type_
 pub noted_behind : (old new : Option Fault) (xs ys : List Fault) → new ≡ earlier_fault old (first_type_fault xs) → earlier_fault new (first_type_fault ys) ≡ earlier_fault old (first_type_fault (xs ++ ys))
 noted_behind old new xs ys noted =
     ap (λ (f : Option Fault). earlier_fault f (first_type_fault ys)) noted ∙ earlier_assoc old (first_type_fault xs) (first_type_fault ys) ∙ sym (ap (earlier_fault old) (first_type_fault-append xs ys))
-
-pub noted_all : (old : Option Fault) → earlier_fault old (first_type_fault []) ≡ old
-noted_all old = earlier_none old
 
 -- ---- faults of one facet more, of one type more
 
@@ -137,15 +134,6 @@ noted_type_at types seen number form old new within here noted =
     ∙ ap (λ (f : TypeForm). earlier_fault old (first_type_fault (faults_from types seen number (f ∷ drop (suc number) types)))) here
     ∙ sym (ap (λ (fs : List TypeForm). earlier_fault old (first_type_fault (faults_from types seen number fs))) (drop-cons types number form within))
 
-pub noted_facet_at : (variety : TypeVariety) (base : Option SimpleMeaning) (number : ℕ) (facets : List WrittenFacet) (index : ℕ) (facet : WrittenFacet) (old new : Option Fault) (is_sound : Bool) →
-    index < length facets → facet ≡ get_or facets index facet → is_sound ≡ is_sound_facet variety base facet → new ≡ earlier_fault old (first_type_fault (fault_if (not is_sound) facet.place number)) →
-    earlier_fault new (first_type_fault (facet_faults variety base number (drop (index + 1) facets))) ≡ earlier_fault old (first_type_fault (facet_faults variety base number (drop index facets)))
-noted_facet_at variety base number facets index facet old new is_sound within here sound noted =
-    ap (λ (n : ℕ). earlier_fault new (first_type_fault (facet_faults variety base number (drop n facets)))) (sym (suc_is_plus_one index))
-    ∙ noted_facet variety base number facet (drop (suc index) facets) old new is_sound sound noted
-    ∙ ap (λ (f : WrittenFacet). earlier_fault old (first_type_fault (facet_faults variety base number (f ∷ drop (suc index) facets)))) here
-    ∙ sym (ap (λ (fs : List WrittenFacet). earlier_fault old (first_type_fault (facet_faults variety base number fs))) (drop-cons facets index facet within))
-
 pub noted_at_end : (types : List TypeForm) (seen : Seen) (number : ℕ) (best all : Option Fault) → length types ≤ number →
     earlier_fault best (first_type_fault (faults_from types seen number (drop number types))) ≡ all → best ≡ all
 noted_at_end types seen number best all past noted =
@@ -157,7 +145,3 @@ pub facets_noted_at_end : (variety : TypeVariety) (base : Option SimpleMeaning) 
     earlier_fault best (first_type_fault (facet_faults variety base number (drop index facets))) ≡ all → best ≡ all
 facets_noted_at_end variety base number facets index best all past noted =
     sym (earlier_none best) ∙ sym (ap (λ (fs : List WrittenFacet). earlier_fault best (first_type_fault (facet_faults variety base number fs))) (drop_all index facets past)) ∙ noted
-
-pub on_ok_along : {T E : Type 0} (r : Result T E) (P Q : Type 0) → (P → Q) → OnOk r P → OnOk r Q
-on_ok_along (Ok v) P Q f p = f p
-on_ok_along (Err e) P Q f p = tt

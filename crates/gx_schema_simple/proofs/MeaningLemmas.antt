@@ -1,13 +1,9 @@
 -- The facets of a type and of its bases.
-use Rattle.std.proofs.Common.{◌≡◌, ℕ, zero, suc, ◌++◌, List, [], Option, None, Some, slice_get, refl, sym, ◌∙◌, ap, append_assoc}
+use Rattle.std.proofs.Common.{◌≡◌, ℕ, suc, ◌++◌, List, Option, Some, slice_get, sym, ◌∙◌, ap, append_assoc}
 use Rattle.std.specs.Option.{option_to_list}
 use Rattle.gx_facets.specs.declared.restriction.Facets.{Facets}
 use Rattle.gx_schema_simple.specs.Circles.{named_next}
 use Rattle.gx_schema_simple.specs.Meanings.{facets_within}
-
-pub no_facets_without_type : (bases : List (Option ℕ)) (own : List Facets) (steps : ℕ) → facets_within bases own steps None ≡ []
-no_facets_without_type bases own zero = refl
-no_facets_without_type bases own (suc steps) = refl
 
 -- the facets of one type more
 pub facets_step : (bases : List (Option ℕ)) (own : List Facets) (before more : List Facets) (left steps number : ℕ) → left ≡ suc steps → more ≡ before ++ option_to_list (slice_get own number) →

@@ -1,5 +1,5 @@
 -- Steps of a search for circles.
-use Rattle.std.proofs.Common.{◌≡◌, ◌≢◌, ℕ, ◌<◌, ◌≤◌, ◌+◌, ◌⊎◌, ◌↔◌, inl, inr, Bool, true, false, List, length, Option, None, Some, refl, sym, ◌∙◌, subst, ap, arith}
+use Rattle.std.proofs.Common.{◌≡◌, ◌≢◌, ℕ, ◌<◌, ◌≤◌, ◌+◌, ◌⊎◌, ◌↔◌, inl, inr, Bool, true, false, List, length, Option, None, Some, sym, ◌∙◌, subst, ap, arith}
 use Rattle.std.proofs.Math.ListN.{set, length-set}
 use Rattle.std.proofs.lemmas.Bool.{cases_lt}
 use Rattle.std.proofs.lemmas.List.{get_or-set_same}
@@ -18,16 +18,6 @@ pub record IsMarking (bases : List (Option ℕ)) (before after : List Bool) (end
   pub here : StandsOnCircle bases number
   pub onward : (n next : ℕ) → has_mark after n ≡ true → named_next bases n ≡ Some next → (has_mark after next ≡ true) ⊎ (next ≡ number)
   pub begun : (has_mark after end ≡ true) ⊎ (number ≡ end)
-
-pub marking_begins : (bases : List (Option ℕ)) (marks : List Bool) (end : ℕ) → StandsOnCircle bases end → MarksGoOn bases marks → IsMarking bases marks marks end end
-marking_begins bases marks end circle onward = record {
-  sized = refl;
-  kept = λ n is_so. is_so;
-  sound = λ n is_so. inl is_so;
-  here = circle;
-  onward = λ n next is_so names. inl (onward n next is_so names);
-  begun = inr refl;
-}
 
 set_mark_stays : (marks : List Bool) (place n : ℕ) → place < length marks → has_mark marks n ≡ true → has_mark (set marks place true) n ≡ true
 set_mark_stays marks place n within is_so = elim (set_entry marks place true false n within) [ inl (_, set_there) ↦ set_there | inr there ↦ there ∙ is_so ]
@@ -86,16 +76,6 @@ pub record IsWalking (bases before after : List (Option ℕ)) (start number : �
   pub closed : (n next : ℕ) → WasReached after n → named_next bases n ≡ Some next → next < length bases → WasReached after next ⊎ (next ≡ number)
   pub ahead : (n : ℕ) → walk_at after n ≡ Some start → ComesTo bases n number
   pub begun : WasReached after start ⊎ (number ≡ start)
-
-pub walking_begins : (bases walks : List (Option ℕ)) (start : ℕ) → IsClosed bases walks → BeganBelow walks start → IsWalking bases walks walks start start
-walking_begins bases walks start closed below = record {
-  sized = closed.sized;
-  kept = λ n from is_so. is_so;
-  reached = λ n from is_so. inl is_so;
-  closed = λ n next is_reached names within. inl (closed.closed n next is_reached names within);
-  ahead = λ n is_so. let less = below n start is_so in absurd (omega arith);
-  begun = inr refl;
-}
 
 set_walk_stays : (walks : List (Option ℕ)) (place start n from : ℕ) → place < length walks → walk_at walks place ≡ None → walk_at walks n ≡ Some from → walk_at (set walks place (Some start)) n ≡ Some from
 set_walk_stays walks place start n from within none is_so = elim (set_entry walks place (Some start) None n within) [

@@ -1,3 +1,1 @@
-pub mod CharacterLemmas
 pub mod ParticleLemmas
-pub mod ScopeLemmas

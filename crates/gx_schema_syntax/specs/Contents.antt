@@ -5,9 +5,10 @@ use Rattle.gx_base.specs.declared.name.Name.{Name}
 use Rattle.gx_xml.specs.declared.source.SourceAttribute.{SourceAttribute}
 use Rattle.gx_xml.specs.declared.source.SourceChild.{SourceChild}
 use Rattle.gx_xml.specs.declared.source.SourceChild.TheVariants.{Element, Text}
-use Rattle.gx_xml.specs.SourceTree.{SourceTree, SourceContents, source, no_content, a_child, a_text}
-use Rattle.gx_schema_syntax.specs.Lexical.{is_blank}
-use Rattle.gx_schema_syntax.specs.Words.{has_spelling, is_schema_element, is_annotation}
+use Rattle.gx_xml.specs.SourceTree.{SourceContents, no_content, a_child, a_text, tree_name}
+use Rattle.gx_qnames.specs.Lexical.{is_blank}
+use Rattle.gx_schema_syntax.specs.Words.{is_schema_element, is_annotation}
+use Rattle.gx_qnames.specs.Words.{has_spelling}
 
 -- ---- attributes
 
@@ -27,9 +28,6 @@ is_one_given [] attributes = false
 is_one_given (word ∷ words) attributes = is_given word attributes || is_one_given words attributes
 
 -- ---- parts
-
-abbrev pub tree_name : SourceTree → Name
-tree_name (source name declarations attributes cs) = name
 
 -- an element stands there beside annotations
 abbrev pub holds_part : SourceContents → Bool

@@ -7,10 +7,10 @@ use Rattle.gx_base.specs.declared.type_name.Builtin.{Builtin}
 use Rattle.gx_base.specs.declared.type_name.Builtin.TheVariants as builtins
 use Rattle.gx_xml.specs.declared.source.Declaration.{Declaration}
 use Rattle.gx_xml.specs.declared.source.SourceAttribute.{SourceAttribute}
-use Rattle.gx_xml.specs.SourceTree.{SourceTree, SourceContents, source, no_content, a_child, a_text}
+use Rattle.gx_xml.specs.SourceTree.{SourceTree, SourceContents, source, no_content, a_child, a_text, tree_name}
 use Rattle.gx_schema_syntax.specs.declared.context.Context.{Context}
 use Rattle.gx_schema_syntax.specs.declared.numbers.Numbers.{Numbers}
-use Rattle.gx_schema_syntax.specs.declared.reference.Reference.{Reference}
+use Rattle.gx_qnames.specs.declared.reference.Reference.{Reference}
 use Rattle.gx_schema_syntax.specs.declared.role.Compositor.{Compositor}
 use Rattle.gx_schema_syntax.specs.declared.role.Compositor.TheVariants.{Sequence, Choice}
 use Rattle.gx_schema_syntax.specs.declared.written.Bounds.{Bounds}
@@ -18,13 +18,14 @@ use Rattle.gx_schema_syntax.specs.declared.written.LocalDeclaration.{LocalDeclar
 use Rattle.gx_schema_syntax.specs.declared.written.LocalDeclaration.TheVariants.{Declared, Referred}
 use Rattle.gx_schema_syntax.specs.declared.written.TypeReference.{TypeReference}
 use Rattle.gx_schema_syntax.specs.declared.written.TypeReference.TheVariants as types
-use Rattle.gx_schema_syntax.specs.Builtins.{named_builtin}
-use Rattle.gx_schema_syntax.specs.Contents.{given_value, tree_name, holds_named}
+use Rattle.gx_qnames.specs.Builtins.{named_builtin}
+use Rattle.gx_schema_syntax.specs.Contents.{given_value, holds_named}
 use Rattle.gx_schema_syntax.specs.Numbers.{numbers_inside, numbers_behind}
 use Rattle.gx_schema_syntax.specs.Outside.{is_value}
 use Rattle.gx_schema_syntax.specs.ParticleTree.{ParticleTree, ParticleTrees, an_element, a_group, a_model_group, no_particles, a_particle}
-use Rattle.gx_schema_syntax.specs.Scope.{reference_in}
-use Rattle.gx_schema_syntax.specs.Words.{has_spelling, is_schema_uri, is_annotation, is_schema_element}
+use Rattle.gx_qnames.specs.Scope.{reference_in}
+use Rattle.gx_schema_syntax.specs.Words.{is_annotation, is_schema_element}
+use Rattle.gx_qnames.specs.Words.{has_spelling, is_schema_uri}
 
 -- ---- names
 

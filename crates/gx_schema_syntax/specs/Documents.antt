@@ -4,12 +4,12 @@ use Rattle.gx_base.specs.declared.type_name.Builtin.TheVariants as builtins
 use Rattle.gx_xml.specs.declared.source.Declaration.{Declaration}
 use Rattle.gx_xml.specs.declared.source.Source.{Source}
 use Rattle.gx_xml.specs.declared.source.SourceAttribute.{SourceAttribute}
-use Rattle.gx_xml.specs.SourceTree.{SourceTree, SourceContents, source, no_content, a_child, a_text}
+use Rattle.gx_xml.specs.SourceTree.{SourceTree, SourceContents, source, no_content, a_child, a_text, tree_name}
 use Rattle.gx_schema_syntax.specs.declared.context.Context.{Context}
 use Rattle.gx_schema_syntax.specs.declared.numbers.Numbers.{Numbers}
 use Rattle.gx_schema_syntax.specs.declared.written.GlobalDeclaration.{GlobalDeclaration}
 use Rattle.gx_schema_syntax.specs.declared.written.GlobalDeclaration.TheVariants as globals
-use Rattle.gx_schema_syntax.specs.Contents.{given_value, tree_name}
+use Rattle.gx_schema_syntax.specs.Contents.{given_value}
 use Rattle.gx_schema_syntax.specs.Declarations.{name_written, declared_kind}
 use Rattle.gx_schema_syntax.specs.DocumentTree.{DocumentTree}
 use Rattle.gx_schema_syntax.specs.Numbers.{numbers_inside, numbers_behind}

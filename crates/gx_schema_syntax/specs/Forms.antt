@@ -2,8 +2,8 @@
 use Rattle.std.specs.Prelude.{ℕ, Bool, true, ◌||◌, List, codes}
 use Rattle.gx_schema_syntax.specs.declared.attributes.Form.{Form}
 use Rattle.gx_schema_syntax.specs.declared.attributes.Form.TheVariants.{Name, Reference, TypeReference, Digits, DigitsOrUnbounded, Boolean, False, Usage, Qualification, Any}
-use Rattle.gx_schema_syntax.specs.Lexical.{is_local_name, is_qname, is_digits}
-use Rattle.gx_schema_syntax.specs.Words.{has_spelling}
+use Rattle.gx_qnames.specs.Lexical.{is_local_name, is_qname, is_digits}
+use Rattle.gx_qnames.specs.Words.{has_spelling}
 
 -- a value is one of the words of the form, where the form lists words
 abbrev pub is_one_of_words : Form → List ℕ → Bool

@@ -3,13 +3,8 @@ pub mod PartView
 pub mod Attributes
 pub mod AttributeView
 pub mod Words
-pub mod Lexical
 pub mod Forms
 pub mod Contents
-pub mod Scope
-pub mod ScopeView
-pub mod Builtins
-pub mod BuiltinView
 pub mod Outside
 pub mod Numbers
 pub mod ParticleTree

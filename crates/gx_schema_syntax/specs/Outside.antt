@@ -5,22 +5,23 @@ use Rattle.std.specs.Str.{encode_utf8_all}
 use Rattle.gx_base.specs.declared.name.Name.{Name}
 use Rattle.gx_xml.specs.declared.source.Declaration.{Declaration}
 use Rattle.gx_xml.specs.declared.source.SourceAttribute.{SourceAttribute}
-use Rattle.gx_xml.specs.SourceTree.{SourceTree, SourceContents, source, no_content, a_child, a_text}
+use Rattle.gx_xml.specs.SourceTree.{SourceTree, SourceContents, source, no_content, a_child, a_text, tree_name}
 use Rattle.gx_schema_syntax.specs.declared.attributes.Form.{Form}
 use Rattle.gx_schema_syntax.specs.declared.attributes.Form.TheVariants.{TypeReference}
 use Rattle.gx_schema_syntax.specs.declared.parts.Seen.{Seen}
 use Rattle.gx_schema_syntax.specs.declared.parts.Seen.TheVariants.{Nothing, TheOnePart}
 use Rattle.gx_schema_syntax.specs.declared.parts.Slot.{Slot}
-use Rattle.gx_schema_syntax.specs.declared.reference.Reference.{Reference}
+use Rattle.gx_qnames.specs.declared.reference.Reference.{Reference}
 use Rattle.gx_schema_syntax.specs.declared.role.Role.{Role}
 use Rattle.gx_schema_syntax.specs.declared.role.Role.TheVariants as roles
 use Rattle.gx_schema_syntax.specs.Attributes.{needs_of, may_hold_its_base, form_of}
-use Rattle.gx_schema_syntax.specs.Builtins.{is_outside_profile}
-use Rattle.gx_schema_syntax.specs.Contents.{given_value, is_given, is_one_given, tree_name, holds_part, holds_named, holds_text}
+use Rattle.gx_qnames.specs.Builtins.{is_outside_profile}
+use Rattle.gx_schema_syntax.specs.Contents.{given_value, is_given, is_one_given, holds_part, holds_named, holds_text}
 use Rattle.gx_schema_syntax.specs.Forms.{has_form}
 use Rattle.gx_schema_syntax.specs.Parts.{slot_of, role_in, fits, seen_after, needs_part}
-use Rattle.gx_schema_syntax.specs.Scope.{reference_in}
-use Rattle.gx_schema_syntax.specs.Words.{has_spelling, is_schema_uri, is_schema_element, is_annotation, written_name, shown_in_schema_namespace, shown_name}
+use Rattle.gx_qnames.specs.Scope.{reference_in}
+use Rattle.gx_schema_syntax.specs.Words.{is_schema_element, is_annotation, shown_in_schema_namespace, shown_name}
+use Rattle.gx_qnames.specs.Words.{has_spelling, is_schema_uri, written_name}
 
 -- the name of a construct, if there is one
 abbrev pub FoundName : Type 0

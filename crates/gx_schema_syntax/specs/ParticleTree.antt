@@ -1,6 +1,6 @@
 -- Particles as they are written (XML Schema 1.0 part 1, sections 3.8 and 3.9).
 use Rattle.std.specs.Prelude.{ℕ, ◌+◌, List, [], ◌∷◌}
-use Rattle.gx_schema_syntax.specs.declared.reference.Reference.{Reference}
+use Rattle.gx_qnames.specs.declared.reference.Reference.{Reference}
 use Rattle.gx_schema_syntax.specs.declared.role.Compositor.{Compositor}
 use Rattle.gx_schema_syntax.specs.declared.written.Bounds.{Bounds}
 use Rattle.gx_schema_syntax.specs.declared.written.LocalDeclaration.{LocalDeclaration}

@@ -7,7 +7,7 @@ use Rattle.gx_base.specs.declared.type_name.TypeName.{TypeName}
 use Rattle.gx_base.specs.declared.type_name.TypeName.TheVariants as names
 use Rattle.gx_xml.specs.declared.source.Declaration.{Declaration}
 use Rattle.gx_xml.specs.declared.source.SourceAttribute.{SourceAttribute}
-use Rattle.gx_xml.specs.SourceTree.{SourceTree, SourceContents, source, no_content, a_child, a_text}
+use Rattle.gx_xml.specs.SourceTree.{SourceTree, SourceContents, source, no_content, a_child, a_text, tree_name}
 use Rattle.gx_schema_syntax.specs.declared.context.Context.{Context}
 use Rattle.gx_schema_syntax.specs.declared.numbers.Numbers.{Numbers}
 use Rattle.gx_schema_syntax.specs.declared.parts.Slot.{Slot}
@@ -30,14 +30,15 @@ use Rattle.gx_schema_syntax.specs.declared.written.TypeDefinition.TheVariants.{S
 use Rattle.gx_schema_syntax.specs.declared.written.Usage.{Usage}
 use Rattle.gx_schema_syntax.specs.declared.written.Usage.TheVariants as usage
 use Rattle.gx_schema_syntax.specs.declared.written.WrittenFacet.{WrittenFacet}
-use Rattle.gx_schema_syntax.specs.Contents.{given_value, is_given, tree_name}
+use Rattle.gx_schema_syntax.specs.Contents.{given_value, is_given}
 use Rattle.gx_schema_syntax.specs.Declarations.{name_written, local_namespace, type_named, local_declaration, particle_written}
 use Rattle.gx_schema_syntax.specs.Numbers.{numbers_inside, numbers_behind}
 use Rattle.gx_schema_syntax.specs.Outside.{is_value}
 use Rattle.gx_schema_syntax.specs.ParticleTree.{ParticleTree}
 use Rattle.gx_schema_syntax.specs.Parts.{slot_of, role_in}
-use Rattle.gx_schema_syntax.specs.Scope.{reference_in}
-use Rattle.gx_schema_syntax.specs.Words.{has_spelling, is_schema_element, is_annotation}
+use Rattle.gx_qnames.specs.Scope.{reference_in}
+use Rattle.gx_schema_syntax.specs.Words.{is_schema_element, is_annotation}
+use Rattle.gx_qnames.specs.Words.{has_spelling}
 
 -- ---- the first part of an element, as simple types and derived complex types have it
 

@@ -2,14 +2,7 @@
 use Rattle.std.specs.Prelude.{ℕ, Bool, ◌&&◌, List, [], ◌∷◌, ◌++◌, codes, bytes_eq, if◌then◌else◌}
 use Rattle.std.specs.Str.{encode_utf8_all}
 use Rattle.gx_base.specs.declared.name.Name.{Name}
-
--- a text is this word
-abbrev pub has_spelling : (word text : List ℕ) → Bool
-has_spelling word text = bytes_eq (encode_utf8_all text) word
-
--- the namespace of schema documents (XML Schema 1.0 part 1, section 2.6)
-unfoldable pub is_schema_uri : List ℕ → Bool
-is_schema_uri uri = has_spelling (codes "http://www.w3.org/2001/XMLSchema") uri
+use Rattle.gx_qnames.specs.Words.{has_spelling, is_schema_uri, written_name}
 
 -- an element has this local name in the namespace of schema documents
 abbrev pub is_schema_element : (word : List ℕ) → Name → Bool
@@ -18,10 +11,6 @@ is_schema_element word name = is_schema_uri name.uri && has_spelling word name.l
 -- what is skipped, with all that stands in it (XML Schema 1.0 part 1, section 3.13)
 abbrev pub is_annotation : Name → Bool
 is_annotation name = is_schema_element (codes "annotation") name
-
--- a name with its prefix
-abbrev pub written_name : Name → List ℕ
-written_name name = if bytes_eq name.prefix [] then name.local else (name.prefix ++ (58 ∷ name.local))
 
 -- a local name in the namespace of schema documents, behind `xs:`
 abbrev pub shown_in_schema_namespace : List ℕ → List ℕ

@@ -5,10 +5,10 @@ ghost use Rattle.gx_xml.specs.SourceView.{contents_of};
 ghost use Rattle.gx_schema_syntax.specs.Contents.{holds_named, holds_part, holds_text, is_child_named, is_given, is_one_given, is_part, is_plain, is_written_text, given_value};
 ghost use Rattle.gx_schema_syntax.specs.AttributeView.{words_listed};
 
-use crate::characters::{characters, is_blank};
 use crate::words::{is_annotation, is_schema_element};
 use gx_base::name::Name;
 use gx_base::text::Text;
+use gx_qnames::characters::{characters, is_blank};
 use gx_xml::source::{SourceAttribute, SourceChild};
 use std::alloc::{AllocError, Global};
 

@@ -5,18 +5,17 @@ ghost use Rattle.std.specs.Option.{option_copied};
 ghost use Rattle.gx_xml.specs.SourceView.{contents_of};
 ghost use Rattle.gx_schema_syntax.specs.Contents.{given_value};
 ghost use Rattle.gx_schema_syntax.specs.Declarations.{bounds_written, greatest_written, is_qualified_by, declared_kind, local_declaration, local_namespace, name_written, type_found, type_in, type_named, type_of_reference, type_within, written_kind};
-ghost use Rattle.gx_schema_syntax.specs.ScopeView.{declared_in};
+ghost use Rattle.gx_qnames.specs.ScopeView.{declared_in};
 
 use crate::children::{given_value, holds_named};
-use crate::forms::has_spelling;
-use crate::reference::{Reference, named_builtin, reference_in};
-use crate::scope::Scope;
-use crate::words::is_schema_uri;
 use crate::written::{Bounds, LocalDeclaration, TypeReference};
 use gx_base::name::Name;
 use gx_base::text::Text;
 use gx_base::text_builder::TextBuilder;
 use gx_base::type_name::Builtin;
+use gx_qnames::reference::{Reference, named_builtin, reference_in};
+use gx_qnames::scope::Scope;
+use gx_qnames::words::{has_spelling, is_schema_uri};
 use gx_xml::source::{SourceAttribute, SourceChild};
 use std::alloc::{AllocError, Global};
 

@@ -5,18 +5,18 @@ ghost use Rattle.gx_xml.specs.SourceView.{contents_of};
 ghost use Rattle.gx_schema_syntax.specs.Contents.{given_value};
 ghost use Rattle.gx_schema_syntax.specs.Documents.{document_context, document_written, global_attribute, global_attribute_group, global_element, global_group, global_written, globals_written};
 ghost use Rattle.gx_schema_syntax.specs.Outside.{is_value};
-ghost use Rattle.gx_schema_syntax.specs.ScopeView.{declared_in};
+ghost use Rattle.gx_qnames.specs.ScopeView.{declared_in};
 
 use crate::children::given_value;
 use crate::context::Context;
 use crate::declarations::{declared_kind, name_written, text_or_empty};
-use crate::forms::has_spelling;
 use crate::numbers::{Numbers, numbers_behind, numbers_inside};
-use crate::scope::{Scope, outermost, within};
 use crate::types::{add_types, first_particle, members_written};
 use crate::words::is_schema_element;
 use crate::written::{GlobalDeclaration, SchemaDocument, TypeDeclaration};
 use gx_base::type_name::Builtin;
+use gx_qnames::scope::{Scope, outermost, within};
+use gx_qnames::words::has_spelling;
 use gx_xml::source::{SourceAttribute, SourceChild, SourceElement};
 use std::alloc::{AllocError, Global};
 

@@ -2,19 +2,13 @@
 
 ghost use Rattle.std.specs.Prelude.{◌≡◌, IfOk};
 ghost use Rattle.gx_schema_syntax.specs.Forms.{has_form, is_one_of_words};
-ghost use Rattle.gx_schema_syntax.specs.Words.{has_spelling};
+ghost use Rattle.gx_qnames.specs.Words.{has_spelling};
 
 use crate::attributes::Form;
-use crate::characters::{characters, is_digits, is_local_name, is_qname};
 use gx_base::text::Text;
+use gx_qnames::characters::{characters, is_digits, is_local_name, is_qname};
+use gx_qnames::words::has_spelling;
 use std::alloc::{AllocError, Global};
-
-/// Whether a text is this word.
-pub fn has_spelling(word: &str, text: &Text) -> bool
-    ensures { result ≡ has_spelling word.now text.now }
-{
-    text.as_str() == word
-}
 
 /// Whether a value has the form.
 pub fn has_form(alloc: Global, form: Form, value: &Text) -> Result<bool, AllocError>

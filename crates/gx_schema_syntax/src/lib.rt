@@ -2,7 +2,6 @@
 #![tactic(auto)]
 
 pub mod attributes;
-mod characters;
 mod children;
 pub mod context;
 mod declarations;
@@ -13,9 +12,7 @@ mod outside;
 mod particles;
 pub mod parts;
 pub mod profile;
-pub mod reference;
 pub mod role;
-mod scope;
 mod types;
 mod words;
 pub mod written;

@@ -3,20 +3,18 @@
 ghost use Rattle.std.specs.Prelude.{◌≡◌, IfOk, codes};
 ghost use Rattle.gx_xml.specs.SourceView.{contents_of};
 ghost use Rattle.gx_schema_syntax.specs.Outside.{has_name_and_reference, has_wrong_itself, is_prohibited, lacks_attribute, lacks_attribute_type, lacks_element_type, missing_type, outside_among, outside_attribute, outside_attributes, outside_by_form, outside_element, outside_root, outside_type, seen_before, slot_fitting};
-ghost use Rattle.gx_schema_syntax.specs.ScopeView.{declared_in};
+ghost use Rattle.gx_qnames.specs.ScopeView.{declared_in};
 
 use crate::attributes::{Form, form_of, may_hold_its_base, needs_of};
 use crate::children::{given_value, holds_named, holds_part, holds_text, is_given, is_one_given};
-use crate::forms::{has_form, has_spelling};
+use crate::forms::has_form;
 use crate::parts::{Seen, Slot, fits, needs_part, role_in, seen_after, slot_of};
-use crate::reference::{is_outside_profile, reference_in};
 use crate::role::Role;
-use crate::scope::{Scope, outermost, within};
-use crate::words::{
-    is_annotation, is_schema_element, is_schema_uri, shown_in_schema_namespace, shown_name,
-    written_name,
-};
+use crate::words::{is_annotation, is_schema_element, shown_in_schema_namespace, shown_name};
 use gx_base::text::Text;
+use gx_qnames::reference::{is_outside_profile, reference_in};
+use gx_qnames::scope::{Scope, outermost, within};
+use gx_qnames::words::{has_spelling, is_schema_uri, written_name};
 use gx_xml::source::{SourceAttribute, SourceChild, SourceElement};
 use std::alloc::{AllocError, Global};
 

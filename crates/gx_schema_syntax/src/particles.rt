@@ -4,18 +4,18 @@ ghost use Rattle.std.specs.Prelude.{◌≡◌, IfOk};
 ghost use Rattle.gx_xml.specs.SourceView.{contents_of};
 ghost use Rattle.gx_schema_syntax.specs.Declarations.{group_reference, local_element, model_group, particle_written, particles_written};
 ghost use Rattle.gx_schema_syntax.specs.ParticleTree.{particles_of};
-ghost use Rattle.gx_schema_syntax.specs.ScopeView.{declared_in};
+ghost use Rattle.gx_qnames.specs.ScopeView.{declared_in};
 
 use crate::children::given_value;
 use crate::context::Context;
 use crate::declarations::{bounds_written, local_declaration, local_namespace, text_or_empty};
 use crate::numbers::{Numbers, numbers_behind, numbers_inside};
-use crate::reference::reference_in;
 use crate::role::Compositor;
-use crate::scope::{Scope, within};
 use crate::words::{is_annotation, is_schema_element};
 use crate::written::{Particle, Term};
 use gx_base::type_name::Builtin;
+use gx_qnames::reference::reference_in;
+use gx_qnames::scope::{Scope, within};
 use gx_xml::source::{SourceChild, SourceElement};
 use std::alloc::{AllocError, Global};
 

@@ -1,11 +1,11 @@
 // What is written of types and of lists of attributes.
 
 ghost use Rattle.std.specs.Prelude.{◌≡◌, ◌++◌, ◌||◌, IfOk, OnOk, codes, option_map};
-ghost use Rattle.gx_xml.specs.SourceTree.{SourceTree};
+ghost use Rattle.gx_xml.specs.SourceTree.{SourceTree, tree_name};
 ghost use Rattle.gx_xml.specs.SourceView.{contents_of};
-ghost use Rattle.gx_schema_syntax.specs.Contents.{tree_name, given_value};
+ghost use Rattle.gx_schema_syntax.specs.Contents.{given_value};
 ghost use Rattle.gx_schema_syntax.specs.Numbers.{numbers_behind, numbers_behind_all};
-ghost use Rattle.gx_schema_syntax.specs.ScopeView.{declared_in};
+ghost use Rattle.gx_qnames.specs.ScopeView.{declared_in};
 ghost use Rattle.gx_schema_syntax.specs.Types.{attribute_group, attribute_use, body_of, complex_type_by, complex_type_with, definition_written, derived_body, facet_by_kind, facet_named, facets_written, first_part, first_particle, is_part_named, is_particle, is_true, member_written, members_written, method_of, next_element, own_type, simple_type_by, type_name_written, type_declaration, types_among, types_written, usage_of};
 ghost use Rattle.gx_schema_syntax.specs.OpenedView.{opened_part};
 
@@ -14,13 +14,10 @@ use crate::context::Context;
 use crate::declarations::{
     local_declaration, local_namespace, name_written, text_or_empty, type_named,
 };
-use crate::forms::has_spelling;
 use crate::numbers::{Numbers, numbers_behind, numbers_inside};
 use crate::particles::particle_written;
 use crate::parts::{role_in, slot_of};
-use crate::reference::reference_in;
 use crate::role::{FacetKind, Role};
-use crate::scope::{Scope, within};
 use crate::words::{is_annotation, is_schema_element};
 use crate::written::{
     AttributeMember, AttributeMembers, ComplexTypeDefinition, ContentKind, Derivation,
@@ -30,6 +27,9 @@ use crate::written::{
 use gx_base::name::{Name, SharedName};
 use gx_base::text::Text;
 use gx_base::type_name::{Builtin, TypeName};
+use gx_qnames::reference::reference_in;
+use gx_qnames::scope::{Scope, within};
+use gx_qnames::words::has_spelling;
 use gx_xml::source::{Declaration, SourceAttribute, SourceChild, SourceElement};
 use std::alloc::{AllocError, Global};
 

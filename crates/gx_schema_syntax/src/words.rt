@@ -1,20 +1,14 @@
 // Words of schema documents: the names of their elements and attributes, and how names are shown.
 
 ghost use Rattle.std.specs.Prelude.{◌≡◌, IfOk};
-ghost use Rattle.gx_schema_syntax.specs.Words.{is_annotation, is_schema_element, is_schema_uri, shown_name, written_name, shown_in_schema_namespace};
+ghost use Rattle.gx_schema_syntax.specs.Words.{is_annotation, is_schema_element, shown_name, shown_in_schema_namespace};
+ghost use Rattle.gx_qnames.specs.Words.{is_schema_uri, written_name};
 
 use gx_base::name::Name;
 use gx_base::text::Text;
 use gx_base::text_builder::TextBuilder;
+use gx_qnames::words::{is_schema_uri, written_name};
 use std::alloc::{AllocError, Global};
-
-/// Whether the URI is that of the namespace of schema documents (XML Schema 1.0 part 1, section 2.6).
-#[tactic(auto, unfolding(crate::specs::Words::is_schema_uri))]
-pub fn is_schema_uri(uri: &Text) -> bool
-    ensures { result ≡ is_schema_uri uri.now }
-{
-    uri.as_str() == "http://www.w3.org/2001/XMLSchema"
-}
 
 /// Whether an element has this local name in the namespace of schema documents.
 pub fn is_schema_element(local: &str, name: &Name) -> bool
@@ -28,20 +22,6 @@ pub fn is_annotation(name: &Name) -> bool
     ensures { result ≡ is_annotation name.now }
 {
     is_schema_element("annotation", name)
-}
-
-/// A name with its prefix.
-pub fn written_name(alloc: Global, name: &Name) -> Result<Text, AllocError>
-    ensures { IfOk result (λ text. text ≡ written_name name.now) }
-{
-    if name.prefix.is_empty() {
-        return name.local.clone();
-    }
-    let mut shown = TextBuilder::new(alloc);
-    shown.push_text(&name.prefix)?;
-    shown.push(':')?;
-    shown.push_text(&name.local)?;
-    shown.finish()
 }
 
 /// A local name in the namespace of schema documents, behind `xs:`.

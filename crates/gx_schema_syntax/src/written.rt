@@ -1,10 +1,11 @@
 // Schema documents as they are written.
 
-use crate::reference::Reference;
 use crate::role::{Compositor, FacetKind};
 use gx_base::name::Name;
 use gx_base::text::Text;
 use gx_base::type_name::{Builtin, TypeName};
+use gx_qnames::reference::Reference;
+use std::alloc::{AllocError, Global};
 use std::marker::Model;
 
 /// A type as something of it is declared: a built-in one, one that a name refers to, or the anonymous one of a number, counted
@@ -75,11 +76,22 @@ impl Drop for LocalDeclaration {
 /// A particle (XML Schema 1.0 part 1, section 3.9). A `place` here and below is the number of the element in document order over
 /// all files, counted from 1, without annotations and what stands in them.
 #[cycle(particle)]
-#[derive(Debug, Drop)]
+#[derive(Debug)]
 pub struct Particle {
     pub place: u64,
     pub bounds: Bounds,
     pub term: Term,
+}
+
+impl Drop for Particle {
+    #[cycle(particle)]
+    fn drop(self) {
+        let Particle {
+            place: _place,
+            bounds: _bounds,
+            term: _term,
+        } = self;
+    }
 }
 
 /// What a particle puts into a content: an element, a group that is referred to, or a model group.
@@ -96,7 +108,7 @@ impl Model for Particle {
     ghost use Rattle.gx_schema_syntax.specs.ParticleCode.{particle_code};
     ghost use Rattle.gx_schema_syntax.specs.contracts.written.Bounds as bounded;
     ghost use Rattle.gx_schema_syntax.specs.contracts.written.LocalDeclaration as local;
-    ghost use Rattle.gx_schema_syntax.specs.contracts.reference.Reference as referred;
+    ghost use Rattle.gx_qnames.specs.contracts.reference.Reference as referred;
     ghost use Rattle.gx_schema_syntax.specs.contracts.role.Compositor as compositors;
 
     ghost Value = { ParticleTree };
@@ -138,7 +150,7 @@ impl Model for WrittenFacets {
 }
 
 impl WrittenFacets {
-    ghost use Rattle.std.specs.Prelude.{◌≡◌};
+    ghost use Rattle.std.specs.Prelude.{◌≡◌, IfOk};
 
     /// The facets of the vector, in its order.
     pub fn from_vec(items: Vec<WrittenFacet>) -> WrittenFacets
@@ -153,6 +165,23 @@ impl WrittenFacets {
     {
         self.items.as_slice()
     }
+
+    /// A copy of the facets.
+    pub fn copied(&self, alloc: Global) -> Result<WrittenFacets, AllocError>
+        ensures { IfOk result (λ copy. copy ≡ self.now) }
+    {
+        let mut copies = Vec::with_capacity(alloc, self.items.len())?;
+        let mut left = self.as_slice();
+        while let Some((facet, others)) = left.split_first() {
+            copies.push(WrittenFacet {
+                place: facet.place,
+                kind: facet.kind,
+                value: facet.value.clone()?,
+            })?;
+            left = others;
+        }
+        Ok(WrittenFacets::from_vec(copies))
+    }
 }
 
 /// Whether an element may have, must have or may not have an attribute (XML Schema 1.0 part 1, section 3.2.2).
@@ -164,7 +193,7 @@ pub enum Usage {
 }
 
 /// A member of a list of attributes: an attribute with its use, or the attributes of a group.
-#[derive(Debug, Drop)]
+#[derive(Debug)]
 pub enum AttributeMember {
     Attribute {
         place: u64,
@@ -175,6 +204,22 @@ pub enum AttributeMember {
         place: u64,
         reference: Reference,
     },
+}
+
+impl Drop for AttributeMember {
+    fn drop(self) {
+        match self {
+            AttributeMember::Attribute {
+                place: _place,
+                usage: _usage,
+                attribute: _attribute,
+            } => {}
+            AttributeMember::Group {
+                place: _place,
+                reference: _reference,
+            } => {}
+        }
+    }
 }
 
 /// The members of a list of attributes in their order, which contracts see as a list.
@@ -211,7 +256,7 @@ impl AttributeMembers {
 }
 
 /// A simple type: a restriction of its base by facets, or lists of items of a type (XML Schema 1.0 part 1, section 3.14).
-#[derive(Debug, Drop)]
+#[derive(Debug)]
 pub enum SimpleTypeDefinition {
     Restriction {
         place: u64,
@@ -222,6 +267,22 @@ pub enum SimpleTypeDefinition {
         place: u64,
         item: TypeReference,
     },
+}
+
+impl Drop for SimpleTypeDefinition {
+    fn drop(self) {
+        match self {
+            SimpleTypeDefinition::Restriction {
+                place: _place,
+                base: _base,
+                facets: _facets,
+            } => {}
+            SimpleTypeDefinition::List {
+                place: _place,
+                item: _item,
+            } => {}
+        }
+    }
 }
 
 /// How a type is derived from its base.
@@ -249,7 +310,7 @@ pub struct Derivation {
 
 /// A complex type (XML Schema 1.0 part 1, section 3.4): the facets of simple content, the particle and the attributes that are
 /// written in it.
-#[derive(Debug, Drop)]
+#[derive(Debug)]
 pub struct ComplexTypeDefinition {
     pub is_mixed: bool,
     pub derivation: Option<Derivation>,
@@ -258,11 +319,32 @@ pub struct ComplexTypeDefinition {
     pub attributes: AttributeMembers,
 }
 
+impl Drop for ComplexTypeDefinition {
+    fn drop(self) {
+        let ComplexTypeDefinition {
+            is_mixed: _is_mixed,
+            derivation: _derivation,
+            facets: _facets,
+            particle: _particle,
+            attributes: _attributes,
+        } = self;
+    }
+}
+
 /// What a type is.
-#[derive(Debug, Drop)]
+#[derive(Debug)]
 pub enum TypeDefinition {
     Simple(SimpleTypeDefinition),
     Complex(ComplexTypeDefinition),
+}
+
+impl Drop for TypeDefinition {
+    fn drop(self) {
+        match self {
+            TypeDefinition::Simple(_simple_type_definition) => {}
+            TypeDefinition::Complex(_complex_type_definition) => {}
+        }
+    }
 }
 
 /// A type, global or anonymous.
@@ -274,7 +356,7 @@ pub struct TypeDeclaration {
 }
 
 /// A global declaration other than that of a type (XML Schema 1.0 part 1, sections 3.2, 3.3, 3.6 and 3.7).
-#[derive(Debug, Drop)]
+#[derive(Debug)]
 pub enum GlobalDeclaration {
     Element {
         place: u64,
@@ -296,6 +378,33 @@ pub enum GlobalDeclaration {
         name: Name,
         attributes: AttributeMembers,
     },
+}
+
+impl Drop for GlobalDeclaration {
+    fn drop(self) {
+        match self {
+            GlobalDeclaration::Element {
+                place: _place,
+                name: _name,
+                kind: _kind,
+            } => {}
+            GlobalDeclaration::Attribute {
+                place: _place,
+                name: _name,
+                kind: _kind,
+            } => {}
+            GlobalDeclaration::Group {
+                place: _place,
+                name: _name,
+                particle: _particle,
+            } => {}
+            GlobalDeclaration::AttributeGroup {
+                place: _place,
+                name: _name,
+                attributes: _attributes,
+            } => {}
+        }
+    }
 }
 
 /// A schema document (XML Schema 1.0 part 1, section 3.15), which contracts see as a record of lists: its target namespace, empty

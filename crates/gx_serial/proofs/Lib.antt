@@ -4,7 +4,6 @@ mod BindingLemmas
 mod TagLemmas
 mod WriteLemmas
 mod FreeLemmas
-mod IndexLemmas
 mod PrefixLemmas
 mod ReadingLemmas
 mod DeclarationLemmas

@@ -4,7 +4,6 @@ pub mod Markup
 pub mod Marked
 pub mod Answer
 pub mod View
-pub mod Index
 pub mod PrefixSet
 pub mod Reading
 pub mod Declarations

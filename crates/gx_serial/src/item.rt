@@ -9,13 +9,13 @@ ghost use Rattle.gx_serial.specs.Markup.{spelled_markup};
 ghost use Rattle.gx_serial.specs.Marked.{marked};
 ghost use Rattle.gx_serial.specs.Binding.{outermost_scope};
 
-use crate::binding::Bindings;
 use crate::escape::push_text;
 use crate::put::put_in_pieces;
 use crate::write::push_tree;
 use gx_base::text::Text;
 use gx_base::text_builder::TextBuilder;
 use gx_io::{PutError, Sink};
+use gx_namespaces::bindings::Bindings;
 use gx_tree::tree::Tree;
 use std::alloc::{AllocError, Global};
 use std::marker::Model;
@@ -112,8 +112,6 @@ impl AnswerText {
 fn push_outermost(alloc: Global, out: &mut TextBuilder, tree: &Tree) -> Result<(), AllocError>
     ensures { OnOk result (out.new ≡ out.old ++ spelled_markup (marked outermost_scope tree.now)) }
 {
-    let none = Text::empty(alloc)?;
-    let mut scope = Bindings::new(alloc);
-    scope.push(&none, &none)?;
+    let mut scope = Bindings::outermost(alloc)?;
     push_tree(alloc, out, &mut scope, tree)
 }

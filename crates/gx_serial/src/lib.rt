@@ -1,7 +1,6 @@
 //! The text of an answer, written to a sink.
 #![tactic(auto)]
 
-mod binding;
 mod escape;
 pub mod item;
 pub mod laws;

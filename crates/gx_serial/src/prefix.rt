@@ -1,14 +1,14 @@
 // The prefixes of a tag.
-ghost use Rattle.std.specs.Prelude.{◌≡◌, [], ◌∷◌, ◌++◌, length, map, option_map, IfOk, OnOk, OnErr};
+ghost use Rattle.std.specs.Prelude.{◌≡◌, [], ◌∷◌, ◌++◌, length, map, option_copied, IfOk, OnOk, OnErr};
 ghost use Rattle.gx_tree.specs.declared.attribute.Attribute.{Attribute};
 ghost use Rattle.gx_serial.specs.Binding.{bound_to, numbered_prefix, is_prefix_among, free_number, free_prefix};
 ghost use Rattle.gx_serial.specs.Marked.{prefixes_of, unless_taken};
 ghost use Rattle.gx_serial.specs.View.{all_prefixes, IsSearchStart};
 ghost use Rattle.gx_serial.specs.PrefixSet.{HoldsAll};
 
-use crate::binding::Bindings;
 use gx_base::name::Name;
 use gx_base::text::Text;
+use gx_namespaces::bindings::Bindings;
 use gx_tree::attribute::Attribute;
 use std::alloc::{AllocError, Global};
 use std::collections::BTreeSet;
@@ -21,7 +21,7 @@ pub(crate) struct Prefixes<'a> {
     name: &'a Name,
     attributes: &'a [Attribute],
     attribute_prefixes: BTreeSet<Text>,
-    taken_bindings: Bindings<'a>,
+    taken_bindings: Bindings,
     number: usize,
 }
 
@@ -59,8 +59,8 @@ impl<'a> Prefixes<'a> {
     }
 
     // The URI for which a prefix was taken last.
-    pub(crate) fn bound_to(&self, prefix: &Text) -> Option<&'a Text>
-        ensures { option_map (λ u. u.now) result ≡ bound_to self.now.taken_bindings prefix.now }
+    pub(crate) fn bound_to(&self, prefix: &Text) -> Option<&Text>
+        ensures { option_copied result ≡ bound_to self.now.taken_bindings prefix.now }
     {
         self.taken_bindings.bound_to(prefix)
     }

@@ -1,15 +1,16 @@
 // Start tags.
-ghost use Rattle.std.specs.Prelude.{◌≡◌, [], ◌++◌, take, length, OnOk};
+ghost use Rattle.std.specs.Prelude.{◌≡◌, [], ◌++◌, take, length, OnOk, option_copied, bytes_eq};
+ghost use Rattle.gx_serial.specs.Binding.{gives, needs_declaration, xml};
 ghost use Rattle.gx_serial.specs.Markup.{spelled_name, spelled_declaration, spelled_attribute, spelled_attributes, spelled_start};
 ghost use Rattle.gx_serial.specs.Marked.{with_prefix, prefixes_of, written_prefix, written_attributes, after_attribute, after_attributes, scope_within, tag_of};
 ghost use Rattle.gx_serial.specs.View.{begun_of, begun_by_name, Declares, DeclaresThen};
 
-use crate::binding::Bindings;
 use crate::escape::{push_ascii, push_value};
 use crate::prefix::Prefixes;
 use gx_base::name::Name;
 use gx_base::text::Text;
 use gx_base::text_builder::TextBuilder;
+use gx_namespaces::bindings::Bindings;
 use gx_tree::attribute::Attribute;
 use std::alloc::{AllocError, Global};
 
@@ -63,17 +64,40 @@ pub(crate) fn push_attribute(
     out.push('"')
 }
 
+// Whether a binding, where there is any, gives a URI.
+fn gives(bound: Option<&Text>, uri: &Text) -> bool
+    ensures { result ≡ gives (option_copied bound.entry) uri.now }
+{
+    match bound {
+        Some(bound) => *bound == *uri,
+        None => false,
+    }
+}
+
+fn is_xml(prefix: &Text) -> bool
+    ensures { result ≡ bytes_eq prefix.now xml }
+{
+    prefix.as_str() == "xml"
+}
+
+// Whether a prefix has to be declared for a URI.
+fn needs_declaration(scope: &Bindings, prefix: &Text, uri: &Text) -> bool
+    ensures { result ≡ needs_declaration scope.now prefix.now uri.now }
+{
+    !is_xml(prefix) && !gives(scope.bound_to(prefix), uri)
+}
+
 // Adds the declaration of a prefix, where the URI needs it.
-fn declare<'a>(
+fn declare(
     out: &mut TextBuilder,
-    scope: &mut Bindings<'a>,
+    scope: &mut Bindings,
     prefix: &Text,
-    uri: &'a Text,
+    uri: &Text,
 ) -> Result<(), AllocError>
     ensures scope { OnOk result (scope.new ≡ (with_prefix (record { taken_bindings = []; scope = scope.old }) prefix.now uri.now).scope) }
     ensures declares { OnOk result (Declares scope.old scope.new out.old out.new) }
 {
-    if !scope.needs_declaration(prefix, uri) {
+    if !needs_declaration(scope, prefix, uri) {
         return Ok(());
     }
     push_declaration(out, prefix, uri)?;
@@ -86,7 +110,7 @@ fn push_next<'a>(
     out: &mut TextBuilder,
     written: &mut TextBuilder,
     prefixes: &mut Prefixes<'a>,
-    scope: &mut Bindings<'a>,
+    scope: &mut Bindings,
     attribute: &'a Attribute,
 ) -> Result<(), AllocError>
     ensures state { OnOk result (begun_of prefixes.new scope.new
@@ -114,7 +138,7 @@ fn push_next<'a>(
 fn push_attributes<'a>(
     alloc: Global,
     out: &mut TextBuilder,
-    scope: &mut Bindings<'a>,
+    scope: &mut Bindings,
     name: &'a Name,
     attributes: &'a [Attribute],
 ) -> Result<(), AllocError>
@@ -136,7 +160,7 @@ fn push_attributes<'a>(
 pub(crate) fn push_start<'a>(
     alloc: Global,
     out: &mut TextBuilder,
-    scope: &mut Bindings<'a>,
+    scope: &mut Bindings,
     name: &'a Name,
     attributes: &'a [Attribute],
 ) -> Result<(), AllocError>

@@ -4,12 +4,12 @@ ghost use Rattle.gx_tree.specs.PlainTree.{trees_of};
 ghost use Rattle.gx_serial.specs.Markup.{tagged, spelled_markup, spelled_content, spelled_end, all_spelled};
 ghost use Rattle.gx_serial.specs.Marked.{marked, all_marked, scope_within, tag_of};
 
-use crate::binding::Bindings;
 use crate::escape::{push_ascii, push_text};
 use crate::tag::{push_name, push_start};
 use gx_base::name::Name;
 use gx_base::text::Text;
 use gx_base::text_builder::TextBuilder;
+use gx_namespaces::bindings::Bindings;
 use gx_tree::attribute::Attribute;
 use gx_tree::tree::{Tree, TreeNode};
 use std::alloc::{AllocError, Global};
@@ -19,7 +19,7 @@ use std::alloc::{AllocError, Global};
 pub(crate) fn push_tree<'a>(
     alloc: Global,
     out: &mut TextBuilder,
-    scope: &mut Bindings<'a>,
+    scope: &mut Bindings,
     tree: &'a Tree,
 ) -> Result<(), AllocError>
     ensures text { OnOk result (out.new ≡ out.old ++ spelled_markup (marked scope.old tree.now)) }
@@ -42,7 +42,7 @@ pub(crate) fn push_tree<'a>(
 fn push_element<'a>(
     alloc: Global,
     out: &mut TextBuilder,
-    scope: &mut Bindings<'a>,
+    scope: &mut Bindings,
     name: &'a Name,
     attributes: &'a Vec<Attribute>,
     children: &'a Vec<Tree>,
@@ -64,7 +64,7 @@ fn push_element<'a>(
 fn push_content<'a>(
     alloc: Global,
     out: &mut TextBuilder,
-    scope: &mut Bindings<'a>,
+    scope: &mut Bindings,
     name: &'a Name,
     children: &'a Vec<Tree>,
 ) -> Result<(), AllocError>
@@ -93,7 +93,7 @@ fn push_end(out: &mut TextBuilder, name: &Name) -> Result<(), AllocError>
 fn push_trees<'a>(
     alloc: Global,
     out: &mut TextBuilder,
-    scope: &mut Bindings<'a>,
+    scope: &mut Bindings,
     trees: &'a Vec<Tree>,
 ) -> Result<(), AllocError>
     ensures text { OnOk result (out.new

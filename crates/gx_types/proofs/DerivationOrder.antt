@@ -11,7 +11,7 @@ use Rattle.gx_types.specs.SameItemType.{same_type_name}
 use Rattle.gx_types.specs.Derivation.{bases_of, Bases, declared_base_of, is_declared, base_of, Leads, LeadsTo}
 use Rattle.gx_types.specs.Grounded.{EndsWithin, is_known}
 use Rattle.gx_types.specs.DerivationLaws.{DerivationIsAPreorder, DerivationIsLinear, DerivationLooksAtNoPrefix, AllTypesAreDerivedFromAnyType}
-use Rattle.gx_types.proofs.EqualNames.{builtins_are_one, type_names_are_equivalent, type_name_symm, type_name_trans, type_name_itself}
+use Rattle.gx_types.specs.EqualNames.{builtins_are_one, type_names_are_equivalent, type_name_symm, type_name_trans, type_name_itself}
 use Rattle.gx_types.proofs.EqualTypes.{leads_to_equal}
 use Rattle.gx_types.proofs.DerivationLemmas.{to_base}
 

@@ -3,6 +3,7 @@ pub mod SchemaLemmas
 pub mod TypeIndexes
 pub mod EqualNames
 pub mod EqualTypes
+pub mod Alternatives
 pub mod Joined
 pub mod TakesLemmas
 pub mod DerivationTest

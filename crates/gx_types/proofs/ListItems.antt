@@ -1,5 +1,5 @@
 -- The items of a list, in one pass over its text.
-use Rattle.std.proofs.Common.{◌≡◌, ℕ, List, [], ◌∷◌, ◌++◌, Result, Ok, Err, refl, sym, ◌∙◌, ap}
+use Rattle.std.proofs.Common.{◌≡◌, ℕ, List, [], ◌∷◌, Result, Ok, Err, refl, ◌∙◌, ap}
 use Rattle.std.specs.Prelude.{filter}
 use Rattle.gx_facets.specs.WhiteSpace.{parts_of}
 use Rattle.gx_facets.specs.declared.Atomic.{Atomic}

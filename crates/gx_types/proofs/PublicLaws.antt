@@ -1,11 +1,13 @@
 -- The public laws as terms, for the proofs of the crates above.
-use Rattle.gx_types.specs.Laws.{OccurrenceBoundsLength, JoinedTypesAreASequence, SequenceTakesParts, SequenceTakesNoMore, ChoiceTakesSome, ChoiceKeepsItsMembers, ChoiceTakesNewMembers, ChoiceTakesMembers, ChoiceTakesNoMore, MembersAreDistinct, IndicatorsAreExact, RepeatedTakesJoined, RepeatedTakesNoMore, TimesTakesJoined, TimesTakesNoMore, PrimeIsAChoiceOfItems, ItemsTakeEachShape, FactoredTakesType, PrimeTakesType, LimitedTakesType, ShortTypesStay, EqualTypesTakeTheSame}
+use Rattle.gx_types.specs.Laws.{OccurrenceBoundsLength, JoinedTypesAreASequence, SequenceTakesParts, SequenceTakesNoMore, ChoiceTakesSome, ChoiceKeepsItsMembers, ChoiceTakesNewMembers, ChoiceTakesMembers, ChoiceTakesNoMore, MembersAreDistinct, ChoiceIsFromAlternatives, PrimeIsFromItems, IndicatorsAreExact, RepeatedTakesJoined, RepeatedTakesNoMore, TimesTakesJoined, TimesTakesNoMore, PrimeIsAChoiceOfItems, ItemsTakeEachShape, FactoredTakesType, PrimeTakesType, LimitedTakesType, ShortTypesStay, EqualTypesTakeTheSame}
 use Rattle.gx_types.specs.DerivationLaws.{DerivationIsAPreorder, DerivationIsLinear, DerivationLooksAtNoPrefix, EqualTypesHaveOneBase, AllTypesAreDerivedFromAnyType, EqualityIsAnEquivalence}
-use Rattle.gx_types.proofs.EqualNames.{builtins_are_one, type_names_are_equivalent, item_types_are_equivalent}
+use Rattle.gx_types.specs.EqualNames.{builtins_are_one, type_names_are_equivalent, item_types_are_equivalent}
 use Rattle.gx_types.proofs.EqualTypes as equal
+use Rattle.gx_types.specs.TypeEquality.{types_are_equivalent}
 use Rattle.gx_types.proofs.TakesLemmas as takes
 use Rattle.gx_types.proofs.TimesTakes as times
 use Rattle.gx_types.proofs.Distinct.{all_members_are_distinct}
+use Rattle.gx_types.proofs.Alternatives as alternatives
 use Rattle.gx_types.proofs.DerivationOrder as order
 
 pub occurrence_bounds_length : OccurrenceBoundsLength
@@ -37,6 +39,12 @@ choice_takes_no_more = takes.choice_takes_no_more
 
 pub members_are_distinct : MembersAreDistinct
 members_are_distinct = all_members_are_distinct
+
+pub choice_is_from_alternatives : ChoiceIsFromAlternatives
+choice_is_from_alternatives = alternatives.gathered_from
+
+pub prime_is_from_items : PrimeIsFromItems
+prime_is_from_items = alternatives.prime_from
 
 pub indicators_are_exact : IndicatorsAreExact
 indicators_are_exact = times.indicators_are_exact
@@ -91,4 +99,4 @@ all_types_are_derived_from_any_type = order.all_types_are_derived_from_any_type
 
 pub equality_is_an_equivalence : EqualityIsAnEquivalence
 equality_is_an_equivalence =
-    record { builtins_are_one = builtins_are_one; type_names = type_names_are_equivalent; item_types = item_types_are_equivalent; types = equal.types_are_equivalent }
+    record { builtins_are_one = builtins_are_one; type_names = type_names_are_equivalent; item_types = item_types_are_equivalent; types = types_are_equivalent }

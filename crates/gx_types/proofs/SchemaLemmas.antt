@@ -1,5 +1,5 @@
 -- Declarations and their bases; schemas that declare nothing.
-use Rattle.std.proofs.Common.{◌≡◌, suc, length, Bool, true, false, List, [], ◌∷◌, Option, Some, None, refl, ◌∙◌, ap, if◌then◌else◌}
+use Rattle.std.proofs.Common.{◌≡◌, suc, length, Bool, true, false, List, [], ◌∷◌, Some, None, refl, ◌∙◌, ap, if◌then◌else◌}
 use Rattle.std.specs.Option.{option_map}
 use Rattle.gx_base.specs.declared.type_name.TypeName.{TypeName}
 use Rattle.gx_types.specs.SameItemType.{same_type_name}

@@ -10,7 +10,8 @@ use Rattle.gx_types.specs.SchemaSet.{declaration_among}
 use Rattle.gx_types.specs.TypeIndex.{equal_kinds, numbered_type}
 use Rattle.gx_types.specs.declared.declaration.Declared.{Declared}
 
-equal_kinds_are : (t u : TypeName) → equal_kinds t u ≡ same_type_name t u
+-- `==` says of two names of types whether they are equal
+pub equal_kinds_are : (t u : TypeName) → equal_kinds t u ≡ same_type_name t u
 equal_kinds_are t u = search (comparing, rules)
 
 module _ {S : Type 0} (types : List Declared) where

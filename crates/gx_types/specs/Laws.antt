@@ -10,6 +10,7 @@ use Rattle.gx_types.specs.SameType.{same_type}
 use Rattle.gx_types.specs.Indicator.{optional_of, star_of, plus_of, times_by}
 use Rattle.gx_types.specs.Choice.{with_members, has_empty, gathered, choice_among, members_of, AreDistinctTypes}
 use Rattle.gx_types.specs.Prime.{prime_of, items_of}
+use Rattle.gx_types.specs.Alternatives.{alternatives_among, item_alternatives, choice_from}
 use Rattle.gx_types.specs.TypeRules.{positions_of, factored, limited, joined_types, sequence_of, choice_of, times_of}
 use Rattle.gx_types.specs.Takes.{Takes, Each, EachShape, SomeTakes, SomeItemTakes, all_joined}
 use Rattle.gx_base.specs.declared.limits.TheConstants.{TYPE_POSITIONS}
@@ -57,6 +58,10 @@ SequenceTakesNoMore =
 -- the choice of all types of a list takes what some of them takes
 abbrev pub ChoiceTakesSome : Type 0
 ChoiceTakesSome = (schemas : SchemaSet) (types : List SequenceType) (shapes : List Shape) → SomeTakes schemas types shapes ↔ Takes schemas (choice_among types) shapes
+
+-- the choice of all types of a list is made of their alternatives, each of which it has once
+abbrev pub ChoiceIsFromAlternatives : Type 0
+ChoiceIsFromAlternatives = (types : List SequenceType) → gathered types ≡ choice_from (alternatives_among types)
 
 -- a choice with the members of a type behind its own takes what it took
 abbrev pub ChoiceKeepsItsMembers : Type 0
@@ -112,6 +117,10 @@ TimesTakesNoMore =
     → positions_of (times_by t o.least o.greatest) ≤ TYPE_POSITIONS → Takes schemas (times_of t o) shapes → JoinedWithin schemas t o shapes
 
 -- Prime types, and the limit on positions
+
+-- the prime type is made of the item types, each of which it has once
+abbrev pub PrimeIsFromItems : Type 0
+PrimeIsFromItems = (t : SequenceType) → prime_of t ≡ choice_from (item_alternatives t)
 
 -- a prime type takes the lists of one shape that an item type of the type takes
 pub record PrimeTakesItems (schemas : SchemaSet) (t : SequenceType) (shapes : List Shape) : Type 0 where

@@ -5,11 +5,16 @@ pub mod TypeParts
 pub mod BuiltinOrder
 pub mod SameItemType
 pub mod SameType
+pub mod HashInput
+pub mod EqualNames
+pub mod TypeEquality
+pub mod KeyLaws
 pub mod Occurs
 pub mod Occurrence
 pub mod Indicator
 pub mod Choice
 pub mod Prime
+pub mod Alternatives
 pub mod TypeRules
 pub mod BuiltinBase
 pub mod SchemaSet

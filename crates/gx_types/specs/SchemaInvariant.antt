@@ -3,7 +3,6 @@ use Rattle.std.specs.Prelude.{◌≡◌, nat_le, Bool, true, false, ◌||◌, no
 use Rattle.std.specs.Bool.{IsTrue}
 use Rattle.std.specs.List.{list_any}
 use Rattle.gx_base.specs.Name.{same_name}
-use Rattle.gx_base.specs.declared.name.Name.{Name}
 use Rattle.gx_base.specs.declared.type_name.Builtin.{Builtin}
 use Rattle.gx_base.specs.declared.type_name.Builtin.TheVariants.{AnyType, AnySimple, Str}
 use Rattle.gx_base.specs.declared.type_name.TypeName.{TypeName}

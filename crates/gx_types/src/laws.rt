@@ -1,6 +1,6 @@
 // Laws of types, of derivation, and of what types take.
 
-ghost use Rattle.gx_types.specs.Laws.{OccurrenceBoundsLength, JoinedTypesAreASequence, SequenceTakesParts, SequenceTakesNoMore, ChoiceTakesSome, ChoiceKeepsItsMembers, ChoiceTakesNewMembers, ChoiceTakesMembers, ChoiceTakesNoMore, MembersAreDistinct, IndicatorsAreExact, RepeatedTakesJoined, RepeatedTakesNoMore, TimesTakesJoined, TimesTakesNoMore, PrimeIsAChoiceOfItems, ItemsTakeEachShape, FactoredTakesType, PrimeTakesType, LimitedTakesType, ShortTypesStay, EqualTypesTakeTheSame};
+ghost use Rattle.gx_types.specs.Laws.{OccurrenceBoundsLength, JoinedTypesAreASequence, SequenceTakesParts, SequenceTakesNoMore, ChoiceTakesSome, ChoiceKeepsItsMembers, ChoiceTakesNewMembers, ChoiceTakesMembers, ChoiceTakesNoMore, MembersAreDistinct, ChoiceIsFromAlternatives, PrimeIsFromItems, IndicatorsAreExact, RepeatedTakesJoined, RepeatedTakesNoMore, TimesTakesJoined, TimesTakesNoMore, PrimeIsAChoiceOfItems, ItemsTakeEachShape, FactoredTakesType, PrimeTakesType, LimitedTakesType, ShortTypesStay, EqualTypesTakeTheSame};
 ghost use Rattle.gx_types.specs.DerivationLaws.{DerivationIsAPreorder, DerivationIsLinear, DerivationLooksAtNoPrefix, EqualTypesHaveOneBase, AllTypesAreDerivedFromAnyType, EqualityIsAnEquivalence};
 
 /// The length of a list that a type takes lies within the type's occurrence.
@@ -30,6 +30,13 @@ pub fn choice_takes_its_members()
 /// No two members of a choice that is made of types are equal, and no two of a prime type.
 pub fn members_are_distinct()
     ensures { MembersAreDistinct }
+{}
+
+/// The choice of types is made of their alternatives in the order of their first appearance, each of them once, and so is a
+/// prime type of its item types.
+pub fn choices_are_of_distinct_alternatives()
+    ensures choice { ChoiceIsFromAlternatives }
+    ensures prime { PrimeIsFromItems }
 {}
 
 /// A type with an indicator on it takes what the indicator says.

@@ -1,16 +1,18 @@
 // Sequence types.
 
-ghost use Rattle.std.specs.Prelude.{◌≡◌, IfOk};
+ghost use Rattle.std.specs.Prelude.{◌≡◌, IfOk, fold};
 ghost use Rattle.gx_types.specs.SequenceType.{never, nothing, item};
 ghost use Rattle.gx_types.specs.SameType.{same_type};
+ghost use Rattle.gx_types.specs.HashInput.{type_writes};
 
 use crate::item_type::ItemType;
 use std::alloc::{AllocError, Global};
+use std::hash::{Hash, Hasher};
 use std::marker::Model;
 use std::rc::Rc;
 
 /// A type of values, which contracts see as a plain tree (XQuery 1.0 and XPath 2.0 Formal Semantics, section 2.4.1). Types
-/// share their parts, so that a copy takes no more than one level.
+/// share their parts, so that a copy takes no more than one level. Equality and hash are part by part, and look at no prefix.
 #[cycle(type_tree)]
 #[derive(Debug)]
 pub struct Ty {
@@ -82,6 +84,39 @@ impl Clone for Ty {
     }
 }
 
+impl PartialEq for Ty {
+    ghost use Rattle.std.specs.Cmp.{partial_equiv_from_equiv};
+    ghost use Rattle.gx_types.specs.SameType.{same_type};
+    ghost use Rattle.gx_types.specs.TypeEquality.{types_are_equivalent};
+
+    ghost eq = { same_type };
+
+    ghost laws = { partial_equiv_from_equiv types_are_equivalent };
+
+    fn eq(&self, other: &Ty) -> bool {
+        self.same(other)
+    }
+}
+
+impl Eq for Ty {
+    ghost use Rattle.gx_types.specs.TypeEquality.{types_are_equivalent};
+
+    ghost laws = { types_are_equivalent };
+}
+
+impl Hash for Ty {
+    ghost use Rattle.gx_types.specs.HashInput.{type_writes};
+    ghost use Rattle.gx_types.specs.KeyLaws.{equal_types_write_the_same};
+
+    ghost hash_input = { type_writes };
+
+    ghost respects_eq = { equal_types_write_the_same };
+
+    fn hash<H: Hasher>(&self, state: &mut H) {
+        write_type(self, state);
+    }
+}
+
 // Two parts, shared once more.
 fn shared_twice(first: &Rc<Ty>, second: &Rc<Ty>) -> Result<(Rc<Ty>, Rc<Ty>), AllocError>
     ensures first { IfOk result (λ parts. parts.0.value ≡ first.now.value) }
@@ -140,5 +175,42 @@ impl Ty {
         ensures { IfOk result (λ part. part.value ≡ self.now) }
     {
         Ok(Rc::new(alloc, self.clone()?)?)
+    }
+}
+
+// Writes a type to a hasher.
+fn write_type<H: Hasher>(t: &Ty, state: &mut H)
+    ensures { state.new ≡ fold H.write state.old (type_writes t.now) }
+{
+    match &t.node {
+        TyNode::Never => state.write_u8(0),
+        TyNode::Empty => state.write_u8(1),
+        TyNode::Item(kind) => {
+            let kind: &ItemType = kind;
+            state.write_u8(2);
+            kind.hash(state);
+        }
+        TyNode::Seq(first, second) => {
+            state.write_u8(3);
+            write_type(first, state);
+            write_type(second, state);
+        }
+        TyNode::Alt(first, second) => {
+            state.write_u8(4);
+            write_type(first, state);
+            write_type(second, state);
+        }
+        TyNode::Optional(part) => {
+            state.write_u8(5);
+            write_type(part, state);
+        }
+        TyNode::Star(part) => {
+            state.write_u8(6);
+            write_type(part, state);
+        }
+        TyNode::Plus(part) => {
+            state.write_u8(7);
+            write_type(part, state);
+        }
     }
 }

@@ -1,17 +1,19 @@
 // How types are made of types.
 
-ghost use Rattle.std.specs.Prelude.{◌≡◌, ◌≤◌, ◌-◌, IfOk, SomeIff};
+ghost use Rattle.std.specs.Prelude.{◌≡◌, ◌≤◌, ◌-◌, [], ◌∷◌, map, IfOk, OnOk, SomeIff};
 ghost use Rattle.std.specs.List.{list_any};
 ghost use Rattle.gx_types.specs.Occurrence.{occurrence_of};
-ghost use Rattle.gx_types.specs.SequenceType.{both as both_types, either as either_type};
+ghost use Rattle.gx_types.specs.SequenceType.{item, both as both_types, either as either_type};
 ghost use Rattle.gx_types.specs.TypeRules.{times_of, positions_of, factored, limited, joined_types, followed_by, sequence_of, choice_of};
 ghost use Rattle.gx_types.specs.Indicator.{optional_of, star_of, plus_of, times_by};
-ghost use Rattle.gx_types.specs.Choice.{is_member_of, with_member, with_members, has_empty, gathered, choice_among};
-ghost use Rattle.gx_types.specs.Prime.{with_items, prime_of};
+ghost use Rattle.gx_types.specs.Choice.{choice_with, has_empty, gathered, choice_among};
+ghost use Rattle.gx_types.specs.Prime.{prime_of, items_of};
+ghost use Rattle.gx_types.specs.Alternatives.{with_types, with_alternatives, alternatives_among, choice_from};
 
 use crate::occurrence::Occurrence;
 use crate::sequence_type::{Ty, TyNode};
 use gx_base::limits::TYPE_POSITIONS;
+use indexmap::IndexSet;
 use std::alloc::{AllocError, Global};
 use std::rc::Rc;
 
@@ -86,10 +88,13 @@ pub fn times(alloc: Global, t: Ty, times: Occurrence) -> Result<Ty, AllocError>
 }
 
 /// The choice of the item types of a type, in the order of their first appearance (Formal Semantics, section 8.4.1).
+#[tactic(auto, using(crate::proofs::Alternatives::prime_from))]
 pub fn prime(alloc: Global, t: &Ty) -> Result<Ty, AllocError>
     ensures { IfOk result (λ u. u ≡ prime_of t.now) }
 {
-    add_items(alloc, &Ty::none(), t)
+    let mut items = IndexSet::new(alloc);
+    add_items(&mut items, t)?;
+    choice(alloc, items.as_slice())
 }
 
 /// The prime type of a type, as often as the type occurs, however long it is.
@@ -238,14 +243,23 @@ fn parts(alloc: Global, first: &Ty, second: &Ty) -> Result<(Rc<Ty>, Rc<Ty>), All
 }
 
 // The members of all types of a list, the empty sequence apart.
+#[tactic(auto, using(crate::proofs::Alternatives::gathered_from))]
 fn gather(alloc: Global, types: &[Ty]) -> Result<Ty, AllocError>
     ensures { IfOk result (λ t. t ≡ gathered types.now) }
 {
-    let mut choice = Ty::none();
+    let members = alternatives(alloc, types)?;
+    choice(alloc, members.as_slice())
+}
+
+// The alternatives of all types of a list.
+fn alternatives(alloc: Global, types: &[Ty]) -> Result<IndexSet<Ty>, AllocError>
+    ensures { IfOk result (λ found. found.keys ≡ alternatives_among types.now) }
+{
+    let mut found = IndexSet::new(alloc);
     for t in types {
-        choice = add_members(alloc, &choice, t)?;
+        add_alternatives(&mut found, t)?;
     }
-    Ok(choice)
+    Ok(found)
 }
 
 // Whether a type of a list has the empty sequence as a member.
@@ -266,57 +280,61 @@ fn holds_empty(t: &Ty) -> bool
     }
 }
 
-// A choice with the members of a type behind its own.
-fn add_members(alloc: Global, choice: &Ty, t: &Ty) -> Result<Ty, AllocError>
-    ensures { IfOk result (λ u. u ≡ with_members choice.now t.now) }
+// Puts the alternatives of a type behind those of a set, unless an equal one is there.
+fn add_alternatives(found: &mut IndexSet<Ty>, t: &Ty) -> Result<(), AllocError>
+    ensures { OnOk result (found.new.keys ≡ with_alternatives found.old.keys t.now) }
 {
     match &t.node {
-        TyNode::Never | TyNode::Empty => choice.clone(),
+        TyNode::Never | TyNode::Empty => Ok(()),
         TyNode::Alt(first, second) => {
-            let choice = add_members(alloc, choice, first)?;
-            add_members(alloc, &choice, second)
+            add_alternatives(found, first)?;
+            add_alternatives(found, second)
         }
-        _ => add_member(alloc, choice, t),
+        _ => add_type(found, t),
     }
 }
 
-// A choice with one more member, unless an equal one is there.
-fn add_member(alloc: Global, choice: &Ty, member: &Ty) -> Result<Ty, AllocError>
-    ensures { IfOk result (λ u. u ≡ with_member choice.now member.now) }
+// Puts the item types of a type behind the types of a set, unless an equal one is there.
+fn add_items(items: &mut IndexSet<Ty>, t: &Ty) -> Result<(), AllocError>
+    ensures { OnOk result (items.new.keys ≡ with_types items.old.keys (map item (items_of t.now))) }
 {
-    if holds(choice, member) {
-        return choice.clone();
+    match &t.node {
+        TyNode::Never | TyNode::Empty => Ok(()),
+        TyNode::Item(_) => add_type(items, t),
+        TyNode::Seq(first, second) | TyNode::Alt(first, second) => {
+            add_items(items, first)?;
+            add_items(items, second)
+        }
+        TyNode::Optional(part) | TyNode::Star(part) | TyNode::Plus(part) => add_items(items, part),
     }
+}
+
+// Puts a type behind those of a set, unless an equal one is there.
+fn add_type(types: &mut IndexSet<Ty>, t: &Ty) -> Result<(), AllocError>
+    ensures { OnOk result (types.new.keys ≡ with_types types.old.keys (t.now ∷ [])) }
+{
+    types.insert(t.clone()?)?;
+    Ok(())
+}
+
+// The choice with each type of a list as one more alternative.
+fn choice(alloc: Global, types: &[Ty]) -> Result<Ty, AllocError>
+    ensures { IfOk result (λ t. t ≡ choice_from types.now) }
+{
+    let mut choice = Ty::none();
+    for t in types {
+        choice = or_else(alloc, &choice, t)?;
+    }
+    Ok(choice)
+}
+
+// A choice with one more alternative.
+fn or_else(alloc: Global, choice: &Ty, member: &Ty) -> Result<Ty, AllocError>
+    ensures { IfOk result (λ t. t ≡ choice_with choice.now member.now) }
+{
     match &choice.node {
         TyNode::Never => member.clone(),
         _ => either(alloc, choice, member),
-    }
-}
-
-// Whether a member of a choice is equal to a type.
-fn holds(choice: &Ty, member: &Ty) -> bool
-    ensures { result ≡ is_member_of member.now choice.now }
-{
-    match &choice.node {
-        TyNode::Alt(first, second) => holds(first, member) || holds(second, member),
-        _ => choice.same(member),
-    }
-}
-
-// A choice with the item types of a type behind its own.
-fn add_items(alloc: Global, choice: &Ty, t: &Ty) -> Result<Ty, AllocError>
-    ensures { IfOk result (λ u. u ≡ with_items choice.now t.now) }
-{
-    match &t.node {
-        TyNode::Never | TyNode::Empty => choice.clone(),
-        TyNode::Item(_) => add_member(alloc, choice, t),
-        TyNode::Seq(first, second) | TyNode::Alt(first, second) => {
-            let choice = add_items(alloc, choice, first)?;
-            add_items(alloc, &choice, second)
-        }
-        TyNode::Optional(part) | TyNode::Star(part) | TyNode::Plus(part) => {
-            add_items(alloc, choice, part)
-        }
     }
 }
 

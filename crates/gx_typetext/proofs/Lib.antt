@@ -2,7 +2,6 @@ mod Spaces
 mod TypeTokens
 mod TypeSorted
 mod Verdicts
-mod GapSteps
 mod Phrases
 mod WordTests
 mod StepPhrases

@@ -8,7 +8,6 @@ pub mod Nodes
 pub mod Tokens
 pub mod Grammar
 pub mod Verdicts
-pub mod GapSteps
 pub mod Standings
 pub mod Steps
 pub mod Pieces

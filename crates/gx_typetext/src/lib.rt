@@ -4,7 +4,6 @@
 mod building;
 mod builtin_name;
 mod context;
-mod gap;
 mod item_text;
 pub mod known;
 pub mod laws;

@@ -9,10 +9,10 @@ ghost use Rattle.gx_grammar.specs.Value.{characters, nothing};
 ghost use Rattle.gx_typetext.specs.Standings.{HasEndedAs, WasGiven, read_type_token};
 ghost use Rattle.gx_typetext.specs.Tokens.{no_faults, gap, keyword, named, scan, seen, symbol};
 
-use crate::gap;
 use crate::letters::Run;
 use crate::scan::{find_keyword, find_run, find_symbol};
 use gx_base::text::Text;
+use gx_gaps::gap::gap;
 use std::alloc::Global;
 use std::marker::Model;
 
@@ -104,7 +104,7 @@ impl Reader<'_> {
         if self.end.is_some() {
             return;
         }
-        let found = gap::gap(self.rest);
+        let found = gap(self.rest);
         self.far = self.far.min(found.seen);
         match found.behind {
             Some(behind) => self.rest = behind,

@@ -19,11 +19,11 @@ use Rattle.gx_types.proofs.PublicLaws.{equality_is_an_equivalence}
 use Rattle.gx_types.proofs.DerivationTest.{derives_when_tested, tested_when_derives}
 use Rattle.gx_xml.specs.declared.source.Declaration.{Declaration}
 use Rattle.gx_xml.specs.declared.source.SourceAttribute.{SourceAttribute}
-use Rattle.gx_schema_syntax.specs.Builtins.{BuiltinRows, builtin_among, nameable_builtin, named_builtin}
-use Rattle.gx_schema_syntax.specs.Lexical.{is_qname}
-use Rattle.gx_schema_syntax.specs.Scope.{reference_in}
-use Rattle.gx_schema_syntax.specs.Words.{is_schema_uri}
-use Rattle.gx_schema_syntax.specs.declared.reference.Reference.{Reference}
+use Rattle.gx_qnames.specs.Builtins.{BuiltinRows, builtin_among, nameable_builtin, named_builtin}
+use Rattle.gx_qnames.specs.Lexical.{is_qname}
+use Rattle.gx_qnames.specs.Scope.{reference_in}
+use Rattle.gx_qnames.specs.Words.{is_schema_uri}
+use Rattle.gx_qnames.specs.declared.reference.Reference.{Reference}
 use Rattle.gx_validate.specs.InstanceAttributes.{given_type}
 use Rattle.gx_validate.specs.Annotation.{annotation, annotation_given, where_derived, type_named_in, bound_type, built_in_type, or_declared_type, known_type, declared_type_named, without_space_around}
 use Rattle.gx_validate.specs.Outcome.{root_type}

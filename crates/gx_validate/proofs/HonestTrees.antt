@@ -18,9 +18,8 @@ use Rattle.gx_model.specs.SeparateTexts.{AreSeparateTexts, HasSeparateTexts, All
 use Rattle.gx_model.specs.TypedTree.{KeepsToType, IsWellTyped, AreWellTyped, IsTyped, AreTyped}
 use Rattle.gx_model.specs.Honest.{IsHonestTree}
 use Rattle.gx_xml.specs.Sound.{IsSoundSource, AreSoundContents}
-use Rattle.gx_xml.specs.SourceTree.{SourceTree, SourceContents, source, no_content, a_child, a_text}
+use Rattle.gx_xml.specs.SourceTree.{SourceTree, SourceContents, source, no_content, a_child, a_text, tree_name}
 use Rattle.gx_xml.specs.declared.source.Declaration.{Declaration}
-use Rattle.gx_schema_syntax.specs.Contents.{tree_name}
 use Rattle.gx_validate.specs.ElementContent.{type_of_child, child_shapes}
 use Rattle.gx_validate.specs.Outcome.{root_type}
 use Rattle.gx_validate.specs.Valid.{IsTypedTree, AreTypedTrees, IsTreeOfDocument}

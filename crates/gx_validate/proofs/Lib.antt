@@ -1,6 +1,4 @@
 pub mod Tests
-pub mod ScopeLemmas
-pub mod CharacterLemmas
 pub mod Takings
 pub mod ModelsKept
 pub mod Annotations

@@ -22,10 +22,9 @@ use Rattle.gx_types.specs.declared.item_type.ItemType.TheVariants as items
 use Rattle.gx_types.specs.declared.shape.Shape.{Shape}
 use Rattle.gx_types.specs.declared.shape.Shape.TheVariants as shapes
 use Rattle.gx_types.proofs.PublicLaws.{items_take_each_shape}
-use Rattle.gx_xml.specs.SourceTree.{SourceContents, no_content, a_child, a_text}
+use Rattle.gx_xml.specs.SourceTree.{SourceContents, no_content, a_child, a_text, tree_name}
 use Rattle.gx_xml.specs.declared.source.Declaration.{Declaration}
-use Rattle.gx_schema_syntax.specs.Contents.{tree_name}
-use Rattle.gx_schema_syntax.specs.Lexical.{is_blank}
+use Rattle.gx_qnames.specs.Lexical.{is_blank}
 use Rattle.gx_model.specs.DeclaredContent.{text_model, model_in, complex_model, content_model, has_values, uses_allowed}
 use Rattle.gx_validate.specs.ElementContent.{texts_allowed_by, texts_allowed_in, texts_allowed, type_of_element_item, element_type_in, type_of_child, text_shapes, child_shapes}
 use Rattle.gx_validate.specs.Rules.{child_texts, is_stray, has_stray_text}

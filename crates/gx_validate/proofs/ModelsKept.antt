@@ -51,10 +51,6 @@ module _ {S : Type 0} (s : SchemaSet) where
       by true g = is ∙ tried_alike s kind other g
       by false g = are other
 
-  -- the same entries
-  pub takers_same : (old new : IndexMap TypeName Tried S) → new.entries ≡ old.entries → AreTakers s old → AreTakers s new
-  takers_same old new e are kind = let same : get same_kind new kind ≡ get same_kind old kind = cc in subst (IsKeptFor s kind) (sym same) (are kind)
-
   -- what is looked up is the content model of the type
   pub taker_is : (known : IndexMap TypeName Tried S) (kind : TypeName) (tried : Tried) → AreTakers s known → get same_kind known kind ≡ Some tried → tried ≡ content_tried s kind
   taker_is known kind tried are found = subst (IsKeptFor s kind) found (are kind)

@@ -15,10 +15,9 @@ use Rattle.gx_types.specs.Takes.{Takes}
 use Rattle.gx_types.specs.declared.declaration.Declared.{Declared}
 use Rattle.gx_types.specs.declared.shape.Shape.{Shape}
 use Rattle.gx_xml.specs.Sound.{IsSoundSource, AreSoundContents, HasNoRepeats}
-use Rattle.gx_xml.specs.SourceTree.{SourceTree, SourceContents, source, no_content, a_child, a_text}
+use Rattle.gx_xml.specs.SourceTree.{SourceTree, SourceContents, source, no_content, a_child, a_text, tree_name}
 use Rattle.gx_xml.specs.declared.source.Declaration.{Declaration}
 use Rattle.gx_xml.specs.declared.source.SourceAttribute.{SourceAttribute}
-use Rattle.gx_schema_syntax.specs.Contents.{tree_name}
 use Rattle.gx_validate.specs.InstanceAttributes.{has_nil}
 use Rattle.gx_validate.specs.Annotation.{annotation}
 use Rattle.gx_model.specs.DeclaredContent.{content_model, has_values, uses_allowed, is_valued}

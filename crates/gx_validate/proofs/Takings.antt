@@ -1,5 +1,5 @@
 -- The test whether a type takes a list of shapes is exact.
-use Rattle.std.proofs.Common.{◌≡◌, ℕ, ◌≤◌, ◌++◌, length, arith, Bool, true, false, List, [], ◌∷◌, inl, inr, refl, sym, ◌∙◌, ap, ◌↔◌, Result, Ok, Err, IfOk, Option, Some, None, subst}
+use Rattle.std.proofs.Common.{◌≡◌, ℕ, ◌≤◌, ◌++◌, length, arith, Bool, true, false, List, [], ◌∷◌, inl, inr, refl, sym, ◌∙◌, ap, ◌↔◌, Result, Ok, Err, IfOk, Option, Some, None}
 use Rattle.std.specs.Prelude.{unwrap_or}
 use Rattle.std.specs.Bool.{IsTrue}
 use Rattle.gx_types.specs.declared.shape.Shape.{Shape}
@@ -62,12 +62,6 @@ pub exact_result : {E : Type 0} (s : SchemaSet) (t : SequenceType) (shapes : Lis
     → IfOk r (λ answer. IsTrue answer ↔ Takes s t shapes) → IfOk r (λ answer. answer ≡ takes_shapes s t shapes)
 exact_result s t shapes (Ok answer) g h = answer_is_tested s t shapes answer g h
 exact_result s t shapes (Err e) g h = h
-
--- of the content of a type that has a model
-pub exact_answer : {E : Type 0} (s : SchemaSet) (holder : Option Declared) (model : SequenceType) (shapes : List Shape) (r : Result Bool E) → Grounded (bases_of s)
-    → complex_model holder ≡ Some model → IfOk r (λ answer. IsTrue answer ↔ Takes s model shapes) → IfOk r (λ answer. answer ≡ takes_shapes s (content_model holder) shapes)
-exact_answer s holder model shapes r g e h =
-    subst (λ (t : SequenceType). IfOk r (λ answer. answer ≡ takes_shapes s t shapes)) (sym (ap (λ o. unwrap_or o text_model) e)) (exact_result s model shapes r g h)
 
 -- a text or nothing is what the model of a text takes
 text_takes : (s : SchemaSet) (shapes : List Shape) → is_text_at_most shapes ≡ true → Takes s text_model shapes

@@ -15,9 +15,8 @@ use Rattle.gx_types.specs.declared.shape.Shape.TheVariants as shapes
 use Rattle.gx_types.proofs.PublicLaws.{items_take_each_shape}
 use Rattle.gx_model.specs.Belongs.{shape_of}
 use Rattle.gx_xml.specs.Sound.{AreSoundContents, BeginsWithNoText}
-use Rattle.gx_xml.specs.SourceTree.{SourceTree, SourceContents, source, no_content, a_child, a_text}
+use Rattle.gx_xml.specs.SourceTree.{SourceTree, SourceContents, source, no_content, a_child, a_text, tree_name}
 use Rattle.gx_xml.specs.declared.source.Declaration.{Declaration}
-use Rattle.gx_schema_syntax.specs.Contents.{tree_name}
 use Rattle.gx_model.specs.DeclaredContent.{text_model, content_model, has_values}
 use Rattle.gx_validate.specs.ElementContent.{texts_allowed, is_ignored, type_of_child, text_shapes, child_shape, child_shapes}
 use Rattle.gx_validate.specs.Rules.{child_texts}

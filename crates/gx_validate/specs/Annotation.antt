@@ -11,11 +11,11 @@ use Rattle.gx_types.specs.Derivation.{is_derived}
 use Rattle.gx_types.specs.declared.declaration.Declared.{Declared}
 use Rattle.gx_xml.specs.declared.source.Declaration.{Declaration}
 use Rattle.gx_xml.specs.declared.source.SourceAttribute.{SourceAttribute}
-use Rattle.gx_schema_syntax.specs.Lexical.{is_qname}
-use Rattle.gx_schema_syntax.specs.Words.{is_schema_uri}
-use Rattle.gx_schema_syntax.specs.Builtins.{named_builtin}
-use Rattle.gx_schema_syntax.specs.Scope.{reference_in}
-use Rattle.gx_schema_syntax.specs.declared.reference.Reference.{Reference}
+use Rattle.gx_qnames.specs.Lexical.{is_qname}
+use Rattle.gx_qnames.specs.Words.{is_schema_uri}
+use Rattle.gx_qnames.specs.Builtins.{named_builtin}
+use Rattle.gx_qnames.specs.Scope.{reference_in}
+use Rattle.gx_qnames.specs.declared.reference.Reference.{Reference}
 use Rattle.gx_validate.specs.InstanceAttributes.{given_type}
 
 -- without white space in front

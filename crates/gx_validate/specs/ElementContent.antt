@@ -15,10 +15,9 @@ use Rattle.gx_types.specs.declared.item_type.ItemType.{ItemType}
 use Rattle.gx_types.specs.declared.item_type.ItemType.TheVariants as items
 use Rattle.gx_types.specs.declared.shape.Shape.{Shape}
 use Rattle.gx_types.specs.declared.shape.Shape.TheVariants as shapes
-use Rattle.gx_xml.specs.SourceTree.{SourceTree, SourceContents, source, no_content, a_child, a_text}
+use Rattle.gx_xml.specs.SourceTree.{SourceTree, SourceContents, source, no_content, a_child, a_text, tree_name}
 use Rattle.gx_xml.specs.declared.source.Declaration.{Declaration}
-use Rattle.gx_schema_syntax.specs.Contents.{tree_name}
-use Rattle.gx_schema_syntax.specs.Lexical.{is_blank}
+use Rattle.gx_qnames.specs.Lexical.{is_blank}
 use Rattle.gx_model.specs.DeclaredContent.{content_model}
 use Rattle.gx_validate.specs.Annotation.{annotation}
 use Rattle.gx_validate.specs.declared.content.Texts.{Texts}

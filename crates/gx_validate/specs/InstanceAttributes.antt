@@ -4,7 +4,7 @@ use Rattle.std.specs.List.{list_any}
 use Rattle.gx_base.specs.declared.name.Name.{Name}
 use Rattle.gx_xml.specs.declared.source.SourceAttribute.{SourceAttribute}
 use Rattle.gx_xml.specs.Untyped.{is_instance_namespace}
-use Rattle.gx_schema_syntax.specs.Words.{has_spelling}
+use Rattle.gx_qnames.specs.Words.{has_spelling}
 
 -- an attribute has this local name in that namespace
 abbrev pub is_instance_attribute : (word : List ℕ) → Name → Bool

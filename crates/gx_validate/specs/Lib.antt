@@ -8,4 +8,3 @@ pub mod Rules
 pub mod Outcome
 pub mod Valid
 pub mod Laws
-pub mod ScopeView

@@ -11,12 +11,11 @@ use Rattle.gx_tree.specs.declared.attribute.Attribute.{Attribute}
 use Rattle.gx_types.specs.SchemaSet.{SchemaSet, declaration_of, global_type}
 use Rattle.gx_types.specs.declared.declaration.AttributeUse.{AttributeUse}
 use Rattle.gx_types.specs.declared.declaration.Declared.{Declared}
-use Rattle.gx_xml.specs.SourceTree.{SourceTree, SourceContents, source, no_content, a_child, a_text}
+use Rattle.gx_xml.specs.SourceTree.{SourceTree, SourceContents, source, no_content, a_child, a_text, tree_name}
 use Rattle.gx_xml.specs.Untyped.{is_instance_namespace}
 use Rattle.gx_xml.specs.declared.source.Declaration.{Declaration}
 use Rattle.gx_xml.specs.declared.source.SourceAttribute.{SourceAttribute}
-use Rattle.gx_schema_syntax.specs.Contents.{tree_name}
-use Rattle.gx_schema_syntax.specs.Words.{written_name}
+use Rattle.gx_qnames.specs.Words.{written_name}
 use Rattle.gx_validate.specs.ElementContent.{texts_allowed, is_ignored, type_of_child}
 use Rattle.gx_model.specs.DeclaredContent.{uses_allowed}
 use Rattle.gx_validate.specs.Rules.{type_of_attribute, element_judged}

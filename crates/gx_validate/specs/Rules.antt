@@ -14,7 +14,7 @@ use Rattle.gx_xml.specs.SourceTree.{SourceContents, no_content, a_child, a_text}
 use Rattle.gx_xml.specs.Untyped.{is_instance_namespace}
 use Rattle.gx_xml.specs.declared.source.Declaration.{Declaration}
 use Rattle.gx_xml.specs.declared.source.SourceAttribute.{SourceAttribute}
-use Rattle.gx_schema_syntax.specs.Lexical.{is_blank}
+use Rattle.gx_qnames.specs.Lexical.{is_blank}
 use Rattle.gx_validate.specs.InstanceAttributes.{has_nil}
 use Rattle.gx_validate.specs.Annotation.{annotation}
 use Rattle.gx_model.specs.DeclaredContent.{content_model, has_values, uses_allowed, use_named, is_valued}

@@ -9,11 +9,10 @@ use Rattle.gx_tree.specs.declared.attribute.Attribute.{Attribute}
 use Rattle.gx_types.specs.SchemaSet.{SchemaSet, declaration_of}
 use Rattle.gx_types.specs.Derivation.{DerivesFrom}
 use Rattle.gx_types.specs.declared.declaration.Declared.{Declared}
-use Rattle.gx_xml.specs.SourceTree.{SourceTree, SourceContents, source, no_content, a_child, a_text}
+use Rattle.gx_xml.specs.SourceTree.{SourceTree, SourceContents, source, no_content, a_child, a_text, tree_name}
 use Rattle.gx_xml.specs.Untyped.{untyped_attributes}
 use Rattle.gx_xml.specs.declared.source.Declaration.{Declaration}
 use Rattle.gx_xml.specs.declared.source.SourceAttribute.{SourceAttribute}
-use Rattle.gx_schema_syntax.specs.Contents.{tree_name}
 use Rattle.gx_validate.specs.InstanceAttributes.{given_type, has_nil}
 use Rattle.gx_validate.specs.Annotation.{type_named_in, without_space_around}
 use Rattle.gx_model.specs.Honest.{IsHonestTree}

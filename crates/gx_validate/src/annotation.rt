@@ -2,20 +2,20 @@
 
 ghost use Rattle.std.specs.Prelude.{◌≡◌, [], IfOk, option_copied};
 ghost use Rattle.std.specs.List.{list_any};
-ghost use Rattle.gx_schema_syntax.specs.Scope.{reference_in, reference_to};
-ghost use Rattle.gx_schema_syntax.specs.Words.{has_spelling, is_schema_uri};
 ghost use Rattle.gx_xml.specs.Untyped.{is_instance_namespace};
 ghost use Rattle.gx_validate.specs.Annotation.{annotation, bound_type, built_in_type, declared_type_named, known_type, type_named_in, where_derived, without_space_around};
 ghost use Rattle.gx_validate.specs.ElementContent.{type_in_content};
 ghost use Rattle.gx_validate.specs.InstanceAttributes.{given_type, has_nil, is_instance_attribute};
-ghost use Rattle.gx_validate.specs.ScopeView.{scope_declarations};
+ghost use Rattle.gx_qnames.specs.ScopeView.{declared_in};
 
-use crate::qname::{characters, is_qname, local_in, prefix_in, text_of, without_space_around};
-use crate::scope::{Scope, uri_in_scope, within};
+use crate::white_space::without_space_around;
 use gx_base::name::{Name, SharedName};
 use gx_base::text::Text;
 use gx_base::type_name::{Builtin, TypeName};
-use gx_schema_syntax::reference::{Reference, named_builtin};
+use gx_qnames::characters::{characters, is_qname};
+use gx_qnames::reference::{Reference, named_builtin, reference_of_characters};
+use gx_qnames::scope::{Scope, within};
+use gx_qnames::words::is_schema_uri;
 use gx_types::derivation::derives;
 use gx_types::schemas::Schemas;
 use gx_xml::source::{SourceAttribute, SourceElement};
@@ -57,40 +57,6 @@ pub fn has_nil(attributes: &[SourceAttribute]) -> bool
     attributes
         .iter()
         .any(|attribute| is_instance_attribute("nil", &attribute.name))
-}
-
-#[tactic(auto, unfolding(gx_schema_syntax::specs::Words::is_schema_uri))]
-fn is_schema_uri(uri: &Text) -> bool
-    ensures { result ≡ is_schema_uri uri.now }
-{
-    uri.as_str() == "http://www.w3.org/2001/XMLSchema"
-}
-
-// What the name in a value refers to.
-fn reference_in(
-    alloc: Global,
-    scope: &Scope<'_>,
-    characters: &[char],
-) -> Result<Reference, AllocError>
-    ensures { IfOk result (λ reference. reference ≡ reference_in (scope_declarations scope.entry.now) characters.entry.now) }
-{
-    let prefix = text_of(alloc, prefix_in(characters))?;
-    let local = text_of(alloc, local_in(characters))?;
-    let uri = uri_in_scope(alloc, scope, &prefix)?;
-    let none = Text::empty(alloc)?;
-    Ok(reference_to(uri, none, prefix, local))
-}
-
-fn reference_to(uri: Option<Text>, none: Text, prefix: Text, local: Text) -> Reference
-    requires { none ≡ [] }
-    ensures { result ≡ reference_to uri prefix local }
-{
-    let is_bound = uri.is_some();
-    let uri = uri.unwrap_or(none);
-    Reference {
-        name: Name { uri, prefix, local },
-        is_bound,
-    }
 }
 
 // The type that a reference stands for, where it is bound and known.
@@ -154,12 +120,12 @@ fn type_named_in(
     scope: &Scope<'_>,
     characters: &[char],
 ) -> Result<Option<TypeName>, AllocError>
-    ensures { IfOk result (λ t. t ≡ type_named_in schemas.entry.now (scope_declarations scope.entry.now) characters.entry.now) }
+    ensures { IfOk result (λ t. t ≡ type_named_in schemas.entry.now (declared_in scope.entry.now) characters.entry.now) }
 {
     if !is_qname(characters) {
         return Ok(None);
     }
-    let reference = reference_in(alloc, scope, characters)?;
+    let reference = reference_of_characters(alloc, scope, characters)?;
     bound_type(alloc, schemas, &reference)
 }
 
@@ -178,7 +144,7 @@ pub fn annotation(
     declared: &TypeName,
     attributes: &[SourceAttribute],
 ) -> Result<Option<TypeName>, AllocError>
-    ensures { IfOk result (λ t. t ≡ annotation schemas.entry.now (scope_declarations scope.entry.now) declared.entry.now attributes.entry.now) }
+    ensures { IfOk result (λ t. t ≡ annotation schemas.entry.now (declared_in scope.entry.now) declared.entry.now attributes.entry.now) }
 {
     match given_type(attributes) {
         Some(value) => {
@@ -198,7 +164,7 @@ pub fn type_in_content<'a>(
     declared: &TypeName,
     element: &'a SourceElement,
 ) -> Result<TypeName, AllocError>
-    ensures { IfOk result (λ t. t ≡ type_in_content schemas.entry.now (scope_declarations scope.entry.now) declared.entry.now element.entry.now) }
+    ensures { IfOk result (λ t. t ≡ type_in_content schemas.entry.now (declared_in scope.entry.now) declared.entry.now element.entry.now) }
 {
     if given_type(&element.attributes).is_none() {
         return declared.clone();

@@ -6,18 +6,18 @@ ghost use Rattle.gx_types.specs.SchemaSet.{declaration_of};
 ghost use Rattle.gx_model.specs.DeclaredContent.{content_model};
 ghost use Rattle.gx_validate.specs.ElementContent.{child_shape, child_shapes, is_text_alone, text_shapes, texts_allowed};
 ghost use Rattle.gx_validate.specs.Rules.{child_texts, has_stray_text};
-ghost use Rattle.gx_validate.specs.ScopeView.{scope_declarations};
+ghost use Rattle.gx_qnames.specs.ScopeView.{declared_in};
 ghost use Rattle.gx_validate.specs.Taking.{takes_shapes};
 ghost use Rattle.gx_xml.specs.SourceView.{contents_of};
 
 use crate::annotation::type_in_content;
 use crate::child_kinds::ChildKinds;
 use crate::content::{Texts, complex_model, is_ignored, is_stray, texts_allowed};
-use crate::scope::Scope;
 use crate::takers::Takers;
 use gx_base::text::Text;
 use gx_base::text_builder::TextBuilder;
 use gx_base::type_name::TypeName;
+use gx_qnames::scope::Scope;
 use gx_types::declaration::Declared;
 use gx_types::schemas::Schemas;
 use gx_types::shape::Shape;
@@ -65,7 +65,7 @@ fn child_shape<'a>(
     kinds: &ChildKinds<'_>,
     element: &'a SourceElement,
 ) -> Result<Shape, AllocError>
-    ensures { IfOk result (λ shape. shape ≡ child_shape schemas.entry.now (scope_declarations scope.entry.now) kinds.entry.now element.entry.now) }
+    ensures { IfOk result (λ shape. shape ≡ child_shape schemas.entry.now (declared_in scope.entry.now) kinds.entry.now element.entry.now) }
 {
     let declared = kinds.kind_of(&element.name)?;
     let kind = type_in_content(alloc, schemas, scope, &declared, element)?;
@@ -81,7 +81,7 @@ fn child_shapes<'a>(
     holder: Option<&Declared>,
     children: &'a [SourceChild],
 ) -> Result<Vec<Shape>, AllocError>
-    ensures { IfOk result (λ shapes. shapes.items ≡ child_shapes schemas.entry.now (scope_declarations scope.entry.now) (option_copied holder.entry) (contents_of children.entry.now)) }
+    ensures { IfOk result (λ shapes. shapes.items ≡ child_shapes schemas.entry.now (declared_in scope.entry.now) (option_copied holder.entry) (contents_of children.entry.now)) }
 {
     let texts = texts_allowed(holder);
     let kinds = ChildKinds::new(alloc, holder, children.len())?;
@@ -121,7 +121,7 @@ pub fn has_content<'a>(
 ) -> Result<bool, AllocError>
     requires { option_copied holder ≡ declaration_of takers.old kind.now }
     ensures same { takers.new ≡ takers.old }
-    ensures taken { IfOk result (λ taken. taken ≡ takes_shapes takers.old (content_model (option_copied holder.entry)) (child_shapes takers.old (scope_declarations scope.entry.now) (option_copied holder.entry) (contents_of children.entry.now))) }
+    ensures taken { IfOk result (λ taken. taken ≡ takes_shapes takers.old (content_model (option_copied holder.entry)) (child_shapes takers.old (declared_in scope.entry.now) (option_copied holder.entry) (contents_of children.entry.now))) }
 {
     let _declarations = takers.schemas().types();
     if complex_model(holder).is_none() {

@@ -1,7 +1,7 @@
 // What a type says of the children of its elements.
 
 ghost use Rattle.std.specs.Prelude.{◌≡◌, IfOk, option_copied};
-ghost use Rattle.gx_schema_syntax.specs.Lexical.{is_blank};
+ghost use Rattle.gx_qnames.specs.Lexical.{is_blank};
 ghost use Rattle.gx_model.specs.DeclaredContent.{complex_model, has_values};
 ghost use Rattle.gx_validate.specs.ElementContent.{type_of_child, element_type_in, is_ignored, texts_allowed, texts_allowed_in, texts_allowed_by, type_of_element_item};
 ghost use Rattle.gx_validate.specs.Rules.{is_stray};

@@ -1,7 +1,7 @@
 // Paths to elements that break a rule.
 
 ghost use Rattle.std.specs.Prelude.{◌≡◌, ◌++◌, IfOk, OnOk, Result};
-ghost use Rattle.gx_schema_syntax.specs.Words.{written_name};
+ghost use Rattle.gx_qnames.specs.Words.{written_name};
 ghost use Rattle.gx_tree.specs.PlainTree.{PlainTree};
 ghost use Rattle.gx_validate.specs.Outcome.{Fault, IsInvalid, is_element_named, number_among_siblings, path_step, within_step};
 

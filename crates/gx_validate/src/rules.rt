@@ -3,7 +3,7 @@
 ghost use Rattle.std.specs.Prelude.{◌≡◌, IfOk, option_copied};
 ghost use Rattle.gx_types.specs.SchemaSet.{declaration_of};
 ghost use Rattle.gx_validate.specs.Rules.{broken_rule};
-ghost use Rattle.gx_validate.specs.ScopeView.{scope_declarations};
+ghost use Rattle.gx_qnames.specs.ScopeView.{declared_in};
 ghost use Rattle.gx_xml.specs.SourceView.{contents_of};
 
 use crate::annotation::has_nil;
@@ -11,10 +11,10 @@ use crate::attributes::{has_extra, lacks_required, uses_allowed};
 use crate::children::{has_content, has_stray_text};
 use crate::content::texts_allowed;
 use crate::invalid::InvalidRule;
-use crate::scope::Scope;
 use crate::takers::Takers;
 use crate::values::has_bad_value;
 use gx_base::type_name::TypeName;
+use gx_qnames::scope::Scope;
 use gx_types::declaration::Declared;
 use gx_xml::source::{SourceAttribute, SourceChild};
 use std::alloc::{AllocError, Global};
@@ -31,7 +31,7 @@ pub fn broken_rule<'a>(
 ) -> Result<Option<InvalidRule>, AllocError>
     requires { option_copied holder ≡ declaration_of takers.old kind.now }
     ensures same { takers.new ≡ takers.old }
-    ensures rule { IfOk result (λ rule. rule ≡ broken_rule takers.old (scope_declarations scope.entry.now) kind.entry.now (option_copied holder.entry) attributes.entry.now (contents_of children.entry.now)) }
+    ensures rule { IfOk result (λ rule. rule ≡ broken_rule takers.old (declared_in scope.entry.now) kind.entry.now (option_copied holder.entry) attributes.entry.now (contents_of children.entry.now)) }
 {
     let uses = uses_allowed(holder);
     if has_nil(attributes) {

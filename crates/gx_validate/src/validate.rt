@@ -5,7 +5,7 @@ ghost use Rattle.gx_tree.specs.PlainTree.{a_tree, document, no_trees};
 ghost use Rattle.gx_types.specs.SchemaSet.{declaration_of, global_type};
 ghost use Rattle.gx_validate.specs.Outcome.{IsInvalid, IsRefusedHere, at_itself, root_type, typed_child, typed_contents, typed_element, typed_root, validated, with_kept_text};
 ghost use Rattle.gx_validate.specs.Rules.{element_judged};
-ghost use Rattle.gx_validate.specs.ScopeView.{scope_declarations};
+ghost use Rattle.gx_qnames.specs.ScopeView.{declared_in};
 ghost use Rattle.gx_xml.specs.SourceTree.{source};
 ghost use Rattle.gx_xml.specs.SourceView.{contents_of};
 
@@ -16,11 +16,11 @@ use crate::content::{Texts, is_ignored, texts_allowed};
 use crate::invalid::{Invalid, InvalidRule};
 use crate::path::{number_among_siblings, within_step};
 use crate::rules::broken_rule;
-use crate::scope::{Scope, outermost, within};
 use crate::takers::Takers;
 use gx_base::name::Name;
 use gx_base::text::Text;
 use gx_base::type_name::{Builtin, TypeName};
+use gx_qnames::scope::{Scope, outermost, within};
 use gx_tree::tree::{Tree, TreeNode};
 use gx_types::declaration::Declared;
 use gx_types::schemas::Schemas;
@@ -103,8 +103,8 @@ fn typed_element<'a>(
     element: &'a SourceElement,
 ) -> Result<Tree, Invalid>
     ensures same { takers.new ≡ takers.old }
-    ensures tree { IfOk result (λ t. typed_element takers.old (scope_declarations scope.entry.now) declared.entry.now element.entry.now ≡ Ok t) }
-    ensures fault { IfErr result (λ e. IsInvalid e (typed_element takers.old (scope_declarations scope.entry.now) declared.entry.now element.entry.now)) }
+    ensures tree { IfOk result (λ t. typed_element takers.old (declared_in scope.entry.now) declared.entry.now element.entry.now ≡ Ok t) }
+    ensures fault { IfErr result (λ e. IsInvalid e (typed_element takers.old (declared_in scope.entry.now) declared.entry.now element.entry.now)) }
 {
     let SourceElement {
         name,
@@ -131,8 +131,8 @@ fn typed_in_scope<'a>(
     children: &'a [SourceChild],
 ) -> Result<Tree, Invalid>
     ensures same { takers.new ≡ takers.old }
-    ensures tree { IfOk result (λ t. typed_element takers.old (scope_declarations scope.entry.now) declared.entry.now (source name.entry.now [] attributes.entry.now (contents_of children.entry.now)) ≡ Ok t) }
-    ensures fault { IfErr result (λ e. IsInvalid e (typed_element takers.old (scope_declarations scope.entry.now) declared.entry.now (source name.entry.now [] attributes.entry.now (contents_of children.entry.now)))) }
+    ensures tree { IfOk result (λ t. typed_element takers.old (declared_in scope.entry.now) declared.entry.now (source name.entry.now [] attributes.entry.now (contents_of children.entry.now)) ≡ Ok t) }
+    ensures fault { IfErr result (λ e. IsInvalid e (typed_element takers.old (declared_in scope.entry.now) declared.entry.now (source name.entry.now [] attributes.entry.now (contents_of children.entry.now)))) }
 {
     let (kind, holder) = element_judged(alloc, takers, scope, declared, attributes, children)?;
     let name = name.clone()?;
@@ -158,9 +158,9 @@ fn element_judged<'a, 's>(
     children: &'a [SourceChild],
 ) -> Result<(TypeName, Option<&'s Declared>), Invalid>
     ensures same { takers.new ≡ takers.old }
-    ensures kind { IfOk result (λ judged. element_judged takers.old (scope_declarations scope.entry.now) declared.entry.now attributes.entry.now (contents_of children.entry.now) ≡ Ok judged.0) }
+    ensures kind { IfOk result (λ judged. element_judged takers.old (declared_in scope.entry.now) declared.entry.now attributes.entry.now (contents_of children.entry.now) ≡ Ok judged.0) }
     ensures holder { IfOk result (λ judged. option_copied judged.1 ≡ declaration_of takers.old judged.0) }
-    ensures fault { IfErr result (λ e. IsInvalid e (at_itself (element_judged takers.old (scope_declarations scope.entry.now) declared.entry.now attributes.entry.now (contents_of children.entry.now)))) }
+    ensures fault { IfErr result (λ e. IsInvalid e (at_itself (element_judged takers.old (declared_in scope.entry.now) declared.entry.now attributes.entry.now (contents_of children.entry.now)))) }
 {
     let Some(kind) = annotation(alloc, takers.schemas(), scope, declared, attributes)? else {
         return Err(broken_here(alloc, InvalidRule::BadXsiType));
@@ -181,8 +181,8 @@ fn typed_contents<'a>(
     children: &'a [SourceChild],
 ) -> Result<Vec<Tree>, Invalid>
     ensures same { takers.new ≡ takers.old }
-    ensures trees { IfOk result (λ ts. typed_contents takers.old (scope_declarations scope.entry.now) (option_copied holder.entry) [] (contents_of children.entry.now) ≡ Ok ts.items) }
-    ensures fault { IfErr result (λ e. IsInvalid e (typed_contents takers.old (scope_declarations scope.entry.now) (option_copied holder.entry) [] (contents_of children.entry.now))) }
+    ensures trees { IfOk result (λ ts. typed_contents takers.old (declared_in scope.entry.now) (option_copied holder.entry) [] (contents_of children.entry.now) ≡ Ok ts.items) }
+    ensures fault { IfErr result (λ e. IsInvalid e (typed_contents takers.old (declared_in scope.entry.now) (option_copied holder.entry) [] (contents_of children.entry.now))) }
 {
     let texts = texts_allowed(holder);
     let kinds = ChildKinds::new(alloc, holder, children.len())?;
@@ -212,8 +212,8 @@ fn typed_child<'a>(
     element: &'a SourceElement,
 ) -> Result<Tree, Invalid>
     ensures same { takers.new ≡ takers.old }
-    ensures tree { IfOk result (λ t. typed_child takers.old (scope_declarations scope.entry.now) kinds.entry.now done.entry.now.items element.entry.now ≡ Ok t) }
-    ensures fault { IfErr result (λ e. IsInvalid e (typed_child takers.old (scope_declarations scope.entry.now) kinds.entry.now done.entry.now.items element.entry.now)) }
+    ensures tree { IfOk result (λ t. typed_child takers.old (declared_in scope.entry.now) kinds.entry.now done.entry.now.items element.entry.now ≡ Ok t) }
+    ensures fault { IfErr result (λ e. IsInvalid e (typed_child takers.old (declared_in scope.entry.now) kinds.entry.now done.entry.now.items element.entry.now)) }
 {
     let declared = kinds.kind_of(&element.name)?;
     match typed_element(alloc, takers, scope, &declared, element) {

@@ -4,7 +4,6 @@ pub mod Steps
 pub mod NodeLemmas
 pub mod PhraseLemmas
 pub mod ValueLemmas
-pub mod IndexLemmas
 pub mod TagLemmas
 pub mod DoubleLemmas
 pub mod GatherLemmas

@@ -10,7 +10,6 @@ pub mod Tokens
 pub mod Tags
 pub mod Names
 pub mod Found
-pub mod BindingIndex
 pub mod TagView
 pub mod Gathered
 pub mod Grammar

@@ -23,3 +23,7 @@ abbrev mutual
   contents_size no_content = 0
   contents_size (a_child t cs) = source_size t + contents_size cs
   contents_size (a_text x cs) = 1 + contents_size cs
+
+-- the name of an element
+abbrev pub tree_name : SourceTree → Name
+tree_name (source name declarations attributes cs) = name

@@ -9,7 +9,6 @@ ghost use Rattle.gx_xml.specs.Reading.{IsDocument, IsDocumentOf, IsDocumentRefus
 ghost use Rattle.gx_xml.specs.Standings.{Did, LedTo, WentPast};
 ghost use Rattle.std.specs.Prelude.{◌≡◌, ◌≤◌, ◌<◌, ◌^◌, ◌-◌, IfOk, MatchResult, length};
 
-use crate::bindings::Bindings;
 use crate::declaration::declaration;
 use crate::element::element;
 use crate::marks::{Mark, Maybe};
@@ -22,6 +21,7 @@ use crate::source::{Source, SourceElement};
 use gx_base::limits::{FILE_BYTES, FILE_DEPTH};
 use gx_grammar::decode::{DecodeError, decode};
 use gx_grammar::place::place_of;
+use gx_namespaces::bindings::Bindings;
 use std::alloc::{AllocError, Global};
 
 // Goes past a comment or a processing instruction, whose first word was read.

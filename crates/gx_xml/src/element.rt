@@ -13,7 +13,6 @@ ghost use Rattle.gx_xml.specs.TagView.{tag_as};
 ghost use Rattle.gx_xml.specs.Tags.{declared_binding, expanded_attribute, tag_fault};
 ghost use Rattle.std.specs.Prelude.{◌≡◌, ◌≤◌, ◌++◌, IfOk, IsSome, List, OnOk, ℕ, map, true};
 
-use crate::bindings::Bindings;
 use crate::children::Children;
 use crate::marks::{Choice, Mark};
 use crate::phrases::{QName, comment, element_name, instruction, reference, space};
@@ -24,6 +23,7 @@ use crate::runs::Run;
 use crate::shared_texts::SharedTexts;
 use crate::source::{SourceAttribute, SourceChild, SourceElement};
 use crate::tag::{StartTag, attributes, begun};
+use gx_namespaces::bindings::Bindings;
 use std::alloc::{AllocError, Global};
 
 // Goes past the name of an end tag.

@@ -1,7 +1,6 @@
 //! Documents: reading XML, with namespaces, and the trees that documents stand for.
 #![tactic(auto)]
 
-mod bindings;
 mod children;
 mod declaration;
 pub mod document;

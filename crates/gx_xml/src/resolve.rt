@@ -6,11 +6,11 @@ ghost use Rattle.gx_xml.specs.Tags.{declared_binding, name_with_uri, expanded_at
 ghost use Rattle.std.specs.List.{list_any};
 ghost use Rattle.std.specs.Prelude.{◌≡◌, ◌++◌, ◌||◌, [], IfOk, OnOk, bytes_eq, is_none, map, unwrap_or};
 
-use crate::bindings::Bindings;
 use crate::source::{Declaration, SourceAttribute};
 use crate::tag::{StartTag, TagAttribute};
 use gx_base::name::Name;
 use gx_base::text::Text;
+use gx_namespaces::bindings::Bindings;
 use std::alloc::{AllocError, Global};
 use std::collections::BTreeSet;
 

@@ -219,10 +219,10 @@ flwor::quantified-returns t c = λ v e.
 
 pub flwor::flwor-returns : goal.flwor::flwor-returns
 flwor::flwor-returns t c = λ v e.
-    ran_keeps c.keep.result (at c.args.place (flwor_form (clauses_of c.more_clauses-clauses.result.items) c.looks_at-stable.result (keys_of c.order_clause-keys.result.items) c.single-returned.result)) c.flwor-made.result c.args.reader.now c.single-returned.new.reader c.keep.new.reader
+    ran_keeps c.keep.result (at c.args.place (flwor_form (clauses_of c.more_clauses-clauses.result.items) c.place-order.result c.looks_at-stable.result (keys_of c.order_clause-keys.result.items) c.single-returned.result)) c.flwor-made.result c.args.reader.now c.single-returned.new.reader c.keep.new.reader
     (read_in c.args.source.now c.args.levels (flwor (place_in c.args.source.now) c.args.levels c.args.word v))
-    (flwor_read c.args.source.now c.args.levels c.args.word c.binder-binder.result v _ c.args.place c.bindings-list.result.items c.clause_of-first.result c.with_clause-begun.result.items c.more_clauses-clauses.result.items c.looks_at-stable.result c.order_clause-keys.result.items c.single-returned.result
-    c.args.reader.now c.dollar.new.self c.bindings-list.new.reader c.with_clause-begun.new.reader c.more_clauses-clauses.new.reader c.order_clause-keys.new.reader c.keyword.new.reader c.single-returned.new.reader c.binder-binder.ensures e c.dollar.ensures
+    (flwor_read c.args.source.now c.args.levels c.args.word c.binder-binder.result v _ c.args.place c.bindings-list.result.items c.clause_of-first.result c.with_clause-begun.result.items c.more_clauses-clauses.result.items c.place-order.result c.looks_at-stable.result c.order_clause-keys.result.items c.single-returned.result
+    c.args.reader.now c.dollar.new.self c.bindings-list.new.reader c.with_clause-begun.new.reader c.more_clauses-clauses.new.reader c.order_clause-keys.new.reader c.keyword.new.reader c.single-returned.new.reader c.binder-binder.ensures e (c.place-order.ensures ∙ ap (place_in c.args.source.now) c.left.ensures) c.dollar.ensures
     (c.bindings-list.ensures (head (place_in c.args.source.now) c.args.levels c.binder-binder.result (first_bound (place_in c.args.source.now))) c.dollar.new.self (c.first_head-head.ensures c.args.levels)) c.clause_of-first.ensures
     (subst (λ us. Grown us c.clause_of-first.result c.with_clause-begun.result.items c.bindings-list.new.reader c.with_clause-begun.new.reader) c.new.ensures.items c.with_clause-begun.ensures)
     c.more_clauses-clauses.ensures (c.order_clause-keys.ensures c.more_clauses-clauses.new.reader c.looks_at-stable.ensures) (c.keyword.ensures c.args.source.now c.args.levels) c.single-returned.ensures)
@@ -638,10 +638,10 @@ paths::predicate-returns t c =
 pub paths::filtered-returns : goal.paths::filtered-returns
 paths::filtered-returns t c = λ before a h.
     let read = c.more_predicates-list.ensures in
-    ran_keeps c.keep.result (filtered_tree c.args.first c.more_predicates-list.result.items) c.filtered-made.result a c.more_predicates-list.new.reader c.keep.new.reader (read_in c.args.source.now c.args.levels (filtered_step (place_in c.args.source.now) c.args.levels before))
-    (subst (λ us. Ran (tree (filtered_tree c.args.first us)) a c.more_predicates-list.new.reader (read_in c.args.source.now c.args.levels (filtered_step (place_in c.args.source.now) c.args.levels before)))
+    ran_keeps c.keep.result (filtered_tree c.args.first c.place-bracket.result c.more_predicates-list.result.items) c.filtered-made.result a c.more_predicates-list.new.reader c.keep.new.reader (read_in c.args.source.now c.args.levels (filtered_step (place_in c.args.source.now) c.args.levels before))
+    (subst (λ us. Ran (tree (filtered_tree c.args.first c.place-bracket.result us)) a c.more_predicates-list.new.reader (read_in c.args.source.now c.args.levels (filtered_step (place_in c.args.source.now) c.args.levels before)))
     (sym (read.is ∙ ap (λ us. us ++ read.others) c.new.ensures.items))
-    (filtered_read c.args.source.now c.args.levels before c.args.first read.others a c.args.reader.now c.more_predicates-list.new.reader h read.holds))
+    (filtered_read c.args.source.now c.args.levels before c.args.first c.place-bracket.result read.others a c.args.reader.now c.more_predicates-list.new.reader (c.place-bracket.ensures ∙ ap (place_in c.args.source.now) c.left.ensures) h read.holds))
     c.filtered-made.ensures c.keep.ensures
 
 pub paths::more_predicates-returns-then-not-looks_at : goal.paths::more_predicates-returns-then-not-looks_at

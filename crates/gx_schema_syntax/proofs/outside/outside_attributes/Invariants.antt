@@ -1,6 +1,6 @@
 use Rattle.std.proofs.Common.{◌≡◌, length}
 use Rattle.gx_schema_syntax.specs.Outside.{outside_attributes}
-use Rattle.gx_schema_syntax.specs.ScopeView.{declared_in}
+use Rattle.gx_qnames.specs.ScopeView.{declared_in}
 use Rattle.gx_schema_syntax.proofs.outside.outside_attributes.Given as goal
 
 -- what is left decides

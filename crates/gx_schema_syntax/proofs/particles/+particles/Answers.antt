@@ -3,7 +3,7 @@ use Rattle.std.proofs.lemmas.List.{nil_from_length}
 use Rattle.gx_xml.specs.declared.source.SourceChild.{SourceChild}
 use Rattle.gx_xml.specs.SourceView.{contents_of}
 use Rattle.gx_schema_syntax.specs.Declarations.{particles_written}
-use Rattle.gx_schema_syntax.specs.ScopeView.{declared_in}
+use Rattle.gx_qnames.specs.ScopeView.{declared_in}
 use Rattle.gx_schema_syntax.proofs.ParticleLemmas.{particles_behind, particles_behind_none}
 use Rattle.gx_schema_syntax.proofs.particles.+particles.Goals as goal
 

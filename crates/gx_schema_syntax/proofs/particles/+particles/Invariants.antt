@@ -2,7 +2,7 @@ use Rattle.std.proofs.Common.{◌≡◌, ◌≤◌, ◌+◌, ◌*◌, ◌-◌, l
 use Rattle.gx_xml.specs.SourceTree.{source_size, contents_size}
 use Rattle.gx_xml.specs.SourceView.{contents_of}
 use Rattle.gx_schema_syntax.specs.Declarations.{particles_written}
-use Rattle.gx_schema_syntax.specs.ScopeView.{declared_in}
+use Rattle.gx_qnames.specs.ScopeView.{declared_in}
 use Rattle.gx_schema_syntax.proofs.ParticleLemmas.{particles_behind}
 use Rattle.gx_schema_syntax.proofs.particles.+particles.Given as goal
 

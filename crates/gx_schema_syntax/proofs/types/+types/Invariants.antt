@@ -2,7 +2,7 @@ use Rattle.std.proofs.Common.{◌≡◌, ◌≤◌, ◌+◌, ◌*◌, ◌++◌, 
 use Rattle.gx_xml.specs.SourceTree.{source_size, contents_size}
 use Rattle.gx_xml.specs.SourceView.{contents_of}
 use Rattle.gx_schema_syntax.specs.Numbers.{numbers_behind_all}
-use Rattle.gx_schema_syntax.specs.ScopeView.{declared_in}
+use Rattle.gx_qnames.specs.ScopeView.{declared_in}
 use Rattle.gx_schema_syntax.specs.Types.{types_among}
 use Rattle.gx_schema_syntax.proofs.types.+types.Given as goal
 

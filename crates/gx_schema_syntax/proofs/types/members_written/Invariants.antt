@@ -1,6 +1,6 @@
 use Rattle.std.proofs.Common.{◌≡◌, ◌++◌, length}
 use Rattle.gx_xml.specs.SourceView.{contents_of}
-use Rattle.gx_schema_syntax.specs.ScopeView.{declared_in}
+use Rattle.gx_qnames.specs.ScopeView.{declared_in}
 use Rattle.gx_schema_syntax.specs.Types.{members_written}
 use Rattle.gx_schema_syntax.proofs.types.members_written.Given as goal
 

@@ -1,4 +1,4 @@
-use Rattle.std.proofs.Common.{◌≡◌, sym, ◌∙◌, ap, subst, ◌↔◌, length, List}
+use Rattle.std.proofs.Common.{sym, ◌∙◌, ap, subst, ◌↔◌, length, List}
 use Rattle.std.specs.Bool.{IsTrue}
 use Rattle.gx_types.specs.declared.declaration.Declared.{Declared}
 use Rattle.gx_types.specs.Derivation.{bases_of, bases_among, LeadsTo}

@@ -1,7 +1,7 @@
 use Rattle.std.proofs.Common.{◌≡◌, ◌∙◌, ap}
 use Rattle.std.specs.Str.Iter.{chars_rest}
-use Rattle.gx_schema_syntax.specs.Lexical.{is_blank}
-use Rattle.gx_validate.proofs.CharacterLemmas.{encoded_is_utf8, encoded_characters}
+use Rattle.gx_qnames.specs.Lexical.{is_blank}
+use Rattle.gx_qnames.proofs.CharacterLemmas.{encoded_is_utf8, encoded_characters}
 use Rattle.gx_validate.proofs.content.is_blank.Goals as goal
 
 pub loop-character-init : goal.loop-character-init

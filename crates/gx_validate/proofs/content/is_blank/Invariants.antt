@@ -1,7 +1,7 @@
 use Rattle.std.proofs.Common.{◌≡◌, length}
 use Rattle.std.specs.Str.{chars, IsUtf8}
 use Rattle.std.specs.Str.Iter.{chars_rest}
-use Rattle.gx_schema_syntax.specs.Lexical.{is_blank}
+use Rattle.gx_qnames.specs.Lexical.{is_blank}
 use Rattle.gx_validate.proofs.content.is_blank.Given as goal
 
 -- what is left decides

@@ -3,15 +3,15 @@ use Rattle.std.specs.Prelude.{option_copied}
 use Rattle.gx_xml.specs.SourceTree.{source_size, contents_size}
 use Rattle.gx_xml.specs.SourceView.{contents_of}
 use Rattle.gx_validate.specs.Outcome.{typed_contents}
-use Rattle.gx_validate.specs.ScopeView.{scope_declarations}
+use Rattle.gx_qnames.specs.ScopeView.{declared_in}
 use Rattle.gx_validate.proofs.validate.+validate.Given as goal
 
 -- the trees that are done and the children that are left
 abbrev pub invariant-typed_contents-loop-child : goal.invariant-typed_contents-loop-child
 invariant-typed_contents-loop-child l = record {
   same : l.takers ≡ l.fn.takers;
-  outcome : typed_contents l.fn.takers (scope_declarations l.scope) (option_copied l.holder) l.done.items (contents_of l.left)
-      ≡ typed_contents l.fn.takers (scope_declarations l.scope) (option_copied l.holder) [] (contents_of l.fn.children);
+  outcome : typed_contents l.fn.takers (declared_in l.scope) (option_copied l.holder) l.done.items (contents_of l.left)
+      ≡ typed_contents l.fn.takers (declared_in l.scope) (option_copied l.holder) [] (contents_of l.fn.children);
   smaller : contents_size (contents_of l.left) ≤ contents_size (contents_of l.fn.children);
 }
 
