@@ -6,5 +6,5 @@ mod SearchSteps
 mod Endless
 mod PublicLaws
 mod Ways
-mod ReachSteps
+pub mod ReachSteps
 mod CircleExamples

@@ -49,7 +49,7 @@ declared_after types read schemas Sound e = e
 declared_after types read schemas (Unsound number list) e = absurd (cc)
 declared_after types read schemas (Undecided number) e = absurd (cc)
 
-declared_is_read : (documents : List DocumentTree) (read : Imported) (schemas : SchemaSet) → IsJudged documents read (declares schemas) → read ≡ declares schemas
+pub declared_is_read : (documents : List DocumentTree) (read : Imported) (schemas : SchemaSet) → IsJudged documents read (declares schemas) → read ≡ declares schemas
 declared_is_read documents (declares read) schemas h = declared_after (types_found 0 documents) read schemas h.0 (sym h.2)
 declared_is_read documents (breaks rule file name list) schemas h = absurd (cc)
 

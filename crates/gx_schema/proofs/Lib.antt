@@ -27,4 +27,5 @@ pub mod SimpleDeclarations
 pub mod SimpleForms
 pub mod SimpleTypes
 pub mod SimpleVarieties
+pub mod SoundReadings
 pub mod TypesByNumber

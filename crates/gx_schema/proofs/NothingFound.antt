@@ -117,6 +117,21 @@ refer_from numbers file (document ∷ documents) e =
       holds_append (λ (g : GlobalDeclaration). HoldsOfEach (Refers numbers) (global_mentions g)) document.declarations (declarations_in documents) here.1 rest.1,
     )
 
+names_refer_from : (numbers : Numbering) (file : ℕ) (documents : List DocumentTree) → unknown_from numbers file documents ≡ None →
+    HoldsOfEach (λ (document : DocumentTree). HoldsOfEach (Refers numbers) (document_mentions document)) documents
+unfolding earliest_unknown
+names_refer_from numbers file [] e = tt
+names_refer_from numbers file (document ∷ documents) e =
+    let shown : Mention → ℕ × Mention = λ m. (file, m) in
+    let unknown = earliest_unknown numbers (document_mentions document) in (
+      mentions_refer numbers (document_mentions document) (mapped_none shown unknown (first_none (option_map shown unknown) (unknown_from numbers (suc file) documents) e)),
+      names_refer_from numbers (suc file) documents (second_none (option_map shown unknown) (unknown_from numbers (suc file) documents) e),
+    )
+
+pub names_refer : (documents : List DocumentTree) → unknown_name documents ≡ None →
+    HoldsOfEach (λ (document : DocumentTree). HoldsOfEach (Refers (declared_number documents)) (document_mentions document)) documents
+names_refer documents e = names_refer_from (declared_number documents) 0 documents (mapped_none unknown_shown (unknown_from (declared_number documents) 0 documents) e)
+
 pub everything_refers : (documents : List DocumentTree) → unknown_name documents ≡ None →
     HoldsOfEach (λ (t : TypeDeclaration). HoldsOfEach (Refers (declared_number documents)) (type_declaration_mentions t)) (types_in documents)
     × HoldsOfEach (λ (g : GlobalDeclaration). HoldsOfEach (Refers (declared_number documents)) (global_mentions g)) (declarations_in documents)

@@ -81,12 +81,12 @@ one_set one other e = cc
 one_name : (one other : TypeName) → ◌≡◌ {A = Option TypeName} (Some one) (Some other) → one ≡ other
 one_name one other e = cc
 
-left_none : (one other : Option Found) → earlier_found one other ≡ None → one ≡ None
+pub left_none : (one other : Option Found) → earlier_found one other ≡ None → one ≡ None
 left_none None other e = refl
 left_none (Some one) None e = absurd (cc)
 left_none (Some one) (Some other) e = absurd (earlier_some (nat_le one.place other.place) one other e)
 
-right_none : (one other : Option Found) → earlier_found one other ≡ None → other ≡ None
+pub right_none : (one other : Option Found) → earlier_found one other ≡ None → other ≡ None
 right_none None other e = e
 right_none (Some one) None e = refl
 right_none (Some one) (Some other) e = absurd (earlier_some (nat_le one.place other.place) one other e)

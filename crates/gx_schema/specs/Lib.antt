@@ -21,5 +21,6 @@ pub mod MeaningsView
 pub mod NamedKinds
 pub mod RestrictedTypes
 pub mod Import
+pub mod SoundReading
 pub mod ReadView
 pub mod Laws

@@ -8,11 +8,11 @@ ghost use Rattle.gx_schema.specs.FirstFound.{earlier_found, first_found, place_w
 
 use crate::first_found::{note_in_definition, note_in_type};
 use crate::found::Found;
+use gx_qnames::reference::Reference;
 use gx_schema_components::mention::ComponentKind;
 use gx_schema_components::names::{
     DeclaredNumbers, declared_numbers, number_in_tables, type_names_in,
 };
-use gx_qnames::reference::Reference;
 use gx_schema_syntax::written::{
     AttributeMember, GlobalDeclaration, LocalDeclaration, SchemaDocument, TypeDeclaration,
     TypeDefinition, TypeReference,

@@ -1,6 +1,6 @@
 // Laws of schema import.
 
-ghost use Rattle.gx_schema.specs.Laws.{AnImportExists, ImportsAreOne, ImportsAreSchemaSets};
+ghost use Rattle.gx_schema.specs.Laws.{AnImportExists, ImportsAreOne, ImportsAreSchemaSets, ImportsAreSound};
 
 use gx_schema_attributes::laws::{kinds_are_written, uses_are_distinct};
 use gx_schema_content::laws::{contents_are_bounded, elements_keep, one_type_a_name};
@@ -11,6 +11,21 @@ use gx_schema_simple::laws::{no_first_fault, none_is_circular, varieties_solve};
 /// elements of one name in a content have one type (XML Schema 1.0 part 1, sections 3.3.6, 3.4.6, 3.8.6 and 3.14.6).
 pub fn imports_are_schema_sets()
     ensures { ImportsAreSchemaSets }
+{
+    varieties_solve();
+    none_is_circular();
+    no_first_fault();
+    one_type_a_name();
+    elements_keep();
+    uses_are_distinct();
+    kinds_are_written();
+}
+
+/// What schema files declare is sound: each name refers to a declaration that is there, no type, group or attribute group is part of
+/// itself, declarations agree, elements of one name in a content have one type, and each restriction of a complex type allows nothing
+/// that its base does not allow (XML Schema 1.0 part 1, sections 3.4.6, 3.6.6, 3.8.6, 3.14.6 and 3.15.3).
+pub fn imports_are_sound()
+    ensures { ImportsAreSound }
 {
     varieties_solve();
     none_is_circular();

@@ -1,3 +1,4 @@
 mod Below
 mod OneJudgement
 mod SomeJudgement
+pub mod SoundRestrictions

@@ -8,8 +8,10 @@ use Rattle.gx_types.specs.SchemaSet.{SchemaSet}
 use Rattle.gx_types.specs.TypeRules.{positions_of}
 use Rattle.gx_schema_restriction.specs.declared.restrictions.Restrictions.{Restrictions}
 use Rattle.gx_schema_restriction.specs.declared.restrictions.Restrictions.TheVariants.{Sound, Unsound, Undecided}
-use Rattle.gx_schema_restriction.specs.Restriction.{children_in}
+use Rattle.gx_include.specs.declared.verdict.Verdict.TheVariants.{Yes}
+use Rattle.gx_schema_restriction.specs.Restriction.{IsRestriction, children_in}
 use Rattle.gx_schema_restriction.specs.Restrictions.{AreJudged}
+use Rattle.gx_schema_restriction.specs.SoundRestriction.{IsSoundRestriction}
 
 -- two judgements say the same
 abbrev pub IsSameJudgement : Restrictions → Restrictions → Type 0
@@ -36,3 +38,7 @@ abbrev pub AJudgementExists : Type 0
 AJudgementExists =
     (schemas : SchemaSet) (pairs : ℕ) (restricted : List Bool) → Grounded (bases_of schemas) → AreCountable schemas.types → pairs < 2 ^ 62
     → (judgement : Restrictions) × AreJudged schemas pairs restricted judgement
+
+-- a restriction that is answered with Yes is sound
+abbrev pub YesMeansSound : Type 0
+YesMeansSound = (schemas : SchemaSet) (pairs : ℕ) (declared : Declared) → IsRestriction schemas pairs declared Yes → IsSoundRestriction schemas declared

@@ -1,4 +1,5 @@
 pub mod Attributes
 pub mod Restriction
 pub mod Restrictions
+pub mod SoundRestriction
 pub mod Laws

@@ -1,6 +1,6 @@
 // Laws of restrictions.
 
-ghost use Rattle.gx_schema_restriction.specs.Laws.{AJudgementExists, JudgementsAreOne};
+ghost use Rattle.gx_schema_restriction.specs.Laws.{AJudgementExists, JudgementsAreOne, YesMeansSound};
 
 use gx_include::laws::{an_answer_exists, answers_are_one};
 
@@ -17,3 +17,9 @@ pub fn a_judgement_exists()
 {
     an_answer_exists();
 }
+
+/// A restriction that is answered with Yes is sound: its content is included in that of its base, each of its attributes is one of the
+/// base's with a derived type, and each that the base requires is required.
+pub fn yes_means_sound()
+    ensures { YesMeansSound }
+{}
