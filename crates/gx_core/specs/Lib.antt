@@ -17,6 +17,7 @@ pub mod Calling
 pub mod Paths
 pub mod Meaning
 pub mod Soundness
+pub mod FreeVariables
 pub mod QueryMeaning
 pub mod Laws
 pub mod Refusal

@@ -23,7 +23,7 @@ use Rattle.gx_static.specs.NormalTypes.{IsNormalType}
 use Rattle.gx_static.specs.Demands.{Demand, of_type, of_family, of_atomic, of_any, meets_demand, demanded_type, family_type, IsIncludedIfMet, IsMetIfIncluded, GivesType, AreOfOneFamily, RulesDemandInclusion, AllRulesDemandInclusion}
 use Rattle.gx_static.proofs.DemandLaws.{demands_are_inclusion}
 
-gives_if : (test : Bool) (t : SequenceType) → GivesType (type_if test t) ↔ (test ≡ true)
+pub gives_if : (test : Bool) (t : SequenceType) → GivesType (type_if test t) ↔ (test ≡ true)
 gives_if true t = (λ _. refl, λ _. tt)
 gives_if false t = (λ h. absurd h, λ e. absurd (cc))
 
@@ -31,7 +31,7 @@ gives_if false t = (λ h. absurd h, λ e. absurd (cc))
 exactly : (test : Bool) (t : SequenceType) (Fact : Type 0) → (test ≡ true → Fact) → (Fact → test ≡ true) → GivesType (type_if test t) ↔ Fact
 exactly test t Fact f g = (λ h. f ((gives_if test t).0 h), λ q. (gives_if test t).1 (g q))
 
-all_pass : (s : SchemaSet) (t : SequenceType) → all_items (meets_demand s of_any) t ≡ true
+pub all_pass : (s : SchemaSet) (t : SequenceType) → all_items (meets_demand s of_any) t ≡ true
 all_pass s never = refl
 all_pass s nothing = refl
 all_pass s (item kind) = refl

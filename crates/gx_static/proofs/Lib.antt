@@ -20,6 +20,7 @@ pub mod Failing
 pub mod ScopedVariables
 pub mod Refusals
 pub mod QueryLaws
+pub mod StaticCodes
 pub mod Continuing
 pub mod Declaring
 pub mod AtomicTypes
@@ -34,3 +35,5 @@ pub mod NormalData
 pub mod NormalSteps
 pub mod NormalRules
 pub mod NormalTyping
+pub mod JudgedByInclusion
+pub mod FreeVariables

@@ -44,7 +44,7 @@ use Rattle.gx_static.proofs.NormalParts.{each_so, each_made, replaced_is_normal,
 -- ---- known types
 
 -- a type that is derived from a known one is known
-known_below : (s : SchemaSet) (u t : TypeName) → DerivesFrom s u t → IsTrue (is_known (bases_of s) t) → IsTrue (is_known (bases_of s) u)
+pub known_below : (s : SchemaSet) (u t : TypeName) → DerivesFrom s u t → IsTrue (is_known (bases_of s) t) → IsTrue (is_known (bases_of s) u)
 known_below s (names.Builtin b) t d k = refl
 known_below s (names.Named m) (names.Named n) (zero, same) k = ap is_some (equal_types_have_one_base (bases_of s) (names.Named m) (names.Named n) same) ∙ k
 known_below s (names.Named m) _ (zero, same) k = absurd (cc)
@@ -57,7 +57,7 @@ is_declared_too : (s : SchemaSet) (t : TypeName) (o : Option Declared) → decla
 is_declared_too s t None e h = absurd (cc)
 is_declared_too s t (Some d) e h = ap is_some (base_is s.types t d e)
 
-named_is_known : (s : SchemaSet) (t : TypeName) → is_named_type s t ≡ true → is_known (bases_of s) t ≡ true
+pub named_is_known : (s : SchemaSet) (t : TypeName) → is_named_type s t ≡ true → is_known (bases_of s) t ≡ true
 named_is_known s (names.Builtin b) h = refl
 named_is_known s (names.Named m) h = is_declared_too s (names.Named m) (declaration_of s (names.Named m)) refl h
 named_is_known s (names.Anonymous m) h = is_declared_too s (names.Anonymous m) (declaration_of s (names.Anonymous m)) refl h

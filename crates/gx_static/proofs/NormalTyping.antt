@@ -35,7 +35,7 @@ found_is_normal : (s : SchemaSet) (types : Types) (number : ℕ) → HaveNormalT
 found_is_normal s [] number n = tt
 found_is_normal s (binding ∷ types) number n = found_or s (nat_eq binding.0 number) binding.1 (look_up types number) n.0 (found_is_normal s types number n.1)
 
-bound_are_normal : (s : SchemaSet) (operator : Operator) (before : List SequenceType) → HoldsOfEach (IsNormalType s) before → HaveNormalTypes s (types_bound operator before)
+pub bound_are_normal : (s : SchemaSet) (operator : Operator) (before : List SequenceType) → HoldsOfEach (IsNormalType s) before → HaveNormalTypes s (types_bound operator before)
 bound_are_normal s (operators.For binder) (source ∷ []) n = (prime_is_normal s source n.0, tt)
 bound_are_normal s (operators.Let binder) (value ∷ []) n = (n.0, tt)
 bound_are_normal s _ _ n = tt
@@ -69,18 +69,18 @@ ruling_is_normal s operator parts types is c n p = rules_give_normal_types s ope
 
 -- ---- expressions
 
-abbrev IfTyped : {R : Type 0} → (R → Type 0) → Judged R → Type 0
+abbrev pub IfTyped : {R : Type 0} → (R → Type 0) → Judged R → Type 0
 IfTyped P (typed result) = P result
 IfTyped P (rejected place code) = Unit {0}
 
-made_typed : {R S : Type 0} (P : R → Type 0) (Q : S → Type 0) (j : Judged R) (next : R → Judged S) → IfTyped P j → ((x : R) → P x → IfTyped Q (next x)) → IfTyped Q (with_typed j next)
+pub made_typed : {R S : Type 0} (P : R → Type 0) (Q : S → Type 0) (j : Judged R) (next : R → Judged S) → IfTyped P j → ((x : R) → P x → IfTyped Q (next x)) → IfTyped Q (with_typed j next)
 made_typed P Q (typed result) next h f = f result h
 made_typed P Q (rejected place code) next h f = tt
 
-annotation_is_normal : (s : SchemaSet) (t : TypedExpression) → IsNormalThroughout s t → IsNormalType s (annotation_of t)
+pub annotation_is_normal : (s : SchemaSet) (t : TypedExpression) → IsNormalThroughout s t → IsNormalType s (annotation_of t)
 annotation_is_normal s (At place outer type operator parts) n = n.0
 
-annotations_are_normal : (s : SchemaSet) (ts : Parts SequenceType) → AreNormalThroughout s ts → HoldsOfEach (IsNormalType s) (each_of annotation_of ts)
+pub annotations_are_normal : (s : SchemaSet) (ts : Parts SequenceType) → AreNormalThroughout s ts → HoldsOfEach (IsNormalType s) (each_of annotation_of ts)
 annotations_are_normal s no_parts n = tt
 annotations_are_normal s (a_part first others) n = (annotation_is_normal s first n.0, annotations_are_normal s others n.1)
 
@@ -90,13 +90,13 @@ concluded_is_normal s place outer operator ts (has_type t) n g = (g, n)
 concluded_is_normal s place outer operator ts (has_none code part) n g = tt
 
 mutual
-  judged_is_normal : (s : SchemaSet) → IsSchemaSet s → (e : CoreExpression) (types : Types) → CastsToAtomicTypes s e → HaveNormalTypes s types → IfTyped (IsNormalThroughout s) (judged s e types)
+  pub judged_is_normal : (s : SchemaSet) → IsSchemaSet s → (e : CoreExpression) (types : Types) → CastsToAtomicTypes s e → HaveNormalTypes s types → IfTyped (IsNormalThroughout s) (judged s e types)
   judged_is_normal s is (At place outer tt operator parts) types c n =
       made_typed (AreNormalThroughout s) (IsNormalThroughout s) (parts_judged s operator [] parts types) (λ ts. concluded place outer operator ts (ruling s operator (each_of annotation_of ts) types))
       (parts_are_normal s is operator [] parts types c.1 n tt)
       (λ ts h. concluded_is_normal s place outer operator ts (ruling s operator (each_of annotation_of ts) types) h (ruling_is_normal s operator (each_of annotation_of ts) types is c.0 n (annotations_are_normal s ts h)))
 
-  parts_are_normal : (s : SchemaSet) → IsSchemaSet s → (operator : Operator) (before : List SequenceType) (parts : Parts (Unit {0})) (types : Types) → PartsCastToAtomicTypes s parts → HaveNormalTypes s types
+  pub parts_are_normal : (s : SchemaSet) → IsSchemaSet s → (operator : Operator) (before : List SequenceType) (parts : Parts (Unit {0})) (types : Types) → PartsCastToAtomicTypes s parts → HaveNormalTypes s types
       → HoldsOfEach (IsNormalType s) before → IfTyped (AreNormalThroughout s) (parts_judged s operator before parts types)
   parts_are_normal s is operator before no_parts types c n b = tt
   parts_are_normal s is operator before (a_part first others) types c n b =

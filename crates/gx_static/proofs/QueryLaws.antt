@@ -78,7 +78,7 @@ whole_typed : (j : Judged TypedCore) (query : TypedCore) → whole_judgement j �
 whole_typed (typed q) query h = let same : q ≡ query = cc in ap (λ (x : TypedCore). typed x) same
 whole_typed (rejected place code) query h = cc
 
-whole_rejected : (j : Judged TypedCore) (place : Place) (code : Code) → whole_judgement j ≡ query_rejected place code → j ≡ rejected place code
+pub whole_rejected : (j : Judged TypedCore) (place : Place) (code : Code) → whole_judgement j ≡ query_rejected place code → j ≡ rejected place code
 whole_rejected (typed q) place code h = cc
 whole_rejected (rejected own other) place code h = cc
 

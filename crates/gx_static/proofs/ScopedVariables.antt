@@ -173,10 +173,10 @@ ruling_code s (operators.Binary operator) (t ∷ u ∷ []) types code part h e =
 ruling_code s (operators.Binary operator) _ types code part h e = other_code code part e
 
 -- what is bound for a part has the numbers that its operator binds there
-abbrev places_of : List SequenceType → List (Unit {0})
+abbrev pub places_of : List SequenceType → List (Unit {0})
 places_of ts = map (λ t. tt) ts
 
-numbers_agree : (operator : Operator) (before : List SequenceType) → in_scope (types_bound operator before) ≡ numbers_bound_by operator (places_of before)
+pub numbers_agree : (operator : Operator) (before : List SequenceType) → in_scope (types_bound operator before) ≡ numbers_bound_by operator (places_of before)
 numbers_agree (operators.For binder) [] = refl
 numbers_agree (operators.For binder) (t ∷ []) = refl
 numbers_agree (operators.For binder) (t ∷ u ∷ ts) = refl
@@ -192,7 +192,7 @@ in_scope_joined (b ∷ bound) types = ap (λ ns. b.0 ∷ ns) (in_scope_joined bo
 scope_of_part : (operator : Operator) (before : List SequenceType) (types : Types) → numbers_bound_by operator (places_of before) ++ in_scope types ≡ in_scope (types_bound operator before ++ types)
 scope_of_part operator before types = ap (λ ns. ns ++ in_scope types) (sym (numbers_agree operator before)) ∙ sym (in_scope_joined (types_bound operator before) types)
 
-one_more_place : (before : List SequenceType) (t : SequenceType) → places_of before ++ tt ∷ [] ≡ places_of (before ++ t ∷ [])
+pub one_more_place : (before : List SequenceType) (t : SequenceType) → places_of before ++ tt ∷ [] ≡ places_of (before ++ t ∷ [])
 one_more_place [] t = refl
 one_more_place (b ∷ before) t = ap (λ ps. tt ∷ ps) (one_more_place before t)
 

@@ -1,8 +1,9 @@
 -- The laws of typing: each operator keeps its type where its parts keep theirs, and so every typed Core is sound.
-use Rattle.std.specs.Prelude.{◌≡◌, ◌≢◌, ℕ, Bool, List, [], ◌∷◌, ◌++◌, map}
+use Rattle.std.specs.Prelude.{◌≡◌, ◌≢◌, ℕ, Bool, true, List, [], ◌∷◌, ◌++◌, map}
 use Rattle.gx_base.specs.declared.place.Place.{Place}
 use Rattle.gx_base.specs.declared.code.Code.{Code}
 use Rattle.gx_base.specs.declared.code.Code.TheVariants.{XPST0008}
+use Rattle.gx_base.specs.Code.{is_static}
 use Rattle.gx_facets.specs.declared.Atomic.{Atomic}
 use Rattle.gx_types.specs.SchemaSet.{SchemaSet}
 use Rattle.gx_types.specs.declared.step.Axis.{Axis}
@@ -27,8 +28,9 @@ use Rattle.gx_core.specs.declared.operator.Operator.{Operator}
 use Rattle.gx_core.specs.declared.operator.Operator.TheVariants as operators
 use Rattle.gx_core.specs.Expression.{CoreExpression, At, Parts, no_parts, a_part, each_of, annotation_of, plain}
 use Rattle.gx_core.specs.Bindings.{Types, types_bound}
+use Rattle.gx_core.specs.FreeVariables.{FitsFree}
 use Rattle.gx_core.specs.Invariant.{IsScoped}
-use Rattle.gx_core.specs.Meaning.{acts}
+use Rattle.gx_core.specs.Meaning.{Bindings, acts, meaning}
 use Rattle.gx_core.specs.Soundness.{TypedExpression, typed_setting, context_of, AreOfTypes, Keeps, KeepsItsType, IsSound}
 use Rattle.gx_static.specs.Rule.{has_type, rule, ruling}
 use Rattle.gx_static.specs.Judgement.{typed, rejected, judged}
@@ -128,6 +130,14 @@ abbrev pub TypingIsSound : Type 0
 TypingIsSound =
     (schemas : SchemaSet) (e : CoreExpression) (types : Types) (t : TypedExpression) → IsSchemaSet schemas → judged schemas e types ≡ typed t → IsTypedSoundly schemas e types t
 
+-- the value of an expression that is judged to have a type belongs to it also where those variables alone that the expression names and
+-- does not bind are bound to values of their types
+abbrev pub TypingIsSoundOnFreeVariables : Type 0
+TypingIsSoundOnFreeVariables =
+    (schemas : SchemaSet) (e : CoreExpression) (types : Types) (t : TypedExpression) (bindings : Bindings) (forest : Forest) → IsSchemaSet schemas → judged schemas e types ≡ typed t
+    → IsHonest schemas forest → FitsFree schemas forest e types bindings
+    → Keeps (typed_setting schemas) forest (annotation_of t) (meaning (context_of (typed_setting schemas)) e bindings forest)
+
 -- where a Core is rejected, the place and the code are those of the first expression in it that fails
 abbrev pub RejectionNamesFailure : Type 0
 RejectionNamesFailure =
@@ -138,3 +148,8 @@ abbrev pub ScopedVariablesHaveTypes : Type 0
 ScopedVariablesHaveTypes =
     (schemas : SchemaSet) (e : CoreExpression) (types : Types) (place : Place) (code : Code)
     → IsScoped (map (λ t. t.0) types) e → judged schemas e types ≡ rejected place code → code ≢ XPST0008
+
+-- an expression is rejected with the code of a static error
+abbrev pub ExpressionsAreRejectedWithStaticCodes : Type 0
+ExpressionsAreRejectedWithStaticCodes =
+    (schemas : SchemaSet) (e : CoreExpression) (types : Types) (place : Place) (code : Code) → judged schemas e types ≡ rejected place code → is_static code ≡ true

@@ -7,3 +7,4 @@ pub mod QueryJudgement
 pub mod Typing
 pub mod NormalTypes
 pub mod Demands
+pub mod ByInclusion

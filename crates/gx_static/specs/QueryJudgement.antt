@@ -1,9 +1,10 @@
 -- The judgement of a whole query (XQuery 1.0 and XPath 2.0 Formal Semantics, section 4).
-use Rattle.std.specs.Prelude.{◌≡◌, ◌≢◌, false, List, [], ◌∷◌, ◌++◌, None, Some, ◌⊎◌, if◌then◌else◌}
+use Rattle.std.specs.Prelude.{◌≡◌, ◌≢◌, true, false, List, [], ◌∷◌, ◌++◌, None, Some, ◌⊎◌, if◌then◌else◌}
 use Rattle.gx_base.specs.declared.name.Name.{Name}
 use Rattle.gx_base.specs.declared.place.Place.{Place}
 use Rattle.gx_base.specs.declared.code.Code.{Code}
 use Rattle.gx_base.specs.declared.code.Code.TheVariants.{XPST0008, XPTY0004}
+use Rattle.gx_base.specs.Code.{is_static}
 use Rattle.gx_types.specs.SchemaSet.{SchemaSet}
 use Rattle.gx_types.specs.SchemaInvariant.{IsSchemaSet}
 use Rattle.gx_core.specs.declared.expression.Binder.{Binder}
@@ -108,3 +109,8 @@ QueryRejectionNamesFailure =
 abbrev pub QueryVariablesHaveTypes : Type 0
 QueryVariablesHaveTypes =
     (schemas : SchemaSet) (core : Core) (place : Place) (code : Code) → HasQueryVariablesInOrder core → query_judged schemas core ≡ query_rejected place code → code ≢ XPST0008
+
+-- a query is rejected with the code of a static error
+abbrev pub QueriesAreRejectedWithStaticCodes : Type 0
+QueriesAreRejectedWithStaticCodes =
+    (schemas : SchemaSet) (core : Core) (place : Place) (code : Code) → query_judged schemas core ≡ query_rejected place code → is_static code ≡ true

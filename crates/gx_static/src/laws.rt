@@ -1,9 +1,10 @@
 // Laws of typing: one for each operator, and the one that is joined of them.
 
-ghost use Rattle.gx_static.specs.Laws.{LiteralKeepsType, VariableKeepsType, EmptyKeepsType, SequenceKeepsType, ForKeepsType, LetKeepsType, StepKeepsType, NodesKeepType, OrderKeepsType, NoContextKeepsType, DataKeepsType, ArithmeticKeepsType, NegationKeepsType, ValueComparisonKeepsType, GeneralComparisonKeepsType, RangeKeepsType, ConditionalKeepsType, CastKeepsType, CastableKeepsType, CallKeepsType, TypingIsSound, RejectionNamesFailure, ScopedVariablesHaveTypes};
+ghost use Rattle.gx_static.specs.Laws.{LiteralKeepsType, VariableKeepsType, EmptyKeepsType, SequenceKeepsType, ForKeepsType, LetKeepsType, StepKeepsType, NodesKeepType, OrderKeepsType, NoContextKeepsType, DataKeepsType, ArithmeticKeepsType, NegationKeepsType, ValueComparisonKeepsType, GeneralComparisonKeepsType, RangeKeepsType, ConditionalKeepsType, CastKeepsType, CastableKeepsType, CallKeepsType, TypingIsSound, TypingIsSoundOnFreeVariables, RejectionNamesFailure, ScopedVariablesHaveTypes, ExpressionsAreRejectedWithStaticCodes};
 ghost use Rattle.gx_static.specs.NormalTypes.{RulesGiveNormalTypes, TypingGivesNormalTypes};
 ghost use Rattle.gx_static.specs.Demands.{MetDemandsAreInclusion, DemandsAreInclusion, AllRulesDemandInclusion};
-ghost use Rattle.gx_static.specs.QueryJudgement.{QueryTypingIsSound, QueryRejectionNamesFailure, QueryVariablesHaveTypes};
+ghost use Rattle.gx_static.specs.ByInclusion.{QueriesAreJudgedByInclusion};
+ghost use Rattle.gx_static.specs.QueryJudgement.{QueryTypingIsSound, QueryRejectionNamesFailure, QueryVariablesHaveTypes, QueriesAreRejectedWithStaticCodes};
 
 /// A literal has the type of its value.
 pub fn literal_keeps_its_type()
@@ -117,6 +118,12 @@ pub fn typing_is_sound()
     ensures { TypingIsSound }
 {}
 
+/// The value of an expression that is judged to have a type belongs to it, and it is no type error, also where those variables alone
+/// that the expression names and does not bind are bound to values of their types.
+pub fn typing_is_sound_on_free_variables()
+    ensures { TypingIsSoundOnFreeVariables }
+{}
+
 /// Where a query is rejected, an expression in it fails: its parts have types, and its own rule gives none, with this code at
 /// this place; and each expression that comes before it has a type.
 pub fn rejection_names_a_failure()
@@ -127,6 +134,11 @@ pub fn rejection_names_a_failure()
 /// the names of the query.
 pub fn scoped_variables_have_types()
     ensures { ScopedVariablesHaveTypes }
+{}
+
+/// An expression is rejected with the code of a static error (XQuery 1.0, section 2.3.1).
+pub fn expressions_are_rejected_with_static_codes()
+    ensures { ExpressionsAreRejectedWithStaticCodes }
 {}
 
 /// A query that is judged to have a type is the same query with its types, and it is sound.
@@ -142,6 +154,11 @@ pub fn query_rejection_names_a_failure()
 /// Where each variable of a query stands in the scope of its binder, typing rejects none.
 pub fn query_variables_have_types()
     ensures { QueryVariablesHaveTypes }
+{}
+
+/// A query is rejected with the code of a static error (XQuery 1.0, section 2.3.1).
+pub fn queries_are_rejected_with_static_codes()
+    ensures { QueriesAreRejectedWithStaticCodes }
 {}
 
 /// A type that meets a demand for types of atomic values is included in the type that is demanded, whatever the type is.
@@ -170,4 +187,11 @@ pub fn rules_give_normal_types()
 /// Each expression of a typed one has such a type, where the variables in scope do and each cast names an atomic type.
 pub fn typing_gives_normal_types()
     ensures { TypingGivesNormalTypes }
+{}
+
+/// Each operator in a query has the type, or the code, that the rules give it which demand inclusion of the types of operands, where
+/// each cast names an atomic type and the types of external variables are normal. The declarations of the schemas keep to what each
+/// schema set keeps to.
+pub fn queries_are_judged_by_inclusion()
+    ensures { QueriesAreJudgedByInclusion }
 {}

@@ -1,0 +1,199 @@
+-- Typing rejects with the codes of static errors alone.
+use Rattle.std.proofs.Common.{◌≡◌, ℕ, ◌+◌, Bool, true, false, ◌&&◌, List, [], ◌∷◌, ◌++◌, Option, None, Some, refl, subst, if◌then◌else◌}
+use Rattle.std.specs.Prelude.{not}
+use Rattle.gx_base.specs.declared.name.Name.{Name}
+use Rattle.gx_base.specs.declared.place.Place.{Place}
+use Rattle.gx_base.specs.declared.code.Code.{Code}
+use Rattle.gx_base.specs.declared.code.Code.TheVariants.{XPST0003, XPST0005, XPTY0004, XPTY0018, XPTY0019, XPTY0020, FOTY0012}
+use Rattle.gx_base.specs.Code.{is_static}
+use Rattle.gx_base.specs.declared.type_name.Builtin.{Builtin}
+use Rattle.gx_types.specs.SchemaSet.{SchemaSet}
+use Rattle.gx_types.specs.declared.step.Axis.{Axis}
+use Rattle.gx_types.specs.declared.step.Test.{Test}
+use Rattle.gx_types.specs.SequenceType.{SequenceType, never, nothing}
+use Rattle.gx_types.specs.SameType.{same_type}
+use Rattle.gx_types.specs.Occurrence.{occurrence_of}
+use Rattle.gx_types.specs.Prime.{prime_of}
+use Rattle.gx_types.specs.TypeRules.{times_of}
+use Rattle.gx_include.specs.Decision.{is_included}
+use Rattle.gx_steptype.specs.StepType.{is_near, node_type, step_type}
+use Rattle.gx_steptype.specs.DataType.{has_data, type_of_data}
+use Rattle.gx_funcs.specs.declared.function.Function.{Function}
+use Rattle.gx_funcs.specs.declared.function.Function.TheVariants as functions
+use Rattle.gx_funcs.specs.declared.function.Parameter.{Parameter}
+use Rattle.gx_funcs.specs.Function.{parameters_of, answer_type_of}
+use Rattle.gx_core.specs.declared.expression.BinaryClass.{BinaryClass}
+use Rattle.gx_core.specs.declared.expression.BinaryClass.TheVariants as classes
+use Rattle.gx_core.specs.declared.expression.Binder.{Binder}
+use Rattle.gx_core.specs.declared.expression.Declaration.TheVariants.{Global}
+use Rattle.gx_core.specs.BinaryOperators.{class_of}
+use Rattle.gx_core.specs.declared.operator.Operator.{Operator}
+use Rattle.gx_core.specs.declared.operator.Operator.TheVariants as operators
+use Rattle.gx_core.specs.Queries.{Core, CoreDeclaration}
+use Rattle.gx_core.specs.Expression.{CoreExpression, At, Parts, no_parts, a_part, each_of, annotation_of}
+use Rattle.gx_core.specs.Bindings.{look_up, Types, types_bound}
+use Rattle.gx_core.specs.QueryMeaning.{global_types, types_declared}
+use Rattle.gx_core.specs.Soundness.{TypedExpression}
+use Rattle.gx_static.specs.Rule.{Ruling, has_type, has_none, all_items, is_atomic, is_as_written, nodes_type, step_rule, reaching, step_ruling, order_rule, data_rule, binary_rule, takes_argument, arguments_rule, answer_rule, call_rule, ruling, variable_ruling}
+use Rattle.gx_static.specs.Judgement.{typed, rejected, with_typed, concluded, judged, parts_judged}
+use Rattle.gx_static.specs.QueryJudgement.{declared_as, declaration_judged, declarations_judged, core_judged, QueriesAreRejectedWithStaticCodes}
+use Rattle.gx_static.specs.Laws.{ExpressionsAreRejectedWithStaticCodes}
+use Rattle.gx_static.proofs.Failing.{IfRejected, made_fails, own_fails}
+use Rattle.gx_static.proofs.QueryLaws.{whole_rejected}
+
+abbrev IsStatic : Place → Code → Type 0
+IsStatic place code = is_static code ≡ true
+
+-- a type, or the code of a static error
+abbrev RulesStatically : Ruling → Type 0
+RulesStatically (has_type type) = Unit {0}
+RulesStatically (has_none code part) = is_static code ≡ true
+
+ruled_code : (r : Ruling) → RulesStatically r → (code : Code) (part : Option ℕ) → r ≡ has_none code part → is_static code ≡ true
+ruled_code (has_type type) h code part e = absurd (cc)
+ruled_code (has_none other there) h code part e = let same : other ≡ code = cc in subst (λ (c : Code). is_static c ≡ true) same h
+
+-- a test decides whether there is a type
+static_test : (test : Bool) (t : SequenceType) (code : Code) → is_static code ≡ true → RulesStatically (if test then has_type t else has_none code None)
+static_test true t code h = tt
+static_test false t code h = h
+
+static_choice : (test : Bool) (chosen otherwise : Ruling) → RulesStatically chosen → RulesStatically otherwise → RulesStatically (if test then chosen else otherwise)
+static_choice true chosen otherwise h k = h
+static_choice false chosen otherwise h k = k
+
+static_binary : (s : SchemaSet) (class : BinaryClass) (t u : SequenceType) → RulesStatically (binary_rule s class t u)
+static_binary s (classes.Arithmetic operation) t u = static_test _ _ XPTY0004 refl
+static_binary s (classes.Value op) t u = static_test _ _ XPTY0004 refl
+static_binary s (classes.General op) t u = static_test _ _ XPTY0004 refl
+static_binary s classes.Range t u = static_test _ _ XPTY0004 refl
+
+static_order : (s : SchemaSet) (t : SequenceType) → RulesStatically (order_rule s t)
+static_order s t =
+    static_choice (is_included s t nodes_type) (has_type (times_of (prime_of t) (occurrence_of t))) (if all_items is_atomic t then has_type t else has_none XPTY0018 None) tt
+    (static_test (all_items is_atomic t) t XPTY0018 refl)
+
+static_data : (s : SchemaSet) (t : SequenceType) → RulesStatically (data_rule s t)
+unfolding data_rule
+static_data s t = static_test (has_data s t) (type_of_data s t) FOTY0012 refl
+
+-- ---- variables and steps
+
+static_variable : (s : SchemaSet) (number : ℕ) (found : Option SequenceType) → RulesStatically (variable_ruling s number found)
+static_variable s number None = refl
+static_variable s number (Some t) = tt
+
+static_reaching : (context : SequenceType) (r : Ruling) → RulesStatically r → RulesStatically (reaching context r)
+static_reaching context (has_type given) h =
+    static_choice (same_type nothing given && not (same_type never context)) (has_none XPST0005 None) (has_type given) refl tt
+static_reaching context (has_none code part) h = h
+
+static_step_rule : (s : SchemaSet) (axis : Axis) (asks : Test) (context : SequenceType) → RulesStatically (step_rule s axis asks context)
+static_step_rule s axis asks context =
+    static_choice (is_near axis) (if is_included s context node_type then has_type (step_type s axis asks context) else has_none XPTY0020 None) (has_none XPST0003 None)
+    (static_test (is_included s context node_type) (step_type s axis asks context) XPTY0020 refl) refl
+
+static_step : (s : SchemaSet) (axis : Axis) (asks : Test) (number : ℕ) (found : Option SequenceType) → RulesStatically (step_ruling s axis asks number found)
+static_step s axis asks number None = refl
+static_step s axis asks number (Some context) = static_reaching context (step_rule s axis asks context) (static_step_rule s axis asks context)
+
+-- ---- calls
+
+-- parameters with the codes of static errors
+abbrev HaveStaticCodes : List Parameter → Type 0
+HaveStaticCodes [] = Unit {0}
+HaveStaticCodes (p ∷ ps) = (is_static p.code ≡ true) × HaveStaticCodes ps
+
+parameters_static : (function : Function) → HaveStaticCodes (parameters_of function)
+parameters_static functions.True = tt
+parameters_static functions.False = tt
+parameters_static _ = (refl, tt)
+
+static_answer : (found : Option Builtin) → RulesStatically (answer_rule found)
+static_answer None = refl
+static_answer (Some b) = tt
+
+static_arguments : (s : SchemaSet) (ps : List Parameter) (ts : List SequenceType) (number : ℕ) (r : Ruling) → HaveStaticCodes ps → RulesStatically r → RulesStatically (arguments_rule s ps ts number r)
+static_arguments s [] [] number r h k = k
+static_arguments s [] (t ∷ ts) number r h k = refl
+static_arguments s (p ∷ ps) [] number r h k = refl
+static_arguments s (p ∷ ps) (t ∷ ts) number r h k =
+    static_choice (takes_argument s p.takes t) (arguments_rule s ps ts (number + 1) r) (has_none p.code (Some number)) (static_arguments s ps ts (number + 1) r h.1 k) h.0
+
+static_call : (s : SchemaSet) (function : Function) (ts : List SequenceType) → RulesStatically (call_rule s function ts)
+unfolding call_rule
+static_call s function ts = static_arguments s (parameters_of function) ts 0 (answer_rule (answer_type_of function)) (parameters_static function) (static_answer (answer_type_of function))
+
+-- ---- each operator
+
+static_ruling : (s : SchemaSet) (operator : Operator) (ts : List SequenceType) (types : Types) → RulesStatically (ruling s operator ts types)
+static_ruling s (operators.Var number) [] types = static_variable s number (look_up types number)
+static_ruling s (operators.Lit value) [] types = static_test _ _ XPTY0004 refl
+static_ruling s operators.Empty [] types = tt
+static_ruling s operators.Seq (t ∷ u ∷ []) types = tt
+static_ruling s (operators.For binder) (t ∷ u ∷ []) types = static_test _ _ XPTY0004 refl
+static_ruling s (operators.Step axis asks number) [] types = static_step s axis asks number (look_up types number)
+static_ruling s operators.Nodes (t ∷ []) types = static_test _ _ XPTY0019 refl
+static_ruling s operators.Order (t ∷ []) types = static_order s t
+static_ruling s (operators.Let binder) (t ∷ u ∷ []) types = static_test _ _ XPTY0004 refl
+static_ruling s operators.DataOf (t ∷ []) types = static_data s t
+static_ruling s operators.If (t ∷ u ∷ v ∷ []) types = static_test _ _ XPTY0004 refl
+static_ruling s (operators.Cast kind allows_empty) (t ∷ []) types = static_test _ _ XPTY0004 refl
+static_ruling s (operators.Castable kind allows_empty) (t ∷ []) types = static_test _ _ XPTY0004 refl
+static_ruling s (operators.Call function) ts types = static_call s function ts
+static_ruling s operators.Neg (t ∷ []) types = static_test _ _ XPTY0004 refl
+static_ruling s (operators.Binary operator) (t ∷ u ∷ []) types = static_binary s (class_of operator) t u
+static_ruling s operators.NoContext [] types = refl
+static_ruling s _ _ types = refl
+
+-- ---- expressions
+
+mutual
+  static_expression : (s : SchemaSet) (e : CoreExpression) (types : Types) → IfRejected IsStatic (judged s e types)
+  static_expression s (At own outer tt operator parts) types =
+      made_fails (parts_judged s operator [] parts types) (λ ts. concluded own outer operator ts (ruling s operator (each_of annotation_of ts) types))
+      IsStatic IsStatic (static_parts s operator [] parts types) (λ place code k. k)
+      (λ ts e. own_fails own outer operator ts (ruling s operator (each_of annotation_of ts) types) IsStatic
+      (λ code part r. ruled_code (ruling s operator (each_of annotation_of ts) types) (static_ruling s operator (each_of annotation_of ts) types) code part r))
+
+  static_parts : (s : SchemaSet) (operator : Operator) (before : List SequenceType) (parts : Parts (Unit {0})) (types : Types) → IfRejected IsStatic (parts_judged s operator before parts types)
+  static_parts s operator before no_parts types = tt
+  static_parts s operator before (a_part first others) types =
+      made_fails (judged s first (types_bound operator before ++ types)) (λ t. with_typed (parts_judged s operator (before ++ annotation_of t ∷ []) others types) (λ ts. typed (a_part t ts)))
+      IsStatic IsStatic (static_expression s first (types_bound operator before ++ types)) (λ place code k. k)
+      (λ t e. made_fails (parts_judged s operator (before ++ annotation_of t ∷ []) others types) (λ ts. typed (a_part t ts))
+      IsStatic IsStatic (static_parts s operator (before ++ annotation_of t ∷ []) others types) (λ place code k. k) (λ ts f. tt))
+
+pub expressions_are_rejected_with_static_codes : ExpressionsAreRejectedWithStaticCodes
+expressions_are_rejected_with_static_codes s e types place code j = subst (IfRejected IsStatic) j (static_expression s e types)
+
+-- ---- whole queries
+
+static_declared : (s : SchemaSet) (name : Name) (binder : Binder) (t : TypedExpression) → IfRejected IsStatic (declared_as s name binder t)
+static_declared s name binder t =
+    elim (is_as_written s binder.kind (annotation_of t)) as (λ (b : Bool). IfRejected IsStatic (if b then typed (Global name binder (Some t)) else rejected binder.place XPTY0004)) [
+      | true ↦ tt
+      | false ↦ refl
+    ]
+
+static_declaration : (s : SchemaSet) (d : CoreDeclaration) (types : Types) → IfRejected IsStatic (declaration_judged s d types)
+static_declaration s (Global name binder (Some value)) types =
+    made_fails (judged s value types) (declared_as s name binder) IsStatic IsStatic (static_expression s value types) (λ place code k. k) (λ t e. static_declared s name binder t)
+static_declaration s (Global name binder None) types = tt
+
+static_declarations : (s : SchemaSet) (ds : List CoreDeclaration) (types : Types) → IfRejected IsStatic (declarations_judged s ds types)
+static_declarations s [] types = tt
+static_declarations s (d ∷ ds) types =
+    made_fails (declaration_judged s d types) (λ t. with_typed (declarations_judged s ds (global_types t ++ types)) (λ ts. typed (t ∷ ts)))
+    IsStatic IsStatic (static_declaration s d types) (λ place code k. k)
+    (λ t e. made_fails (declarations_judged s ds (global_types t ++ types)) (λ ts. typed (t ∷ ts)) IsStatic IsStatic (static_declarations s ds (global_types t ++ types)) (λ place code k. k) (λ ts f. tt))
+
+static_core : (s : SchemaSet) (core : Core) → IfRejected IsStatic (core_judged s core)
+static_core s core =
+    made_fails (declarations_judged s core.declarations []) (λ ds. with_typed (judged s core.body (types_declared ds [])) (λ t. typed (record { declarations = ds; body = t })))
+    IsStatic IsStatic (static_declarations s core.declarations []) (λ place code k. k)
+    (λ ds e. made_fails (judged s core.body (types_declared ds [])) (λ t. typed (record { declarations = ds; body = t })) IsStatic IsStatic (static_expression s core.body (types_declared ds []))
+    (λ place code k. k) (λ t f. tt))
+
+pub queries_are_rejected_with_static_codes : QueriesAreRejectedWithStaticCodes
+queries_are_rejected_with_static_codes s core place code j = subst (IfRejected IsStatic) (whole_rejected (core_judged s core) place code j) (static_core s core)
