@@ -21,7 +21,9 @@ use Rattle.gx_schema.specs.Laws.{AnImportExists, ImportsAreOne, ImportsAreSchema
 use Rattle.gx_schema.specs.RestrictedTypes.{restricted_types}
 use Rattle.gx_schema.specs.SeenComponents.{seen_components}
 use Rattle.gx_schema.proofs.CountableTypes.{written_are_countable}
-use Rattle.gx_schema.proofs.NothingFound.{rest_told}
+use Rattle.gx_schema.proofs.EverythingRead.{everything_read}
+use Rattle.gx_schema.proofs.NothingFound.{none_found, rest_told}
+use Rattle.gx_schema.proofs.ReadDeclarations.{IsEverythingRead}
 use Rattle.gx_schema.proofs.Refusals.{broken_is_told}
 use Rattle.gx_schema.proofs.SchemaSets.{Laws, judged_are_schema_sets, written_where_judged}
 
@@ -53,11 +55,15 @@ pub declared_is_read : (documents : List DocumentTree) (read : Imported) (schema
 declared_is_read documents (declares read) schemas h = declared_after (types_found 0 documents) read schemas h.0 (sym h.2)
 declared_is_read documents (breaks rule file name list) schemas h = absurd (cc)
 
+-- where files declare schemas, everything in them is read
+read_within : (files : List Source) (schemas : SchemaSet) → read_in_files files ≡ declares schemas → IsEverythingRead (documents_of files)
+read_within files schemas e = everything_read (documents_of files) (files, none_found NotInProfile (outside_files 0 files) (documents_judged (documents_of files)) schemas e, refl)
+
 pub imports_are_schema_sets : Laws → ImportsAreSchemaSets
 unfolding IsImported
 imports_are_schema_sets laws files schemas h =
-    judged_are_schema_sets laws (documents_of files) schemas
-    (rest_told NotInProfile (outside_files 0 files) (documents_judged (documents_of files)) schemas (declared_is_read (documents_of files) (read_in_files files) schemas h))
+    let read = declared_is_read (documents_of files) (read_in_files files) schemas h in
+    judged_are_schema_sets laws (documents_of files) schemas (read_within files schemas read) (rest_told NotInProfile (outside_files 0 files) (documents_judged (documents_of files)) schemas read)
 
 -- ---- one import
 
@@ -104,9 +110,10 @@ some_judged some_judgement documents (breaks rule file name list) fits = (breaks
 
 read_fits : Laws → ContentsAreBounded → (files : List Source) (schemas : SchemaSet) → read_in_files files ≡ declares schemas → Grounded (bases_of schemas) × AreCountable schemas.types
 read_fits laws bounded files schemas e =
-    let judged = rest_told NotInProfile (outside_files 0 files) (documents_judged (documents_of files)) schemas e in (
-      (judged_are_schema_sets laws (documents_of files) schemas judged).grounded,
-      subst (λ (s : SchemaSet). AreCountable s.types) (sym (written_where_judged (documents_of files) schemas judged)) (written_are_countable bounded (documents_of files)),
+    let judged = rest_told NotInProfile (outside_files 0 files) (documents_judged (documents_of files)) schemas e in
+    let read = read_within files schemas e in (
+      (judged_are_schema_sets laws (documents_of files) schemas read judged).grounded,
+      subst (λ (s : SchemaSet). AreCountable s.types) (sym (written_where_judged (documents_of files) schemas read judged)) (written_are_countable bounded (documents_of files)),
     )
 
 pub an_import_exists : Laws → ContentsAreBounded → AJudgementExists → AnImportExists

@@ -4,6 +4,7 @@ pub mod Declarations
 pub mod DerivationLemmas
 pub mod DistinctNames
 pub mod EarlierFound
+pub mod EverythingRead
 pub mod FaultExamples
 pub mod HeldKinds
 pub mod Imports
@@ -16,6 +17,7 @@ pub mod NumberedDeclarations
 pub mod NumberedTypes
 pub mod NumberLemmas
 pub mod PlacesInOrder
+pub mod ReadDeclarations
 pub mod SameComplexTypes
 pub mod SeenLemmas
 pub mod SameCircles

@@ -13,9 +13,7 @@ use Rattle.gx_schema_components.specs.DeclaredNames.{declarations_in, declared_n
 use Rattle.gx_schema_components.specs.Mentions.{document_mentions, global_mentions, type_declaration_mentions}
 use Rattle.gx_schema_components.specs.Unknown.{Numbering, earlier_mention, earliest, earliest_unknown, refers, unknown_from, unknown_name, unknown_shown}
 use Rattle.gx_schema.specs.declared.refusal.SchemaRule.{SchemaRule}
-use Rattle.gx_schema.specs.declared.unread.Unread.{Unread}
 use Rattle.gx_schema.specs.Import.{Imported, declares, unless_broken}
-use Rattle.gx_schema.specs.Unread.{first_by_place, first_unread, first_unread_global, first_unread_type, element_of_kind, unread_declaration, unread_from, unread_global, unread_type}
 use Rattle.gx_schema.proofs.Lists.{first_none, holds_append, holds_behind, holds_front, holds_parted, mapped_none, second_none}
 
 -- ---- rules that say nothing
@@ -27,48 +25,6 @@ rest_told rule (Some found) otherwise schemas e = cc
 pub none_found : (rule : SchemaRule) (found : Option (ℕ × List ℕ)) (otherwise : Imported) (schemas : SchemaSet) → unless_broken rule found otherwise ≡ declares schemas → found ≡ None
 none_found rule None otherwise schemas e = refl
 none_found rule (Some found) otherwise schemas e = cc
-
--- ---- everything is read
-
-some_by : (t : Bool) (one other : Unread) → (if t then Some one else Some other) ≡ None → ⊥
-some_by true one other e = cc
-some_by false one other e = cc
-
-one_none : (one other : Option Unread) → first_by_place one other ≡ None → one ≡ None
-one_none None other e = refl
-one_none (Some one) None e = absurd (cc)
-one_none (Some one) (Some other) e = absurd (some_by (nat_le one.place other.place) one other e)
-
-other_none : (one other : Option Unread) → first_by_place one other ≡ None → other ≡ None
-other_none None other e = e
-other_none (Some one) None e = refl
-other_none (Some one) (Some other) e = absurd (some_by (nat_le one.place other.place) one other e)
-
-types_read : (types : List TypeDeclaration) → first_unread_type types ≡ None → HoldsOfEach (λ (t : TypeDeclaration). unread_type t ≡ None) types
-types_read [] e = tt
-types_read (t ∷ others) e = (first_none (unread_type t) (first_unread_type others) e, types_read others (second_none (unread_type t) (first_unread_type others) e))
-
-globals_read : (declared : List TypeName) (globals : List GlobalDeclaration) → first_unread_global declared globals ≡ None → HoldsOfEach (λ (g : GlobalDeclaration). unread_global declared g ≡ None) globals
-globals_read declared [] e = tt
-globals_read declared (g ∷ others) e =
-    (first_none (unread_global declared g) (first_unread_global declared others) e, globals_read declared others (second_none (unread_global declared g) (first_unread_global declared others) e))
-
-read_from : (declared : List TypeName) (file : ℕ) (documents : List DocumentTree) → unread_from declared file documents ≡ None →
-    HoldsOfEach (λ (t : TypeDeclaration). unread_type t ≡ None) (types_in documents) × HoldsOfEach (λ (g : GlobalDeclaration). unread_global declared g ≡ None) (declarations_in documents)
-read_from declared file [] e = (tt, tt)
-read_from declared file (document ∷ documents) e =
-    let shown : Unread → ℕ × List ℕ = λ found. (file, element_of_kind found.kind) in
-    let here = mapped_none shown (first_unread declared document) (first_none (option_map shown (first_unread declared document)) (unread_from declared (file + 1) documents) e) in
-    let rest = read_from declared (file + 1) documents (second_none (option_map shown (first_unread declared document)) (unread_from declared (file + 1) documents) e) in (
-      holds_append (λ (t : TypeDeclaration). unread_type t ≡ None) document.types (types_in documents)
-          (types_read document.types (one_none (first_unread_type document.types) (first_unread_global declared document.declarations) here)) rest.0,
-      holds_append (λ (g : GlobalDeclaration). unread_global declared g ≡ None) document.declarations (declarations_in documents)
-          (globals_read declared document.declarations (other_none (first_unread_type document.types) (first_unread_global declared document.declarations) here)) rest.1,
-    )
-
-pub everything_read : (documents : List DocumentTree) → unread_declaration documents ≡ None →
-    HoldsOfEach (λ (t : TypeDeclaration). unread_type t ≡ None) (types_in documents) × HoldsOfEach (λ (g : GlobalDeclaration). unread_global (type_names_in documents) g ≡ None) (declarations_in documents)
-everything_read documents e = read_from (type_names_in documents) 0 documents e
 
 -- ---- each name refers to something
 

@@ -33,13 +33,11 @@ use Rattle.gx_schema_components.specs.Mentions.{base_mentions, content_mentions,
 use Rattle.gx_schema_components.specs.Referred.{Globals, base_of_number, base_referred}
 use Rattle.gx_schema_components.specs.TypeComponents.{derivation_by, derivation_of, derived_from, form_placed, simple_type_of, types_placed}
 use Rattle.gx_schema_components.specs.Unknown.{Numbering, refers}
-use Rattle.gx_schema.specs.declared.unread.DeclarationKind.{DeclarationKind}
-use Rattle.gx_schema.specs.declared.unread.DeclarationKind.TheVariants as declared_kinds
 use Rattle.gx_schema.specs.SchemaTypes.{type_forms}
 use Rattle.gx_schema.specs.TypeForms.{form_of_content, form_of_derivation, form_of_simple_type, form_of_type, forms_of}
-use Rattle.gx_schema.specs.Unread.{is_read_base, is_read_derivation, unread_definition, unread_named, unread_type, unread_where}
 use Rattle.gx_schema.proofs.Lists.{holds_front}
 use Rattle.gx_schema.proofs.NothingFound.{Refers}
+use Rattle.gx_schema.proofs.ReadDeclarations.{IsReadDeclaration, IsReadDefinition, base_written, is_read_base, is_read_derivation}
 use Rattle.gx_schema.proofs.SimpleTypes.{IsReadBase, IsReadForm}
 
 -- ---- what a name of a type refers to
@@ -107,17 +105,13 @@ base_read documents (types.Anonymous number) e refer = absurd (cc)
 
 -- ---- the form of a type
 
-pub read_where : (t : Bool) (place : ℕ) (kind : DeclarationKind) → unread_where t place kind ≡ None → t ≡ true
-read_where true place kind e = refl
-read_where false place kind e = absurd (cc)
-
-simple_form : (documents : List DocumentTree) (place : ℕ) (definition : SimpleTypeDefinition) → unread_definition place (Simple definition) ≡ None →
+simple_form : (documents : List DocumentTree) (definition : SimpleTypeDefinition) → is_read_base (base_written definition) ≡ true →
     HoldsOfEach (Refers (declared_number documents)) (simple_type_mentions definition) →
     IsReadForm (length (type_names_in documents)) (form_of_simple_type (simple_type_of (globals_of documents) definition))
-simple_form documents place (simple.Restriction at base facets) e refer =
-    base_read documents base (read_where (is_read_base base) place declared_kinds.SimpleType e) (λ reference f. reference_refers (declared_number documents) at base reference f refer)
-simple_form documents place (simple.List at item) e refer =
-    base_read documents item (read_where (is_read_base item) place declared_kinds.SimpleType e) (λ reference f. reference_refers (declared_number documents) at item reference f refer)
+simple_form documents (simple.Restriction at base facets) e refer =
+    base_read documents base e (λ reference f. reference_refers (declared_number documents) at base reference f refer)
+simple_form documents (simple.List at item) e refer =
+    base_read documents item e (λ reference f. reference_refers (declared_number documents) at item reference f refer)
 
 content_form : (count : ℕ) (content : ContentKind) (base : Base) (facets : List WrittenFacet) → IsReadBase count base → IsReadForm count (form_of_content content base facets)
 content_form count contents.Simple base facets read = read
@@ -136,27 +130,22 @@ derivation_form documents (Some derivation) facets e refer =
     (base_read documents derivation.base e (λ reference f. reference_refers (declared_number documents) derivation.place derivation.base reference f refer))
 
 -- what is read and refers has a form that is read
-definition_form : (documents : List DocumentTree) (groups : List ModelGroup) (place : ℕ) (definition : TypeDefinition) → unread_definition place definition ≡ None →
+definition_form : (documents : List DocumentTree) (groups : List ModelGroup) (definition : TypeDefinition) → IsReadDefinition definition →
     HoldsOfEach (Refers (declared_number documents)) (definition_mentions definition) →
     IsReadForm (length (type_names_in documents)) (form_of_type (form_placed (globals_of documents) (first_inner documents) groups definition).placed)
-definition_form documents groups place (Simple definition) e refer = simple_form documents place definition e refer
-definition_form documents groups place (Complex definition) e refer =
-    derivation_form documents definition.derivation definition.facets (read_where (is_read_derivation definition.derivation) place declared_kinds.ComplexType e)
+definition_form documents groups (Simple definition) e refer = simple_form documents definition e refer
+definition_form documents groups (Complex definition) e refer =
+    derivation_form documents definition.derivation definition.facets e
     (holds_front (Refers (declared_number documents)) (base_mentions definition.derivation) (content_mentions definition.particle ++ members_mentions definition.attributes) refer)
 
 abbrev pub IsReadType : List DocumentTree → TypeDeclaration → Type 0
-IsReadType documents t = (unread_type t ≡ None) × HoldsOfEach (Refers (declared_number documents)) (type_declaration_mentions t)
-
-definition_read : (name : TypeName) (place : ℕ) (definition : TypeDefinition) → unread_named name place definition ≡ None → (unread_definition place definition ≡ None) × (is_built_in name ≡ false)
-definition_read (names.Builtin builtin) place definition e = absurd (cc)
-definition_read (names.Named name) place definition e = (e, refl)
-definition_read (names.Anonymous number) place definition e = (e, refl)
+IsReadType documents t = IsReadDeclaration t × HoldsOfEach (Refers (declared_number documents)) (type_declaration_mentions t)
 
 forms_placed : (documents : List DocumentTree) (groups : List ModelGroup) (declarations : List TypeDeclaration) → HoldsOfEach (IsReadType documents) declarations →
     HoldsOfEach (IsReadForm (length (type_names_in documents))) (forms_of (types_placed (globals_of documents) (first_inner documents) groups declarations).placed)
 forms_placed documents groups [] read = tt
 forms_placed documents groups (t ∷ others) read = (
-  definition_form documents groups t.place t.definition (definition_read t.name t.place t.definition read.0.0).0 read.0.1,
+  definition_form documents groups t.definition (read.0.0).definition read.0.1,
   forms_placed documents (form_placed (globals_of documents) (first_inner documents) groups t.definition).groups others read.1,
 )
 
@@ -167,7 +156,7 @@ names_placed x first groups (t ∷ others) = ap suc (names_placed x first (form_
 own_names : (documents : List DocumentTree) (declarations : List TypeDeclaration) → HoldsOfEach (IsReadType documents) declarations →
     HoldsOfEach (λ (name : TypeName). is_built_in name ≡ false) (map (λ (declaration : TypeDeclaration). declaration.name) declarations)
 own_names documents [] read = tt
-own_names documents (t ∷ others) read = ((definition_read t.name t.place t.definition read.0.0).1, own_names documents others read.1)
+own_names documents (t ∷ others) read = ((read.0.0).own, own_names documents others read.1)
 
 -- ---- all types of documents
 

@@ -44,7 +44,6 @@ use Rattle.gx_schema_simple.specs.Forms.{references_of}
 use Rattle.gx_schema_simple.specs.Faults.{first_type_fault, simple_faults}
 use Rattle.gx_schema_simple.specs.Laws.{NoFirstFault, NoneIsCircular, VarietiesSolve}
 use Rattle.gx_schema.specs.declared.found.Found.{Found}
-use Rattle.gx_schema.specs.declared.unread.DeclarationKind.TheVariants as declared_kinds
 use Rattle.gx_schema.specs.Doubled.{doubled_declared_name, doubled_of_kind, doubled_type, doubled_type_name}
 use Rattle.gx_schema.specs.Found.{found_by_number, globals_found, types_found}
 use Rattle.gx_schema.specs.Import.{declares, unless_broken, found_in_file, documents_judged, unknown_found}
@@ -57,12 +56,12 @@ use Rattle.gx_schema.specs.SeenComponents.{seen_components, type_components}
 use Rattle.gx_schema.specs.TooLarge.{too_large}
 use Rattle.gx_schema.specs.SchemaTypes.{schema_element, schemas_written, type_forms}
 use Rattle.gx_schema.specs.TypeNumbers.{first_type_number, type_number_from}
-use Rattle.gx_schema.specs.Unread.{is_read_type, unread_declaration, unread_global, unread_type}
-use Rattle.gx_schema.specs.declared.refusal.SchemaRule.TheVariants.{NotInProfile, UnknownName, Inconsistent, Circular, TooLarge}
+use Rattle.gx_schema.specs.declared.refusal.SchemaRule.TheVariants.{UnknownName, Inconsistent, Circular, TooLarge}
 use Rattle.gx_schema.proofs.DistinctNames.{names_are_distinct, types_are_distinct}
 use Rattle.gx_schema.proofs.Lists.{holds_at, holds_both, mapped_none}
-use Rattle.gx_schema.proofs.NothingFound.{Refers, everything_read, everything_refers, none_found, rest_told}
-use Rattle.gx_schema.proofs.NumberedTypes.{IsReadType, as_many_forms, forms_of_documents, found_type_name, names_of_documents, number_of_reference, read_where}
+use Rattle.gx_schema.proofs.NothingFound.{Refers, everything_refers, none_found, rest_told}
+use Rattle.gx_schema.proofs.NumberedTypes.{IsReadType, as_many_forms, forms_of_documents, found_type_name, names_of_documents, number_of_reference}
+use Rattle.gx_schema.proofs.ReadDeclarations.{HasReadType, IsEverythingRead, IsReadDeclaration, is_read_type}
 use Rattle.gx_schema.proofs.DerivationLemmas.{simple_bases_fit}
 use Rattle.gx_schema.proofs.HeldKinds.{all_pass, each_passes, number_is_of, simple_number}
 use Rattle.gx_schema.proofs.SimpleDeclarations.{simple_by_number}
@@ -103,7 +102,7 @@ pub record Laws : Type 0 where
 
 -- what documents without a broken rule keep to
 record IsJudged (documents : List DocumentTree) : Type 0 where
-  read : unread_declaration documents ≡ None
+  read : IsEverythingRead documents
   known : unknown_name documents ≡ None
   doubled_types : doubled_type_name (type_names_in documents) ≡ None
   doubled_elements : doubled_declared_name (names_of_kind kinds.ElementDeclaration (declarations_in documents)) ≡ None
@@ -115,8 +114,8 @@ record IsJudged (documents : List DocumentTree) : Type 0 where
   named : first_failing (is_named_kind (type_names_in documents)) (element_kinds (seen_components documents).types (seen_components documents).groups) ≡ None
   simple : first_failing (is_simple_kind (type_names_in documents) (type_forms documents)) (attribute_kinds (seen_components documents).types (seen_components documents).attribute_groups) ≡ None
 
-is_judged : (documents : List DocumentTree) (schemas : SchemaSet) → documents_judged documents ≡ declares schemas → IsJudged documents × (schemas ≡ schemas_written documents)
-is_judged documents schemas e =
+is_judged : (documents : List DocumentTree) (schemas : SchemaSet) → IsEverythingRead documents → documents_judged documents ≡ declares schemas → IsJudged documents × (schemas ≡ schemas_written documents)
+is_judged documents schemas read e =
     let declared = type_names_in documents in
     let forms = type_forms documents in
     let seen = seen_components documents in
@@ -127,9 +126,7 @@ is_judged documents schemas e =
     let fifth = unless_broken TooLarge (option_map found_in_file (too_large documents seen)) sixth in
     let fourth = unless_broken Circular (option_map found_in_file (circular documents forms)) fifth in
     let third = unless_broken Inconsistent (option_map found_in_file (inconsistent documents forms seen)) fourth in
-    let second = unless_broken UnknownName (option_map unknown_found (unknown_name documents)) third in
-    let e2 = rest_told NotInProfile (unread_declaration documents) second schemas e in
-    let e3 = rest_told UnknownName (option_map unknown_found (unknown_name documents)) third schemas e2 in
+    let e3 = rest_told UnknownName (option_map unknown_found (unknown_name documents)) third schemas e in
     let e4 = rest_told Inconsistent (option_map found_in_file (inconsistent documents forms seen)) fourth schemas e3 in
     let e5 = rest_told Circular (option_map found_in_file (circular documents forms)) fifth schemas e4 in
     let e6 = rest_told TooLarge (option_map found_in_file (too_large documents seen)) sixth schemas e5 in
@@ -154,8 +151,8 @@ is_judged documents schemas e =
     let circle = mapped_none found_in_file (circular documents forms) (none_found Circular (option_map found_in_file (circular documents forms)) fifth schemas e4) in
     let no_type = left_none (circular_type documents forms) (earlier_found (circular_group documents) (circular_attribute_group documents)) circle in (
       record {
-        read = none_found NotInProfile (unread_declaration documents) second schemas e;
-        known = mapped_none unknown_found (unknown_name documents) (none_found UnknownName (option_map unknown_found (unknown_name documents)) third schemas e2);
+        read = read;
+        known = mapped_none unknown_found (unknown_name documents) (none_found UnknownName (option_map unknown_found (unknown_name documents)) third schemas e);
         doubled_types = mapped_none (found_by_number (types_found 0 documents)) (doubled_type_name (type_names_in documents)) one_type;
         doubled_elements = mapped_none (found_by_number (globals_found kinds.ElementDeclaration 0 documents)) (doubled_declared_name (names_of_kind kinds.ElementDeclaration (declarations_in documents))) one_element;
         faults = mapped_none (found_fault (types_found 0 documents)) (first_type_fault (simple_faults forms)) sound;
@@ -171,8 +168,9 @@ is_judged documents schemas e =
 
 types_of : (documents : List DocumentTree) → IsJudged documents → HoldsOfEach (IsReadType documents) (types_in documents)
 types_of documents told =
-    holds_both (λ (t : TypeDeclaration). unread_type t ≡ None) (λ (t : TypeDeclaration). HoldsOfEach (Refers (declared_number documents)) (type_declaration_mentions t)) (types_in documents)
-    (everything_read documents told.read).0 (everything_refers documents told.known).0
+    let read = told.read in
+    holds_both IsReadDeclaration (λ (t : TypeDeclaration). HoldsOfEach (Refers (declared_number documents)) (type_declaration_mentions t)) (types_in documents)
+    read.types (everything_refers documents told.known).0
 
 read_types_of : Laws → (documents : List DocumentTree) → IsJudged documents → AreReadTypes (type_names_in documents) (type_forms documents)
 read_types_of laws documents told = record {
@@ -246,13 +244,13 @@ kind_named laws documents told place (types.Declared reference) e refer =
 kind_named laws documents told place (types.Anonymous number) e refer = fits laws documents told (names.Anonymous number) e
 
 abbrev IsReadGlobal : List DocumentTree → GlobalDeclaration → Type 0
-IsReadGlobal documents g = (unread_global (type_names_in documents) g ≡ None) × HoldsOfEach (Refers (declared_number documents)) (global_mentions g)
+IsReadGlobal documents g = HasReadType (type_names_in documents) g × HoldsOfEach (Refers (declared_number documents)) (global_mentions g)
 
 elements_named : Laws → (documents : List DocumentTree) → IsJudged documents → (declarations : List GlobalDeclaration) → HoldsOfEach (IsReadGlobal documents) declarations →
     HoldsOfEach (λ (element : GlobalElement). IsTrue (is_named_type (schemas_written documents) element.kind)) (map schema_element (flat_map (declared_element (declared_number documents) (type_names_in documents)) declarations))
 elements_named laws documents told [] read = tt
 elements_named laws documents told (Element place name kind ∷ others) read = (
-  kind_named laws documents told place kind (read_where (is_read_type (type_names_in documents) kind) place declared_kinds.Element read.0.0) read.0.1,
+  kind_named laws documents told place kind read.0.0 read.0.1,
   elements_named laws documents told others read.1,
 )
 elements_named laws documents told (Attribute place name kind ∷ others) read = elements_named laws documents told others read.1
@@ -261,8 +259,9 @@ elements_named laws documents told (AttributeGroup place name attributes ∷ oth
 
 globals_of_documents : (documents : List DocumentTree) → IsJudged documents → HoldsOfEach (IsReadGlobal documents) (declarations_in documents)
 globals_of_documents documents told =
-    holds_both (λ (g : GlobalDeclaration). unread_global (type_names_in documents) g ≡ None) (λ (g : GlobalDeclaration). HoldsOfEach (Refers (declared_number documents)) (global_mentions g)) (declarations_in documents)
-    (everything_read documents told.read).1 (everything_refers documents told.known).1
+    let read = told.read in
+    holds_both (HasReadType (type_names_in documents)) (λ (g : GlobalDeclaration). HoldsOfEach (Refers (declared_number documents)) (global_mentions g)) (declarations_in documents)
+    read.globals (everything_refers documents told.known).1
 
 -- ---- contents and attributes
 
@@ -333,10 +332,10 @@ set_where_judged laws documents told =
       distinct_elements = subst (AreDistinctBy same_name) (sym (element_names documents (declarations_in documents))) (names_are_distinct (names_of_kind kinds.ElementDeclaration (declarations_in documents)) told.doubled_elements);
     }
 
-pub judged_are_schema_sets : Laws → (documents : List DocumentTree) (schemas : SchemaSet) → documents_judged documents ≡ declares schemas → IsSchemaSet schemas
-judged_are_schema_sets laws documents schemas e =
-    let told = is_judged documents schemas e in
+pub judged_are_schema_sets : Laws → (documents : List DocumentTree) (schemas : SchemaSet) → IsEverythingRead documents → documents_judged documents ≡ declares schemas → IsSchemaSet schemas
+judged_are_schema_sets laws documents schemas read e =
+    let told = is_judged documents schemas read e in
     subst IsSchemaSet (sym told.1) (set_where_judged laws documents told.0)
 
-pub written_where_judged : (documents : List DocumentTree) (schemas : SchemaSet) → documents_judged documents ≡ declares schemas → schemas ≡ schemas_written documents
-written_where_judged documents schemas e = (is_judged documents schemas e).1
+pub written_where_judged : (documents : List DocumentTree) (schemas : SchemaSet) → IsEverythingRead documents → documents_judged documents ≡ declares schemas → schemas ≡ schemas_written documents
+written_where_judged documents schemas read e = (is_judged documents schemas read e).1

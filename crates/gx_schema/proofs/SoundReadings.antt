@@ -44,7 +44,6 @@ use Rattle.gx_schema.specs.SchemaTypes.{schemas_written, type_forms}
 use Rattle.gx_schema.specs.SeenComponents.{attribute_groups, attribute_groups_in_group, is_circular_attribute_group, is_circular_group, model_groups, seen_components}
 use Rattle.gx_schema.specs.SoundReading.{HasOneTypeAName, NothingIsCircular}
 use Rattle.gx_schema.specs.TooLarge.{too_large}
-use Rattle.gx_schema.specs.Unread.{unread_declaration}
 use Rattle.gx_schema.proofs.Imports.{declared_is_read, imports_are_schema_sets}
 use Rattle.gx_schema.proofs.Lists.{mapped_none}
 use Rattle.gx_schema.proofs.NothingFound.{names_refer, none_found, rest_told}
@@ -67,10 +66,9 @@ passes_rules documents schemas e =
     let large = unless_broken TooLarge (option_map found_in_file (too_large documents seen)) (kinds_judged (type_names_in documents) forms seen (declares (schemas_written documents))) in
     let after_consistent = unless_broken Circular circle large in
     let after_known = unless_broken Inconsistent disagreeing after_consistent in
-    let e1 = rest_told NotInProfile (unread_declaration documents) (unless_broken UnknownName unknown after_known) schemas e in
-    let e2 = rest_told UnknownName unknown after_known schemas e1 in
+    let e2 = rest_told UnknownName unknown after_known schemas e in
     let e3 = rest_told Inconsistent disagreeing after_consistent schemas e2 in record {
-      known = mapped_none unknown_found (unknown_name documents) (none_found UnknownName unknown after_known schemas e1);
+      known = mapped_none unknown_found (unknown_name documents) (none_found UnknownName unknown after_known schemas e);
       consistent = mapped_none found_in_file (inconsistent documents forms seen) (none_found Inconsistent disagreeing after_consistent schemas e2);
       circles = mapped_none found_in_file (circular documents forms) (none_found Circular circle large schemas e3);
     }

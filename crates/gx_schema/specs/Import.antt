@@ -29,7 +29,6 @@ use Rattle.gx_schema.specs.RestrictedTypes.{restricted_types}
 use Rattle.gx_schema.specs.SchemaTypes.{schemas_written, type_forms}
 use Rattle.gx_schema.specs.SeenComponents.{SeenComponents, seen_components}
 use Rattle.gx_schema.specs.TooLarge.{too_large}
-use Rattle.gx_schema.specs.Unread.{unread_declaration}
 
 -- the schemas that files declare; or the rule that is broken first, the number of the file, counted from 0, the name, and a list of shapes, which is
 -- empty but for a restriction that is not sound
@@ -54,9 +53,8 @@ unknown_found unknown = (unknown.file, unknown.name)
 abbrev pub found_in_file : Found → ℕ × List ℕ
 found_in_file found = (found.file, found.name)
 
--- what is not read, and names
 abbrev pub names_judged : List DocumentTree → Imported → Imported
-names_judged documents otherwise = unless_broken NotInProfile (unread_declaration documents) (unless_broken UnknownName (option_map unknown_found (unknown_name documents)) otherwise)
+names_judged documents otherwise = unless_broken UnknownName (option_map unknown_found (unknown_name documents)) otherwise
 
 -- types and the other declarations; last, what elements and attributes are of is there, and simple for attributes
 abbrev pub kinds_judged : List TypeName → List TypeForm → SeenComponents → Imported → Imported
@@ -70,6 +68,10 @@ components_judged documents forms seen otherwise =
 
 abbrev pub documents_judged : List DocumentTree → Imported
 documents_judged documents = names_judged documents (components_judged documents (type_forms documents) (seen_components documents) (declares (schemas_written documents)))
+
+-- documents are written in files within the profile
+abbrev pub AreWithinProfile : List DocumentTree → Type 0
+AreWithinProfile documents = (files : List Source) × (outside_files 0 files ≡ None) × (documents ≡ documents_of files)
 
 -- what files declare, or the first of these rules that they break, in the order of the rules
 abbrev pub read_in_files : List Source → Imported

@@ -1,5 +1,4 @@
 pub mod TypeNumbers
-pub mod Unread
 pub mod Found
 pub mod FirstFound
 pub mod FirstNumber

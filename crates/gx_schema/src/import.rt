@@ -6,7 +6,7 @@ ghost use Rattle.gx_schema_components.specs.DeclaredNames.{type_names_in};
 ghost use Rattle.gx_schema.specs.Circular.{circular};
 ghost use Rattle.gx_schema_syntax.specs.DocumentTree.{DocumentTree};
 ghost use Rattle.gx_schema_syntax.specs.Profile.{outside_files};
-ghost use Rattle.gx_schema.specs.Import.{breaks, broken_at, components_judged, declares, found_in_file, documents_judged, documents_of, kinds_judged, names_judged, read_in_files, unknown_found, unless_broken, IsImported, IsJudged, IsRefusalTold, IsRefusalWith, IsSchemaRefusal};
+ghost use Rattle.gx_schema.specs.Import.{AreWithinProfile, breaks, broken_at, components_judged, declares, found_in_file, documents_judged, documents_of, kinds_judged, names_judged, read_in_files, unknown_found, unless_broken, IsImported, IsJudged, IsRefusalTold, IsRefusalWith, IsSchemaRefusal};
 ghost use Rattle.gx_schema.specs.RestrictedTypes.{restricted_types};
 ghost use Rattle.gx_schema.specs.SchemaTypes.{meanings_seen, schemas_written, type_forms};
 ghost use Rattle.gx_schema_simple.specs.Varieties.{IsMarked};
@@ -29,7 +29,6 @@ use crate::seen_components::{
 use crate::seen_meanings::{seen_contents, seen_restrictions, seen_uses};
 use crate::too_large::too_large;
 use crate::type_forms::type_forms;
-use crate::unread::unread_declaration;
 use gx_base::text::Text;
 use gx_base::type_name::TypeName;
 use gx_schema_attributes::laws::{kinds_are_written, uses_are_distinct};
@@ -76,6 +75,7 @@ fn documents_inside(alloc: Global, files: &[Source]) -> Result<Vec<SchemaDocumen
 }
 
 fn judge(alloc: Global, documents: &[SchemaDocument]) -> Result<Schemas, SchemaRefusal>
+    requires { AreWithinProfile documents.now }
     ensures declared { IfOk result (λ schemas. IsJudged documents.now (documents_judged documents.now) (declares schemas)) }
     ensures refused { IfErr result (IsRefusalTold (IsJudged documents.now (documents_judged documents.now))) }
 {
@@ -104,6 +104,7 @@ fn judge_schemas(
     documents: &[SchemaDocument],
     read: ReadComponents,
 ) -> Result<Schemas, SchemaRefusal>
+    requires inside { AreWithinProfile documents.now }
     requires read { IsRead documents.now read }
     requires judged { documents_judged documents.now ≡ declares (schemas_written documents.now) }
     ensures declared { IfOk result (λ schemas. IsJudged documents.now (declares (schemas_written documents.now)) (declares schemas)) }
@@ -126,15 +127,12 @@ fn restricted_types_read(
     seen_restrictions(alloc, &read.seen)
 }
 
-// Everything is read, and each name refers to something.
+// Each name refers to something.
 fn judge_names(alloc: Global, documents: &[SchemaDocument]) -> Result<(), SchemaRefusal>
     ensures passes { OnOk result (documents_judged documents.now
         ≡ components_judged documents.now (type_forms documents.now) (seen_components documents.now) (declares (schemas_written documents.now))) }
     ensures refused { IfErr result (IsRefusalWith (documents_judged documents.now)) }
 {
-    if let Some((file, name)) = unread_declaration(alloc, documents)? {
-        return Err(refused(alloc, SchemaRule::NotInProfile, file, name));
-    }
     match unknown(alloc, documents)? {
         Some(unknown) => {
             let rule = SchemaRule::UnknownName;
@@ -307,6 +305,7 @@ fn schemas_written(
     documents: &[SchemaDocument],
     read: ReadComponents,
 ) -> Result<Schemas, AllocError>
+    requires inside { AreWithinProfile documents.now }
     requires read { IsRead documents.now read }
     requires judged { documents_judged documents.now ≡ declares (schemas_written documents.now) }
     ensures { IfOk result (λ schemas. schemas ≡ schemas_written documents.now) }

@@ -22,4 +22,3 @@ mod simple_bases;
 mod too_large;
 mod type_forms;
 mod type_numbers;
-mod unread;

@@ -1,14 +1,14 @@
 // The types that elements in contents and attributes of types have.
 
 ghost use Rattle.std.specs.Prelude.{◌≡◌, IfOk, is_some, option_map, option_copied, slice_get};
+ghost use Rattle.gx_types.specs.SchemaInvariant.{is_nameable};
 ghost use Rattle.gx_schema.specs.NamedKinds.{first_failing, is_named_kind, is_simple_form, is_simple_kind, is_simple_number, kind_found, unnamed_kind, unsimple_kind};
 ghost use Rattle.gx_schema.specs.TypeNumbers.{AreTypeNumbers, own_type_number};
 
 use crate::seen_components::SeenComponents;
 use crate::type_numbers::{TypeNumbers, number_of, type_numbers};
-use crate::unread::is_nameable;
 use gx_base::text::Text;
-use gx_base::type_name::TypeName;
+use gx_base::type_name::{Builtin, TypeName};
 use gx_schema_attributes::kinds::attribute_kinds;
 use gx_schema_content::kinds::element_kinds;
 use gx_schema_simple::type_form::TypeForm;
@@ -54,6 +54,13 @@ fn is_named_kind(declared: &[TypeName], numbers: &TypeNumbers, kind: &TypeName) 
         TypeName::Builtin(builtin) => is_nameable(*builtin),
         TypeName::Named(_) | TypeName::Anonymous(_) => number_of(numbers, kind).is_some(),
     }
+}
+
+// Whether declarations may name a built-in type.
+fn is_nameable(builtin: Builtin) -> bool
+    ensures { result ≡ is_nameable builtin }
+{
+    Builtin::Str <= builtin
 }
 
 /// The first type of an attribute of a type that is neither built in nor a declared simple type.

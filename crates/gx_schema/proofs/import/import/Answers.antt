@@ -19,3 +19,6 @@ pub returns-clause-refused : goal.returns-clause-refused
 returns-clause-refused c =
     imported_where_judged c.args.files.now c.as_slice.result.now c.in_ok-documents.ensures.inside (c.as_slice.ensures.value ∙ c.in_ok-documents.ensures.documents)
     (λ (Told : Imported → Type 0). IfErr c.judge.result (IsRefusalTold Told)) c.judge.ensures.refused
+
+pub judge-requires : goal.judge-requires
+judge-requires c = (c.args.files.now, c.in_ok-documents.ensures.inside, c.as_slice.ensures.value ∙ c.in_ok-documents.ensures.documents)

@@ -1,4 +1,5 @@
 use Rattle.gx_schema.specs.SchemaTypes.{schemas_written}
+use Rattle.gx_schema.proofs.EverythingRead.{everything_read}
 use Rattle.gx_schema.proofs.Made.{set_made}
 use Rattle.gx_schema.proofs.SchemaSets.{judged_are_schema_sets}
 use Rattle.gx_schema.proofs.import.schemas_written.Goals as goal
@@ -15,4 +16,4 @@ new-requires c =
       kinds = c.elements_keep.ensures;
       distinct = c.uses_are_distinct.ensures;
       uses = c.kinds_are_written.ensures;
-    }) documents (schemas_written documents) c.requires.judged)
+    }) documents (schemas_written documents) (everything_read documents c.requires.inside) c.requires.judged)
