@@ -1,5 +1,5 @@
 -- How many pairs are reached where the right type is deterministic.
-use Rattle.std.proofs.Common.{◌≡◌, ℕ, zero, suc, ◌+◌, ◌*◌, ◌≤◌, Bool, true, false, ◌&&◌, ◌||◌, List, [], ◌∷◌, ◌++◌, map, ◌⊎◌, inl, inr, refl, sym, ◌∙◌, ap, subst, get_or, length, length-append, drop, slice_get, arith}
+use Rattle.std.proofs.Common.{◌≡◌, ℕ, zero, suc, ◌+◌, ◌*◌, ◌≤◌, Bool, true, false, ◌&&◌, ◌||◌, List, [], ◌∷◌, ◌++◌, map, ◌⊎◌, inl, inr, Some, refl, sym, ◌∙◌, ap, subst, get_or, length, length-append, drop, slice_get, arith}
 use Rattle.std.specs.List.{flat_map}
 use Rattle.std.proofs.Math.ListN.{replicate}
 use Rattle.std.proofs.lemmas.Bool.{cases_lt}
@@ -7,21 +7,22 @@ use Rattle.std.proofs.lemmas.List.{get_or-drop}
 use Rattle.gx_types.specs.SchemaSet.{SchemaSet}
 use Rattle.gx_types.specs.SequenceType.{SequenceType, never, nothing, item, both, either, optional, star, plus}
 use Rattle.gx_types.specs.TypeRules.{positions_of}
-use Rattle.gx_include.specs.declared.letter.Letter.{Letter}
-use Rattle.gx_include.specs.Positions.{is_nullable, may_end, next_of, tests_of, both_set}
-use Rattle.gx_include.specs.Step.{single, has_start, all_next, step_over}
-use Rattle.gx_include.specs.Test.{is_taken}
+use Rattle.gx_include_letters.specs.declared.letter.Letter.{Letter}
+use Rattle.gx_include_positions.specs.Positions.{is_nullable, may_end, next_of, tests_of, both_set}
+use Rattle.gx_include_positions.specs.Step.{single, has_start, all_next, step_over}
+use Rattle.gx_include_positions.specs.Test.{is_taken}
 use Rattle.gx_include.specs.Pairs.{start_pair, pair_step}
 use Rattle.gx_include.specs.Walk.{leads_to}
-use Rattle.gx_include.specs.Letters.{IsLetter, AreLetters}
+use Rattle.gx_include_letters.specs.Letters.{IsLetter, AreLetters}
+use Rattle.gx_include_letters.specs.WellFormed.{IsWellFormedShape}
 use Rattle.gx_include.specs.Verdict.{IsReached}
 use Rattle.gx_include.specs.Laws.{IsDeterministic, FewPairsAreReached}
-use Rattle.gx_include.proofs.Marks.{marked_next, marks_from, next_is}
-use Rattle.gx_include.proofs.SetReads.{length_flags, length_tests, single_has}
+use Rattle.gx_include_positions.proofs.SetReads.{length_tests, single_has, both_set_length, next_length}
 use Rattle.gx_include.proofs.PairRuns.{both_set_parts, gone_by, moved_parts}
-use Rattle.gx_include.proofs.Lists.{In, in_map, in_flat, set_within}
+use Rattle.gx_include_positions.proofs.Lists.{In, in_map, in_flat, set_within, got_in}
 use Rattle.gx_include.proofs.Counts.{fits_in, different, in_place}
-use Rattle.gx_include.proofs.Alphabets.{are_letters}
+use Rattle.gx_include_letters.proofs.Alphabets.{are_letters}
+use Rattle.gx_include_letters.proofs.FormedLetters.{letter_is}
 
 -- flags that say the same
 
@@ -136,26 +137,30 @@ is_single set u one h j =
 
 -- reached sets
 
-one_more : (s : SchemaSet) (a b : SequenceType) → IsDeterministic s b → (set : List Bool) (l : Letter) → IsLetter s a b l → HasOneAtMost set → HasOneAtMost (both_set (all_next b set) l.takers.items)
-one_more s a b det set l is one i j h k =
+one_more : (s : SchemaSet) (a b : SequenceType) → IsDeterministic s b → (set : List Bool) (l : Letter) → IsLetter s a b l → IsWellFormedShape s l.shape → HasOneAtMost set → HasOneAtMost (both_set (all_next b set) l.takers.items)
+one_more s a b det set l is formed one i j h k =
     elim (has_member set) [
       | inl u ↦
           let same : both_set (all_next b set) l.takers.items ≡ step_over b (is_taken s l.shape) (single u.0) =
           ap (λ xs. both_set xs l.takers.items) (all_next_agrees b set (single u.0) (is_single set u.0 one u.1)) ∙ ap (λ ys. both_set (all_next b (single u.0)) ys) is.takers in
-          det l.shape u.0 i j (subst (λ xs. get_or xs i false ≡ true) same h) (subst (λ xs. get_or xs j false ≡ true) same k)
+          det l.shape formed u.0 i j (subst (λ xs. get_or xs i false ≡ true) same h) (subst (λ xs. get_or xs j false ≡ true) same k)
       | inr none ↦ absurd (nothing_follows b set none i ((both_set_parts (all_next b set) l.takers.items i h).0))
     ]
 
 start_one : HasOneAtMost (single 0)
 start_one i j h k = single_has 0 i h ∙ sym (single_has 0 j k)
 
-reached_one : (s : SchemaSet) (a b : SequenceType) (letters : List Letter) → AreLetters s a b letters → IsDeterministic s b → (run : List ℕ) (pair : ℕ × List Bool)
+-- each letter has a well-formed shape
+abbrev AreFormed : SchemaSet → List Letter → Type 0
+AreFormed s letters = (number : ℕ) (letter : Letter) → slice_get letters number ≡ Some letter → IsWellFormedShape s letter.shape
+
+reached_one : (s : SchemaSet) (a b : SequenceType) (letters : List Letter) → AreLetters s a b letters → AreFormed s letters → IsDeterministic s b → (run : List ℕ) (pair : ℕ × List Bool)
     → IsReached a b letters run pair → HasOneAtMost pair.1
-reached_one s a b letters are det [] pair e = let is : start_pair ≡ pair = cc in subst (λ (p : ℕ × List Bool). HasOneAtMost p.1) is start_one
-reached_one s a b letters are det (number ∷ run) pair e =
+reached_one s a b letters are formed det [] pair e = let is : start_pair ≡ pair = cc in subst (λ (p : ℕ × List Bool). HasOneAtMost p.1) is start_one
+reached_one s a b letters are formed det (number ∷ run) pair e =
     let g = gone_by (pair_step a b letters) number (leads_to (pair_step a b letters) start_pair run) pair e in
     let m = moved_parts (all_next a (single g.0.0)) (all_next b g.0.1) (slice_get letters number) pair g.2 in
-    subst (λ (p : ℕ × List Bool). HasOneAtMost p.1) m.3 (one_more s a b det g.0.1 m.0 (are number m.0 m.1) (reached_one s a b letters are det run g.0 g.1))
+    subst (λ (p : ℕ × List Bool). HasOneAtMost p.1) m.3 (one_more s a b det g.0.1 m.0 (are number m.0 m.1) (formed number m.0 m.1) (reached_one s a b letters are formed det run g.0 g.1))
 
 -- the sets of a length with one member at most
 
@@ -241,15 +246,6 @@ in_possible left right place xs h k e one =
 
 -- the pairs that are reached are among them
 
-pub both_set_length : (xs ys : List Bool) (n : ℕ) → length xs ≡ n → length ys ≡ n → length (both_set xs ys) ≡ n
-both_set_length [] ys n e f = e
-both_set_length (x ∷ xs) [] n e f = absurd (omega arith)
-both_set_length (x ∷ xs) (y ∷ ys) zero e f = absurd (omega arith)
-both_set_length (x ∷ xs) (y ∷ ys) (suc n) e f = ap (λ m. suc m) (both_set_length xs ys n (omega arith) (omega arith))
-
-pub next_length : (t : SequenceType) (set : List Bool) (begins : Bool) → length (next_of t begins set) ≡ positions_of t
-next_length t set begins = ap (λ xs. length xs) (next_is t set begins) ∙ length_flags t (marked_next t begins (marks_from t set))
-
 tail_one : (xs : List Bool) → HasOneAtMost (false ∷ xs) → HasOneAtMost xs
 tail_one xs one i j h k = let e = one (suc i) (suc j) h k in omega arith
 
@@ -258,12 +254,12 @@ place_bounds t set zero h = absurd (cc)
 place_bounds t set (suc place) h =
     let k = set_within (all_next t set) (suc place) h in let n = next_length t (drop 1 set) (has_start set) in (omega arith, omega (arith, k, n))
 
-reached_possible : (s : SchemaSet) (a b : SequenceType) (letters : List Letter) → AreLetters s a b letters → IsDeterministic s b → (run : List ℕ) (pair : ℕ × List Bool)
+reached_possible : (s : SchemaSet) (a b : SequenceType) (letters : List Letter) → AreLetters s a b letters → AreFormed s letters → IsDeterministic s b → (run : List ℕ) (pair : ℕ × List Bool)
     → IsReached a b letters run pair → In pair (possible (positions_of a) (positions_of b))
 unfolding possible
-reached_possible s a b letters are det [] pair e = let is : start_pair ≡ pair = cc in inl is
-reached_possible s a b letters are det (number ∷ run) pair e =
-    let one = reached_one s a b letters are det (number ∷ run) pair e in
+reached_possible s a b letters are formed det [] pair e = let is : start_pair ≡ pair = cc in inl is
+reached_possible s a b letters are formed det (number ∷ run) pair e =
+    let one = reached_one s a b letters are formed det (number ∷ run) pair e in
     let g = gone_by (pair_step a b letters) number (leads_to (pair_step a b letters) start_pair run) pair e in
     let m = moved_parts (all_next a (single g.0.0)) (all_next b g.0.1) (slice_get letters number) pair g.2 in
     let l = m.0 in
@@ -282,4 +278,4 @@ few_pairs_are_reached s a b letters g is det pairs distinct reached =
     (λ p h.
     let i = in_place pairs p h in
     let r = reached i.0 p i.1 in
-    reached_possible s a b letters (are_letters s a b g letters is) det r.0 p r.1))
+    reached_possible s a b letters (are_letters s a b g letters is) (λ number l e. letter_is s a b letters is l (got_in letters number l e)) det r.0 p r.1))

@@ -8,7 +8,7 @@ use Rattle.gx_include.specs.PairOrder.{same_pair}
 use Rattle.gx_include.specs.Outcome.{exceeds}
 use Rattle.gx_include.specs.Walk.{StateAt}
 use Rattle.gx_include.specs.Laws.{PastIsNotWithin}
-use Rattle.gx_include.proofs.Lists.{In}
+use Rattle.gx_include_positions.proofs.Lists.{In}
 use mathlib.Core.Bool.{beq}
 
 -- the members but one

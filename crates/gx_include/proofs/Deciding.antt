@@ -16,19 +16,20 @@ use Rattle.gx_types.specs.Takes.{EachShape}
 use Rattle.gx_types.specs.TypeRules.{positions_of}
 use Rattle.gx_types.specs.Derivation.{bases_of}
 use Rattle.gx_include.specs.Decision.{leads_to_bad, BothSets, sets_behind, refutes, longer_name, shapes_tried, flag_lists, start_sets, all_sets, is_included, InclusionIsDecided}
-use Rattle.gx_include.specs.Inclusion.{IsWellFormedShape, IsIncluded}
-use Rattle.gx_include.specs.Positions.{both_set}
-use Rattle.gx_include.specs.Step.{has_start, all_next, all_tests, step_over, is_end}
-use Rattle.gx_include.specs.Test.{is_taken}
-use Rattle.gx_include.specs.Trials.{is_named, with_names}
-use Rattle.gx_include.proofs.Bound.{both_set_length, next_length}
-use Rattle.gx_include.proofs.Decided.{decided}
-use Rattle.gx_include.proofs.Lists.{In, in_map, of_map, in_flat}
+use Rattle.gx_include_letters.specs.WellFormed.{IsWellFormedShape}
+use Rattle.gx_include.specs.Inclusion.{IsIncluded}
+use Rattle.gx_include_positions.specs.Positions.{both_set}
+use Rattle.gx_include_positions.specs.Step.{has_start, all_next, all_tests, step_over, is_end}
+use Rattle.gx_include_positions.specs.Test.{is_taken}
+use Rattle.gx_include_positions.specs.Names.{is_named, with_names}
+use Rattle.gx_include_positions.proofs.SetReads.{both_set_length, next_length, Reads, reads_forward, reads_back, end_reads, reads_end, start_reads, reads_start, length_tests}
+use Rattle.gx_include_positions.proofs.Decided.{decided}
+use Rattle.gx_include_positions.proofs.Lists.{In, in_map, of_map, in_flat}
 use Rattle.gx_include.proofs.Searching.{any_has, any_of, found_in_time}
-use Rattle.gx_include.proofs.SetReads.{Reads, reads_forward, reads_back, end_reads, reads_end, start_reads, reads_start, length_tests}
-use Rattle.gx_include.proofs.MarksTake.{or_right}
-use Rattle.gx_include.proofs.Stand.{shape_stands, tests_alike, both_known}
-use Rattle.gx_include.proofs.WellFormed.{tried_is_well_formed}
+use Rattle.gx_include_positions.proofs.MarksTake.{or_right}
+use Rattle.gx_include_letters.proofs.Stand.{shape_stands, tests_alike}
+use Rattle.gx_include_positions.proofs.KnownNames.{both_known}
+use Rattle.gx_include_letters.proofs.FormedLetters.{tried_is_well_formed}
 
 -- ---- a name that is none of a list
 

@@ -2,9 +2,9 @@
 use Rattle.std.proofs.Common.{◌≡◌, ℕ, ◌+◌, ◌<◌, ◌≤◌, Bool, List, [], ◌∷◌, ◌++◌, inl, inr, Option, Some, None, refl, sym, ◌∙◌, ap, subst, get_or, length, length-append, slice_get, arith}
 use Rattle.std.proofs.lemmas.Option.{slice_get_within, get_or_from_slice_get, slice_get-get_or}
 use Rattle.gx_types.specs.SequenceType.{SequenceType}
-use Rattle.gx_include.specs.declared.letter.Letter.{Letter}
+use Rattle.gx_include_letters.specs.declared.letter.Letter.{Letter}
 use Rattle.gx_include.specs.declared.walk.Origin.{Origin}
-use Rattle.gx_include.specs.Step.{single, all_next}
+use Rattle.gx_include_positions.specs.Step.{single, all_next}
 use Rattle.gx_include.specs.Pairs.{start_pair, moved, moved_by, pair_step}
 use Rattle.gx_include.specs.Origins.{AreRuns, IsNoted, IsNotedIfFound}
 use Rattle.gx_include.specs.Walk.{StateAt, StayInPlace, run_at, Walked}

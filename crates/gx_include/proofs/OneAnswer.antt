@@ -9,18 +9,19 @@ use Rattle.gx_types.specs.SchemaSet.{SchemaSet}
 use Rattle.gx_types.specs.SequenceType.{SequenceType}
 use Rattle.gx_types.specs.Takes.{Takes}
 use Rattle.gx_types.specs.TypeRules.{positions_of}
-use Rattle.gx_include.specs.declared.letter.Letter.{Letter}
+use Rattle.gx_include_letters.specs.declared.letter.Letter.{Letter}
 use Rattle.gx_include.specs.declared.verdict.Verdict.{Verdict}
-use Rattle.gx_include.specs.declared.verdict.Verdict.TheVariants.{Yes, No, TooManyPairs}
-use Rattle.gx_include.specs.Alphabet.{LetterEntry, entry_of_letter, entries_below, IsAlphabet}
-use Rattle.gx_include.specs.Answer.{IsAnswer}
-use Rattle.gx_include.specs.Inclusion.{plain_types}
-use Rattle.gx_include.specs.Laws.{IsSameVerdict, AnswersAreOne}
+use Rattle.gx_include.specs.declared.verdict.Verdict.TheVariants.{Yes, No}
+use Rattle.gx_include_letters.specs.Alphabet.{LetterEntry, entry_of_letter, entries_below, IsAlphabet}
+use Rattle.gx_include.specs.Answer.{IsAnswer, ReachesTooManyPairs}
+use Rattle.gx_include_letters.specs.WellFormed.{plain_types}
+use Rattle.gx_include.specs.Laws.{IsSameVerdict, AnswersAreOne, TooManyPairsExcludeVerdicts}
 use Rattle.gx_include.specs.Pairs.{start_pair, moved_by, pair_step}
-use Rattle.gx_include.specs.Positions.{both_set}
+use Rattle.gx_include_positions.specs.Positions.{both_set}
 use Rattle.gx_include.specs.Runs.{placed, place_step, shapes_of_letter, shapes_of, IsRefusedRun}
-use Rattle.gx_include.specs.Step.{single, all_next}
-use Rattle.gx_include.specs.Trials.{with_names, is_named, other_name, IsOther, trial_shapes}
+use Rattle.gx_include_positions.specs.Step.{single, all_next}
+use Rattle.gx_include_positions.specs.Names.{with_names, is_named}
+use Rattle.gx_include_letters.specs.Trials.{other_name, IsOther, trial_shapes}
 use Rattle.gx_include.specs.Verdict.{IsWithin, IsPast}
 use Rattle.gx_include.specs.Walk.{leads_to, NotAfter}
 use Rattle.gx_include.proofs.Counts.{past_is_not_within}
@@ -127,7 +128,6 @@ module _ (s : SchemaSet) (a b : SequenceType) (limit : Option ℕ) where
   pub one_answer : (v w : Verdict) → IsAnswer s a b limit v → IsAnswer s a b limit w → IsSameVerdict v w
   one_answer Yes Yes h k = tt
   one_answer Yes (No list) h k = absurd (no_excludes_inclusion s a b limit (No list) k tt h.verdict_is.0)
-  one_answer Yes TooManyPairs h k = absurd (past_or_within k.letters h.letters k.alphabet h.alphabet k.verdict_is h.verdict_is.1)
   one_answer (No list) Yes h k = absurd (no_excludes_inclusion s a b limit (No list) h tt k.verdict_is.0)
   one_answer (No list) (No other) h k =
       let same = same_entries h.letters k.letters h.alphabet k.alphabet in
@@ -137,10 +137,13 @@ module _ (s : SchemaSet) (a b : SequenceType) (limit : Option ℕ) where
       let runs : one.0 ≡ two.0 = not_after_both one.0 two.0 (one.2.first.1 two.0 (refused_as s a b k.letters h.letters back two.0 two.2.first.0))
       (two.2.first.1 one.0 (refused_as s a b h.letters k.letters same one.0 one.2.first.0)) in
       one.1 ∙ ap (shapes_of h.letters) runs ∙ same_shapes s a b h.letters k.letters same two.0 ∙ sym two.1
-  one_answer (No list) TooManyPairs h k = absurd (past_or_within k.letters h.letters k.alphabet h.alphabet k.verdict_is h.verdict_is.0)
-  one_answer TooManyPairs Yes h k = absurd (past_or_within h.letters k.letters h.alphabet k.alphabet h.verdict_is k.verdict_is.1)
-  one_answer TooManyPairs (No list) h k = absurd (past_or_within h.letters k.letters h.alphabet k.alphabet h.verdict_is k.verdict_is.0)
-  one_answer TooManyPairs TooManyPairs h k = tt
+
+  pub too_many : (verdict : Verdict) → ReachesTooManyPairs s a b limit → IsAnswer s a b limit verdict → ⊥
+  too_many Yes h k = past_or_within h.letters k.letters h.alphabet k.alphabet h.past k.verdict_is.1
+  too_many (No list) h k = past_or_within h.letters k.letters h.alphabet k.alphabet h.past k.verdict_is.0
 
 pub answers_are_one : AnswersAreOne
 answers_are_one s a b limit v w h k = one_answer s a b limit v w h k
+
+pub too_many_pairs_exclude_verdicts : TooManyPairsExcludeVerdicts
+too_many_pairs_exclude_verdicts s a b limit verdict h k = too_many s a b limit verdict h k

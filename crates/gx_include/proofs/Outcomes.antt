@@ -3,7 +3,7 @@ use Rattle.std.proofs.Common.{◌≡◌, ℕ, ◌+◌, ◌≤◌, Bool, true, fa
 use Rattle.std.proofs.lemmas.Bool.{cases_lt}
 use Rattle.std.proofs.lemmas.Option.{slice_get_within, get_or_from_slice_get, slice_get-get_or}
 use Rattle.gx_types.specs.SequenceType.{SequenceType}
-use Rattle.gx_include.specs.declared.letter.Letter.{Letter}
+use Rattle.gx_include_letters.specs.declared.letter.Letter.{Letter}
 use Rattle.gx_include.specs.declared.walk.Origin.{Origin}
 use Rattle.gx_include.specs.declared.walk.Outcome.{Outcome}
 use Rattle.gx_include.specs.Pairs.{start_pair, is_bad}

@@ -6,16 +6,17 @@ use Rattle.gx_types.specs.declared.shape.Shape.{Shape}
 use Rattle.gx_types.specs.SchemaSet.{SchemaSet}
 use Rattle.gx_types.specs.Takes.{Takes, EachShape}
 use Rattle.gx_types.specs.SequenceType.{SequenceType}
-use Rattle.gx_include.specs.declared.letter.Letter.{Letter}
-use Rattle.gx_include.specs.Positions.{both_set}
-use Rattle.gx_include.specs.Step.{single, all_next, all_tests, step_over, is_end}
-use Rattle.gx_include.specs.Test.{is_taken}
+use Rattle.gx_include_letters.specs.declared.letter.Letter.{Letter}
+use Rattle.gx_include_positions.specs.Positions.{both_set}
+use Rattle.gx_include_positions.specs.Step.{single, all_next, all_tests, step_over, is_end}
+use Rattle.gx_include_positions.specs.Test.{is_taken}
 use Rattle.gx_include.specs.Walk.{go_by, leads_to}
 use Rattle.gx_include.specs.Pairs.{start_pair, moved_by, pair_step, is_bad}
 use Rattle.gx_include.specs.Runs.{placed, place_step, shapes_of_letter, shapes_of, IsRefusedRun}
-use Rattle.gx_include.specs.Inclusion.{IsWellFormedShape, IsIncluded}
-use Rattle.gx_include.specs.Letters.{IsLetter, AreLetters, ServeAll}
-use Rattle.gx_include.proofs.SetReads.{Reads, reads_forward, reads_back, end_reads, reads_end, single_within, larger_reads, member_reads, start_reads, reads_start}
+use Rattle.gx_include_letters.specs.WellFormed.{IsWellFormedShape}
+use Rattle.gx_include.specs.Inclusion.{IsIncluded}
+use Rattle.gx_include_letters.specs.Letters.{IsLetter, AreLetters, ServeAll}
+use Rattle.gx_include_positions.proofs.SetReads.{Reads, reads_forward, reads_back, end_reads, reads_end, single_within, larger_reads, member_reads, start_reads, reads_start}
 
 -- flags that are set in both lists
 

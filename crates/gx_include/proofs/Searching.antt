@@ -3,8 +3,8 @@ use Rattle.std.proofs.Common.{◌≡◌, ℕ, zero, suc, ◌+◌, ◌-◌, ◌<�
 use Rattle.std.specs.List.{list_any}
 use Rattle.std.proofs.lemmas.Bool.{or_cases}
 use Rattle.gx_include.specs.Decision.{leads_to_bad}
-use Rattle.gx_include.proofs.Lists.{In}
-use Rattle.gx_include.proofs.MarksTake.{or_left, or_right}
+use Rattle.gx_include_positions.proofs.Lists.{In}
+use Rattle.gx_include_positions.proofs.MarksTake.{or_left, or_right}
 
 any_same : {S : Type 0} (f g : S → Bool) (xs : List S) → ((x : S) → In x xs → f x ≡ g x) → list_any f xs ≡ list_any g xs
 any_same f g [] h = refl

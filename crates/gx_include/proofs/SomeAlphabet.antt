@@ -19,14 +19,15 @@ use Rattle.gx_types.specs.declared.shape.Shape.{Shape}
 use Rattle.gx_types.specs.SchemaSet.{SchemaSet}
 use Rattle.gx_types.specs.SequenceType.{SequenceType, never, nothing, item, both, either, optional, star, plus}
 use Rattle.gx_types.specs.TypeRules.{positions_of}
-use Rattle.gx_include.specs.declared.letter.Letter.{Letter}
-use Rattle.gx_include.specs.Step.{all_tests}
-use Rattle.gx_include.specs.Test.{is_taken}
-use Rattle.gx_include.specs.Inclusion.{plain_types}
-use Rattle.gx_include.specs.Trials.{name_of, is_named, with_name, with_names, other_name, IsOther, trial_shapes}
-use Rattle.gx_include.specs.Alphabet.{LetterEntry, entry_of_letter, entries_at, entries_below, IsAlphabet}
-use Rattle.gx_include.proofs.SetReads.{length_tests}
-use Rattle.gx_include.proofs.Lists.{In}
+use Rattle.gx_include_letters.specs.declared.letter.Letter.{Letter}
+use Rattle.gx_include_positions.specs.Step.{all_tests}
+use Rattle.gx_include_positions.specs.Test.{is_taken}
+use Rattle.gx_include_letters.specs.WellFormed.{plain_types}
+use Rattle.gx_include_positions.specs.Names.{name_of, is_named, with_name, with_names}
+use Rattle.gx_include_letters.specs.Trials.{other_name, IsOther, trial_shapes}
+use Rattle.gx_include_letters.specs.Alphabet.{LetterEntry, entry_of_letter, entries_at, entries_below, IsAlphabet}
+use Rattle.gx_include_positions.proofs.SetReads.{length_tests}
+use Rattle.gx_include_positions.proofs.Lists.{In}
 use Rattle.gx_include.proofs.Counts.{AreDifferent, fits_in}
 
 -- a vector of a list that memory may hold

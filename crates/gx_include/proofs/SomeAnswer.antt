@@ -8,24 +8,24 @@ use Rattle.std.proofs.lemmas.Option.{slice_get-get_or}
 use Rattle.std.proofs.lemmas.Map.Keys.{IsDistinct-push}
 use Rattle.gx_types.specs.SchemaSet.{SchemaSet}
 use Rattle.gx_types.specs.SequenceType.{SequenceType}
-use Rattle.gx_include.specs.declared.letter.Letter.{Letter}
+use Rattle.gx_include_letters.specs.declared.letter.Letter.{Letter}
 use Rattle.gx_include.specs.declared.walk.Origin.{Origin}
 use Rattle.gx_include.specs.declared.walk.Outcome.{Outcome}
 use Rattle.gx_include.specs.declared.walk.Outcome.TheVariants.{Safe, Bad, TooMany}
 use Rattle.gx_include.specs.declared.verdict.Verdict.{Verdict}
-use Rattle.gx_include.specs.declared.verdict.Verdict.TheVariants.{Yes, No, TooManyPairs}
+use Rattle.gx_include.specs.declared.verdict.Verdict.TheVariants.{Yes, No}
 use Rattle.gx_include.specs.Existence.{AnAnswerOfTypesExists}
-use Rattle.gx_include.specs.Letters.{AreLetters, ServeAll}
+use Rattle.gx_include_letters.specs.Letters.{AreLetters, ServeAll}
 use Rattle.gx_include.specs.Origins.{AreRuns, IsNotedIfFound}
 use Rattle.gx_include.specs.Outcome.{exceeds, outcome_at, first_bad_place, IsBadBelow, HasWalked, IsOutcome}
 use Rattle.gx_include.specs.PairOrder.{same_pair}
 use Rattle.gx_include.specs.Pairs.{start_pair, moved, is_bad}
 use Rattle.gx_include.specs.Runs.{shapes_of_letter, shapes_of}
-use Rattle.gx_include.specs.Step.{single, all_next}
+use Rattle.gx_include_positions.specs.Step.{single, all_next}
 use Rattle.gx_include.specs.Traced.{Traced}
-use Rattle.gx_include.specs.Verdict.{IsVerdictOver}
+use Rattle.gx_include.specs.Verdict.{IsPast, IsVerdictOver}
 use Rattle.gx_include.specs.Walk.{StayInPlace, run_at}
-use Rattle.gx_include.proofs.Alphabets.{are_letters, serve_all}
+use Rattle.gx_include_letters.proofs.Alphabets.{are_letters, serve_all}
 use Rattle.gx_include.proofs.Expanding.{Expanding, expand_begins, expand_by, expand_ends}
 use Rattle.gx_include.proofs.Outcomes.{judge_next, stay_judged, none_below, walked_none, ended}
 use Rattle.gx_include.proofs.PairsAreOne.{equal_pairs}
@@ -197,9 +197,9 @@ few_shapes letters (number ∷ run) =
 
 verdict_exists : (s : SchemaSet) (a b : SequenceType) (letters : List Letter) (limit : ℕ) → limit < 2 ^ 62 → AreLetters s a b letters → ServeAll s a b letters
     → (pairs : List (ℕ × List Bool)) (origins : List Origin) (outcome : Outcome) → IsOutcome a b letters (Some limit) pairs origins outcome
-    → (verdict : Verdict) × IsVerdictOver s a b letters (Some limit) verdict
-verdict_exists s a b letters limit small are serve pairs origins Safe o = (Yes, says_yes a b letters s (Some limit) pairs origins serve o)
-verdict_exists s a b letters limit small are serve pairs origins TooMany o = (TooManyPairs, says_past a b letters s (Some limit) pairs origins o)
+    → IsPast a b letters (Some limit) ⊎ ((verdict : Verdict) × IsVerdictOver s a b letters (Some limit) verdict)
+verdict_exists s a b letters limit small are serve pairs origins Safe o = inr (Yes, says_yes a b letters s (Some limit) pairs origins serve o)
+verdict_exists s a b letters limit small are serve pairs origins TooMany o = inl (says_past a b letters s (Some limit) pairs origins o)
 verdict_exists s a b letters limit small are serve pairs origins (Bad place) o =
     let t = o.2.traced in
     let run = run_at t.runs place in
@@ -209,11 +209,14 @@ verdict_exists s a b letters limit small are serve pairs origins (Bad place) o =
     let all : length pairs ≤ o.0 = elim o.4 [ inl none ↦ absurd (cc none) | inr all ↦ all ] in
     let few = ltb-false limit (length pairs) (o.2.short (omega (arith, within, all))) in
     let v = vec_of (shapes_of letters run) (omega (arith, few_shapes letters run, short_run origins t.runs t.are place place (omega arith) placed, few)) in
-    (No v.0, (n.0, (run, v.1, n.1)))
+    inr (No v.0, (n.0, (run, v.1, n.1)))
 
 pub an_answer_exists : AnAnswerOfTypesExists
 an_answer_exists s a b limit g m n k =
     let l = an_alphabet_exists s a b m n in
     let w = walked a b l.0 limit in
     let v = verdict_exists s a b l.0 limit k (are_letters s a b g l.0 l.1) (serve_all s a b g l.0 l.1) w.pairs w.origins w.outcome w.is in
-    (v.0, record { letters = l.0; alphabet = l.1; verdict_is = v.1 })
+    elim v [
+      | inl past ↦ inl (record { letters = l.0; alphabet = l.1; past = past })
+      | inr verdict ↦ inr (verdict.0, record { letters = l.0; alphabet = l.1; verdict_is = verdict.1 })
+    ]

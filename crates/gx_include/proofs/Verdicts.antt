@@ -3,17 +3,21 @@ use Rattle.std.proofs.Common.{◌≡◌, ℕ, ◌+◌, ◌-◌, ◌<◌, ◌≤�
 use Rattle.std.proofs.lemmas.Option.{slice_get_within, get_or_from_slice_get, slice_get-get_or}
 use Rattle.gx_types.specs.SchemaSet.{SchemaSet}
 use Rattle.gx_types.specs.SequenceType.{SequenceType}
-use Rattle.gx_include.specs.declared.letter.Letter.{Letter}
+use Rattle.gx_include_letters.specs.declared.letter.Letter.{Letter}
 use Rattle.gx_include.specs.declared.walk.Origin.{Origin}
 use Rattle.gx_include.specs.declared.walk.Outcome.TheVariants.{Safe, Bad, TooMany}
-use Rattle.gx_include.specs.Step.{single, all_next}
+use Rattle.gx_include_positions.specs.Step.{single, all_next}
 use Rattle.gx_include.specs.Pairs.{start_pair, pair_step, is_bad}
 use Rattle.gx_include.specs.Walk.{leads_to, run_at, NotAfter}
 use Rattle.gx_include.specs.Origins.{AreRuns}
 use Rattle.gx_include.specs.Outcome.{HasWalked, IsOutcome}
 use Rattle.gx_include.specs.Inclusion.{IsIncluded}
-use Rattle.gx_include.specs.Letters.{AreLetters, ServeAll}
-use Rattle.gx_include.specs.Verdict.{IsReached, IsWithin, IsPast, IsRefutedBy}
+use Rattle.gx_include.specs.Answer.{HasNoVerdict}
+use Rattle.gx_include.specs.declared.verdict.IncludeError.{IncludeError}
+use Rattle.gx_include.specs.declared.verdict.IncludeError.TheVariants.{TooManyPairs, Memory}
+use Rattle.gx_include_letters.specs.Alphabet.{IsAlphabet}
+use Rattle.gx_include_letters.specs.Letters.{AreLetters, ServeAll}
+use Rattle.gx_include.specs.Verdict.{IsReached, IsWithin, IsPast, IsRefutedBy, IsNoVerdictOver}
 use Rattle.gx_include.proofs.Walks.{reached, none_bad, first_bad}
 use Rattle.gx_include.proofs.PairRuns.{moved_parts, none_bad_included, bad_is_refused, bad_is_taken, refused_is_bad}
 
@@ -66,6 +70,12 @@ module _ (a b : SequenceType) (letters : List Letter) where
     pub says_past : IsOutcome a b letters limit pairs origins TooMany → IsPast a b letters limit
     says_past (at, t, different, many) =
         record { pairs = pairs; many = many; different = different; reached = λ i p h. (run_at t.runs i, t.walked.lead i p h) }
+
+-- why there is no verdict is why there is none over the alphabet
+pub no_verdict : (s : SchemaSet) (a b : SequenceType) (limit : Option ℕ) (letters others : List Letter) (error : IncludeError) → IsAlphabet s a b letters → others ≡ letters
+    → IsNoVerdictOver a b others limit error → HasNoVerdict s a b limit error
+no_verdict s a b limit letters others TooManyPairs is same past = record { letters = letters; alphabet = is; past = subst (λ ls. IsPast a b ls limit) same past }
+no_verdict s a b limit letters others Memory is same past = tt
 
 -- runs, letter by letter
 

@@ -8,10 +8,12 @@ use Rattle.gx_types.specs.Grounded.{Grounded}
 use Rattle.gx_types.specs.SequenceType.{SequenceType}
 use Rattle.gx_types.specs.TypeRules.{positions_of}
 use Rattle.gx_types.specs.Derivation.{bases_of}
-use Rattle.gx_include.specs.Inclusion.{plain_types, IsIncluded}
-use Rattle.gx_include.specs.Step.{single, step_over, is_end}
-use Rattle.gx_include.specs.Test.{is_taken}
-use Rattle.gx_include.specs.Trials.{with_names, trial_shapes}
+use Rattle.gx_include_letters.specs.WellFormed.{plain_types}
+use Rattle.gx_include.specs.Inclusion.{IsIncluded}
+use Rattle.gx_include_positions.specs.Step.{single, step_over, is_end}
+use Rattle.gx_include_positions.specs.Test.{is_taken}
+use Rattle.gx_include_positions.specs.Names.{with_names}
+use Rattle.gx_include_letters.specs.Trials.{trial_shapes}
 
 -- a state is bad, or a bad one follows within so many steps
 abbrev pub leads_to_bad : {S : Type 0} → (is_bad : S → Bool) → (next : S → List S) → ℕ → S → Bool

@@ -7,15 +7,16 @@ use Rattle.gx_types.specs.Grounded.{Grounded}
 use Rattle.gx_types.specs.SequenceType.{SequenceType}
 use Rattle.gx_types.specs.TypeRules.{positions_of}
 use Rattle.gx_types.specs.Derivation.{bases_of}
-use Rattle.gx_include.specs.declared.letter.Letter.{Letter}
+use Rattle.gx_include_letters.specs.declared.letter.Letter.{Letter}
 use Rattle.gx_include.specs.declared.verdict.Verdict.{Verdict}
-use Rattle.gx_include.specs.declared.verdict.Verdict.TheVariants.{Yes, No, TooManyPairs}
-use Rattle.gx_include.specs.Alphabet.{IsAlphabet}
-use Rattle.gx_include.specs.Answer.{IsAnswer}
+use Rattle.gx_include.specs.declared.verdict.Verdict.TheVariants.{Yes, No}
+use Rattle.gx_include_letters.specs.Alphabet.{IsAlphabet}
+use Rattle.gx_include_letters.specs.WellFormed.{IsWellFormedShape}
+use Rattle.gx_include.specs.Answer.{IsAnswer, ReachesTooManyPairs}
 use Rattle.gx_include.specs.Inclusion.{IsIncluded}
 use Rattle.gx_include.specs.PairOrder.{same_pair}
-use Rattle.gx_include.specs.Step.{single, step_over}
-use Rattle.gx_include.specs.Test.{is_taken}
+use Rattle.gx_include_positions.specs.Step.{single, step_over}
+use Rattle.gx_include_positions.specs.Test.{is_taken}
 use Rattle.gx_include.specs.Walk.{StateAt}
 use Rattle.gx_include.specs.Verdict.{IsReached, IsWithin, IsPast}
 
@@ -23,10 +24,10 @@ use Rattle.gx_include.specs.Verdict.{IsReached, IsWithin, IsPast}
 abbrev pub PastIsNotWithin : Type 0
 PastIsNotWithin = (a b : SequenceType) (letters : List Letter) (limit : Option ℕ) → IsPast a b letters limit → IsWithin a b letters limit → ⊥
 
--- no shape is taken by two positions that begin a type or that follow one position
+-- no well-formed shape is taken by two positions that begin a type or that follow one position
 abbrev pub IsDeterministic : SchemaSet → SequenceType → Type 0
 IsDeterministic schemas b =
-    (shape : Shape) (place one other : ℕ) → slice_index_or (step_over b (is_taken schemas shape) (single place)) one false ≡ true
+    (shape : Shape) → IsWellFormedShape schemas shape → (place one other : ℕ) → slice_index_or (step_over b (is_taken schemas shape) (single place)) one false ≡ true
     → slice_index_or (step_over b (is_taken schemas shape) (single place)) other false ≡ true → one ≡ other
 
 -- where the right type is so, no more pairs are reached than the start and each left position with a right one or none
@@ -40,7 +41,6 @@ FewPairsAreReached =
 abbrev pub IsNo : Verdict → Type 0
 IsNo Yes = ⊥
 IsNo (No list) = Unit {0}
-IsNo TooManyPairs = ⊥
 
 -- an answer of No excludes inclusion
 abbrev pub NoExcludesInclusion : Type 0
@@ -51,7 +51,6 @@ NoExcludesInclusion =
 abbrev pub IsSameVerdict : Verdict → Verdict → Type 0
 IsSameVerdict Yes Yes = Unit {0}
 IsSameVerdict (No list) (No other) = list.items ≡ other.items
-IsSameVerdict TooManyPairs TooManyPairs = Unit {0}
 IsSameVerdict _ _ = ⊥
 
 -- there is one answer on two types
@@ -59,3 +58,8 @@ abbrev pub AnswersAreOne : Type 0
 AnswersAreOne =
     (schemas : SchemaSet) (a b : SequenceType) (limit : Option ℕ) (verdict other : Verdict) → IsAnswer schemas a b limit verdict → IsAnswer schemas a b limit other
     → IsSameVerdict verdict other
+
+-- two types have no verdict where they reach more pairs than the limit
+abbrev pub TooManyPairsExcludeVerdicts : Type 0
+TooManyPairsExcludeVerdicts =
+    (schemas : SchemaSet) (a b : SequenceType) (limit : Option ℕ) (verdict : Verdict) → ReachesTooManyPairs schemas a b limit → IsAnswer schemas a b limit verdict → ⊥

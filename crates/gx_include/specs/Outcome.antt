@@ -1,7 +1,7 @@
 -- What a walk over pairs comes to.
 use Rattle.std.specs.Prelude.{◌≡◌, ℕ, ◌<◌, ◌≤◌, ◌⊎◌, Bool, true, false, nat_lt, List, length, Option, None, Some}
 use Rattle.gx_types.specs.SequenceType.{SequenceType}
-use Rattle.gx_include.specs.declared.letter.Letter.{Letter}
+use Rattle.gx_include_letters.specs.declared.letter.Letter.{Letter}
 use Rattle.gx_include.specs.declared.walk.Origin.{Origin}
 use Rattle.gx_include.specs.declared.walk.Outcome.{Outcome}
 use Rattle.gx_include.specs.declared.walk.Outcome.TheVariants.{Safe, Bad, TooMany}

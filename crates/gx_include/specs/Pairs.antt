@@ -1,9 +1,9 @@
 -- Pairs of a position of the left type, or the start, and a set of positions of the right type; letters lead from one to another.
 use Rattle.std.specs.Prelude.{ℕ, Bool, false, ◌&&◌, not, List, Option, None, Some, slice_get, slice_index_or, if◌then◌else◌}
 use Rattle.gx_types.specs.SequenceType.{SequenceType}
-use Rattle.gx_include.specs.declared.letter.Letter.{Letter}
-use Rattle.gx_include.specs.Positions.{both_set}
-use Rattle.gx_include.specs.Step.{single, all_next, is_end}
+use Rattle.gx_include_letters.specs.declared.letter.Letter.{Letter}
+use Rattle.gx_include_positions.specs.Positions.{both_set}
+use Rattle.gx_include_positions.specs.Step.{single, all_next, is_end}
 
 -- the pair before the first letter
 abbrev pub start_pair : ℕ × List Bool

@@ -4,8 +4,8 @@ use Rattle.gx_types.specs.declared.shape.Shape.{Shape}
 use Rattle.gx_types.specs.SchemaSet.{SchemaSet}
 use Rattle.gx_types.specs.Takes.{Takes}
 use Rattle.gx_types.specs.SequenceType.{SequenceType}
-use Rattle.gx_include.specs.declared.letter.Letter.{Letter}
-use Rattle.gx_include.specs.Step.{single, all_next, is_end}
+use Rattle.gx_include_letters.specs.declared.letter.Letter.{Letter}
+use Rattle.gx_include_positions.specs.Step.{single, all_next, is_end}
 use Rattle.gx_include.specs.Walk.{leads_to, NotAfter}
 
 -- the position of a letter, where it may come next

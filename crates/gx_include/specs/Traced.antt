@@ -1,7 +1,7 @@
 -- What is known of a walk over pairs: the pairs that are found and their origins.
 use Rattle.std.specs.Prelude.{ℕ, Bool, List, length}
 use Rattle.gx_types.specs.SequenceType.{SequenceType}
-use Rattle.gx_include.specs.declared.letter.Letter.{Letter}
+use Rattle.gx_include_letters.specs.declared.letter.Letter.{Letter}
 use Rattle.gx_include.specs.declared.walk.Origin.{Origin}
 use Rattle.gx_include.specs.Pairs.{start_pair, pair_step}
 use Rattle.gx_include.specs.Origins.{AreRuns}

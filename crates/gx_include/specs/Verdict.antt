@@ -4,9 +4,11 @@ use Rattle.std.specs.List.{IsDistinct}
 use Rattle.gx_types.specs.SchemaSet.{SchemaSet}
 use Rattle.gx_types.specs.SequenceType.{SequenceType}
 use Rattle.gx_types.specs.Takes.{Takes}
-use Rattle.gx_include.specs.declared.letter.Letter.{Letter}
+use Rattle.gx_include_letters.specs.declared.letter.Letter.{Letter}
 use Rattle.gx_include.specs.declared.verdict.Verdict.{Verdict}
-use Rattle.gx_include.specs.declared.verdict.Verdict.TheVariants.{Yes, No, TooManyPairs}
+use Rattle.gx_include.specs.declared.verdict.Verdict.TheVariants.{Yes, No}
+use Rattle.gx_include.specs.declared.verdict.IncludeError.{IncludeError}
+use Rattle.gx_include.specs.declared.verdict.IncludeError.TheVariants.{TooManyPairs, Memory}
 use Rattle.gx_include.specs.PairOrder.{same_pair}
 use Rattle.gx_include.specs.Pairs.{start_pair, pair_step}
 use Rattle.gx_include.specs.Walk.{leads_to, StateAt}
@@ -42,4 +44,8 @@ abbrev pub IsVerdictOver : SchemaSet → (a b : SequenceType) → List Letter �
 IsVerdictOver schemas a b letters limit Yes = IsIncluded schemas a b × IsWithin a b letters limit
 IsVerdictOver schemas a b letters limit (No list) =
     IsWithin a b letters limit × ((run : List ℕ) × (list.items ≡ shapes_of letters run) × IsRefutedBy schemas a b letters run)
-IsVerdictOver schemas a b letters limit TooManyPairs = IsPast a b letters limit
+
+-- why there is no verdict: more pairs than the limit are reached; want of memory says nothing
+abbrev pub IsNoVerdictOver : (a b : SequenceType) → List Letter → Option ℕ → IncludeError → Type 0
+IsNoVerdictOver a b letters limit TooManyPairs = IsPast a b letters limit
+IsNoVerdictOver a b letters limit Memory = Unit {0}

@@ -1,19 +1,20 @@
 // The answer of a walk.
 
-ghost use Rattle.std.specs.Prelude.{◌≡◌, ◌≤◌, ◌++◌, ℕ, List, IfOk, OnOk, length, slice_get};
+ghost use Rattle.std.specs.Prelude.{◌≡◌, ◌≤◌, ◌++◌, [], ◌∷◌, ℕ, List, IfOk, IfErr, OnOk, length, slice_get};
 ghost use Rattle.gx_types.specs.SchemaSet.{SchemaSet};
-ghost use Rattle.gx_include.specs.Letters.{AreLetters, ServeAll};
+ghost use Rattle.gx_include_letters.specs.Letters.{AreLetters, ServeAll};
 ghost use Rattle.gx_include.specs.Origins.{AreRuns};
 ghost use Rattle.gx_include.specs.Outcome.{IsOutcome};
+ghost use Rattle.gx_include.specs.Pairs.{start_pair};
 ghost use Rattle.gx_include.specs.Runs.{shapes_of_letter, shapes_of};
-ghost use Rattle.gx_include.specs.Verdict.{IsVerdictOver};
+ghost use Rattle.gx_include.specs.Verdict.{IsNoVerdictOver, IsVerdictOver};
 ghost use Rattle.gx_include.specs.Walk.{run_at};
 
-use crate::letter::Letter;
 use crate::pair::Pair;
-use crate::step::only;
-use crate::verdict::Verdict;
+use crate::verdict::{IncludeError, Verdict};
 use crate::walk::{Origin, Outcome, walk};
+use gx_include_letters::letter::Letter;
+use gx_include_positions::step::only;
 use gx_types::sequence_type::Ty;
 use gx_types::shape::Shape;
 use indexmap::IndexSet;
@@ -25,23 +26,33 @@ pub(crate) fn decide(
     left: &Ty,
     right: &Ty,
     letters: &[Letter],
-    limit: Option<usize>,
-) -> Result<Verdict, AllocError>
-    ensures { IfOk result (λ verdict. (schemas : SchemaSet) → AreLetters schemas left.now right.now letters.now → ServeAll schemas left.now right.now letters.now → IsVerdictOver schemas left.now right.now letters.now limit verdict) }
+    limit: Option<u64>,
+) -> Result<Verdict, IncludeError>
+    ensures verdict { IfOk result (λ verdict. (schemas : SchemaSet) → AreLetters schemas left.now right.now letters.now → ServeAll schemas left.now right.now letters.now → IsVerdictOver schemas left.now right.now letters.now limit verdict) }
+    ensures none { IfErr result (IsNoVerdictOver left.now right.now letters.now limit) }
 {
-    let mut pairs = IndexSet::new(alloc);
+    let mut pairs = start_pairs(alloc)?;
     let mut origins = Vec::new(alloc);
-    let set = only(alloc, 0)?;
-    pairs.insert_full(Pair { place: 0, set })?;
     let outcome = walk(alloc, left, right, letters, limit, &mut pairs, &mut origins)?;
     match outcome {
         Outcome::Safe => Ok(Verdict::Yes),
-        Outcome::TooMany => Ok(Verdict::TooManyPairs),
+        Outcome::TooMany => Err(IncludeError::TooManyPairs),
         Outcome::Bad(place) => {
             let run = run_of(alloc, origins.as_slice(), place)?;
-            Ok(Verdict::No(spell(alloc, letters, run)?))
+            let list = spell(alloc, letters, run)?;
+            Ok(Verdict::No(list))
         }
     }
+}
+
+// The pair before the first letter.
+fn start_pairs(alloc: Global) -> Result<IndexSet<Pair>, AllocError>
+    ensures { IfOk result (λ pairs. pairs.keys ≡ start_pair ∷ []) }
+{
+    let mut pairs = IndexSet::new(alloc);
+    let set = only(alloc, 0)?;
+    pairs.insert_full(Pair { place: 0, set })?;
+    Ok(pairs)
 }
 
 // The numbers of the letters by which a pair was found, the newest first.

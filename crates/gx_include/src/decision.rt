@@ -5,7 +5,7 @@ ghost use Rattle.gx_include.specs.Decision.{is_included};
 
 use crate::include::included;
 use crate::laws::{inclusion_is_decided, no_excludes_inclusion};
-use crate::verdict::Verdict;
+use crate::verdict::{IncludeError, Verdict};
 use gx_types::schemas::Schemas;
 use gx_types::sequence_type::Ty;
 use std::alloc::{AllocError, Global};
@@ -22,9 +22,10 @@ pub fn is_included(
     inclusion_is_decided();
     no_excludes_inclusion();
     let _types = schemas.types();
-    match included(alloc, schemas, left, right, None)? {
-        Verdict::Yes => Ok(true),
-        Verdict::No(_list) => Ok(false),
-        Verdict::TooManyPairs => unreachable!(),
+    match included(alloc, schemas, left, right, None) {
+        Ok(Verdict::Yes) => Ok(true),
+        Ok(Verdict::No(_list)) => Ok(false),
+        Err(IncludeError::TooManyPairs) => unreachable!(),
+        Err(IncludeError::Memory) => Err(AllocError),
     }
 }

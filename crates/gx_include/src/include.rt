@@ -1,28 +1,29 @@
 // Inclusion of types.
 
-ghost use Rattle.std.specs.Prelude.{◌≡◌, IfOk};
-ghost use Rattle.gx_include.specs.Answer.{IsAnswer};
+ghost use Rattle.std.specs.Prelude.{◌≡◌, IfErr, IfOk};
+ghost use Rattle.gx_include.specs.Answer.{HasNoVerdict, IsAnswer};
 
-use crate::alphabet::alphabet;
 use crate::decide::decide;
-use crate::derivations::Derivations;
-use crate::verdict::Verdict;
+use crate::verdict::{IncludeError, Verdict};
+use gx_include_derivations::derivations::Derivations;
+use gx_include_letters::alphabet::alphabet;
 use gx_types::schemas::Schemas;
 use gx_types::sequence_type::Ty;
-use std::alloc::{AllocError, Global};
+use std::alloc::Global;
 
 /// Whether every list of well-formed shapes that the left type takes is taken by the right type (XQuery 1.0 and XPath 2.0 Formal
-/// Semantics, section 8.3). `No` has the list of the first run of
-/// letters that the right type refuses, by length and then by position and letter from the front. `TooManyPairs` comes exactly
-/// where more pairs than the limit are reached; without a limit every inclusion is decided.
+/// Semantics, section 8.3). `No` has the list of the first run of letters that the right type refuses, by length and then by
+/// position and letter from the front. `TooManyPairs` comes exactly where more pairs than the limit are reached; without a limit
+/// every inclusion is decided.
 pub fn included(
     alloc: Global,
     schemas: &Schemas,
     left: &Ty,
     right: &Ty,
-    limit: Option<usize>,
-) -> Result<Verdict, AllocError>
-    ensures { IfOk result (λ verdict. IsAnswer schemas.now left.now right.now limit verdict) }
+    limit: Option<u64>,
+) -> Result<Verdict, IncludeError>
+    ensures verdict { IfOk result (λ verdict. IsAnswer schemas.now left.now right.now limit verdict) }
+    ensures none { IfErr result (HasNoVerdict schemas.now left.now right.now limit) }
 {
     let mut derivations = Derivations::new(alloc, schemas)?;
     included_by(alloc, &mut derivations, left, right, limit)
@@ -34,9 +35,10 @@ pub fn included_by(
     derivations: &mut Derivations<'_>,
     left: &Ty,
     right: &Ty,
-    limit: Option<usize>,
-) -> Result<Verdict, AllocError>
-    ensures answer { IfOk result (λ verdict. IsAnswer derivations.old left.now right.now limit verdict) }
+    limit: Option<u64>,
+) -> Result<Verdict, IncludeError>
+    ensures verdict { IfOk result (λ verdict. IsAnswer derivations.old left.now right.now limit verdict) }
+    ensures none { IfErr result (HasNoVerdict derivations.old left.now right.now limit) }
     ensures kept { derivations.new ≡ derivations.old }
 {
     let letters = alphabet(alloc, derivations, left, right)?;

@@ -1,17 +1,17 @@
 // A walk in breadth over the pairs that letters lead to.
 
 ghost use Rattle.std.specs.Prelude.{◌≡◌, ◌+◌, ◌<◌, ◌≤◌, [], ◌∷◌, IfOk, OnOk, Some, length, slice_index_or, false, reverse};
-ghost use Rattle.gx_include.specs.Step.{single, all_next};
+ghost use Rattle.gx_include_positions.specs.Step.{single, all_next};
 ghost use Rattle.gx_include.specs.Pairs.{start_pair, moved, is_bad};
 ghost use Rattle.gx_include.specs.Origins.{AreRuns, IsNoted, IsNotedIfFound};
 ghost use Rattle.gx_include.specs.Traced.{Traced};
 ghost use Rattle.gx_include.specs.Outcome.{IsOutcome, outcome_at, exceeds, first_bad_place, is_settled};
 ghost use Rattle.gx_include.specs.Walk.{StayInPlace};
 
-use crate::letter::Letter;
 use crate::pair::Pair;
-use crate::places::meet;
-use crate::step::{ends_at, next_positions, only};
+use gx_include_letters::letter::Letter;
+use gx_include_positions::places::meet;
+use gx_include_positions::step::{ends_at, is_set, next_positions, only};
 use gx_types::sequence_type::Ty;
 use indexmap::IndexSet;
 use std::alloc::{AllocError, Global};
@@ -64,16 +64,6 @@ fn target(
         place: letter.place,
         set,
     }))
-}
-
-// Whether a number is in a set.
-pub(crate) fn is_set(set: &[bool], place: usize) -> bool
-    ensures { result ≡ slice_index_or set.now place false }
-{
-    match set.get(place) {
-        Some(marked) => *marked,
-        None => false,
-    }
 }
 
 // Puts a pair with its origin behind those that are found, unless it is among them.
@@ -148,7 +138,7 @@ pub(crate) fn walk(
     left: &Ty,
     right: &Ty,
     letters: &[Letter],
-    limit: Option<usize>,
+    limit: Option<u64>,
     pairs: &mut IndexSet<Pair>,
     origins: &mut Vec<Origin>,
 ) -> Result<Outcome, AllocError>
@@ -194,7 +184,7 @@ fn judge(
 }
 
 // Whether nothing more is to be known: a bad pair was found, and pairs are not counted.
-fn ends_early(limit: Option<usize>, bad: Option<usize>) -> bool
+fn ends_early(limit: Option<u64>, bad: Option<usize>) -> bool
     ensures { result ≡ is_settled limit bad }
 {
     limit.is_none() && bad.is_some()
@@ -211,11 +201,11 @@ fn outcome_of(bad: Option<usize>) -> Outcome
 }
 
 // Whether there are more than a limit allows.
-fn is_past(limit: Option<usize>, count: usize) -> bool
+fn is_past(limit: Option<u64>, count: usize) -> bool
     ensures { result ≡ exceeds limit count }
 {
     match limit {
-        Some(limit) => limit < count,
+        Some(limit) => limit < count as u64,
         None => false,
     }
 }

@@ -5,7 +5,9 @@ use Rattle.gx_types.specs.declared.declaration.Declared.{Declared}
 use Rattle.gx_types.specs.SchemaSet.{SchemaSet}
 use Rattle.gx_include.specs.declared.verdict.Verdict.{Verdict}
 use Rattle.gx_include.specs.declared.verdict.Verdict.TheVariants.{Yes}
-use Rattle.gx_schema_restriction.specs.Restriction.{IsRestriction}
+use Rattle.gx_include.specs.declared.verdict.IncludeError.{IncludeError}
+use Rattle.gx_include.specs.declared.verdict.IncludeError.TheVariants.{TooManyPairs}
+use Rattle.gx_schema_restriction.specs.Restriction.{HasNoRestriction, IsRestriction, IsUndecided}
 use Rattle.gx_schema_restriction.specs.Restrictions.{AreSoundBelow, is_restricted}
 
 pub below_more : (schemas : SchemaSet) (pairs : ℕ) (restricted : List Bool) (bound : ℕ) (declared : Declared) → slice_get schemas.types bound ≡ Some declared
@@ -23,3 +25,7 @@ below_more schemas pairs restricted bound declared here judged below number othe
 -- a verdict is one on the schemas that are the same
 pub judged : (schemas other : SchemaSet) (pairs : ℕ) (declared : Declared) (one verdict : Verdict) → other ≡ schemas → one ≡ verdict → IsRestriction other pairs declared one → IsRestriction schemas pairs declared verdict
 judged schemas other pairs declared one verdict e f is = subst (λ (s : SchemaSet). IsRestriction s pairs declared verdict) e (subst (IsRestriction other pairs declared) f is)
+
+-- a type is not decided on the schemas that are the same
+pub undecided : (schemas other : SchemaSet) (pairs : ℕ) (declared : Declared) (error : IncludeError) → other ≡ schemas → error ≡ TooManyPairs → HasNoRestriction other pairs declared error → IsUndecided schemas pairs declared
+undecided schemas other pairs declared error e f is = subst (λ (s : SchemaSet). IsUndecided s pairs declared) e (subst (HasNoRestriction other pairs declared) f is)

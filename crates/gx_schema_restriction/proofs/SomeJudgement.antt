@@ -1,5 +1,5 @@
 -- The restrictions of schemas have a judgement.
-use Rattle.std.proofs.Common.{◌≡◌, ℕ, zero, suc, ◌+◌, ◌^◌, ◌<◌, Bool, true, false, List, [], ◌∷◌, Option, None, Some, refl, sym, ◌∙◌, ap, subst, length, slice_get, arith, inl, inr, unwrap_or, is_some, if◌then◌else◌}
+use Rattle.std.proofs.Common.{◌≡◌, ℕ, zero, suc, ◌+◌, ◌^◌, ◌<◌, Bool, true, false, List, [], ◌∷◌, ◌⊎◌, Option, None, Some, refl, sym, ◌∙◌, ap, subst, length, slice_get, arith, inl, inr, unwrap_or, is_some, if◌then◌else◌}
 use Rattle.std.specs.Prelude.{Vec}
 use Rattle.std.specs.declared.alloc.Global.{Global}
 use denote.RawPtr.{null_ptr}
@@ -16,12 +16,12 @@ use Rattle.gx_types.specs.SchemaSet.{SchemaSet, declaration_among, declaration_o
 use Rattle.gx_types.specs.TypeRules.{positions_of}
 use Rattle.gx_base.specs.declared.type_name.TypeName.{TypeName}
 use Rattle.gx_include.specs.declared.verdict.Verdict.{Verdict}
-use Rattle.gx_include.specs.declared.verdict.Verdict.TheVariants.{Yes, No, TooManyPairs}
+use Rattle.gx_include.specs.declared.verdict.Verdict.TheVariants.{Yes, No}
 use Rattle.gx_include.specs.Existence.{AnAnswerOfTypesExists}
 use Rattle.gx_schema_restriction.specs.declared.restrictions.Restrictions.{Restrictions}
 use Rattle.gx_schema_restriction.specs.declared.restrictions.Restrictions.TheVariants.{Sound, Unsound, Undecided}
 use Rattle.gx_schema_restriction.specs.Laws.{AJudgementExists, AreCountable, IsCountable}
-use Rattle.gx_schema_restriction.specs.Restriction.{AreUsesJudged, IsContentVerdict, IsRestriction, children_in, children_of_base, use_fault}
+use Rattle.gx_schema_restriction.specs.Restriction.{AreUsesJudged, IsContentVerdict, IsRestriction, IsUndecided, children_in, children_of_base, use_fault}
 use Rattle.gx_schema_restriction.specs.Restrictions.{AreJudged, AreSoundBelow, is_restricted}
 use Rattle.gx_schema_restriction.proofs.Below.{below_more}
 
@@ -64,7 +64,7 @@ uses_judged (Some found) =
     (No list.0, (found, refl, list.1))
 
 module _ (some_answer : AnAnswerOfTypesExists) (schemas : SchemaSet) (pairs : ℕ) (grounded : Grounded (bases_of schemas)) (countable : AreCountable schemas.types) (few : pairs < 2 ^ 62) where
-  content_judged : (declared : Declared) → IsCountable declared → (verdict : Verdict) × IsContentVerdict schemas pairs declared verdict
+  content_judged : (declared : Declared) → IsCountable declared → IsUndecided schemas pairs declared ⊎ ((verdict : Verdict) × IsContentVerdict schemas pairs declared verdict)
   content_judged declared small =
       some_answer schemas (children_in declared.content) (children_of_base (declaration_of schemas declared.base)) pairs grounded small
       (base_is_countable (declaration_of schemas declared.base) (held_of IsCountable schemas.types declared.base countable)) few
@@ -74,10 +74,13 @@ module _ (some_answer : AnAnswerOfTypesExists) (schemas : SchemaSet) (pairs : �
       let uses = uses_judged (use_fault schemas declared) in
       (uses.0, inr (h, uses.1))
   verdict_by_content declared (No list) h = (No list, inl (tt, h))
-  verdict_by_content declared TooManyPairs h = (TooManyPairs, inl (tt, h))
 
-  some_verdict : (declared : Declared) → IsCountable declared → (verdict : Verdict) × IsRestriction schemas pairs declared verdict
-  some_verdict declared small = let judged = content_judged declared small in verdict_by_content declared judged.0 judged.1
+  some_verdict : (declared : Declared) → IsCountable declared → IsUndecided schemas pairs declared ⊎ ((verdict : Verdict) × IsRestriction schemas pairs declared verdict)
+  some_verdict declared small =
+      elim (content_judged declared small) [
+        | inl many ↦ inl many
+        | inr judged ↦ inr (verdict_by_content declared judged.0 judged.1)
+      ]
 
   module _ (restricted : List Bool) where
     abbrev Judged : Type 0
@@ -88,13 +91,14 @@ module _ (some_answer : AnAnswerOfTypesExists) (schemas : SchemaSet) (pairs : �
         → AreSoundBelow schemas pairs restricted number → IsRestriction schemas pairs declared verdict → (AreSoundBelow schemas pairs restricted (number + 1) → Judged) → Judged
     judge_marked number declared Yes here is_one sound h others = others (below_more schemas pairs restricted number declared here (λ e. h) sound)
     judge_marked number declared (No list) here is_one sound h others = (Unsound number list, (sound, (declared, here, is_one, h)))
-    judge_marked number declared TooManyPairs here is_one sound h others = (Undecided number, (sound, (declared, here, is_one, h)))
 
     judge_if : (number : ℕ) (declared : Declared) (is_one : Bool) → is_restricted restricted number ≡ is_one → slice_get schemas.types number ≡ Some declared
         → AreSoundBelow schemas pairs restricted number → (AreSoundBelow schemas pairs restricted (number + 1) → Judged) → Judged
     judge_if number declared true e here sound others =
-        let judged = some_verdict declared (held_at IsCountable schemas.types number declared countable here) in
-        judge_marked number declared judged.0 here e sound judged.1 others
+        elim (some_verdict declared (held_at IsCountable schemas.types number declared countable here)) [
+          | inl many ↦ (Undecided number, (sound, (declared, here, e, many)))
+          | inr judged ↦ judge_marked number declared judged.0 here e sound judged.1 others
+        ]
     judge_if number declared false e here sound others = others (below_more schemas pairs restricted number declared here (λ is_one. absurd (false≢true (sym e ∙ is_one))) sound)
 
     judge_next : (number : ℕ) → number < length schemas.types → AreSoundBelow schemas pairs restricted number → (AreSoundBelow schemas pairs restricted (number + 1) → Judged) → Judged

@@ -9,8 +9,9 @@ use Rattle.gx_types.specs.declared.shape.Shape.TheVariants as shapes
 use Rattle.gx_types.specs.SchemaSet.{SchemaSet, declaration_of}
 use Rattle.gx_types.specs.SequenceType.{SequenceType, item, optional}
 use Rattle.gx_include.specs.declared.verdict.Verdict.{Verdict}
-use Rattle.gx_include.specs.declared.verdict.Verdict.TheVariants.{Yes, No, TooManyPairs}
-use Rattle.gx_include.specs.Answer.{IsAnswer}
+use Rattle.gx_include.specs.declared.verdict.Verdict.TheVariants.{Yes, No}
+use Rattle.gx_include.specs.declared.verdict.IncludeError.{IncludeError}
+use Rattle.gx_include.specs.Answer.{HasNoVerdict, IsAnswer, ReachesTooManyPairs}
 use Rattle.gx_schema_restriction.specs.Attributes.{attribute_fault}
 
 -- the children of elements of simple content: a text, or nothing
@@ -48,11 +49,20 @@ IsNotYes _ = Unit {0}
 abbrev pub AreUsesJudged : Option AttributeUse → Verdict → Type 0
 AreUsesJudged fault Yes = fault ≡ None
 AreUsesJudged fault (No list) = (found : AttributeUse) × (fault ≡ Some found) × (list.items ≡ shapes.Attr found.name found.kind ∷ [])
-AreUsesJudged fault TooManyPairs = ⊥
 
 -- a verdict on a type under its base: its content is included, and its attributes are allowed; or a list is taken by its content and not
--- by that of its base, or is the one attribute that is not allowed; or more pairs than the limit are reached
+-- by that of its base, or is the one attribute that is not allowed
 abbrev pub IsRestriction : SchemaSet → ℕ → Declared → Verdict → Type 0
 IsRestriction schemas pairs declared verdict =
     (IsNotYes verdict × IsContentVerdict schemas pairs declared verdict)
     ⊎ (IsContentVerdict schemas pairs declared Yes × AreUsesJudged (use_fault schemas declared) verdict)
+
+-- the content of a type and that of its base reach more pairs than the limit
+abbrev pub IsUndecided : SchemaSet → ℕ → Declared → Type 0
+IsUndecided schemas pairs declared =
+    ReachesTooManyPairs schemas (children_in declared.content) (children_of_base (declaration_of schemas declared.base)) (Some pairs)
+
+-- why there is no verdict; want of memory says nothing
+abbrev pub HasNoRestriction : SchemaSet → ℕ → Declared → IncludeError → Type 0
+HasNoRestriction schemas pairs declared error =
+    HasNoVerdict schemas (children_in declared.content) (children_of_base (declaration_of schemas declared.base)) (Some pairs) error

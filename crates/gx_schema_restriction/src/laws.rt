@@ -2,13 +2,14 @@
 
 ghost use Rattle.gx_schema_restriction.specs.Laws.{AJudgementExists, JudgementsAreOne, YesMeansSound};
 
-use gx_include::laws::{an_answer_exists, answers_are_one};
+use gx_include::laws::{an_answer_exists, answers_are_one, too_many_pairs_exclude_verdicts};
 
 /// There is one judgement on the restrictions of schemas under a limit: the number of the type and its list are one.
 pub fn judgements_are_one()
     ensures { JudgementsAreOne }
 {
     answers_are_one();
+    too_many_pairs_exclude_verdicts();
 }
 
 /// The restrictions of schemas have a judgement under each limit on the pairs.

@@ -1,13 +1,13 @@
 // Whether a type restricts its base.
 
-ghost use Rattle.std.specs.Prelude.{◌≡◌, IfOk, option_copied};
+ghost use Rattle.std.specs.Prelude.{◌≡◌, IfErr, IfOk, option_copied};
 ghost use Rattle.gx_schema_restriction.specs.Attributes.{attribute_fault};
-ghost use Rattle.gx_schema_restriction.specs.Restriction.{AreUsesJudged, IsRestriction, children_in, children_of_base, simple_children, uses_of_base};
+ghost use Rattle.gx_schema_restriction.specs.Restriction.{AreUsesJudged, HasNoRestriction, IsRestriction, children_in, children_of_base, simple_children, uses_of_base};
 
 use crate::attributes::attribute_fault;
-use gx_include::derivations::Derivations;
 use gx_include::include::included_by;
-use gx_include::verdict::Verdict;
+use gx_include::verdict::{IncludeError, Verdict};
+use gx_include_derivations::derivations::Derivations;
 use gx_types::declaration::{AttributeUse, Content, Declared};
 use gx_types::item_type::ItemType;
 use gx_types::schemas::Schemas;
@@ -26,8 +26,9 @@ pub fn restricts(
     schemas: &Schemas,
     declared: &Declared,
     pairs: usize,
-) -> Result<Verdict, AllocError>
-    ensures { IfOk result (IsRestriction schemas.now pairs declared.now) }
+) -> Result<Verdict, IncludeError>
+    ensures verdict { IfOk result (IsRestriction schemas.now pairs declared.now) }
+    ensures none { IfErr result (HasNoRestriction schemas.now pairs declared.now) }
 {
     let mut derivations = Derivations::new(alloc, schemas)?;
     restricts_by(alloc, &mut derivations, declared, pairs)
@@ -39,8 +40,9 @@ pub fn restricts_by(
     derivations: &mut Derivations<'_>,
     declared: &Declared,
     pairs: usize,
-) -> Result<Verdict, AllocError>
+) -> Result<Verdict, IncludeError>
     ensures verdict { IfOk result (IsRestriction derivations.old pairs declared.now) }
+    ensures none { IfErr result (HasNoRestriction derivations.old pairs declared.now) }
     ensures kept { derivations.new ≡ derivations.old }
 {
     let text = simple_children(alloc)?;
@@ -48,9 +50,9 @@ pub fn restricts_by(
     let base = schemas.declared(&declared.base);
     let children = children_in(&declared.content, &text);
     let of_base = children_of_base(base, &text);
-    match included_by(alloc, derivations, children, of_base, Some(pairs))? {
-        Verdict::Yes => judge_attributes(alloc, schemas, uses_of_base(base), declared),
-        verdict => Ok(verdict),
+    match included_by(alloc, derivations, children, of_base, Some(pairs as u64))? {
+        Verdict::Yes => Ok(judge_attributes(alloc, schemas, uses_of_base(base), declared)?),
+        Verdict::No(list) => Ok(Verdict::No(list)),
     }
 }
 

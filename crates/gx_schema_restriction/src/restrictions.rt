@@ -4,8 +4,8 @@ ghost use Rattle.std.specs.Prelude.{◌≡◌, IfOk, option_copied, slice_get};
 ghost use Rattle.gx_schema_restriction.specs.Restrictions.{AreSoundBelow, AreJudged, is_restricted};
 
 use crate::restriction::restricts_by;
-use gx_include::derivations::Derivations;
-use gx_include::verdict::Verdict;
+use gx_include::verdict::{IncludeError, Verdict};
+use gx_include_derivations::derivations::Derivations;
 use gx_types::declaration::Declared;
 use gx_types::schemas::Schemas;
 use gx_types::shape::Shape;
@@ -48,10 +48,11 @@ fn judge_by(
     let mut number = 0;
     while let Some(declared) = type_at(types, number) {
         if is_restricted(restricted, number) {
-            match restricts_by(alloc, derivations, declared, pairs)? {
-                Verdict::Yes => {}
-                Verdict::No(list) => return Ok(Restrictions::Unsound { number, list }),
-                Verdict::TooManyPairs => return Ok(Restrictions::Undecided { number }),
+            match restricts_by(alloc, derivations, declared, pairs) {
+                Ok(Verdict::Yes) => {}
+                Ok(Verdict::No(list)) => return Ok(Restrictions::Unsound { number, list }),
+                Err(IncludeError::TooManyPairs) => return Ok(Restrictions::Undecided { number }),
+                Err(IncludeError::Memory) => return Err(AllocError),
             }
         }
         number += 1;

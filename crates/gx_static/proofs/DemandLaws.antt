@@ -14,7 +14,7 @@ use Rattle.gx_types.specs.Prime.{items_of}
 use Rattle.gx_types.specs.Takes.{Takes, EachShape, SomeItemTakes}
 use Rattle.gx_types.proofs.PublicLaws.{occurrence_bounds_length, items_take_each_shape}
 use Rattle.gx_type_laws.proofs.Items.{both_hold}
-use Rattle.gx_include.specs.Inclusion.{IsWellFormedShape}
+use Rattle.gx_include_letters.specs.WellFormed.{IsWellFormedShape}
 use Rattle.gx_static.specs.declared.comparison.Family.TheVariants as families
 use Rattle.gx_static.specs.Rule.{all_items, is_at_most_one, is_at_least_one}
 use Rattle.gx_static.specs.NormalTypes.{IsOfKnownType, IsMadeOfItems, IsNormalType}

@@ -20,7 +20,7 @@ use Rattle.gx_types.specs.Takes.{SomeItemTakes}
 use Rattle.gx_types.specs.Prime.{items_of}
 use Rattle.gx_types.proofs.PublicLaws.{derivation_is_a_preorder, all_types_are_derived_from_any_type}
 use Rattle.gx_types.proofs.DerivationTest.{derives_when_tested, tested_when_derives}
-use Rattle.gx_include.specs.Inclusion.{plain_types, IsAmongTypes, IsWellFormedShape}
+use Rattle.gx_include_letters.specs.WellFormed.{plain_types, IsAmongTypes, IsWellFormedShape}
 use Rattle.gx_static.specs.declared.comparison.Family.{Family}
 use Rattle.gx_static.specs.declared.comparison.Family.TheVariants as families
 use Rattle.gx_static.specs.Rule.{is_atomic, is_atomic_in}

@@ -32,7 +32,7 @@ use Rattle.gx_types.specs.Takes.{EachShape}
 use Rattle.gx_types.proofs.PublicLaws.{equality_is_an_equivalence}
 use Rattle.gx_types.proofs.DerivationLemmas.{from_base, baseless}
 use Rattle.gx_include.specs.Decision.{is_included}
-use Rattle.gx_include.specs.Inclusion.{plain_types, element_types, IsAmongTypes, IsWellFormedShape}
+use Rattle.gx_include_letters.specs.WellFormed.{plain_types, element_types, IsAmongTypes, IsWellFormedShape}
 use Rattle.gx_include.proofs.Deciding.{inclusion_is_decided}
 use Rattle.gx_tree.specs.declared.attribute.Attribute.{Attribute}
 use Rattle.gx_tree.specs.PlainTree.{PlainTree, PlainTrees, document, element, attribute, text, no_trees, a_tree}

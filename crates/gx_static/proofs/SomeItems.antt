@@ -20,7 +20,7 @@ use Rattle.gx_types.specs.Derivation.{bases_of, bases_among, Bases, base_of, dec
 use Rattle.gx_types.specs.Grounded.{is_known}
 use Rattle.gx_types.specs.ItemTakes.{name_fits, ItemTakes}
 use Rattle.gx_types.proofs.PublicLaws.{equality_is_an_equivalence, derivation_is_a_preorder}
-use Rattle.gx_include.specs.Inclusion.{built_in_types, plain_types, element_types, IsAmongTypes, IsWellFormedShape}
+use Rattle.gx_include_letters.specs.WellFormed.{built_in_types, plain_types, element_types, IsAmongTypes, IsWellFormedShape}
 use Rattle.gx_static.specs.NormalTypes.{IsOfKnownType}
 use Rattle.gx_static.proofs.AtomicTypes.{untyped_is_atomic}
 

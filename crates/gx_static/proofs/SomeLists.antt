@@ -8,7 +8,7 @@ use Rattle.gx_types.specs.Occurrence.{occurrence_of}
 use Rattle.gx_types.specs.SequenceType.{SequenceType, never, nothing, item, both, either, optional, star, plus}
 use Rattle.gx_types.specs.ItemTakes.{ItemTakes}
 use Rattle.gx_types.specs.Takes.{Takes, EachShape}
-use Rattle.gx_include.specs.Inclusion.{IsWellFormedShape}
+use Rattle.gx_include_letters.specs.WellFormed.{IsWellFormedShape}
 use Rattle.gx_static.specs.NormalTypes.{IsOfKnownType, IsMadeOfItems}
 use Rattle.gx_static.specs.Rule.{all_items}
 use Rattle.gx_static.proofs.SomeItems.{some_shape}

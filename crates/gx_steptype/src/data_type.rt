@@ -12,7 +12,7 @@ use crate::derived::{LISTED, OfType, over_derived};
 use crate::error::StepError;
 use crate::replace::{Replacement, replace};
 use gx_base::type_name::{Builtin, TypeName};
-use gx_include::derivations::derived_types;
+use gx_include_derivations::derivations::derived_types;
 use gx_types::declaration::Content;
 use gx_types::derivation::derives;
 use gx_types::item_type::ItemType;

@@ -6,7 +6,7 @@ ghost use Rattle.gx_types.specs.SequenceType.{SequenceType};
 ghost use Rattle.gx_steptype.specs.DerivedTypes.{over_derived as choice_over_derived, derived_among, listed_names};
 
 use gx_base::type_name::{Builtin, TypeName};
-use gx_include::derivations::derived_types;
+use gx_include_derivations::derivations::derived_types;
 use gx_types::derivation::derives;
 use gx_types::schemas::Schemas;
 use gx_types::sequence_type::Ty;

@@ -1,12 +1,11 @@
 -- How the readings of two texts say what is answered.
-use Rattle.std.proofs.Common.{◌≡◌, ◌≢◌, ℕ, List, subst}
+use Rattle.std.proofs.Common.{◌≢◌, ℕ, List}
 use Rattle.gx_types.specs.SchemaSet.{no_declarations}
 use Rattle.gx_types.specs.SequenceType.{SequenceType}
 use Rattle.gx_typetext.specs.TypeReading.{IsTypeText, IsTypeRefused}
 use Rattle.gx_typetext.specs.declared.read.TypeRead.{TypeRead}
 use Rattle.gx_typetext.specs.declared.read.TypeRead.TheVariants as read
 use Rattle.gx_typetext.proofs.TypesRead.{refused_no_type}
-use Rattle.gx_subtype.specs.declared.subtype.Side.{Side}
 use Rattle.gx_subtype.specs.declared.subtype.Side.TheVariants.{Left, Right}
 use Rattle.gx_subtype.specs.declared.subtype.SubtypeError.{SubtypeError}
 use Rattle.gx_subtype.specs.declared.subtype.SubtypeError.TheVariants.{NoType, Memory}

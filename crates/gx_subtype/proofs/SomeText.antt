@@ -1,5 +1,6 @@
 -- Two texts have an answer, unless one of them stands for no type.
 use Rattle.std.proofs.Common.{ℕ, List, inl, inr, refl, arith}
+use Rattle.std.specs.Prelude.{codes}
 use Rattle.gx_base.specs.declared.limits.TheConstants.{INCLUSION_PAIRS}
 use Rattle.gx_types.specs.SchemaSet.{no_declarations}
 use Rattle.gx_types.specs.SequenceType.{SequenceType}
@@ -15,7 +16,10 @@ compared left right t u h k =
     let few = type_texts_are_short no_declarations left t h in
     let few_right = type_texts_are_short no_declarations right u k in
     let v = an_answer_exists no_declarations t u INCLUSION_PAIRS nothing_is_a_schema_set.grounded (omega (arith, few)) (omega (arith, few_right)) (omega arith) in
-    (verdict_bytes v.0, (v.0, record { lower = t; upper = u; left_is = h; right_is = k; answer = v.1 }, refl))
+    elim v [
+      | inl many ↦ (codes "unknown", record { lower = t; upper = u; left_is = h; right_is = k; answer = inr (many, refl) })
+      | inr verdict ↦ (verdict_bytes verdict.0, record { lower = t; upper = u; left_is = h; right_is = k; answer = inl (verdict.0, verdict.1, refl) })
+    ]
 
 pub an_answer_text_exists : AnAnswerTextExists
 an_answer_text_exists left right =

@@ -6,9 +6,9 @@ use Rattle.gx_types.specs.SchemaSet.{no_declarations}
 use Rattle.gx_types.specs.SequenceType.{SequenceType}
 use Rattle.gx_typetext.specs.ShapeText.{shapes_text}
 use Rattle.gx_typetext.specs.TypeReading.{IsTypeText}
-use Rattle.gx_include.specs.Answer.{IsAnswer}
+use Rattle.gx_include.specs.Answer.{IsAnswer, ReachesTooManyPairs}
 use Rattle.gx_include.specs.declared.verdict.Verdict.{Verdict}
-use Rattle.gx_include.specs.declared.verdict.Verdict.TheVariants.{Yes, No, TooManyPairs}
+use Rattle.gx_include.specs.declared.verdict.Verdict.TheVariants.{Yes, No}
 use Rattle.gx_subtype.specs.declared.subtype.Side.{Side}
 use Rattle.gx_subtype.specs.declared.subtype.Side.TheVariants.{Left, Right}
 use Rattle.gx_subtype.specs.declared.subtype.SubtypeError.{SubtypeError}
@@ -18,23 +18,24 @@ use Rattle.gx_subtype.specs.declared.subtype.SubtypeError.TheVariants.{NoType, M
 abbrev pub verdict_bytes : Verdict → List ℕ
 verdict_bytes Yes = codes "yes"
 verdict_bytes (No list) = codes "no: " ++ encode_utf8_all (shapes_text list.items)
-verdict_bytes TooManyPairs = codes "unknown"
+
+-- what is answered on two types: the bytes of the verdict on them; or that more than 200,000 pairs are reached
+abbrev pub IsAnswerOn : (lower upper : SequenceType) → List ℕ → Type 0
+IsAnswerOn lower upper bytes =
+    ((verdict : Verdict) × IsAnswer no_declarations lower upper (Some INCLUSION_PAIRS) verdict × (bytes ≡ verdict_bytes verdict))
+    ⊎ (ReachesTooManyPairs no_declarations lower upper (Some INCLUSION_PAIRS) × (bytes ≡ codes "unknown"))
 
 -- a text stands for no type
 abbrev pub IsNoType : List ℕ → Type 0
 IsNoType text = (t : SequenceType) → IsTypeText no_declarations text t → ⊥
 
--- the texts stand for types, and this is the verdict on them, where at most 200,000 pairs are looked at
-pub record Compares (left right : List ℕ) (verdict : Verdict) : Type 0 where
+-- the texts stand for types, and this is answered on them
+pub record IsAnswerText (left right bytes : List ℕ) : Type 0 where
   pub lower : SequenceType
   pub upper : SequenceType
   pub left_is : IsTypeText no_declarations left lower
   pub right_is : IsTypeText no_declarations right upper
-  pub answer : IsAnswer no_declarations lower upper (Some INCLUSION_PAIRS) verdict
-
--- the answer has these bytes
-abbrev pub IsAnswerText : (left right : List ℕ) → List ℕ → Type 0
-IsAnswerText left right bytes = (verdict : Verdict) × Compares left right verdict × (bytes ≡ verdict_bytes verdict)
+  pub answer : IsAnswerOn lower upper bytes
 
 -- the text of this side stands for no type; want of memory says nothing
 abbrev pub IsNoTypeOn : Side → List ℕ → SubtypeError → Type 0

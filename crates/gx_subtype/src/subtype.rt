@@ -5,13 +5,12 @@ ghost use Rattle.std.specs.Str.{chars, encode_utf8_all};
 ghost use Rattle.gx_types.specs.SchemaSet.{no_declarations};
 ghost use Rattle.gx_typetext.specs.ShapeText.{shapes_text};
 ghost use Rattle.gx_typetext.specs.TypeReading.{IsTypeText};
-ghost use Rattle.gx_include.specs.Answer.{IsAnswer};
-ghost use Rattle.gx_subtype.specs.Comparison.{verdict_bytes, IsAnswerText, IsNoTypeOn, IsUnanswered};
+ghost use Rattle.gx_subtype.specs.Comparison.{verdict_bytes, IsAnswerOn, IsAnswerText, IsNoTypeOn, IsUnanswered};
 
 use gx_base::limits::{FILE_BYTES, INCLUSION_PAIRS};
 use gx_base::text::Text;
 use gx_include::include::included;
-use gx_include::verdict::Verdict;
+use gx_include::verdict::{IncludeError, Verdict};
 use gx_types::schemas::Schemas;
 use gx_types::sequence_type::Ty;
 use gx_types::shape::Shape;
@@ -73,11 +72,14 @@ fn type_of(alloc: Global, text: &str, side: Side) -> Result<Ty, SubtypeError>
 
 // What is answered on two types.
 fn verdict_on(alloc: Global, left: &Ty, right: &Ty) -> Result<String, AllocError>
-    ensures { IfOk result (λ text. (verdict : Verdict) × IsAnswer no_declarations left.now right.now (Some INCLUSION_PAIRS) verdict × (string_bytes text ≡ verdict_bytes verdict)) }
+    ensures { IfOk result (λ text. IsAnswerOn left.now right.now (string_bytes text)) }
 {
     let schemas = Schemas::empty(alloc)?;
-    let verdict = included(alloc, &schemas, left, right, Some(INCLUSION_PAIRS))?;
-    verdict_text(alloc, &verdict)
+    match included(alloc, &schemas, left, right, Some(INCLUSION_PAIRS as u64)) {
+        Ok(verdict) => verdict_text(alloc, &verdict),
+        Err(IncludeError::TooManyPairs) => String::from_str(alloc, "unknown"),
+        Err(IncludeError::Memory) => Err(AllocError),
+    }
 }
 
 // What is answered by a verdict.
@@ -87,7 +89,6 @@ fn verdict_text(alloc: Global, verdict: &Verdict) -> Result<String, AllocError>
     match verdict {
         Verdict::Yes => String::from_str(alloc, "yes"),
         Verdict::No(list) => no_text(alloc, list.as_slice()),
-        Verdict::TooManyPairs => String::from_str(alloc, "unknown"),
     }
 }
 

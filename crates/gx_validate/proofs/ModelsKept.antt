@@ -14,15 +14,15 @@ use Rattle.gx_types.specs.Takes.{Takes}
 use Rattle.gx_types.specs.declared.declaration.Declared.{Declared}
 use Rattle.gx_types.specs.declared.shape.Shape.{Shape}
 use Rattle.gx_types.proofs.EqualNames.{type_names_are_equivalent}
-use Rattle.gx_include.specs.Derivations.{same_kind}
-use Rattle.gx_include.specs.Tried.{Tried}
+use Rattle.gx_types.specs.TypeIndex.{equal_kinds}
+use Rattle.gx_include_takes.specs.Tried.{Tried}
 use Rattle.gx_model.specs.DeclaredContent.{text_model, complex_model, content_model}
 use Rattle.gx_validate.specs.Taking.{takes_shapes}
 use Rattle.gx_validate.specs.Takers.{content_tried, AreTakers}
 use Rattle.gx_validate.proofs.Takings.{exact_result}
 
-same_kind_is : (t u : TypeName) → same_kind t u ≡ same_type_name t u
-same_kind_is t u = search (comparing, rules)
+equal_kinds_are : (t u : TypeName) → equal_kinds t u ≡ same_type_name t u
+equal_kinds_are t u = search (comparing, rules)
 
 -- equal names have one declaration
 declared_alike : (types : List Declared) (t u : TypeName) → same_type_name t u ≡ true → declaration_among types t ≡ declaration_among types u
@@ -33,10 +33,10 @@ declared_alike (declared ∷ others) t u e =
     (type_names_are_equivalent.symm name t ∙ type_names_are_equivalent.congr t u name e ∙ type_names_are_equivalent.symm u name)
     ∙ ap (λ rest. if same_type_name name u then Some declared else rest) (declared_alike others t u e)
 
-tried_alike : (s : SchemaSet) (t u : TypeName) → same_kind t u ≡ true → content_tried s t ≡ content_tried s u
+tried_alike : (s : SchemaSet) (t u : TypeName) → equal_kinds t u ≡ true → content_tried s t ≡ content_tried s u
 tried_alike s t u e =
     let one : Option Declared → Tried = λ holder. record { schemas = s; model = content_model holder } in
-    ap one (declared_alike s.types t u (sym (same_kind_is t u) ∙ e))
+    ap one (declared_alike s.types t u (sym (equal_kinds_are t u) ∙ e))
 
 abbrev IsKeptFor : SchemaSet → TypeName → Option Tried → Type 0
 IsKeptFor s kind found = IfSome found (λ (tried : Tried). tried ≡ content_tried s kind)
@@ -44,15 +44,15 @@ IsKeptFor s kind found = IfSome found (λ (tried : Tried). tried ≡ content_tri
 module _ {S : Type 0} (s : SchemaSet) where
   -- one more, or the same again
   pub takers_with : (old new : IndexMap TypeName Tried S) (kind : TypeName) (tried : Tried) → AreTakers s old → tried ≡ content_tried s kind
-      → ((other : TypeName) → get same_kind new other ≡ cond (same_kind kind other) (Some tried) (get same_kind old other)) → AreTakers s new
-  takers_with old new kind tried are is updates other = subst (IsKeptFor s other) (sym (updates other)) (by (same_kind kind other) refl)
+      → ((other : TypeName) → get equal_kinds new other ≡ cond (equal_kinds kind other) (Some tried) (get equal_kinds old other)) → AreTakers s new
+  takers_with old new kind tried are is updates other = subst (IsKeptFor s other) (sym (updates other)) (by (equal_kinds kind other) refl)
     where
-      by : (b : Bool) → same_kind kind other ≡ b → IsKeptFor s other (cond b (Some tried) (get same_kind old other))
+      by : (b : Bool) → equal_kinds kind other ≡ b → IsKeptFor s other (cond b (Some tried) (get equal_kinds old other))
       by true g = is ∙ tried_alike s kind other g
       by false g = are other
 
   -- what is looked up is the content model of the type
-  pub taker_is : (known : IndexMap TypeName Tried S) (kind : TypeName) (tried : Tried) → AreTakers s known → get same_kind known kind ≡ Some tried → tried ≡ content_tried s kind
+  pub taker_is : (known : IndexMap TypeName Tried S) (kind : TypeName) (tried : Tried) → AreTakers s known → get equal_kinds known kind ≡ Some tried → tried ≡ content_tried s kind
   taker_is known kind tried are found = subst (IsKeptFor s kind) found (are kind)
 
 -- the content model of a type that has one

@@ -12,10 +12,10 @@ use Rattle.gx_types.specs.Derivation.{bases_of}
 use Rattle.gx_types.specs.ItemTakes.{ItemTakes}
 use Rattle.gx_types.specs.Takes.{Takes}
 use Rattle.gx_types.specs.SequenceType.{SequenceType}
-use Rattle.gx_include.specs.Step.{single, step_over, is_end}
-use Rattle.gx_include.specs.Test.{is_taken}
-use Rattle.gx_include.proofs.SetReads.{Reads, reads_forward, reads_back, end_reads, reads_end, start_reads, reads_start}
-use Rattle.gx_include.proofs.Decided.{decided}
+use Rattle.gx_include_positions.specs.Step.{single, step_over, is_end}
+use Rattle.gx_include_positions.specs.Test.{is_taken}
+use Rattle.gx_include_positions.proofs.SetReads.{Reads, reads_forward, reads_back, end_reads, reads_end, start_reads, reads_start}
+use Rattle.gx_include_positions.proofs.Decided.{decided}
 use Rattle.gx_types.specs.declared.declaration.Content.{Content}
 use Rattle.gx_types.specs.declared.declaration.Content.TheVariants as contents
 use Rattle.gx_xml.specs.SourceTree.{SourceContents, no_content, a_child, a_text}

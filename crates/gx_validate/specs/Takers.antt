@@ -3,8 +3,8 @@ use Rattle.std.specs.Prelude.{◌≡◌, IfSome}
 use Rattle.indexmap.specs.IndexMap.{IndexMap, get}
 use Rattle.gx_base.specs.declared.type_name.TypeName.{TypeName}
 use Rattle.gx_types.specs.SchemaSet.{SchemaSet, declaration_of}
-use Rattle.gx_include.specs.Derivations.{same_kind}
-use Rattle.gx_include.specs.Tried.{Tried}
+use Rattle.gx_types.specs.TypeIndex.{equal_kinds}
+use Rattle.gx_include_takes.specs.Tried.{Tried}
 use Rattle.gx_model.specs.DeclaredContent.{content_model}
 
 -- the content model of a type, with its schemas
@@ -13,4 +13,4 @@ content_tried schemas kind = record { schemas = schemas; model = content_model (
 
 -- what is kept for a type is its content model
 abbrev pub AreTakers : {S : Type 0} → SchemaSet → IndexMap TypeName Tried S → Type 0
-AreTakers schemas known = (kind : TypeName) → IfSome (get same_kind known kind) (λ (tried : Tried). tried ≡ content_tried schemas kind)
+AreTakers schemas known = (kind : TypeName) → IfSome (get equal_kinds known kind) (λ (tried : Tried). tried ≡ content_tried schemas kind)

@@ -4,8 +4,8 @@ use Rattle.gx_types.specs.declared.shape.Shape.{Shape}
 use Rattle.gx_types.specs.declared.shape.Shape.TheVariants as shapes
 use Rattle.gx_types.specs.SchemaSet.{SchemaSet}
 use Rattle.gx_types.specs.SequenceType.{SequenceType}
-use Rattle.gx_include.specs.Step.{single, step_over, is_end}
-use Rattle.gx_include.specs.Test.{is_taken}
+use Rattle.gx_include_positions.specs.Step.{single, step_over, is_end}
+use Rattle.gx_include_positions.specs.Test.{is_taken}
 
 -- the set of positions behind a list of shapes
 abbrev pub set_behind : SchemaSet → SequenceType → List Shape → List Bool → List Bool

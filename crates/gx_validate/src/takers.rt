@@ -7,7 +7,7 @@ ghost use Rattle.gx_validate.specs.Taking.{is_text_at_most, takes_shapes};
 
 use crate::content::complex_model;
 use gx_base::type_name::TypeName;
-use gx_include::taker::Taker;
+use gx_include_takes::taker::Taker;
 use gx_types::declaration::Declared;
 use gx_types::schemas::Schemas;
 use gx_types::shape::Shape;

@@ -2,8 +2,8 @@
 
 use crate::types::{shape_of, types};
 use gx_include::include::included;
-use gx_include::take::takes;
-use gx_include::verdict::Verdict;
+use gx_include::verdict::{IncludeError, Verdict};
+use gx_include_takes::take::takes;
 use gx_types::schemas::Schemas;
 use gx_types::sequence_type::Ty;
 use gx_types::shape::Shape;
@@ -15,7 +15,7 @@ use std::alloc::{AllocError, Global};
 pub fn included_row(alloc: Global, limit: &str, words: &[&str]) -> Result<String, AllocError> {
     let types = types(alloc, words)?;
     match types.as_slice() {
-        [left, right] => verdict_row(alloc, left, right, limit.parse::<usize>().ok()),
+        [left, right] => verdict_row(alloc, left, right, limit.parse::<u64>().ok()),
         _ => not_a_row(alloc),
     }
 }
@@ -25,14 +25,14 @@ pub fn verdict_row(
     alloc: Global,
     left: &Ty,
     right: &Ty,
-    limit: Option<usize>,
+    limit: Option<u64>,
 ) -> Result<String, AllocError> {
     let schemas = Schemas::empty(alloc)?;
-    let verdict = included(alloc, &schemas, left, right, limit)?;
-    match verdict {
-        Verdict::Yes => String::from_str(alloc, "yes"),
-        Verdict::No(list) => no_row(alloc, list.as_slice()),
-        Verdict::TooManyPairs => String::from_str(alloc, "unknown"),
+    match included(alloc, &schemas, left, right, limit) {
+        Ok(Verdict::Yes) => String::from_str(alloc, "yes"),
+        Ok(Verdict::No(list)) => no_row(alloc, list.as_slice()),
+        Err(IncludeError::TooManyPairs) => String::from_str(alloc, "unknown"),
+        Err(IncludeError::Memory) => Err(AllocError),
     }
 }
 

@@ -27,7 +27,7 @@ pub fn texts_row(alloc: Global, left: &str, right: &str) -> Result<String, Alloc
 
 fn right_row(alloc: Global, left: &Ty, right: &str) -> Result<String, AllocError> {
     match read(alloc, right) {
-        Ok(right) => verdict_row(alloc, left, &right, Some(INCLUSION_PAIRS)),
+        Ok(right) => verdict_row(alloc, left, &right, Some(INCLUSION_PAIRS as u64)),
         Err(error) => error_row(alloc, &error),
     }
 }

@@ -1,7 +1,7 @@
 use Rattle.std.proofs.Common.{sym, ◌∙◌, ap, ◌++◌, Option}
 use Rattle.std.proofs.lemmas.List.{append-nil}
 use Rattle.std.proofs.lemmas.Option.{slice_get_past}
-use Rattle.gx_include.specs.declared.letter.Letter.{Letter}
+use Rattle.gx_include_letters.specs.declared.letter.Letter.{Letter}
 use Rattle.gx_include.specs.Runs.{shapes_of_letter}
 use Rattle.gx_include.proofs.decide.add_shape.Goals as goal
 

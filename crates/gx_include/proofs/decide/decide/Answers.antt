@@ -4,15 +4,15 @@ use Rattle.gx_include.specs.Outcome.{IsOutcome}
 use Rattle.gx_include.proofs.Verdicts.{says_yes, says_no}
 use Rattle.gx_include.proofs.decide.decide.Goals as goal
 
-pub returns-in-Safe : goal.returns-in-Safe
-returns-in-Safe c = λ s are serve.
+pub returns-in-Safe-clause-verdict : goal.returns-in-Safe-clause-verdict
+returns-in-Safe-clause-verdict c = λ s are serve.
     says_yes c.args.left.now c.args.right.now c.args.letters.now s c.args.limit c.walk.new.pairs.keys c.walk.new.origins.items serve
     (subst (IsOutcome c.args.left.now c.args.right.now c.args.letters.now c.args.limit c.walk.new.pairs.keys c.walk.new.origins.items) c.in-Safe.is c.in_ok-outcome.ensures)
 
-pub returns : goal.returns
-returns c = λ s are serve.
+pub returns-clause-verdict : goal.returns-clause-verdict
+returns-clause-verdict c = λ s are serve.
     let o = subst (IsOutcome c.args.left.now c.args.right.now c.args.letters.now c.args.limit c.walk.new.pairs.keys c.walk.new.origins.items) c.in-Bad.is c.in_ok-outcome.ensures in
     let n =
     says_no c.args.left.now c.args.right.now c.args.letters.now s c.args.limit c.walk.new.pairs.keys c.walk.new.origins.items are c.in-Bad.place o c.in_ok-run-in-Bad.run'.items
     (λ runs r. c.in_ok-run-in-Bad.ensures runs (subst (λ os. AreRuns os runs) (sym c.as_slice.ensures.value) r)) in
-    (n.0, (c.in_ok-run-in-Bad.run'.items, c.in_ok-spell-in-Bad.ensures, n.1))
+    (n.0, (c.in_ok-run-in-Bad.run'.items, c.in_ok-list-in-Bad.ensures, n.1))

@@ -1,6 +1,0 @@
-use Rattle.gx_include.specs.Alphabet.{entry_if}
-use Rattle.gx_include.proofs.Columns.{AreMoreBelow}
-use Rattle.gx_include.proofs.alphabet.add_letters.Given as goal
-
-abbrev pub invariant-loop-place : goal.invariant-loop-place
-invariant-loop-place l = AreMoreBelow l.fn.columns.items l.columns.items (λ place. entry_if place l.shape l.taking l.takers) l.place

@@ -1,6 +1,0 @@
-use Rattle.std.proofs.Common.{◌+◌, []}
-use Rattle.gx_include.specs.Alphabet.{AreColumns}
-use Rattle.gx_include.proofs.alphabet.empty_columns.Given as goal
-
-abbrev pub invariant-loop-place : goal.invariant-loop-place
-invariant-loop-place l = AreColumns (l._place + 1) (λ place. []) l.columns.items

@@ -1,5 +1,0 @@
-use Rattle.gx_include.proofs.WordSets.{AreMetBelow}
-use Rattle.gx_include.proofs.bits.intersect.Given as goal
-
-abbrev pub invariant-loop-word : goal.invariant-loop-word
-invariant-loop-word l = AreMetBelow l.fn.set.items l.other l.set.items l.word

@@ -1,5 +1,0 @@
-use Rattle.gx_include.proofs.WordSets.{ArePackedBelow}
-use Rattle.gx_include.proofs.bits.packed.Given as goal
-
-abbrev pub invariant-loop-number : goal.invariant-loop-number
-invariant-loop-number l = ArePackedBelow l.flags l.set.items l.number

@@ -1,6 +1,0 @@
-use Rattle.std.proofs.Common.{◌≡◌}
-use Rattle.gx_include.specs.Derivations.{is_derived_at}
-use Rattle.gx_include.proofs.derivations.answer.Given as goal
-
-abbrev pub invariant-loop-step : goal.invariant-loop-step
-invariant-loop-step l = is_derived_at l.schemas l.kind l.start ≡ is_derived_at l.schemas l.kind l.at

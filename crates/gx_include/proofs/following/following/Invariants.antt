@@ -1,6 +1,0 @@
-use Rattle.std.proofs.Common.{◌*◌}
-use Rattle.gx_include.specs.Following.{AreFollowing}
-use Rattle.gx_include.proofs.following.following.Given as goal
-
-abbrev pub invariant-loop-block : goal.invariant-loop-block
-invariant-loop-block l = AreFollowing l.t (l.block * 16) l.rows.items

@@ -1,0 +1,6 @@
+pub mod Alphabets
+pub mod AskedShapes
+pub mod Columns
+pub mod FormedLetters
+pub mod Listed
+pub mod Stand

@@ -1,0 +1,5 @@
+pub mod KnownSteps
+pub mod PlaceSets
+pub mod Symbols
+pub mod Targets
+pub mod WordSets
