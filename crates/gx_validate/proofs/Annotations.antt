@@ -25,7 +25,7 @@ use Rattle.gx_qnames.specs.Scope.{reference_in}
 use Rattle.gx_qnames.specs.Words.{is_schema_uri}
 use Rattle.gx_qnames.specs.declared.reference.Reference.{Reference}
 use Rattle.gx_validate.specs.InstanceAttributes.{given_type}
-use Rattle.gx_validate.specs.Annotation.{annotation, annotation_given, where_derived, type_named_in, bound_type, built_in_type, or_declared_type, known_type, declared_type_named, without_space_around}
+use Rattle.gx_validate.specs.Annotation.{annotation, annotation_given, where_derived, type_named_in, bound_type, built_in_type, or_declared_type, known_type, without_space_around}
 use Rattle.gx_validate.specs.Outcome.{root_type}
 use Rattle.gx_validate.specs.Valid.{IsAnnotation}
 
