@@ -1,7 +1,7 @@
 // A library of files, over std.
-ghost use Rattle.std.specs.Prelude.{◌≡◌, ℕ, ◌+◌, ◌<◌, ◌≤◌, List, Option, None, IfOk, IfErr, IfSome, OnOk, IsErrOf, vec_len, if◌then◌else◌, ◌⊎◌};
+ghost use Rattle.std.specs.Prelude.{◌≡◌, ℕ, ◌+◌, ◌<◌, ◌≤◌, List, Option, None, Some, IfOk, IfErr, IfSome, OnOk, IsErrOf, vec_len, if◌then◌else◌, ◌⊎◌};
 ghost use Rattle.gx_io.specs.Faults.{Rose, one_more};
-ghost use Rattle.gx_io.specs.Load.{TellsLengthAbove, TellsLength, is_failed};
+ghost use Rattle.gx_io.specs.Load.{TellsLengthAbove, TellsLength, TooLongExactlyAbove, is_failed};
 ghost use Rattle.gx_io.specs.Reader.{ConsumesAtMost};
 
 use crate::errors::LoadError;
@@ -69,10 +69,20 @@ impl<R: Files> Library for FileLibrary<R> {
     }
 }
 
-// All that the reader has left. Where this is more than the limit, one byte more than the limit is read, and counted.
-fn read_within<F: Read>(alloc: Global, reader: &mut F, limit: usize) -> Result<Vec<u8>, LoadError>
+/// All that a reader has left, if this is at most `limit` bytes; of more, one byte more than the limit is read.
+///
+/// # Errors
+///
+/// `TooLong` with `limit + 1` where there are more bytes than the limit, `Failed` where a read fails, and `Memory` where no
+/// memory is found for what was read.
+pub fn read_within<F: Read>(
+    alloc: Global,
+    reader: &mut F,
+    limit: usize,
+) -> Result<Vec<u8>, LoadError>
     ensures within { IfOk result (λ bytes. vec_len bytes ≤ limit) }
     ensures whole { IfOk result (λ bytes. IfSome (F.remaining reader.old) (λ rest. bytes.items ≡ rest)) }
+    ensures too_long { IfSome (F.remaining reader.old) (λ rest. TooLongExactlyAbove limit (Some rest) result) }
     ensures length { IfErr result (TellsLength (limit + 1)) }
     ensures most { ConsumesAtMost (limit + 1) (F.remaining reader.old) (F.remaining reader.new) }
 {

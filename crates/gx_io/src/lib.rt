@@ -10,7 +10,7 @@ mod sink;
 mod writer_sink;
 
 pub use errors::{LoadError, PutError};
-pub use file_library::FileLibrary;
+pub use file_library::{FileLibrary, read_within};
 pub use library::Library;
 pub use memory_library::{MemoryLibrary, law_of_names};
 pub use memory_sink::MemorySink;
