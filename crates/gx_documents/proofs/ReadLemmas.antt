@@ -11,7 +11,7 @@ use Rattle.gx_documents.specs.declared.documents.DocumentFault.TheVariants.{Unre
 use Rattle.gx_documents.specs.declared.documents.DocumentsError.{DocumentsError}
 use Rattle.gx_documents.specs.declared.documents.DocumentsError.TheVariants.{Failed, Memory}
 use Rattle.gx_documents.specs.Documents.{Files, Request, HoldsKept, HoldKept, AreKept, files_asked}
-use Rattle.gx_documents.specs.Reading.{Lacks, StopsAt, StopsWith, EndsWith, EndedAt, WasRead, ReadsFrom, ReadsFiles, CannotRead, HasReadFault, AreKeptOf, IsAskedFor}
+use Rattle.gx_documents.specs.Reading.{Lacks, StopsAt, StopsWith, EndsWith, EndedAt, WasRead, ReadsFrom, ReadsFiles, CannotRead, HasReadFault, LoadsUpTo, AreKeptOf, IsAskedFor}
 
 both_told : {Told : Type 0} (told : Option Told) (P Q R : Told → Type 0) → ((x : Told) → P x → Q x → R x) → IfSome told P → IfSome told Q → IfSome told R
 both_told None P Q R f p q = tt
@@ -54,6 +54,7 @@ module _ {T Library : Type 0} (told : Option Files) (was_loaded : Library → Li
     first : (rest : List (List ℕ)) × (files_asked requests ≡ loads ++ rest)
     ended : Ended requests trees loads result
     broke : Broke loads result before after
+    up_to : LoadsUpTo requests loads result
     asked_for : IsAskedFor requests result
 
   none_left : (trees : List T) (result : Result (List T) DocumentsError) (before after : Library) → ReadsFrom told was_loaded faults [] trees result before after → Summary [] trees result before after
@@ -63,6 +64,7 @@ module _ {T Library : Type 0} (told : Option Files) (was_loaded : Library → Li
     first = ([], refl);
     ended = ([], h.0 ∙ sym (append-nil trees), refl, tt, told_always told (λ files. HoldKept {T = T} files [] []) (λ files. tt));
     broke = tt;
+    up_to = refl;
     asked_for = tt;
   }
   none_left trees (Err (Failed name fault)) before after h = cc h.0
@@ -72,6 +74,7 @@ module _ {T Library : Type 0} (told : Option Files) (was_loaded : Library → Li
     first = ([], refl);
     ended = told_always told (λ files. EndsWith {T = T} files [] [] (Err Memory)) (λ files. inr ([], tt, refl));
     broke = tt;
+    up_to = tt;
     asked_for = tt;
   }
 
@@ -141,6 +144,17 @@ module _ {T Library : Type 0} (told : Option Files) (was_loaded : Library → Li
   broke_here request (Err (Failed name (Refused rule place))) before between l e = tt
   broke_here request (Err (Failed name (Invalid rule path))) before between l e = tt
 
+  -- the last load
+  up_to_behind : (request : Request T) (others : List (Request T)) (loads : List (List ℕ)) (result : Result (List T) DocumentsError) → LoadsUpTo others loads result → LoadsUpTo (request ∷ others) (request.file ∷ loads) result
+  up_to_behind request others loads (Ok all) u = ap (λ (ns : List (List ℕ)). request.file ∷ ns) u
+  up_to_behind request others loads (Err Memory) u = tt
+  up_to_behind request others loads (Err (Failed name fault)) u = (request.file ∷ u.0, ap (λ (ns : List (List ℕ)). request.file ∷ ns) u.1)
+
+  up_to_here : (request : Request T) (others : List (Request T)) (result : Result (List T) DocumentsError) (R : Type 0) → EndedAt told request R result → LoadsUpTo (request ∷ others) (request.file ∷ []) result
+  up_to_here request others (Ok all) R e = absurd e
+  up_to_here request others (Err Memory) R e = tt
+  up_to_here request others (Err (Failed name fault)) R e = ([], ap (λ (f : List ℕ). f ∷ []) (sym e.0))
+
   -- what is asked for
   asked_behind : (request : Request T) (others : List (Request T)) (result : Result (List T) DocumentsError) → IsAskedFor others result → IsAskedFor (request ∷ others) result
   asked_behind request others (Ok all) a = tt
@@ -167,6 +181,7 @@ module _ {T Library : Type 0} (told : Option Files) (was_loaded : Library → Li
         loaded = (between, l, s.loaded);
         first = (s.first.0, ap (λ (ns : List (List ℕ)). request.file ∷ ns) s.first.1);
         ended = ended_behind request h.0 others trees s.loads result h.1 s.ended;
+        up_to = up_to_behind request others s.loads result s.up_to;
         broke = broke_behind request.file s.loads result before between after l counted s.broke;
         asked_for = asked_behind request others result s.asked_for;
       }
@@ -177,6 +192,7 @@ module _ {T Library : Type 0} (told : Option Files) (was_loaded : Library → Li
         first = (files_asked others, refl);
         ended = ended_here request others trees result (Rose (faults before) (faults between)) h.0;
         broke = subst (λ (z : Library). Broke (request.file ∷ []) result before z) (sym h.1) (broke_here request result before between l h.0);
+        up_to = up_to_here request others result (Rose (faults before) (faults between)) h.0;
         asked_for = asked_here request others result (Rose (faults before) (faults between)) h.0;
       }
 
@@ -213,6 +229,7 @@ module _ {T : Type 0} where
         kept = kept_of_ended (library.files library.before) library.was_loaded library.faults requests s.loads result s.ended;
         told = told_of_ended (library.files library.before) library.was_loaded library.faults requests s.loads result s.ended;
         failed = fault_of_broke library s.loads result s.broke;
+        up_to = s.up_to;
         asked_for = s.asked_for;
       }
 

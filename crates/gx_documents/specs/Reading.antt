@@ -75,6 +75,16 @@ abbrev pub HasReadFault : {T : Type 0} → LibraryUse → (loads : List (List �
 HasReadFault library loads (Err (Failed name Unread)) = CannotRead library loads (string_bytes name)
 HasReadFault library loads _ = Unit {0}
 
+-- the file of this name is the last of the loads
+abbrev pub IsLastLoad : (loads : List (List ℕ)) → (file : List ℕ) → Type 0
+IsLastLoad loads file = (earlier : List (List ℕ)) × (loads ≡ earlier ++ (file ∷ []))
+
+-- all files were loaded, or the last that was is the one that has the fault
+abbrev pub LoadsUpTo : {T : Type 0} → List (Request T) → (loads : List (List ℕ)) → Result (List T) DocumentsError → Type 0
+LoadsUpTo requests loads (Ok all) = loads ≡ files_asked requests
+LoadsUpTo requests loads (Err (Failed name fault)) = IsLastLoad loads (string_bytes name)
+LoadsUpTo requests loads (Err Memory) = Unit {0}
+
 -- a rule of validity is broken only where one of the requests asks for it
 abbrev pub OneBreaks : {T : Type 0} → List (Request T) → InvalidRule → (path : List ℕ) → Type 0
 OneBreaks [] rule path = ⊥
@@ -97,6 +107,7 @@ pub record ReadsFiles {T : Type 0} (library : LibraryUse) (requests : List (Requ
   pub kept : AreKeptOf requests result
   pub told : IfSome (library.files library.before) (λ files. EndsWith files requests loads result)
   pub failed : HasReadFault library loads result
+  pub up_to : LoadsUpTo requests loads result
   pub asked_for : IsAskedFor requests result
 
 -- their trees

@@ -26,12 +26,12 @@ use Rattle.gx_processor.specs.declared.refusal.Refusal.TheVariants as refusal
 use Rattle.gx_processor.specs.Answer.{writes, refuses, AnswersFile}
 use Rattle.gx_processor.specs.Command.{Command, run_file, check_file, query_file, IsRunCommand}
 use Rattle.gx_processor.specs.FaultLines.{read_fault_line}
-use Rattle.gx_processor.specs.Loading.{RunLoads, QueryLoads, HoldsTypedQuery, BehindQuery, CommandLoads, AreFirstOf, MayLoad}
+use Rattle.gx_processor.specs.Loading.{RunLoads, QueryLoads, HoldsTypedQuery, BehindQuery, CommandLoads, AreFirstOf, loads_behind, MayLoad}
 use Rattle.gx_processor.specs.NamedQuery.{NamedQuery, named_query, unknown_name, query_named}
 use Rattle.gx_processor.specs.Query.{HoldsSyntax, ImportsSchemas, HoldsQuery}
 use Rattle.gx_processor.specs.QueryReplies.{QuerySo}
 use Rattle.gx_processor.specs.SchemaFiles.{schema_requests}
-use Rattle.gx_processor.specs.Replies.{RefusesSo, IsOfQuery, HasCause, AreFirst, RefusalLoads, LoadFailed, OutcomeLoads, OutcomeFailed, OutputLoads}
+use Rattle.gx_processor.specs.Replies.{RefusesSo, IsOfQuery, HasCause, AreFirst, RefusalLoads, LoadFailed, NamesOneOf, OutcomeLoads, OutcomeFailed, OutputLoads}
 use Rattle.gx_processor.specs.RunReplies.{IsOfRun, FailsAtDocument, IsWrittenOrStarved, RunsSo}
 use Rattle.gx_processor.specs.TypeBytes.{type_bytes}
 use Rattle.gx_processor.proofs.AnswerLemmas.{command_unique}
@@ -165,6 +165,7 @@ query_refusal_loads single {V} library command e q = record {
   may = may_load_query command q.loads q.first.0 q.first.1;
   told = refused_loads single V (library.files library.before) command q.loads e q.own q.refused q.told;
   failed = q.failed;
+  of_loads = q.of_loads;
 }
 
 pub query_cause : (Runs : Type 0) (e : Refusal) → IsOfQuery e → HasCause Runs e
@@ -182,13 +183,14 @@ query_cause Runs (refusal.Dynamic code) own = absurd own
 
 pub check_loads : {V : Type 0} (library : LibraryUse) (name : List ℕ) (loads schemas : List (List ℕ)) (result : Result V Refusal) → LoadsOnly library loads → loads ≡ name ∷ schemas → IfSome (library.files library.before) (λ files. QueryLoads files name loads)
     → IsWrittenOrStarved result → OutputLoads library (check_file name) result
-check_loads library name loads schemas (Ok v) only first told own = record { names = loads; loaded = only; may = (schemas, first); told = told; failed = tt }
+check_loads library name loads schemas (Ok v) only first told own = record { names = loads; loaded = only; may = (schemas, first); told = told; failed = tt; of_loads = tt }
 check_loads library name loads schemas (Err refusal.Memory) only first told own = record {
   names = loads;
   loaded = only;
   may = (schemas, first);
   told = told_so (library.files library.before) (λ files. QueryLoads files name loads) (λ files. AreFirst (QueryLoads files name) loads) (λ files h whole k. whole_is_front loads whole (one_query_load files name loads whole h k)) told;
   failed = tt;
+  of_loads = tt;
 }
 check_loads library name loads schemas (Err refusal.ReadFault) only first told own = absurd own
 check_loads library name loads schemas (Err refusal.TooLong) only first told own = absurd own
@@ -300,6 +302,22 @@ run_fails library between file front loads (Err (refusal.Document name (faults.R
 run_fails library between file front loads (Err (refusal.Document name (faults.Invalid rule path))) l counted own f = tt
 run_fails library between file front loads (Err (refusal.Dynamic code)) l counted own f = tt
 
+-- a refusal names a file behind others
+names_behind : (front loads : List (List ℕ)) (e : Refusal) → NamesOneOf loads e → NamesOneOf (front ++ loads) e
+names_behind front loads refusal.ReadFault n = tt
+names_behind front loads refusal.TooLong n = tt
+names_behind front loads refusal.Memory n = tt
+names_behind front loads (refusal.Query code place) n = tt
+names_behind front loads (refusal.Binding fault) n = tt
+names_behind front loads (refusal.Dynamic code) n = tt
+names_behind front loads (refusal.SchemaFile file fault) n = ((front ++ n.0.0, ap (λ (ns : List (List ℕ)). front ++ ns) n.0.1 ∙ sym (append_assoc front n.0.0 (string_bytes file ∷ []))), n.1)
+names_behind front loads (refusal.Schema rule file construct) n = (front ++ n.0, n.1, ap (λ (ns : List (List ℕ)). front ++ ns) n.2 ∙ sym (append_assoc front n.0 (string_bytes file ∷ n.1)))
+names_behind front loads (refusal.Document file fault) n = (front ++ n.0, ap (λ (ns : List (List ℕ)). front ++ ns) n.1 ∙ sym (append_assoc front n.0 (string_bytes file ∷ [])))
+
+run_names : {Z : Type 0} (result : Result (String Z) Refusal) (front loads whole : List (List ℕ)) → whole ≡ front ++ loads → IfErr result (NamesOneOf loads) → IfErr result (NamesOneOf whole)
+run_names (Ok text) front loads whole same n = tt
+run_names (Err e) front loads whole same n = subst (λ (ns : List (List ℕ)). NamesOneOf ns e) (sym same) (names_behind front loads e n)
+
 -- both facts about the files
 all_told : {Told : Type 0} (told : Option Told) (P Q R S : Told → Type 0) → ((x : Told) → P x → Q x → R x → S x) → IfSome told P → IfSome told Q → IfSome told R → IfSome told S
 all_told None P Q R S f p q r = tt
@@ -317,6 +335,7 @@ run_loads single library between name bindings query result same counted q j r =
       (λ files held loads h. outcome_loads single files name bindings query held j q.loads loads r.names result r.own h) q.held q.told
       (subst (λ (told : Option Files). IfSome told (λ files. OutcomeLoads (RunLoads files bindings query.schemas (plain_query query.core) query.core) r.names result)) same r.told);
   failed = run_fails library between name q.loads r.names result q.loaded counted r.own r.failed;
+  of_loads = run_names result q.first.0 r.names (loads_behind (q.loads ++ r.names)) (ap (λ (ns : List (List ℕ)). loads_behind (ns ++ r.names)) q.first.1) r.of_loads;
 }
 
 pub run_cause : {Z : Type 0} (name : List ℕ) (bindings : List (List ℕ)) (result : Result (String Z) Refusal) → IsOfRun result → IfErr result (HasCause (IsRunCommand (run_file name bindings)))

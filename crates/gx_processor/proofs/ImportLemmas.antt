@@ -1,5 +1,6 @@
 -- What the schemas that a query imports say, from the reading of their files.
-use Rattle.std.proofs.Common.{◌≡◌, ℕ, List, [], ◌∷◌, map, Result, Ok, Err, string_bytes, IfErr, MatchResult, inl, inr, refl, sym, ap₂, subst}
+use Rattle.std.proofs.Common.{◌≡◌, ℕ, zero, suc, List, [], ◌∷◌, map, slice_get, Option, Some, Result, Ok, Err, string_bytes, IfErr, MatchResult, inl, inr, refl, sym, ◌∙◌, ap, ap₂, subst}
+use Rattle.std.specs.Prelude.{unwrap_or}
 use Rattle.gx_types.specs.SchemaSet.{SchemaSet}
 use Rattle.gx_io.specs.LibraryUse.{LibraryUse}
 use Rattle.gx_ast.specs.declared.query.Query.{Query as SyntaxQuery}
@@ -9,8 +10,8 @@ use Rattle.gx_schema.specs.Import.{declares, breaks, IsImported}
 use Rattle.gx_documents.specs.declared.documents.DocumentFault.TheVariants as faults
 use Rattle.gx_documents.specs.declared.documents.DocumentsError.{DocumentsError}
 use Rattle.gx_documents.specs.declared.documents.DocumentsError.TheVariants.{Failed, Memory as NoMemory}
-use Rattle.gx_documents.specs.Documents.{Files, Request, DocumentsLoaded, source_request}
-use Rattle.gx_documents.specs.Reading.{EndsWith, HasReadFault, OneBreaks, ReadSources}
+use Rattle.gx_documents.specs.Documents.{Files, Request, DocumentsLoaded, files_asked, source_request}
+use Rattle.gx_documents.specs.Reading.{EndsWith, HasReadFault, LoadsUpTo, OneBreaks, ReadSources}
 use Rattle.gx_processor.specs.declared.refusal.Refusal.{Refusal}
 use Rattle.gx_processor.specs.declared.refusal.Refusal.TheVariants as refusal
 use Rattle.gx_processor.specs.declared.status.Status.TheVariants as status
@@ -20,8 +21,8 @@ use Rattle.gx_processor.specs.FaultLines.{import_line}
 use Rattle.gx_processor.specs.ImportReplies.{unread_schema, BreaksRule, DeclaresIn, DeclaresSo, DeclaredSo, IsOfImport, FailsAtSchema, ImportsSo}
 use Rattle.gx_processor.specs.Query.{ImportsSchemas}
 use Rattle.gx_processor.specs.SchemaFiles.{schema_files, schema_requests}
-use Rattle.gx_processor.specs.Loading.{AreFirstOf}
-use Rattle.gx_processor.specs.Replies.{RefusesSo, IsOfReader, OutcomeLoads}
+use Rattle.gx_processor.specs.Loading.{AreFirstOf, IsOneOfLoads}
+use Rattle.gx_processor.specs.Replies.{RefusesSo, IsOfReader, NamesOneOf, OutcomeLoads}
 use Rattle.gx_processor.proofs.LoadLemmas.{kept_answer, stopped_answers, all_loaded, stopped_loaded, stopped_first, one_load, whole_is_front}
 use Rattle.gx_processor.proofs.Told.{told_so, told_always}
 
@@ -32,6 +33,20 @@ IsOfReading NoMemory = Unit {0}
 
 not_broken : {A E : Type 0} {x : A} {e : E} → Ok x ≡ Err e → ⊥
 not_broken h = absurd (cc h)
+
+-- the files that are asked for, and the one of a number
+files_of_sources : (files : List (List ℕ)) → files_asked (map source_request files) ≡ files
+files_of_sources [] = refl
+files_of_sources (file ∷ files) = ap (λ (ns : List (List ℕ)). file ∷ ns) (files_of_sources files)
+
+one_of_loads : (files : List (List ℕ)) (number : ℕ) (file : List ℕ) → slice_get files number ≡ Some file → IsOneOfLoads files file
+one_of_loads [] number file h = cc h
+one_of_loads (name ∷ files) zero file h =
+    let same : name ≡ file = cc in
+    ([], files, ap (λ (f : List ℕ). f ∷ files) same)
+one_of_loads (name ∷ files) (suc number) file h =
+    let rest = one_of_loads files number file h in
+    (name ∷ rest.0, rest.1, ap (λ (ns : List (List ℕ)). name ∷ ns) rest.2)
 
 module _ (tree : SyntaxQuery) where
   abbrev names : List (List ℕ)
@@ -91,6 +106,10 @@ module _ (tree : SyntaxQuery) where
   unread_fails library loads (Failed file (faults.Invalid rule path)) f = tt
   unread_fails library loads NoMemory f = tt
 
+  unread_names : (loads : List (List ℕ)) (error : DocumentsError) → IsOfReading error → LoadsUpTo requests loads (Err error) → NamesOneOf loads (unread_schema error)
+  unread_names loads (Failed file fault) own u = (u, own)
+  unread_names loads NoMemory own u = tt
+
   unread_own : (error : DocumentsError) → IsOfReading error → IsOfImport (unread_schema error)
   unread_own (Failed file fault) own = own
   unread_own NoMemory own = tt
@@ -103,6 +122,7 @@ module _ (tree : SyntaxQuery) where
     told = told_so (library.files library.before) (λ files. EndsWith files requests read.loads (Err error)) (λ files. OutcomeLoads {V = SchemaSet} (DocumentsLoaded files requests) read.loads (Err (unread_schema error)))
         (λ files ends. unread_loads files read.loads error ends) read.told;
     failed = unread_fails library read.loads error read.failed;
+    of_loads = unread_names read.loads error (reads_alone library error read) read.up_to;
     own = unread_own error (reads_alone library error read);
   }
 
@@ -112,7 +132,7 @@ module _ (tree : SyntaxQuery) where
       kept_answer status.Schema files requests sources [] (Followed files command) _ ends.0 (
         breaks rule b.0 b.1 b.2,
         b.3,
-        ap₂ (λ (name shown : List ℕ). refuses status.Schema (import_line rule name shown)) b.4 b.5,
+        ap₂ (λ (name shown : List ℕ). refuses status.Schema (import_line rule name shown)) (sym (ap (λ (o : Option (List ℕ)). unwrap_or o []) b.4)) b.5,
       )
   broken_answers files sources loads refusal.Memory ends b command = tt
   broken_answers files sources loads refusal.ReadFault ends b command = absurd b
@@ -158,6 +178,18 @@ module _ (tree : SyntaxQuery) where
   declared_fails library sources loads (Err (refusal.Document file fault)) h = absurd h
   declared_fails library sources loads (Err (refusal.Dynamic code)) h = absurd h
 
+  declared_names : (sources : List Source) (loads : List (List ℕ)) (result : Result SchemaSet Refusal) → loads ≡ names → DeclaresIn names sources result → IfErr result (NamesOneOf loads)
+  declared_names sources loads (Ok schemas) same h = tt
+  declared_names sources loads (Err (refusal.Schema rule file construct)) same h = subst (λ (ns : List (List ℕ)). IsOneOfLoads ns (string_bytes file)) (sym same) (one_of_loads names h.0 (string_bytes file) h.4)
+  declared_names sources loads (Err refusal.Memory) same h = tt
+  declared_names sources loads (Err refusal.ReadFault) same h = absurd h
+  declared_names sources loads (Err refusal.TooLong) same h = absurd h
+  declared_names sources loads (Err (refusal.Query code place)) same h = absurd h
+  declared_names sources loads (Err (refusal.SchemaFile file fault)) same h = absurd h
+  declared_names sources loads (Err (refusal.Binding fault)) same h = absurd h
+  declared_names sources loads (Err (refusal.Document file fault)) same h = absurd h
+  declared_names sources loads (Err (refusal.Dynamic code)) same h = absurd h
+
   declared_imports : (library : LibraryUse) (read : Result (List Source) DocumentsError) (result : Result SchemaSet Refusal) → ReadSources library names read → DeclaresSo names read result → ImportsSo library tree result
   declared_imports library (Ok sources) result read h =
       let rest = declared_fails library sources read.loads result h in
@@ -168,6 +200,7 @@ module _ (tree : SyntaxQuery) where
         told = told_so (library.files library.before) (λ files. EndsWith files requests read.loads (Ok sources)) (λ files. OutcomeLoads (DocumentsLoaded files requests) read.loads result)
             (λ files ends. declared_loads files sources read.loads result ends h) read.told;
         failed = rest.0;
+        of_loads = declared_names sources read.loads result (read.up_to ∙ files_of_sources names) h;
         own = rest.1;
       }
   declared_imports library (Err error) result read h = subst (λ (r : Result SchemaSet Refusal). ImportsSo library tree r) (sym h) (unread_imports library error read)
@@ -184,6 +217,7 @@ module _ (tree : SyntaxQuery) where
     answers = told_always (library.files library.before) (λ files. Answered files (Err refusal.Memory)) (λ files command. tt);
     told = told_always (library.files library.before) (λ files. OutcomeLoads {V = SchemaSet} (DocumentsLoaded files requests) [] (Err refusal.Memory)) (λ files whole k. (whole, refl));
     failed = tt;
+    of_loads = tt;
     own = tt;
   }
 

@@ -1,11 +1,12 @@
 -- The promises of the program, from the course that a run takes.
-use Rattle.std.proofs.Common.{◌≡◌, ℕ, Bool, true, false, List, [], ◌⊎◌, inl, inr, length, Option, Some, None, refl, sym, ◌∙◌, ap, subst, arith, nat_le}
+use Rattle.std.proofs.Common.{◌≡◌, ℕ, Bool, true, false, List, [], ◌∷◌, ◌++◌, ◌⊎◌, inl, inr, length, Option, Some, None, refl, sym, ◌∙◌, ap, subst, arith, nat_le}
 use Rattle.std.specs.Bool.{MatchBool}
 use Rattle.std.specs.Str.{chars}
 use Rattle.gx_subtype.specs.Comparison.{IsAnswerText}
 use Rattle.std.proofs.lemmas.List.{append-nil, take_all}
 use Rattle.std.proofs.lemmas.Bool.{leb-true}
 use Rattle.gx_base.specs.declared.code.Code.TheVariants.{GLXS0001}
+use Rattle.gx_io.specs.LibraryUse.{LoadsOnly}
 use Rattle.gx_io.specs.Put.{GrowsBy}
 use Rattle.gx_io.specs.SinkUse.{SinkUse, IsUntouched, Grew, GrewByPrefix, SinkFailed, Took, TookPart}
 use Rattle.gx_schema.specs.Laws.{ImportsAreOne}
@@ -13,17 +14,18 @@ use Rattle.gx_processor.specs.declared.status.Status.{Status}
 use Rattle.gx_processor.specs.declared.status.Status.TheVariants.{Done, Usage, Query, Schema, Document, Dynamic, ReadFault, WriteFault, Memory}
 use Rattle.gx_processor.specs.declared.reply.Reply.{Reply}
 use Rattle.gx_processor.specs.declared.reply.Reply.TheVariants.{Output, Fault, Starved}
-use Rattle.gx_processor.specs.Command.{Command, texts_to_compare, AskToRun}
+use Rattle.gx_processor.specs.Command.{Command, run_file, check_file, command_of, texts_to_compare, AskOfQuery, AskToRun}
 use Rattle.gx_processor.specs.FaultLines.{line, read_fault_line, write_fault_line, code_line}
 use Rattle.gx_processor.specs.Answer.{Answer, writes, refuses, status_of, output_of, AnswersBytes, Answers}
 use Rattle.gx_processor.specs.Ending.{Put, PutOutput, Ends}
-use Rattle.gx_processor.specs.Replies.{HasForm, IsMisuse, IsMisbinding, IsAsked, IsUsageOrStarved}
+use Rattle.gx_processor.specs.Replies.{HasForm, IsMisuse, IsMisbinding, TellsOf, TellsOfSchema, IsAsked, IsUsageOrStarved}
+use Rattle.gx_processor.specs.Loading.{loads_behind, MayLoad}
 use Rattle.gx_documents.specs.Documents.{Files}
-use Rattle.gx_processor.specs.Run.{Run, WhereTold, IsFaultless}
+use Rattle.gx_processor.specs.Run.{Run, WhereTold, IsFaultless, LoadsQuery}
 use Rattle.gx_processor.specs.Promises.{IsCertain, IsCutShort, LeavesAnswer, IsAnswered, MayFollowOutput, PutsOutput, IsLineOf, of_write_fault, of_read_fault, of_refusal, PutsLine, OutputAfter, LineAfter, FailsToWrite, FailsToRead, IsTooLong, ComparesTexts}
 use Rattle.gx_processor.proofs.AnswerLemmas.{answer_unique, answer_at, no_texts, same_parts}
 use Rattle.gx_processor.proofs.Told.{told_so, told_always}
-use Rattle.gx_processor.proofs.Course.{Course, to_output, to_read_fault, to_refusal, to_no_memory}
+use Rattle.gx_processor.proofs.Course.{Loaded, Course, to_output, to_read_fault, to_refusal, to_no_memory}
 
 -- growth by nothing, and by the whole
 nothing_grows : (before : Option (List ℕ)) → GrowsBy before before []
@@ -77,7 +79,7 @@ answer_promised run (to_output bytes asked a p) =
 answer_promised run (to_read_fault file f rose u p) =
     told_always (run.library.files run.library.before) (λ files. IsCertain run.status → IsAnswered run files)
     (λ files c. absurd (subst IsCertain (put_is_of_it ReadFault (read_fault_line file) run.status run.err c p).0 c))
-answer_promised run (to_refusal status line form a u p) =
+answer_promised run (to_refusal status line form l a u p) =
     told_so (run.library.files run.library.before) (λ files. Answers run.words files (refuses status line)) (λ files. IsCertain run.status → IsAnswered run files)
     (λ files h c. refusal_answered run files status line h u p c) a
 answer_promised run (to_no_memory m u v) =
@@ -98,7 +100,7 @@ puts_line run status line cause p = record { line = line; cause = cause; put = p
 pub output_put_promised : (run : Run) → Course run → IsUntouched run.out ⊎ PutsOutput run
 output_put_promised run (to_output bytes asked a p) = inr (puts_output run bytes a p)
 output_put_promised run (to_read_fault file f rose u p) = inl u
-output_put_promised run (to_refusal status line form a u p) = inl u
+output_put_promised run (to_refusal status line form l a u p) = inl u
 output_put_promised run (to_no_memory m u v) = inl u
 
 pub line_put_promised : (run : Run) → Course run → IsUntouched run.err ⊎ PutsLine run
@@ -106,7 +108,7 @@ line_put_promised run (to_output bytes asked a (inl p)) = inl p.2
 line_put_promised run (to_output bytes asked a (inr (inl p))) = inl p.2
 line_put_promised run (to_output bytes asked a (inr (inr (part, failed, p)))) = inr (puts_line run WriteFault write_fault_line (of_write_fault failed refl) p)
 line_put_promised run (to_read_fault file f rose u p) = inr (puts_line run ReadFault (read_fault_line file) (of_read_fault file f refl) p)
-line_put_promised run (to_refusal status line form a u p) = inr (puts_line run status line (of_refusal status form a) p)
+line_put_promised run (to_refusal status line form l a u p) = inr (puts_line run status line (of_refusal status form a) p)
 line_put_promised run (to_no_memory m u v) = inl v
 
 -- what holds of a status that a put of a line ends with
@@ -134,21 +136,59 @@ output_promised run (to_output bytes asked a (inr (inr (part, failed, p)))) =
     put_ends (λ (s : Status). OutputAfter s run) WriteFault write_fault_line run.status run.err (λ _. inr failed) (λ _. inr failed) tt p
 output_promised run (to_read_fault file f rose u p) =
     put_ends (λ (s : Status). OutputAfter s run) ReadFault (read_fault_line file) run.status run.err (λ _. u) (λ _. inl u) tt p
-output_promised run (to_refusal status line form a u p) =
+output_promised run (to_refusal status line form l a u p) =
     put_ends (λ (s : Status). OutputAfter s run) status line run.status run.err (λ _. form_output run status line form u) (λ _. inl u) tt p
 output_promised run (to_no_memory m u v) = subst (λ (s : Status). OutputAfter s run) (sym m) tt
 
+-- the file of the query was loaded first
+query_behind : (run : Run) (names : List (List ℕ)) (command : Command) → command_of run.words ≡ Some command → LoadsOnly run.library names → MayLoad (Some command) names
+    → (others : List (List ℕ)) × LoadsQuery run others × (loads_behind names ≡ others)
+query_behind run names (check_file name) asked loaded may = (
+  may.0,
+  record { command = check_file name; asked = asked; loaded = subst (λ (ns : List (List ℕ)). LoadsOnly run.library ns) may.1 loaded },
+  ap loads_behind may.1,
+)
+query_behind run names (run_file name bindings) asked loaded may = (
+  may.0 ++ may.1,
+  record { command = run_file name bindings; asked = asked; loaded = subst (λ (ns : List (List ℕ)). LoadsOnly run.library ns) may.2 loaded },
+  ap loads_behind may.2,
+)
+
+query_loaded : (run : Run) (status : Status) (line : List ℕ) → AskOfQuery run.words → Loaded run status line → (others : List (List ℕ)) × LoadsQuery run others × TellsOf others status line
+query_loaded run status line asked l =
+    let q = query_behind run l.names asked.0 asked.1 l.loaded (subst (λ (o : Option Command). MayLoad o l.names) asked.1 l.may) in
+    (q.0, q.1, subst (λ (ns : List (List ℕ)). TellsOf ns status line) q.2 l.tells)
+
+-- and then a file of schemas, of which the line tells
+some_loaded : (others : List (List ℕ)) (file : List ℕ) (front behind : List (List ℕ)) → others ≡ front ++ (file ∷ behind) → (first : List ℕ) × (rest : List (List ℕ)) × (others ≡ first ∷ rest)
+some_loaded others file [] behind e = (file, behind, e)
+some_loaded others file (first ∷ front) behind e = (first, front ++ (file ∷ behind), e)
+
+schema_told : (others : List (List ℕ)) (line : List ℕ) → TellsOfSchema others line → (first : List ℕ) × (rest : List (List ℕ)) × (others ≡ first ∷ rest)
+schema_told others line (file, inl t) = some_loaded others file t.0.0 [] t.0.1
+schema_told others line (file, inr t) = some_loaded others file t.0.0 t.0.1 t.0.2
+
+schema_loaded : (run : Run) (line : List ℕ) → AskOfQuery run.words → Loaded run Schema line → (file : List ℕ) × (others : List (List ℕ)) × LoadsQuery run (file ∷ others)
+schema_loaded run line asked l =
+    let q = query_loaded run Schema line asked l in
+    let some = schema_told q.0 line q.2 in
+    (some.0, some.1, subst (λ (ns : List (List ℕ)). LoadsQuery run ns) some.2 q.1)
+
+-- a run is a command over a query
+run_of_query : (words : List (List ℕ)) → AskToRun words → AskOfQuery words
+run_of_query words h = (run_file h.0 h.1, h.2)
+
 -- the line after each status
-form_line : (run : Run) (status : Status) (line : List ℕ) → HasForm run.words status line → Took run.err line → LineAfter status run
-form_line run Usage line form t = (line, form, t)
-form_line run Query line form t = (line, form, t)
-form_line run Dynamic line form t = (form.1.0, subst (λ (xs : List ℕ). Took run.err xs) form.1.1 t)
-form_line run Done line form t = absurd form
-form_line run Schema line form t = (line, form, t)
-form_line run Document line form t = (line, form.1, t)
-form_line run ReadFault line form t = absurd form
-form_line run WriteFault line form t = absurd form
-form_line run Memory line form t = absurd form
+form_line : (run : Run) (status : Status) (line : List ℕ) → HasForm run.words status line → Loaded run status line → Took run.err line → LineAfter status run
+form_line run Usage line form l t = (line, form, t)
+form_line run Query line form l t = (line, form.1, t)
+form_line run Dynamic line form l t = (form.1.0, subst (λ (xs : List ℕ). Took run.err xs) form.1.1 t)
+form_line run Done line form l t = absurd form
+form_line run Schema line form l t = let q = query_loaded run Schema line form.0 l in (q.0, q.1, line, q.2, t)
+form_line run Document line form l t = let q = query_loaded run Document line (run_of_query run.words form.0) l in (q.0, q.1, line, q.2, t)
+form_line run ReadFault line form l t = absurd form
+form_line run WriteFault line form l t = absurd form
+form_line run Memory line form l t = absurd form
 
 pub line_promised : (run : Run) → Course run → LineAfter run.status run
 line_promised run (to_output bytes asked a (inl p)) = subst (λ (s : Status). LineAfter s run) (sym p.0) p.2
@@ -157,8 +197,8 @@ line_promised run (to_output bytes asked a (inr (inr (part, failed, p)))) =
     put_ends (λ (s : Status). LineAfter s run) WriteFault write_fault_line run.status run.err (λ t. inl t) (λ lost. inr lost) tt p
 line_promised run (to_read_fault file f rose u p) =
     put_ends (λ (s : Status). LineAfter s run) ReadFault (read_fault_line file) run.status run.err (λ t. (file, t)) (λ lost. inr lost) tt p
-line_promised run (to_refusal status line form a u p) =
-    put_ends (λ (s : Status). LineAfter s run) status line run.status run.err (form_line run status line form) (λ lost. inr lost) tt p
+line_promised run (to_refusal status line form l a u p) =
+    put_ends (λ (s : Status). LineAfter s run) status line run.status run.err (form_line run status line form l) (λ lost. inr lost) tt p
 line_promised run (to_no_memory m u v) = subst (λ (s : Status). LineAfter s run) (sym m) tt
 
 -- a part of the output
@@ -173,28 +213,30 @@ part_promised single run (to_output bytes asked a p) =
     told_so (run.library.files run.library.before) (λ files. Answers run.words files (writes bytes)) (PartOfOutput run)
     (λ files h answer k cut. subst (λ (b : Answer). GrewByPrefix run.out (output_of b)) (answer_unique single run.words files (writes bytes) answer h k) (output_part bytes run.status run.out run.err p).1) a
 part_promised single run (to_read_fault file f rose u p) = untouched_is_part run u
-part_promised single run (to_refusal status line form a u p) = untouched_is_part run u
+part_promised single run (to_refusal status line form l a u p) = untouched_is_part run u
 part_promised single run (to_no_memory m u v) = untouched_is_part run u
 
 -- the cause of each status
 abbrev pub CauseOf : Run → Status → Type 0
 CauseOf run Usage = (line : List ℕ) × (IsMisuse run.words line ⊎ IsMisbinding run.words line)
+CauseOf run Query = (others : List (List ℕ)) × LoadsQuery run others
+CauseOf run Schema = (file : List ℕ) × (others : List (List ℕ)) × LoadsQuery run (file ∷ others)
 CauseOf run Document = AskToRun run.words
 CauseOf run Dynamic = AskToRun run.words
 CauseOf run ReadFault = FailsToRead run
 CauseOf run WriteFault = FailsToWrite run
 CauseOf run _ = Unit {0}
 
-form_cause : (run : Run) (status : Status) (line : List ℕ) → HasForm run.words status line → CauseOf run status
-form_cause run Usage line form = (line, form)
-form_cause run Query line form = tt
-form_cause run Dynamic line form = form.0
-form_cause run Done line form = absurd form
-form_cause run Schema line form = tt
-form_cause run Document line form = form.0
-form_cause run ReadFault line form = absurd form
-form_cause run WriteFault line form = absurd form
-form_cause run Memory line form = absurd form
+form_cause : (run : Run) (status : Status) (line : List ℕ) → HasForm run.words status line → Loaded run status line → CauseOf run status
+form_cause run Usage line form l = (line, form)
+form_cause run Query line form l = let q = query_loaded run Query line form.0 l in (q.0, q.1)
+form_cause run Dynamic line form l = form.0
+form_cause run Done line form l = absurd form
+form_cause run Schema line form l = schema_loaded run line form.0 l
+form_cause run Document line form l = form.0
+form_cause run ReadFault line form l = absurd form
+form_cause run WriteFault line form l = absurd form
+form_cause run Memory line form l = absurd form
 
 pub cause_promised : (run : Run) → Course run → CauseOf run run.status
 cause_promised run (to_output bytes asked a (inl p)) = subst (CauseOf run) (sym p.0) tt
@@ -205,8 +247,8 @@ cause_promised run (to_output bytes asked a (inr (inr (part, failed, p)))) =
 cause_promised run (to_read_fault file f rose u p) =
     put_ends (CauseOf run) ReadFault (read_fault_line file) run.status run.err (λ t. (file, f, t))
     (λ lost. inr (puts_line run ReadFault (read_fault_line file) (of_read_fault file f refl) p, lost)) tt p
-cause_promised run (to_refusal status line form a u p) =
-    put_ends (CauseOf run) status line run.status run.err (λ _. form_cause run status line form)
+cause_promised run (to_refusal status line form l a u p) =
+    put_ends (CauseOf run) status line run.status run.err (λ _. form_cause run status line form l)
     (λ lost. inr (puts_line run status line (of_refusal status form a) p, lost)) tt p
 cause_promised run (to_no_memory m u v) = subst (CauseOf run) (sym m) tt
 
@@ -253,9 +295,9 @@ faultless_is_certain run (to_output bytes asked a (inl p)) f = inl (subst IsCert
 faultless_is_certain run (to_output bytes asked a (inr (inl p))) f = inr p.0
 faultless_is_certain run (to_output bytes asked a (inr (inr p))) f = absurd (f.out p.1)
 faultless_is_certain run (to_read_fault file g rose u p) f = absurd (f.library rose)
-faultless_is_certain run (to_refusal status line form a u (inl p)) f = inl (subst IsCertain (sym p.0) (form_certain run.words status line form))
-faultless_is_certain run (to_refusal status line form a u (inr (inl p))) f = absurd (f.err p.2)
-faultless_is_certain run (to_refusal status line form a u (inr (inr p))) f = inr p.0
+faultless_is_certain run (to_refusal status line form l a u (inl p)) f = inl (subst IsCertain (sym p.0) (form_certain run.words status line form))
+faultless_is_certain run (to_refusal status line form l a u (inr (inl p))) f = absurd (f.err p.2)
+faultless_is_certain run (to_refusal status line form l a u (inr (inr p))) f = inr p.0
 faultless_is_certain run (to_no_memory m u v) f = inr m
 
 abbrev pub AnsweredOrStarved : Run → Files → Type 0
@@ -301,5 +343,5 @@ compared_promised run (to_output bytes asked a (inl p)) left right e done =
 compared_promised run (to_output bytes asked a (inr (inl p))) left right e done = cc p.0
 compared_promised run (to_output bytes asked a (inr (inr (part, failed, p)))) left right e done = absurd (put_ends NotDone WriteFault write_fault_line run.status run.err (λ _ e. cc) (λ _ e. cc) (λ e. cc) p done)
 compared_promised run (to_read_fault file f rose u p) left right e done = absurd (put_ends NotDone ReadFault (read_fault_line file) run.status run.err (λ _ e. cc) (λ _ e. cc) (λ e. cc) p done)
-compared_promised run (to_refusal status line form a u p) left right e done = absurd (put_ends NotDone status line run.status run.err (λ _. form_not_done run.words status line form) (λ _ e. cc) (λ e. cc) p done)
+compared_promised run (to_refusal status line form l a u p) left right e done = absurd (put_ends NotDone status line run.status run.err (λ _. form_not_done run.words status line form) (λ _ e. cc) (λ e. cc) p done)
 compared_promised run (to_no_memory m u v) left right e done = cc

@@ -52,6 +52,7 @@ promised run reply laws v =
     let faultless : WhereTold run (λ files. IsFaultless run → AnsweredOrStarved run files) =
     told_so told (λ files. IsCertain run.status → IsAnswered run files) _ (λ files a f. faultless_answered run course files a f) answer in
     record {
+      told = v.told;
       answer = answer;
       loads = loads_promised laws.single run reply v;
       output_put = output_put_promised run course;
@@ -61,6 +62,8 @@ promised run reply laws v =
       part = part_promised laws.single run course;
       usage = λ e. subst (CauseOf run) e (cause_promised run course);
       usage_always = λ line misuse. usage_promised reply run.status run.out run.err (v.usage line misuse) v.ends;
+      query = λ e. subst (CauseOf run) e (cause_promised run course);
+      schema = λ e. subst (CauseOf run) e (cause_promised run course);
       document = λ e. subst (CauseOf run) e (cause_promised run course);
       dynamic = λ e. subst (CauseOf run) e (cause_promised run course);
       read_fault = λ e. subst (CauseOf run) e (cause_promised run course);

@@ -20,7 +20,7 @@ use Rattle.gx_processor.specs.NamedQuery.{named_query, query_named}
 use Rattle.gx_processor.specs.Query.{ImportsSchemas, HoldsQuery}
 use Rattle.gx_processor.specs.QueryReplies.{HoldsNone, HoldsThisTree, IsOfTree, TreeSo, QuerySo}
 use Rattle.gx_processor.specs.SchemaFiles.{schema_requests}
-use Rattle.gx_processor.specs.Replies.{RefusesSo, IsOfRules, IsOfText, IsOfQuery, AreFirst, RefusalLoads, OutcomeFailed}
+use Rattle.gx_processor.specs.Replies.{RefusesSo, IsOfRules, IsOfText, IsOfQuery, AreFirst, NamesOneOf, RefusalLoads, OutcomeFailed}
 use Rattle.gx_processor.proofs.CommandLoads.{before, behind, loads_append, failed_behind, one_tree, first_behind, query_begins, RefusedAlways}
 use Rattle.gx_processor.proofs.LoadLemmas.{one_load, whole_is_front}
 use Rattle.gx_processor.proofs.QueryLemmas.{refuses_through, schemas_answer, tree_in_file}
@@ -65,6 +65,17 @@ module _ (library : LibraryUse) (tree : SyntaxQuery) where
   under_rest loads (refusal.Document file fault) own = absurd own
   under_rest loads (refusal.Dynamic code) own = absurd own
 
+  under_names : (loads : List (List ℕ)) (e : Refusal) → IsOfRules e → NamesOneOf loads e
+  under_names loads (refusal.Query code place) own = tt
+  under_names loads refusal.Memory own = tt
+  under_names loads refusal.ReadFault own = absurd own
+  under_names loads refusal.TooLong own = absurd own
+  under_names loads (refusal.SchemaFile file fault) own = absurd own
+  under_names loads (refusal.Schema rule file name) own = absurd own
+  under_names loads (refusal.Binding fault) own = absurd own
+  under_names loads (refusal.Document file fault) own = absurd own
+  under_names loads (refusal.Dynamic code) own = absurd own
+
   -- the query under the schemas
   pub tree_under : (schemas : SchemaSet) (result : Result TypedQuery Refusal) → ImportsSo library tree (Ok schemas) → IfOk result (λ query. query.schemas ≡ schemas) → IfOk result (λ query. query_named schemas tree ≡ named_query (plain_query query.core))
       → IfErr result (RefusedUnder schemas) → IfErr result IsOfRules → TreeSo library tree result
@@ -75,6 +86,7 @@ module _ (library : LibraryUse) (tree : SyntaxQuery) where
     named = subst (λ (s : SchemaSet). query_named s tree ≡ named_query (plain_query query.core)) (sym same) named;
     told = i.told;
     failed = tt;
+    of_loads = tt;
     own = tt;
   }
   tree_under schemas (Err e) i same named refused own =
@@ -86,6 +98,7 @@ module _ (library : LibraryUse) (tree : SyntaxQuery) where
         named = tt;
         told = told_so (library.files library.before) (λ files. Loaded files i.loads) (λ files. RefusalLoads (Loaded files) i.loads e) (λ files h. under_loads files i.loads e own h) i.told;
         failed = rest.0;
+        of_loads = under_names i.loads e own;
         own = rest.1;
       }
 
@@ -107,7 +120,7 @@ module _ (library : LibraryUse) (tree : SyntaxQuery) where
   pub tree_unimported : (e : Refusal) → ImportsSo library tree (Err e) → TreeSo library tree (Err e)
   tree_unimported e i =
       let rest = import_rest i.loads e i.failed i.own in
-      record { loads = i.loads; loaded = i.loaded; answers = i.answers; named = tt; told = i.told; failed = rest.0; own = rest.1 }
+      record { loads = i.loads; loaded = i.loaded; answers = i.answers; named = tt; told = i.told; failed = rest.0; of_loads = i.of_loads; own = rest.1 }
 
 -- ---- from a file
 
@@ -133,6 +146,17 @@ text_own (refusal.Schema rule file construct) Rose own = absurd own
 text_own (refusal.Binding fault) Rose own = absurd own
 text_own (refusal.Document file fault) Rose own = absurd own
 text_own (refusal.Dynamic code) Rose own = absurd own
+
+text_names : (e : Refusal) (Rose : Type 0) → IsOfText Rose e → NamesOneOf [] e
+text_names refusal.ReadFault Rose own = tt
+text_names refusal.Memory Rose own = tt
+text_names refusal.TooLong Rose own = tt
+text_names (refusal.Query code place) Rose own = tt
+text_names (refusal.SchemaFile file fault) Rose own = absurd own
+text_names (refusal.Schema rule file construct) Rose own = absurd own
+text_names (refusal.Binding fault) Rose own = absurd own
+text_names (refusal.Document file fault) Rose own = absurd own
+text_names (refusal.Dynamic code) Rose own = absurd own
 
 text_fails : (library : LibraryUse) (name : List ℕ) (e : Refusal) → LoadsOnly library (name ∷ []) → IsOfText (LibraryFailed library) e → OutcomeFailed {V = TypedQuery} library name (name ∷ []) (Err e)
 text_fails library name refusal.ReadFault loads rose = record {
@@ -167,6 +191,7 @@ query_unread library name e loads refused none own = record {
   refused = refused;
   told = told_so (library.files library.before) (λ files. HoldsNone files name e) (λ files. RefusalLoads (QueryLoads files name) (name ∷ []) e) (λ files h. text_loads files name e (LibraryFailed library) own h) none;
   failed = text_fails library name e loads own;
+  of_loads = text_names e (LibraryFailed library) own;
   own = text_own e (LibraryFailed library) own;
 }
 
@@ -256,6 +281,7 @@ module _ (library : LibraryUse) (between : library.Library) (name : List ℕ) (t
       told = both_told (library.files library.before) (λ files. HoldsThisTree files name tree) (λ files. DocumentsLoaded files (schema_requests tree) t.loads) (λ files. QueryLoads files name (name ∷ t.loads))
           (λ files h k. this_tree files t.loads h k) held (told_there (λ files. DocumentsLoaded files (schema_requests tree) t.loads) t.told);
       failed = tt;
+      of_loads = tt;
       own = tt;
     }
     query_of_tree (Err e) t = record {
@@ -268,5 +294,6 @@ module _ (library : LibraryUse) (between : library.Library) (name : List ℕ) (t
       told = both_told (library.files library.before) (λ files. HoldsThisTree files name tree) (λ files. RefusalLoads (DocumentsLoaded files (schema_requests tree)) t.loads e) (λ files. RefusalLoads (QueryLoads files name) (name ∷ t.loads) e)
           (λ files h k. tree_loads files t.loads e t.own h k) held (told_there (λ files. RefusalLoads (DocumentsLoaded files (schema_requests tree)) t.loads e) t.told);
       failed = tree_fails t.loads e l counted t.own t.failed;
+      of_loads = t.of_loads;
       own = tree_own e t.own;
     }

@@ -41,8 +41,8 @@ pub query_formed : (words : List (List ℕ)) (command : Command) (r : Reply) →
 query_formed words command (Output text) e h = inl (command, e)
 query_formed words command (Fault status.Done line) e h = absurd h
 query_formed words command (Fault status.Usage line) e h = inr ((h.0.0, h.0.1, e ∙ ap Some h.0.2), h.1)
-query_formed words command (Fault status.Query line) e h = h
-query_formed words command (Fault status.Schema line) e h = h
+query_formed words command (Fault status.Query line) e h = ((command, e), h)
+query_formed words command (Fault status.Schema line) e h = ((command, e), h)
 query_formed words command (Fault status.Document line) e h = ((h.0.0, h.0.1, e ∙ ap Some h.0.2), h.1)
 query_formed words command (Fault status.Dynamic line) e h = ((h.0.0, h.0.1, e ∙ ap Some h.0.2), h.1)
 query_formed words command (Fault status.ReadFault line) e h = tt
@@ -180,18 +180,18 @@ refusal_formed command refusal.ReadFault r h k = fault_formed command status.Rea
 refusal_formed command refusal.TooLong r h k = fault_formed command status.Query (code_line GLXS0001) r h (inl refl)
 refusal_formed command (refusal.Query code place) r h k = fault_formed command status.Query (placed_line code place) r h (inr (code, place, refl))
 refusal_formed command (refusal.SchemaFile name faults.Unread) r h k = fault_formed command status.ReadFault (read_fault_line (string_bytes name)) r h tt
-refusal_formed command (refusal.SchemaFile name faults.TooLong) r h k = fault_formed command status.Schema (long_document_line (string_bytes name)) r h (inl (inl (string_bytes name, refl)))
+refusal_formed command (refusal.SchemaFile name faults.TooLong) r h k = fault_formed command status.Schema (long_document_line (string_bytes name)) r h (inl (string_bytes name, inl refl))
 refusal_formed command (refusal.SchemaFile name (faults.Refused rule place)) r h k =
-    fault_formed command status.Schema (document_line rule (string_bytes name) place) r h (inl (inr (rule, string_bytes name, place, refl)))
+    fault_formed command status.Schema (document_line rule (string_bytes name) place) r h (inl (string_bytes name, inr (rule, place, refl)))
 refusal_formed command (refusal.SchemaFile name (faults.Invalid rule path)) r h k = absurd k
 refusal_formed command (refusal.Schema rule name construct) r h k =
-    fault_formed command status.Schema (import_line rule (string_bytes name) construct) r h (inr (rule, string_bytes name, construct, refl))
+    fault_formed command status.Schema (import_line rule (string_bytes name) construct) r h (inr (string_bytes name, (rule, construct, refl)))
 refusal_formed command (refusal.Binding fault) r h k = fault_formed command status.Usage (binding_line (plain_fault fault)) r h (k, (plain_fault fault, refl))
 refusal_formed command (refusal.Document name faults.Unread) r h k = fault_formed command status.ReadFault (read_fault_line (string_bytes name)) r h tt
-refusal_formed command (refusal.Document name faults.TooLong) r h k = fault_formed command status.Document (long_document_line (string_bytes name)) r h (k, inl (inl (string_bytes name, refl)))
+refusal_formed command (refusal.Document name faults.TooLong) r h k = fault_formed command status.Document (long_document_line (string_bytes name)) r h (k, (string_bytes name, inl (inl refl)))
 refusal_formed command (refusal.Document name (faults.Refused rule place)) r h k =
-    fault_formed command status.Document (document_line rule (string_bytes name) place) r h (k, inl (inr (rule, string_bytes name, place, refl)))
+    fault_formed command status.Document (document_line rule (string_bytes name) place) r h (k, (string_bytes name, inl (inr (rule, place, refl))))
 refusal_formed command (refusal.Document name (faults.Invalid rule path)) r h k =
-    fault_formed command status.Document (invalid_line rule (string_bytes name) path) r h (k, inr (rule, string_bytes name, path, refl))
+    fault_formed command status.Document (invalid_line rule (string_bytes name) path) r h (k, (string_bytes name, inr (rule, path, refl)))
 refusal_formed command (refusal.Dynamic code) r h k = fault_formed command status.Dynamic (code_line code) r h (k, (code, refl))
 refusal_formed command refusal.Memory r h k = subst (λ (z : Reply). IsQueryReply command z) (sym h) tt

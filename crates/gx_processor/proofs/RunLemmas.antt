@@ -1,5 +1,5 @@
 -- What a run of a query that has a type says, from the reading of its documents.
-use Rattle.std.proofs.Common.{◌≡◌, ℕ, Bool, true, false, ◌||◌, List, [], ◌∷◌, ◌++◌, map, Option, Some, None, Result, Ok, Err, String, inl, inr, refl, sym, ◌∙◌, ap, subst, string_bytes, if◌then◌else◌}
+use Rattle.std.proofs.Common.{◌≡◌, ℕ, Bool, true, false, ◌||◌, List, [], ◌∷◌, ◌++◌, map, Option, Some, None, Result, Ok, Err, String, IfErr, inl, inr, refl, sym, ◌∙◌, ap, subst, string_bytes, if◌then◌else◌}
 use Rattle.std.specs.Prelude.{bytes_eq}
 use Rattle.std.specs.Bool.{MatchBool}
 use Rattle.gx_base.specs.declared.code.Code.TheVariants.{SENR0001}
@@ -18,7 +18,7 @@ use Rattle.gx_documents.specs.declared.documents.DocumentsError.TheVariants.{Fai
 use Rattle.gx_documents.specs.Bindings.{Misbound, misbound, first_wrong, first_missing, first_fault, bound_name, bound_file, file_bound, files_bound, is_one_of, missing}
 use Rattle.gx_documents.specs.BindingView.{plain_fault}
 use Rattle.gx_documents.specs.Documents.{Files, Asked, Request, DocumentsLoaded, tree_requests}
-use Rattle.gx_documents.specs.Reading.{EndsWith, HasReadFault, ReadDocuments}
+use Rattle.gx_documents.specs.Reading.{EndsWith, HasReadFault, LoadsUpTo, ReadDocuments}
 use Rattle.gx_processor.specs.declared.refusal.Refusal.{Refusal}
 use Rattle.gx_processor.specs.declared.refusal.Refusal.TheVariants as refusal
 use Rattle.gx_processor.specs.declared.status.Status.TheVariants as status
@@ -26,7 +26,7 @@ use Rattle.gx_processor.specs.Answer.{Answer, refuses, can_be_written, AnswersEv
 use Rattle.gx_processor.specs.Externals.{external_words, documents_asked, documents_bound}
 use Rattle.gx_processor.specs.FaultLines.{placed_line}
 use Rattle.gx_processor.specs.Loading.{BoundLoads, RunLoads, AreBoundFiles, AreFirstOf}
-use Rattle.gx_processor.specs.Replies.{RefusesSo, OutcomeLoads, AreFirst}
+use Rattle.gx_processor.specs.Replies.{RefusesSo, NamesOneOf, OutcomeLoads, AreFirst}
 use Rattle.gx_processor.specs.RunReplies.{AnswersSo, IsOfRun, FailsAtDocument, IsMisboundSo, IsEvaluated, unread, BindFiles, Follows, ReadSo, RunsSo}
 use Rattle.std.proofs.lemmas.Slice.Eq.{bytes_eq-Decides}
 use Rattle.gx_processor.proofs.AskedDocuments.{files_of_bound}
@@ -105,6 +105,7 @@ module _ (library : LibraryUse) (bindings : List (List ℕ)) (schemas : SchemaSe
     told = told_always (library.files library.before) (λ files. Loaded files [])
         (λ files. subst (λ (writable : Bool). MatchBool writable (BoundLoads files (misbound externals bindings) requests []) (◌≡◌ {A = List (List ℕ)} [] [])) (sym unwritable) refl);
     failed = tt;
+    of_loads = tt;
     own = tt;
   }
 
@@ -116,6 +117,7 @@ module _ (library : LibraryUse) (bindings : List (List ℕ)) (schemas : SchemaSe
     answers = told_always (library.files library.before) (λ files. Unit {0}) (λ files. tt);
     told = told_always (library.files library.before) (λ files. AreFirst (Loaded files) []) (λ files loads h. (loads, refl));
     failed = tt;
+    of_loads = tt;
     own = tt;
   }
 
@@ -143,6 +145,7 @@ module _ (library : LibraryUse) (bindings : List (List ℕ)) (schemas : SchemaSe
     answers = told_always (library.files library.before) (λ files. RefusesSo (refusal.Binding fault) (Answered files)) (λ files. writable_answers files (Some (plain_fault fault)) _ yes' found refl);
     told = told_always (library.files library.before) (λ files. Loaded files []) (λ files. writable_loads files (Some (plain_fault fault)) [] yes' found refl);
     failed = tt;
+    of_loads = tt;
     own = tt;
   }
 
@@ -192,6 +195,18 @@ module _ (library : LibraryUse) (bindings : List (List ℕ)) (schemas : SchemaSe
   evaluated_own (Err refusal.ReadFault) own = absurd own
   evaluated_own (Err refusal.TooLong) own = absurd own
 
+  evaluated_names : {Z : Type 0} (loads : List (List ℕ)) (result : Result (String Z) Refusal) → IsEvaluated result → IfErr result (NamesOneOf loads)
+  evaluated_names loads (Ok text) own = tt
+  evaluated_names loads (Err (refusal.Dynamic code)) own = tt
+  evaluated_names loads (Err refusal.Memory) own = tt
+  evaluated_names loads (Err (refusal.Query code place)) own = absurd own
+  evaluated_names loads (Err (refusal.SchemaFile file fault)) own = absurd own
+  evaluated_names loads (Err (refusal.Schema rule file name)) own = absurd own
+  evaluated_names loads (Err (refusal.Binding fault)) own = absurd own
+  evaluated_names loads (Err (refusal.Document file fault)) own = absurd own
+  evaluated_names loads (Err refusal.ReadFault) own = absurd own
+  evaluated_names loads (Err refusal.TooLong) own = absurd own
+
   refusal_answers : (files : Files) (loads : List (List ℕ)) (error : DocumentsError) → can_be_written schemas core ≡ true → misbound externals bindings ≡ None
       → EndsWith files requests loads (Err error) → RefusesSo (unread error) (Answered files)
   refusal_answers files loads (Failed file faults.Unread) yes' found ends = tt
@@ -227,6 +242,10 @@ module _ (library : LibraryUse) (bindings : List (List ℕ)) (schemas : SchemaSe
   refusal_fails Z loads (Failed file (faults.Invalid rule path)) f = tt
   refusal_fails Z loads NoMemory f = tt
 
+  refusal_names : (loads : List (List ℕ)) (error : DocumentsError) → LoadsUpTo requests loads (Err error) → NamesOneOf loads (unread error)
+  refusal_names loads (Failed file fault) u = u
+  refusal_names loads NoMemory u = tt
+
   refusal_own : (Z : Type 0) (error : DocumentsError) → IsOfRun {V = String Z} (Err (unread error))
   refusal_own Z (Failed file fault) = tt
   refusal_own Z NoMemory = tt
@@ -243,6 +262,7 @@ module _ (library : LibraryUse) (bindings : List (List ℕ)) (schemas : SchemaSe
     told = told_so (library.files library.before) (λ files. EndsWith files requests read.loads (Err error)) (λ files. OutcomeLoads {V = String Z} (Loaded files) read.loads (Err (unread error)))
         (λ files ends. refusal_loads Z files read.loads error yes' found ends) read.told;
     failed = refusal_fails Z read.loads error read.failed;
+    of_loads = refusal_names read.loads error read.up_to;
     own = refusal_own Z error;
   }
 
@@ -257,6 +277,7 @@ module _ (library : LibraryUse) (bindings : List (List ℕ)) (schemas : SchemaSe
     told = told_so (library.files library.before) (λ files. EndsWith files requests read.loads (Ok forest)) (λ files. OutcomeLoads (Loaded files) read.loads result)
         (λ files ends. evaluated_loads files forest read.loads result yes' found own ends) read.told;
     failed = evaluated_fails read.loads result own;
+    of_loads = evaluated_names read.loads result own;
     own = evaluated_own result own;
   }
 

@@ -23,9 +23,9 @@ use Rattle.gx_processor.specs.Command.{Command, run_file, check_file, query_file
 use Rattle.gx_processor.specs.Ending.{Ends}
 use Rattle.gx_processor.specs.Externals.{external_words, documents_bound}
 use Rattle.gx_processor.specs.FaultLines.{read_fault_line, code_line, placed_line, binding_line, long_document_line, document_line, invalid_line, import_line}
-use Rattle.gx_processor.specs.Loading.{BoundLoads, RunLoads, BehindQuery, CommandLoads, LoadsAsked}
+use Rattle.gx_processor.specs.Loading.{BoundLoads, RunLoads, BehindQuery, CommandLoads, LoadsAsked, loads_behind}
 use Rattle.gx_processor.specs.Promises.{IsCertain}
-use Rattle.gx_processor.specs.Replies.{IsFaultOrStarved, IsComparison, IsReplyOf, AreFirst, ReplyLoads, ReplyFailed, LoadFailed, LoadsSo, RefusalLoads, RefusalFailed, OutputLoads}
+use Rattle.gx_processor.specs.Replies.{IsFaultOrStarved, IsComparison, IsReplyOf, TellsOf, ReplyTells, NamesOneOf, AreFirst, ReplyLoads, ReplyFailed, LoadFailed, LoadsSo, RefusalLoads, RefusalFailed, OutputLoads}
 use Rattle.gx_processor.proofs.CommandLoads.{one_query, one_typing, one_query_load}
 use Rattle.gx_processor.proofs.LoadLemmas.{one_load, whole_is_front}
 use Rattle.gx_processor.proofs.PromiseLemmas.{put_is_of_it}
@@ -112,8 +112,8 @@ idle_told names (Fault status.WriteFault line) e = e
 idle_told names (Fault status.Memory line) e = e
 idle_told names Starved e = λ loads f. whole_is_front names loads (e ∙ sym f)
 
-idle_loads : (library : LibraryUse) (asked : Option Command) (r : Reply) → library.after ≡ library.before → asked ≡ None → ReplyFailed library [] r → LoadsSo library asked r
-idle_loads library asked r untouched none f =
+idle_loads : (library : LibraryUse) (asked : Option Command) (r : Reply) → library.after ≡ library.before → asked ≡ None → ReplyFailed library [] r → ReplyTells [] r → LoadsSo library asked r
+idle_loads library asked r untouched none f tells =
     subst (λ (o : Option Command). LoadsSo library o r) (sym none)
     (record {
       names = [];
@@ -121,6 +121,7 @@ idle_loads library asked r untouched none f =
       may = refl;
       told = told_always (library.files library.before) (λ files. ReplyLoads (LoadsAsked files None) [] r) (λ files. idle_told [] r refl);
       failed = f;
+      of_loads = tells;
     })
 
 usage_unfailed : (library : LibraryUse) (line : List ℕ) (r : Reply) → IsFaultOrStarved status.Usage line r → ReplyFailed library [] r
@@ -135,11 +136,23 @@ comparison_unfailed library left right (Fault status.ReadFault text) h = cc h.0
 comparison_unfailed library left right (Fault _ text) h = tt
 comparison_unfailed library left right Starved h = tt
 
+-- a line that names what it is of
+fault_tells : (loads : List (List ℕ)) (told : Status) (line : List ℕ) (r : Reply) → IsFaultOrStarved told line r → TellsOf loads told line → ReplyTells loads r
+fault_tells loads told line (Output text) h k = tt
+fault_tells loads told line (Fault here text) h k =
+    subst (λ (z : Status). TellsOf loads z (string_bytes text)) (sym h.0) (subst (λ (xs : List ℕ). TellsOf loads told xs) (sym h.1) k)
+fault_tells loads told line Starved h k = tt
+
+comparison_tells : (left right : List ℕ) (r : Reply) → IsComparison left right r → ReplyTells [] r
+comparison_tells left right (Output text) h = tt
+comparison_tells left right (Fault told text) h = subst (λ (z : Status). TellsOf [] z (string_bytes text)) (sym h.0) tt
+comparison_tells left right Starved h = tt
+
 pub misuse_loads : (library : LibraryUse) (asked : Option Command) (line : List ℕ) (r : Reply) → library.after ≡ library.before → asked ≡ None → IsFaultOrStarved status.Usage line r → LoadsSo library asked r
-misuse_loads library asked line r untouched none h = idle_loads library asked r untouched none (usage_unfailed library line r h)
+misuse_loads library asked line r untouched none h = idle_loads library asked r untouched none (usage_unfailed library line r h) (fault_tells [] status.Usage line r h tt)
 
 pub comparison_loads : (library : LibraryUse) (asked : Option Command) (left right : List ℕ) (r : Reply) → library.after ≡ library.before → asked ≡ None → IsComparison left right r → LoadsSo library asked r
-comparison_loads library asked left right r untouched none h = idle_loads library asked r untouched none (comparison_unfailed library left right r h)
+comparison_loads library asked left right r untouched none h = idle_loads library asked r untouched none (comparison_unfailed library left right r h) (comparison_tells left right r h)
 
 -- ---- a reply to a refusal
 
@@ -218,6 +231,23 @@ refusal_failed library command names (refusal.Document file (faults.Invalid rule
 refusal_failed library command names (refusal.Dynamic code) r h k = fault_unfailed library names status.Dynamic (code_line code) r (λ e. cc) h
 refusal_failed library command names refusal.Memory r h k = subst (λ (z : Reply). ReplyFailed library names z) (sym h) tt
 
+refusal_tells : (command : Command) (loads : List (List ℕ)) (e : Refusal) (r : Reply) → IsReplyOf (query_file command) e r → NamesOneOf loads e → ReplyTells loads r
+refusal_tells command loads refusal.ReadFault r h n = fault_tells loads status.ReadFault (read_fault_line (query_file command)) r h tt
+refusal_tells command loads refusal.TooLong r h n = fault_tells loads status.Query (code_line GLXS0001) r h tt
+refusal_tells command loads (refusal.Query code place) r h n = fault_tells loads status.Query (placed_line code place) r h tt
+refusal_tells command loads (refusal.SchemaFile file faults.Unread) r h n = fault_tells loads status.ReadFault (read_fault_line (string_bytes file)) r h tt
+refusal_tells command loads (refusal.SchemaFile file faults.TooLong) r h n = fault_tells loads status.Schema (long_document_line (string_bytes file)) r h (string_bytes file, inl (n.0, inl refl))
+refusal_tells command loads (refusal.SchemaFile file (faults.Refused rule place)) r h n = fault_tells loads status.Schema (document_line rule (string_bytes file) place) r h (string_bytes file, inl (n.0, inr (rule, place, refl)))
+refusal_tells command loads (refusal.SchemaFile file (faults.Invalid rule path)) r h n = absurd n.1
+refusal_tells command loads (refusal.Schema rule file construct) r h n = fault_tells loads status.Schema (import_line rule (string_bytes file) construct) r h (string_bytes file, inr (n, (rule, construct, refl)))
+refusal_tells command loads (refusal.Binding fault) r h n = fault_tells loads status.Usage (binding_line (plain_fault fault)) r h tt
+refusal_tells command loads (refusal.Document file faults.Unread) r h n = fault_tells loads status.ReadFault (read_fault_line (string_bytes file)) r h tt
+refusal_tells command loads (refusal.Document file faults.TooLong) r h n = fault_tells loads status.Document (long_document_line (string_bytes file)) r h (string_bytes file, n, inl (inl refl))
+refusal_tells command loads (refusal.Document file (faults.Refused rule place)) r h n = fault_tells loads status.Document (document_line rule (string_bytes file) place) r h (string_bytes file, n, inl (inr (rule, place, refl)))
+refusal_tells command loads (refusal.Document file (faults.Invalid rule path)) r h n = fault_tells loads status.Document (invalid_line rule (string_bytes file) path) r h (string_bytes file, n, inr (rule, path, refl))
+refusal_tells command loads (refusal.Dynamic code) r h n = fault_tells loads status.Dynamic (code_line code) r h tt
+refusal_tells command loads refusal.Memory r h n = subst (λ (z : Reply). ReplyTells loads z) (sym h) tt
+
 pub refusal_loads : ImportsAreOne → {V : Type 0} (library : LibraryUse) (command : Command) (e : Refusal) (r : Reply) → IsReplyOf (query_file command) e r → OutputLoads {V = V} library command (Err e) → LoadsSo library (Some command) r
 refusal_loads single library command e r h l = record {
   names = l.names;
@@ -226,4 +256,5 @@ refusal_loads single library command e r h l = record {
   told = told_so (library.files library.before) (λ files. RefusalLoads (CommandLoads files command) l.names e) (λ files. ReplyLoads (LoadsAsked files (Some command)) l.names r)
       (λ files k. refusal_told single files command l.names e r h k) l.told;
   failed = refusal_failed library command l.names e r h l.failed;
+  of_loads = refusal_tells command (loads_behind l.names) e r h l.of_loads;
 }

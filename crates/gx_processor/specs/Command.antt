@@ -44,6 +44,10 @@ command_of _ = None
 abbrev pub IsRunCommand : Command → Type 0
 IsRunCommand command = (name : List ℕ) × (bindings : List (List ℕ)) × (command ≡ run_file name bindings)
 
+-- the words name a command over a query
+abbrev pub AskOfQuery : List (List ℕ) → Type 0
+AskOfQuery words = (command : Command) × (command_of words ≡ Some command)
+
 -- the words are `run FILE NAME=FILE ..`
 abbrev pub AskToRun : List (List ℕ) → Type 0
 AskToRun words = (name : List ℕ) × (bindings : List (List ℕ)) × (command_of words ≡ Some (run_file name bindings))

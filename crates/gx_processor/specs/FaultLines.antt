@@ -72,9 +72,11 @@ abbrev pub document_line : XmlRule → List ℕ → Place → List ℕ
 document_line rule file place = line (xml_rule_name rule ++ codes " in " ++ file ++ codes " at " ++ decimal place.line ++ codes ":" ++ decimal place.column)
 
 -- the line of a file that holds no document
+abbrev pub IsReaderLineIn : (file told : List ℕ) → Type 0
+IsReaderLineIn file told = (told ≡ long_document_line file) ⊎ ((rule : XmlRule) × (place : Place) × (told ≡ document_line rule file place))
+
 abbrev pub IsReaderLine : List ℕ → Type 0
-IsReaderLine told =
-    ((file : List ℕ) × (told ≡ long_document_line file)) ⊎ ((rule : XmlRule) × (file : List ℕ) × (place : Place) × (told ≡ document_line rule file place))
+IsReaderLine told = (file : List ℕ) × IsReaderLineIn file told
 
 -- the rules of validity
 abbrev pub invalid_rule_name : InvalidRule → List ℕ
@@ -92,8 +94,11 @@ abbrev pub invalid_line : InvalidRule → (file path : List ℕ) → List ℕ
 invalid_line rule file path = line (invalid_rule_name rule ++ codes " in " ++ file ++ codes " at " ++ encode_utf8_all path)
 
 -- the line of a refused document
+abbrev pub IsDocumentLineIn : (file told : List ℕ) → Type 0
+IsDocumentLineIn file told = IsReaderLineIn file told ⊎ ((rule : InvalidRule) × (path : List ℕ) × (told ≡ invalid_line rule file path))
+
 abbrev pub IsDocumentLine : List ℕ → Type 0
-IsDocumentLine told = IsReaderLine told ⊎ ((rule : InvalidRule) × (file : List ℕ) × (path : List ℕ) × (told ≡ invalid_line rule file path))
+IsDocumentLine told = (file : List ℕ) × IsDocumentLineIn file told
 
 -- the rules that refuse schema files
 abbrev pub schema_rule_name : SchemaRule → List ℕ
@@ -119,9 +124,13 @@ shown_with schema_rules.TooManyPairs name list = name
 abbrev pub import_line : SchemaRule → (file shown : List ℕ) → List ℕ
 import_line rule file shown = line (schema_rule_name rule ++ codes " in " ++ file ++ codes ": " ++ encode_utf8_all shown)
 
+-- the line of a rule that a schema file breaks
+abbrev pub IsImportLineIn : (file told : List ℕ) → Type 0
+IsImportLineIn file told = (rule : SchemaRule) × (shown : List ℕ) × (told ≡ import_line rule file shown)
+
 -- the line of refused schema files
 abbrev pub IsSchemaLine : List ℕ → Type 0
-IsSchemaLine told = IsReaderLine told ⊎ ((rule : SchemaRule) × (file : List ℕ) × (shown : List ℕ) × (told ≡ import_line rule file shown))
+IsSchemaLine told = IsReaderLine told ⊎ ((file : List ℕ) × IsImportLineIn file told)
 
 abbrev pub write_fault_line : List ℕ
 write_fault_line = line (codes "WriteFault")

@@ -1,5 +1,5 @@
 -- What the schemas that a query imports say, from the reading of their files.
-use Rattle.std.specs.Prelude.{◌≡◌, ℕ, List, IfSome, IfErr, Result, Ok, Err, MatchResult}
+use Rattle.std.specs.Prelude.{◌≡◌, ℕ, List, Some, slice_get, IfSome, IfErr, Result, Ok, Err, MatchResult}
 use Rattle.std.specs.String.{string_bytes}
 use Rattle.gx_types.specs.SchemaSet.{SchemaSet}
 use Rattle.gx_io.specs.LibraryUse.{LibraryUse, LoadsOnly}
@@ -18,8 +18,8 @@ use Rattle.gx_processor.specs.Answer.{AnswersSchemas}
 use Rattle.gx_processor.specs.Command.{Command}
 use Rattle.gx_processor.specs.FaultLines.{read_fault_line, shown_with}
 use Rattle.gx_processor.specs.Query.{ImportsSchemas}
-use Rattle.gx_processor.specs.SchemaFiles.{schema_requests, file_name_at}
-use Rattle.gx_processor.specs.Replies.{RefusesSo, IsOfReader, OutcomeLoads, LoadFailed}
+use Rattle.gx_processor.specs.SchemaFiles.{schema_requests}
+use Rattle.gx_processor.specs.Replies.{RefusesSo, IsOfReader, NamesOneOf, OutcomeLoads, LoadFailed}
 
 -- a schema file holds no document, or memory is wanting
 abbrev pub unread_schema : DocumentsError → Refusal
@@ -29,7 +29,7 @@ unread_schema NoMemory = refusal.Memory
 -- files of these names break a rule, or memory is wanting
 abbrev pub BreaksRule : (names : List (List ℕ)) → List Source → Refusal → Type 0
 BreaksRule names sources (refusal.Schema rule file shown) =
-    (number : ℕ) × (name : List ℕ) × (list : List Shape) × IsImported sources (breaks rule number name list) × (string_bytes file ≡ file_name_at names number) × (shown ≡ shown_with rule name list)
+    (number : ℕ) × (name : List ℕ) × (list : List Shape) × IsImported sources (breaks rule number name list) × (slice_get names number ≡ Some (string_bytes file)) × (shown ≡ shown_with rule name list)
 BreaksRule names sources refusal.Memory = Unit {0}
 BreaksRule names sources _ = ⊥
 
@@ -69,4 +69,5 @@ pub record ImportsSo (library : LibraryUse) (tree : Query) (result : Result Sche
   pub answers : AnswersImport library tree (λ schemas. schemas) result
   pub told : IfSome (library.files library.before) (λ files. OutcomeLoads (DocumentsLoaded files (schema_requests tree)) loads result)
   pub failed : FailsAtSchema library loads result
+  pub of_loads : IfErr result (NamesOneOf loads)
   pub own : IfErr result IsOfImport

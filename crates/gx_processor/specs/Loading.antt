@@ -64,6 +64,15 @@ abbrev pub AreBoundFiles : (bindings documents : List (List ℕ)) → Type 0
 AreBoundFiles bindings [] = Unit {0}
 AreBoundFiles bindings (file ∷ files) = (is_one_of (map bound_file bindings) file ≡ true) × AreBoundFiles bindings files
 
+-- the file of this name is one of the loads
+abbrev pub IsOneOfLoads : (loads : List (List ℕ)) → (file : List ℕ) → Type 0
+IsOneOfLoads loads file = (front : List (List ℕ)) × (behind : List (List ℕ)) × (loads ≡ front ++ (file ∷ behind))
+
+-- the loads behind the first
+abbrev pub loads_behind : List (List ℕ) → List (List ℕ)
+loads_behind [] = []
+loads_behind (file ∷ files) = files
+
 -- whatever the files are: the file of the query comes first, and then the files that it imports, and those that words bind
 abbrev pub MayLoad : Option Command → (loads : List (List ℕ)) → Type 0
 MayLoad None loads = loads ≡ []

@@ -1,5 +1,5 @@
 -- What the public call promises of each run.
-use Rattle.std.specs.Prelude.{◌≡◌, ℕ, ◌<◌, List, length, Some, ◌⊎◌}
+use Rattle.std.specs.Prelude.{◌≡◌, ℕ, ◌<◌, List, ◌∷◌, length, Some, ◌⊎◌}
 use Rattle.gx_base.specs.declared.code.Code.{Code}
 use Rattle.gx_base.specs.declared.code.Code.TheVariants.{GLXS0001}
 use Rattle.gx_io.specs.Load.{file_of}
@@ -9,14 +9,14 @@ use Rattle.gx_processor.specs.declared.status.Status.{Status}
 use Rattle.gx_processor.specs.declared.status.Status.TheVariants.{Done, Usage, Query, Schema, Document, Dynamic, ReadFault, WriteFault, Memory}
 use Rattle.gx_processor.specs.Answer.{Answer, writes, refuses, Answers, status_of, output_of}
 use Rattle.gx_processor.specs.Command.{Command, query_file, command_of, texts_to_compare, AskToRun}
-use Rattle.gx_processor.specs.FaultLines.{line, read_fault_line, code_line, IsQueryLine, IsSchemaLine, IsDocumentLine, write_fault_line}
+use Rattle.gx_processor.specs.FaultLines.{line, read_fault_line, code_line, IsQueryLine, write_fault_line}
 use Rattle.gx_processor.specs.Headline.{RunsTyped, ChecksTyped, RunsAsChecked, RejectsUntyped}
 use Rattle.std.specs.Str.{chars}
 use Rattle.gx_subtype.specs.Comparison.{IsAnswerText}
 use Rattle.gx_documents.specs.Documents.{Files}
 use Rattle.gx_processor.specs.Loading.{LoadsOf, AreFirstOf, MayLoad}
-use Rattle.gx_processor.specs.Replies.{HasForm, IsMisuse, IsMisbinding}
-use Rattle.gx_processor.specs.Run.{Run, WhereTold, IsFaultless, FailsToLoad}
+use Rattle.gx_processor.specs.Replies.{HasForm, IsMisuse, IsMisbinding, TellsOfSchema, TellsOfDocument}
+use Rattle.gx_processor.specs.Run.{Run, WhereTold, IsFaultless, LoadsQuery, FailsToLoad}
 use Rattle.gx_base.specs.declared.limits.TheConstants.{FILE_BYTES}
 
 -- neither a fault outside nor want of memory ended the run
@@ -82,7 +82,7 @@ OutputAfter Document run = IsUntouched run.out
 OutputAfter Dynamic run = IsUntouched run.out
 OutputAfter ReadFault run = IsUntouched run.out
 
--- the fault line after each status: one line, of the form that the status has
+-- the fault line after each status: one line, of the form that the status has, of a file that was loaded behind that of the query
 abbrev pub LineAfter : Status → Run → Type 0
 LineAfter Done run = IsUntouched run.err
 LineAfter Usage run = (line : List ℕ) × (IsMisuse run.words line ⊎ IsMisbinding run.words line) × Took run.err line
@@ -91,8 +91,8 @@ LineAfter Dynamic run = (code : Code) × Took run.err (code_line code)
 LineAfter ReadFault run = (file : List ℕ) × Took run.err (read_fault_line file)
 LineAfter WriteFault run = Took run.err write_fault_line ⊎ SinkFailed run.err
 LineAfter Memory run = Unit {0}
-LineAfter Schema run = (line : List ℕ) × IsSchemaLine line × Took run.err line
-LineAfter Document run = (line : List ℕ) × IsDocumentLine line × Took run.err line
+LineAfter Schema run = (others : List (List ℕ)) × LoadsQuery run others × (line : List ℕ) × TellsOfSchema others line × Took run.err line
+LineAfter Document run = (others : List (List ℕ)) × LoadsQuery run others × (line : List ℕ) × TellsOfDocument others line × Took run.err line
 
 -- a put failed: that of the output, or that of a line
 abbrev pub FailsToWrite : Run → Type 0
@@ -128,6 +128,8 @@ pub record LoadsSteps (run : Run) : Type 0 where
   pub first : WhereTold run (λ files. (loads : List (List ℕ)) → LoadsOf run.words files loads → AreFirstOf names loads)
 
 pub record Promises (run : Run) : Type 0 where
+  -- A library tells the same files before and after.
+  pub told : run.library.files run.library.after ≡ run.library.files run.library.before
   -- Unless a fault outside or want of memory ends the run, it ends with the answer.
   pub answer : WhereTold run (λ files. IsCertain run.status → IsAnswered run files)
   -- The calls: the loads of the answer's steps, and at most one put to each sink.
@@ -141,6 +143,8 @@ pub record Promises (run : Run) : Type 0 where
   -- When each status comes.
   pub usage : run.status ≡ Usage → (line : List ℕ) × (IsMisuse run.words line ⊎ IsMisbinding run.words line)
   pub usage_always : (line : List ℕ) → IsMisuse run.words line → (run.status ≡ Usage) ⊎ IsCutShort run.status
+  pub query : run.status ≡ Query → (others : List (List ℕ)) × LoadsQuery run others
+  pub schema : run.status ≡ Schema → (file : List ℕ) × (others : List (List ℕ)) × LoadsQuery run (file ∷ others)
   pub document : run.status ≡ Document → AskToRun run.words
   pub dynamic : run.status ≡ Dynamic → AskToRun run.words
   pub read_fault : run.status ≡ ReadFault → FailsToRead run

@@ -12,11 +12,11 @@ use Rattle.gx_processor.specs.declared.refusal.Refusal.TheVariants as refusal
 use Rattle.gx_processor.specs.Answer.{AnswersFile}
 use Rattle.gx_processor.specs.Command.{Command}
 use Rattle.gx_processor.specs.ImportReplies.{AnswersImport, FailsAtSchema}
-use Rattle.gx_processor.specs.Loading.{QueryLoads}
+use Rattle.gx_processor.specs.Loading.{QueryLoads, loads_behind}
 use Rattle.gx_processor.specs.NamedQuery.{named_query, query_named}
 use Rattle.gx_processor.specs.Query.{IsTreeOf, HoldsSyntax, HoldsQuery}
 use Rattle.gx_processor.specs.SchemaFiles.{schema_requests}
-use Rattle.gx_processor.specs.Replies.{RefusesSo, IsOfQuery, IsOfReader, OutcomeLoads, OutcomeFailed}
+use Rattle.gx_processor.specs.Replies.{RefusesSo, IsOfQuery, IsOfReader, NamesOneOf, OutcomeLoads, OutcomeFailed}
 
 -- a file holds a query with this tree
 abbrev pub HoldsThisTree : Files → (name : List ℕ) → Query → Type 0
@@ -55,6 +55,7 @@ pub record TreeSo (library : LibraryUse) (tree : Query) (result : Result TypedQu
   pub named : IfOk result (λ query. query_named query.schemas tree ≡ named_query (plain_query query.core))
   pub told : IfSome (library.files library.before) (λ files. OutcomeLoads (DocumentsLoaded files (schema_requests tree)) loads result)
   pub failed : FailsAtSchema library loads result
+  pub of_loads : IfErr result (NamesOneOf loads)
   pub own : IfErr result IsOfTree
 
 -- the query in a file
@@ -66,4 +67,5 @@ pub record QuerySo (library : LibraryUse) (file : List ℕ) (result : Result Typ
   pub refused : IfSome (library.files library.before) (λ files. IfErr result (λ e. (command : Command) → RefusesSo e (AnswersFile files command (file_of files file))))
   pub told : IfSome (library.files library.before) (λ files. OutcomeLoads (QueryLoads files file) loads result)
   pub failed : OutcomeFailed library file loads result
+  pub of_loads : IfErr result (NamesOneOf (loads_behind loads))
   pub own : IfErr result IsOfQuery

@@ -1,5 +1,5 @@
 -- What a reply says of the answer.
-use Rattle.std.specs.Prelude.{◌≡◌, ℕ, List, [], ◌∷◌, ◌++◌, Option, Some, IfSome, Result, Ok, Err, ◌⊎◌}
+use Rattle.std.specs.Prelude.{◌≡◌, ℕ, List, [], ◌∷◌, ◌++◌, Option, Some, IfSome, IfErr, Result, Ok, Err, ◌⊎◌}
 use Rattle.std.specs.String.{string_bytes}
 use Rattle.gx_base.specs.declared.code.Code.{Code}
 use Rattle.gx_base.specs.declared.code.Code.TheVariants.{GLXS0001}
@@ -15,10 +15,11 @@ use Rattle.gx_documents.specs.declared.documents.DocumentFault.{DocumentFault}
 use Rattle.gx_documents.specs.declared.documents.DocumentFault.TheVariants as faults
 use Rattle.gx_documents.specs.Bindings.{Misbound}
 use Rattle.gx_documents.specs.BindingView.{plain_fault}
+use Rattle.gx_documents.specs.Reading.{IsLastLoad}
 use Rattle.gx_io.specs.LibraryUse.{LibraryUse, LoadsOnly, LibraryFailed, LastLoadFailed}
-use Rattle.gx_processor.specs.Command.{Command, query_file, command_of, texts_to_compare, NameNoCommand, AskToRun, IsRunCommand}
-use Rattle.gx_processor.specs.Loading.{CommandLoads, LoadsAsked, AreFirstOf, MayLoad}
-use Rattle.gx_processor.specs.FaultLines.{usage_line, read_fault_line, code_line, placed_line, binding_line, long_document_line, document_line, invalid_line, import_line, IsQueryLine, IsSchemaLine, IsDocumentLine}
+use Rattle.gx_processor.specs.Command.{Command, query_file, command_of, texts_to_compare, NameNoCommand, AskOfQuery, AskToRun, IsRunCommand}
+use Rattle.gx_processor.specs.Loading.{CommandLoads, LoadsAsked, AreFirstOf, IsOneOfLoads, loads_behind, MayLoad}
+use Rattle.gx_processor.specs.FaultLines.{usage_line, read_fault_line, code_line, placed_line, binding_line, long_document_line, document_line, invalid_line, import_line, IsQueryLine, IsReaderLineIn, IsImportLineIn, IsSchemaLine, IsDocumentLineIn, IsDocumentLine}
 
 -- a refusal of the query, of the words that bind or of a document, or a dynamic error is the answer; a read fault and want of memory say nothing of it
 abbrev pub RefusesSo : Refusal → (Answer → Type 0) → Type 0
@@ -96,14 +97,14 @@ IsMisuse words line =
 abbrev pub IsMisbinding : List (List ℕ) → List ℕ → Type 0
 IsMisbinding words line = AskToRun words × ((fault : Misbound) × (line ≡ binding_line fault))
 
--- the form of the line of a refusal, and when it can be given: only the words make it Usage, and only a run looks at bindings and
--- documents and is Dynamic
+-- the form of the line of a refusal, and when it can be given: only the words make it Usage, only a command over a query is Query or
+-- Schema, and only a run looks at bindings and documents and is Dynamic
 abbrev pub HasForm : List (List ℕ) → Status → List ℕ → Type 0
 HasForm words status.Usage line = IsMisuse words line ⊎ IsMisbinding words line
-HasForm words status.Query line = IsQueryLine line
+HasForm words status.Query line = AskOfQuery words × IsQueryLine line
 HasForm words status.Dynamic line = AskToRun words × ((code : Code) × (line ≡ code_line code))
 HasForm words status.Done line = ⊥
-HasForm words status.Schema line = IsSchemaLine line
+HasForm words status.Schema line = AskOfQuery words × IsSchemaLine line
 HasForm words status.Document line = AskToRun words × IsDocumentLine line
 HasForm words status.ReadFault line = ⊥
 HasForm words status.WriteFault line = ⊥
@@ -185,6 +186,34 @@ IsQueryReply command (Output text) = Unit {0}
 IsQueryReply command (Fault told line) = IsQueryForm command told (string_bytes line)
 IsQueryReply command Starved = Unit {0}
 
+-- ---- the files that lines name
+
+-- the line of refused schema files names the one of these that was loaded last, or, where a rule for schemas is broken, one of them
+abbrev pub TellsOfSchema : (loads : List (List ℕ)) → (line : List ℕ) → Type 0
+TellsOfSchema loads line = (file : List ℕ) × ((IsLastLoad loads file × IsReaderLineIn file line) ⊎ (IsOneOfLoads loads file × IsImportLineIn file line))
+
+-- the line of a refused document names the one of these that was loaded last
+abbrev pub TellsOfDocument : (loads : List (List ℕ)) → (line : List ℕ) → Type 0
+TellsOfDocument loads line = (file : List ℕ) × IsLastLoad loads file × IsDocumentLineIn file line
+
+-- the file that a line names, by the status
+abbrev pub TellsOf : (loads : List (List ℕ)) → Status → (line : List ℕ) → Type 0
+TellsOf loads status.Schema line = TellsOfSchema loads line
+TellsOf loads status.Document line = TellsOfDocument loads line
+TellsOf loads _ line = Unit {0}
+
+abbrev pub ReplyTells : (loads : List (List ℕ)) → Reply → Type 0
+ReplyTells loads (Output text) = Unit {0}
+ReplyTells loads (Fault told line) = TellsOf loads told (string_bytes line)
+ReplyTells loads Starved = Unit {0}
+
+-- likewise of a refusal
+abbrev pub NamesOneOf : (loads : List (List ℕ)) → Refusal → Type 0
+NamesOneOf loads (refusal.SchemaFile file fault) = IsLastLoad loads (string_bytes file) × IsOfReader fault
+NamesOneOf loads (refusal.Schema rule file name) = IsOneOfLoads loads (string_bytes file)
+NamesOneOf loads (refusal.Document file fault) = IsLastLoad loads (string_bytes file)
+NamesOneOf loads _ = Unit {0}
+
 -- ---- loads
 
 -- the files were loaded in front of this one, and its load was the last and failed
@@ -217,6 +246,7 @@ pub record LoadsSo (library : LibraryUse) (asked : Option Command) (reply : Repl
   pub may : MayLoad asked names
   pub told : IfSome (library.files library.before) (λ files. ReplyLoads (LoadsAsked files asked) names reply)
   pub failed : ReplyFailed library names reply
+  pub of_loads : ReplyTells (loads_behind names) reply
 
 -- likewise of a refusal of a command
 
@@ -247,3 +277,4 @@ pub record OutputLoads {V : Type 0} (library : LibraryUse) (command : Command) (
   pub may : MayLoad (Some command) names
   pub told : IfSome (library.files library.before) (λ files. OutcomeLoads (CommandLoads files command) names result)
   pub failed : OutcomeFailed library (query_file command) names result
+  pub of_loads : IfErr result (NamesOneOf (loads_behind names))

@@ -1,5 +1,5 @@
 -- What the run of a query that has a type says.
-use Rattle.std.specs.Prelude.{◌≡◌, ℕ, List, Option, None, Some, IfSome, Result, Ok, Err, String}
+use Rattle.std.specs.Prelude.{◌≡◌, ℕ, List, Option, None, Some, IfSome, IfErr, Result, Ok, Err, String}
 use Rattle.std.specs.String.{string_bytes}
 use Rattle.gx_core.specs.Queries.{Core, TypedCore, CoreDeclaration}
 use Rattle.gx_core.specs.QueryMeaning.{plain_query, query_type}
@@ -21,7 +21,7 @@ use Rattle.gx_processor.specs.Answer.{Answer, writes, AnswersEvaluated, AnswersR
 use Rattle.gx_processor.specs.Externals.{external_words}
 use Rattle.gx_processor.specs.Loading.{RunLoads, AreBoundFiles}
 use Rattle.gx_processor.specs.FaultLines.{read_fault_line}
-use Rattle.gx_processor.specs.Replies.{RefusesSo, OutcomeLoads, LoadFailed}
+use Rattle.gx_processor.specs.Replies.{RefusesSo, NamesOneOf, OutcomeLoads, LoadFailed}
 
 abbrev pub AnswersSo : {Z : Type 0} → (Answer → Type 0) → Result (String Z) Refusal → Type 0
 AnswersSo Answered (Ok text) = Answered (writes (string_bytes text))
@@ -46,6 +46,7 @@ pub record RunsSo {Z : Type 0} (library : LibraryUse) (bindings : List (List ℕ
   pub answers : IfSome (library.files library.before) (λ files. AnswersSo (AnswersRun files bindings schemas (plain_query core) core) result)
   pub told : IfSome (library.files library.before) (λ files. OutcomeLoads (RunLoads files bindings schemas (plain_query core) core) names result)
   pub failed : FailsAtDocument library names result
+  pub of_loads : IfErr result (NamesOneOf names)
   pub own : IsOfRun result
 
 -- the words bind the external variables wrongly, or memory is wanting

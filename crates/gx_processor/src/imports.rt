@@ -1,6 +1,6 @@
 // The schemas that a query imports.
 
-ghost use Rattle.std.specs.Prelude.{◌≡◌, ◌≤◌, ◌++◌, codes, map, string_bytes, IfOk, OnOk};
+ghost use Rattle.std.specs.Prelude.{◌≡◌, ◌≤◌, ◌++◌, codes, map, slice_get, string_bytes, Some, IfOk, OnOk};
 ghost use Rattle.std.specs.Str.{encode_utf8_all};
 ghost use Rattle.gx_typetext.specs.NameText.{word};
 ghost use Rattle.gx_typetext.specs.ShapeText.{shapes_text};
@@ -9,7 +9,7 @@ ghost use Rattle.gx_types.specs.SchemaInvariant.{IsSchemaSet};
 ghost use Rattle.gx_documents.specs.BindingView.{word_bytes};
 ghost use Rattle.gx_processor.specs.FaultLines.{shown_with};
 ghost use Rattle.gx_processor.specs.ImportReplies.{DeclaredSo, DeclaresIn, ImportsSo, unread_schema};
-ghost use Rattle.gx_processor.specs.SchemaFiles.{files_named, file_name_at, schema_files};
+ghost use Rattle.gx_processor.specs.SchemaFiles.{files_named, schema_files};
 
 use crate::refusal::Refusal;
 use gx_ast::query::{Query, Setting, SettingNode};
@@ -117,13 +117,13 @@ fn with_list(alloc: Global, name: &Text, list: &[Shape]) -> Result<Text, AllocEr
     shown.finish()
 }
 
-// The name of the file of a number.
+// The name of the file of a number, which is that of one of the files.
 fn file_name_at(alloc: Global, files: &[String], number: u32) -> Result<String, AllocError>
-    ensures { IfOk result (λ name. string_bytes name ≡ file_name_at (word_bytes files.now) number) }
+    ensures { IfOk result (λ name. slice_get (word_bytes files.now) number ≡ Some (string_bytes name)) }
 {
     match files.get(number as usize) {
         Some(name) => String::from_str(alloc, name.as_str()),
-        None => Ok(String::new(alloc)),
+        None => Err(AllocError),
     }
 }
 

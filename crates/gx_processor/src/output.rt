@@ -31,6 +31,7 @@ pub fn output<L: Library>(
     library: &mut L,
 ) -> Result<String, Refusal>
     ensures loads { OutputLoads (library_use L.files L.faults L.was_loaded library.old library.new) (plain_command command.entry) result }
+    ensures told { L.files library.new ≡ L.files library.old }
     ensures counted { L.faults library.old ≤ L.faults library.new }
     ensures output { IfSome (L.files library.old) (λ files. IfOk result
         (λ text. AnswersCommand files (Some (plain_command command.entry)) (writes (string_bytes text)))) }
@@ -55,6 +56,7 @@ fn typed_output<L: Library>(
     requires schemas { IsSchemaSet query.schemas }
     requires sound { IsSoundQuery query.schemas query.core }
     requires externals { ExternalsAreDocuments query.schemas (plain_query query.core).declarations }
+    ensures told { L.files library.new ≡ L.files library.old }
     ensures counted { L.faults library.old ≤ L.faults library.new }
     ensures typed { TypedSo (library_use L.files L.faults L.was_loaded library.old library.new) (plain_command command.entry) query.schemas query.core result }
 {

@@ -74,6 +74,7 @@ pub fn galax<L: Library, O: Sink, E: Sink>(
 
 // What the program replies to its words.
 fn reply_to<L: Library>(alloc: Global, words: &[String], library: &mut L) -> Reply
+    ensures told { L.files library.new ≡ L.files library.old }
     ensures counted { L.faults library.old ≤ L.faults library.new }
     ensures loads { LoadsSo (library_use L.files L.faults L.was_loaded library.old library.new) (command_of (bytes_of words.now)) result }
     ensures answer { IfSome (L.files library.old) (λ files. RepliesSo result (Answers (bytes_of words.now) files)) }
@@ -91,6 +92,7 @@ fn reply_to<L: Library>(alloc: Global, words: &[String], library: &mut L) -> Rep
 
 // What the program replies to a command over a query.
 fn query_reply<L: Library>(alloc: Global, command: Command<'_>, library: &mut L) -> Reply
+    ensures told { L.files library.new ≡ L.files library.old }
     ensures counted { L.faults library.old ≤ L.faults library.new }
     ensures loads { LoadsSo (library_use L.files L.faults L.was_loaded library.old library.new) (Some (plain_command command.entry)) result }
     ensures answer { IfSome (L.files library.old) (λ files. RepliesSo result (AnswersCommand files (Some (plain_command command.entry)))) }

@@ -56,6 +56,7 @@ pub fn run<L: Library>(
     requires schemas { IsSchemaSet query.schemas }
     requires sound { IsSoundQuery query.schemas query.core }
     requires externals { ExternalsAreDocuments query.schemas (plain_query query.core).declarations }
+    ensures told { L.files library.new ≡ L.files library.old }
     ensures counted { L.faults library.old ≤ L.faults library.new }
     ensures runs { RunsSo (library_use L.files L.faults L.was_loaded library.old library.new) (bytes_of words.now) query.schemas query.core result }
 {
@@ -75,6 +76,7 @@ fn value_text<L: Library>(
     requires schemas { IsSchemaSet schemas.now }
     requires sound { IsSoundQuery schemas.now core.now }
     requires externals { ExternalsAreDocuments schemas.now (plain_query core.now).declarations }
+    ensures told { L.files library.new ≡ L.files library.old }
     ensures counted { L.faults library.old ≤ L.faults library.new }
     ensures runs { RunsSo (library_use L.files L.faults L.was_loaded library.old library.new) (bytes_of words.now) schemas.now core.now result }
 {
@@ -100,6 +102,7 @@ fn on_documents<L: Library>(
     requires sound { IsSoundQuery schemas.now core.now }
     requires externals { ExternalsAreDocuments schemas.now (plain_query core.now).declarations }
     requires writable { can_be_written schemas.now core.now ≡ true }
+    ensures told { L.files library.new ≡ L.files library.old }
     ensures counted { L.faults library.old ≤ L.faults library.new }
     ensures runs { RunsSo (library_use L.files L.faults L.was_loaded library.old library.new) (bytes_of words.now) schemas.now core.now result }
 {
@@ -122,6 +125,7 @@ fn on_files<L: Library>(
     requires externals { ExternalsAreDocuments schemas.now (plain_query core.now).declarations }
     requires writable { can_be_written schemas.now core.now ≡ true }
     requires each { length (word_bytes files.now) ≡ length (external_words (plain_query core.now).declarations) }
+    ensures told { L.files library.new ≡ L.files library.old }
     ensures counted { L.faults library.old ≤ L.faults library.new }
     ensures runs { (bindings : List (List ℕ)) → BindFiles (plain_query core.now).declarations bindings (word_bytes files.now)
         → RunsSo (library_use L.files L.faults L.was_loaded library.old library.new) bindings schemas.now core.now result }
@@ -145,6 +149,7 @@ fn over_documents<L: Library>(
     requires sound { IsSoundQuery schemas.now core.now }
     requires externals { ExternalsAreDocuments schemas.now (plain_query core.now).declarations }
     requires each { IsAskedOfEach (plain_query core.now).declarations (all_asked requests.now) }
+    ensures told { L.files library.new ≡ L.files library.old }
     ensures counted { L.faults library.old ≤ L.faults library.new }
     ensures read { ReadSo (library_use L.files L.faults L.was_loaded library.old library.new) (all_asked requests.now) schemas.now (plain_query core.now) result }
 {

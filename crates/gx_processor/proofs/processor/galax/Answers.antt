@@ -24,4 +24,4 @@ returns g c =
       imports = c.imports_are_schema_sets.ensures;
       single = c.imports_are_one.ensures;
     })
-    (record { formed = c.reply_to-reply.ensures.cause; usage = c.reply_to-reply.ensures.usage; ends = c.finish.ensures; answers = c.reply_to-reply.ensures.answer; loads = c.reply_to-reply.ensures.loads })
+    (record { formed = c.reply_to-reply.ensures.cause; usage = c.reply_to-reply.ensures.usage; ends = c.finish.ensures; told = c.reply_to-reply.ensures.told; answers = c.reply_to-reply.ensures.answer; loads = c.reply_to-reply.ensures.loads })
