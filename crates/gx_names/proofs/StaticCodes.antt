@@ -244,7 +244,7 @@ mutual
   static_form environment place (call name arguments) =
       both_static (call_refusals environment place name (count_trees arguments)) (trees_refusals environment arguments) (static_call environment place name (count_trees arguments)) (static_trees environment arguments)
   static_form environment place (comma first second) = both_static (tree_refusals environment first) (tree_refusals environment second) (static_tree environment first) (static_tree environment second)
-  static_form environment place (flwor clauses stable keys returned) =
+  static_form environment place (flwor clauses order stable keys returned) =
       static_clauses clauses (λ inner. keys_refusals inner keys ++ tree_refusals inner returned) environment
       (λ inner. both_static (keys_refusals inner keys) (tree_refusals inner returned) (static_keys inner keys) (static_tree inner returned))
   static_form environment place (quantified every bindings condition) =
@@ -269,7 +269,7 @@ mutual
   static_form environment place (path descendants left right) = both_static (tree_refusals environment left) (tree_refusals environment right) (static_tree environment left) (static_tree environment right)
   static_form environment place (axis_step step) = static_node_test environment (axis_of_step step) step.test
   static_form environment place parent_step = tt
-  static_form environment place (filtered operand predicates) =
+  static_form environment place (filtered bracket operand predicates) =
       both_static (tree_refusals environment operand) (trees_refusals environment predicates) (static_tree environment operand) (static_trees environment predicates)
   static_form environment place (direct name attributes content) =
       let inner : Environment = with_namespaces attributes environment in

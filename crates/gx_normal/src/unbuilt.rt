@@ -252,6 +252,6 @@ fn unbuilt_keys(keys: &[Key], order: Place) -> Option<Place>
 {
     match keys {
         [] => None,
-        [_, ..] => Some(order),
+        [_key, ..] => Some(order),
     }
 }

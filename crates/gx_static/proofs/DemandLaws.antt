@@ -68,14 +68,14 @@ each_shape P Q [] f h = tt
 each_shape P Q (shape ∷ list) f h = (f shape h.0, each_shape P Q list f h.1)
 
 -- a fact of each shape of a list that a type takes, whose item types pass a test and have a property
-shapes_of : (s : SchemaSet) (test : ItemType → Bool) (P : ItemType → Type 0) (Fact : Shape → Type 0) (t : SequenceType) (list : List Shape)
+pub shapes_of : (s : SchemaSet) (test : ItemType → Bool) (P : ItemType → Type 0) (Fact : Shape → Type 0) (t : SequenceType) (list : List Shape)
     → ((kind : ItemType) (shape : Shape) → P kind → test kind ≡ true → ItemTakes s kind shape → Fact shape) → HoldsOfEach P (items_of t) → all_items test t ≡ true → Takes s t list → EachShape Fact list
 shapes_of s test P Fact t list f p e h =
     each_shape (SomeItemTakes s (items_of t)) Fact list
     (λ shape k. of_some s P (λ kind. test kind ≡ true) Fact (items_of t) shape (λ kind known passes takes. f kind shape known passes takes) p (kinds_pass test t e) k)
     (items_take_each_shape s t list h)
 
-each_kind : (P : ItemType → Type 0) (kinds : List ItemType) → ((kind : ItemType) → P kind) → HoldsOfEach P kinds
+pub each_kind : (P : ItemType → Type 0) (kinds : List ItemType) → ((kind : ItemType) → P kind) → HoldsOfEach P kinds
 each_kind P [] f = tt
 each_kind P (kind ∷ kinds) f = (f kind, each_kind P kinds f)
 
@@ -115,7 +115,7 @@ demanded_is_one of_any = (refl, refl)
 
 -- ---- a type that meets_demand a demand
 
-each_starred : (s : SchemaSet) (u : SequenceType) (list : List Shape) → EachShape (λ shape. Takes s u (shape ∷ [])) list → Takes s (star u) list
+pub each_starred : (s : SchemaSet) (u : SequenceType) (list : List Shape) → EachShape (λ shape. Takes s u (shape ∷ [])) list → Takes s (star u) list
 each_starred s u [] h = ([], refl, tt)
 each_starred s u (shape ∷ list) h = let r = each_starred s u list h.1 in ((shape ∷ []) ∷ r.0, ap (λ (xs : List Shape). shape ∷ xs) r.1, (h.0, r.2))
 

@@ -48,7 +48,7 @@ use Rattle.gx_static.specs.Demands.{Demand, of_type, of_family, of_atomic, of_an
 use Rattle.gx_static.specs.ByInclusion.{is_optional_value, are_values, number_included, arithmetic_included, negation_included, range_included, are_optional_in, value_comparison_included, is_item_of, are_comparable_kinds, general_comparison_included, binary_included, conditional_included, order_included, cast_included, castable_included, parameter_type, arguments_included, call_included, rule_included, ruling_included, IsJudgedByInclusion, PartsAreJudgedByInclusion, ValuesAreJudgedByInclusion, IsNormalIfWritten, NameKnownTypes, QueriesAreJudgedByInclusion}
 use Rattle.gx_static.proofs.DemandLaws.{demands_are_inclusion}
 use Rattle.gx_static.proofs.DemandRules.{gives_if, all_pass, all_rules_demand_inclusion}
-use Rattle.gx_static.proofs.NormalParts.{both_hold}
+use Rattle.gx_type_laws.proofs.Items.{both_hold}
 use Rattle.gx_static.proofs.NormalTyping.{bound_are_normal, IfTyped, made_typed, annotation_is_normal, annotations_are_normal, judged_is_normal, parts_are_normal}
 
 same_tests : (a b : Bool) → (a ≡ true → b ≡ true) → (b ≡ true → a ≡ true) → a ≡ b

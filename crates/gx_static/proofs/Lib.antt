@@ -28,6 +28,7 @@ pub mod SomeItems
 pub mod SomeLists
 pub mod DemandLemmas
 pub mod DemandLaws
+pub mod NodeTypes
 pub mod DemandRules
 pub mod NormalTypes
 pub mod NormalParts

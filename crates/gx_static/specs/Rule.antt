@@ -226,6 +226,14 @@ step_rule schemas axis asks context =
 abbrev pub nodes_type : SequenceType
 nodes_type = star node_type
 
+-- an item type whose items are nodes of types that are derived from the types of all nodes
+abbrev pub is_node_item : SchemaSet → ItemType → Bool
+is_node_item schemas (items.Element name kind) = is_derived schemas kind (names.Builtin builtins.AnyType)
+is_node_item schemas (items.Attribute name kind) = is_derived schemas kind (names.Builtin builtins.AnySimple)
+is_node_item schemas items.Text = true
+is_node_item schemas (items.Document element) = true
+is_node_item schemas (items.Atom kind) = false
+
 abbrev pub nodes_rule : SchemaSet → SequenceType → Ruling
 nodes_rule schemas operand = if is_included schemas operand nodes_type then has_type operand else has_none XPTY0019 None
 

@@ -1,21 +1,24 @@
 // The static rules of steps, of their operands and of document order.
 
-ghost use Rattle.std.specs.Prelude.{◌≡◌, IfOk, IfErr};
+ghost use Rattle.std.specs.Prelude.{◌≡◌, true, IfOk, IfErr, IsTrue};
 ghost use Rattle.gx_core.specs.Bindings.{look_up};
 ghost use Rattle.gx_include.specs.Decision.{is_included};
 ghost use Rattle.gx_steptype.specs.StepType.{is_near};
-ghost use Rattle.gx_static.specs.Rule.{has_type, step_rule, step_ruling, reaching, nodes_type, nodes_rule, order_rule};
+ghost use Rattle.gx_static.specs.Rule.{has_type, step_rule, step_ruling, reaching, nodes_type, nodes_rule, order_rule, all_items, is_node_item};
 ghost use Rattle.gx_static.specs.Refusal.{RefusesType};
 
 use crate::error::RuleError;
 use crate::item_tests::{is_all_atomic, is_empty, is_never, no_type};
 use gx_base::code::Code;
+use gx_base::type_name::{Builtin, TypeName};
 use gx_core::scope::Scope;
 use gx_include::decision::is_included;
 use gx_steptype::axis_type::{axis_type, node_type};
 use gx_steptype::error::StepError;
+use gx_types::derivation::derives;
+use gx_types::item_type::ItemType;
 use gx_types::schemas::Schemas;
-use gx_types::sequence_type::Ty;
+use gx_types::sequence_type::{Ty, TyNode};
 use gx_types::step::{Axis, Test};
 use gx_types::type_rules::{occurrence, prime, star, times};
 use std::alloc::{AllocError, Global};
@@ -116,10 +119,52 @@ pub(crate) fn order_type(alloc: Global, schemas: &Schemas, operand: &Ty) -> Resu
     }
 }
 
-// Whether a type is of nodes alone.
+// Whether a type is of nodes alone. A type whose item types are of nodes is known to be, without a test of inclusion.
 fn are_nodes(alloc: Global, schemas: &Schemas, t: &Ty) -> Result<bool, AllocError>
     ensures { IfOk result (λ answer. answer ≡ is_included schemas.now t.now nodes_type) }
 {
+    if is_of_nodes(schemas, t) {
+        return Ok(true);
+    }
     let node = node_type(alloc)?;
     is_included(alloc, schemas, t, &star(alloc, &node)?)
+}
+
+// A type whose item types are of nodes is included in that of nodes.
+fn is_of_nodes(schemas: &Schemas, t: &Ty) -> bool
+    ensures { IsTrue result → is_included schemas.now t.now nodes_type ≡ true }
+{
+    let _types = schemas.types();
+    is_all_nodes(schemas, t)
+}
+
+// Whether all item types of a type are of nodes.
+fn is_all_nodes(schemas: &Schemas, t: &Ty) -> bool
+    ensures { result ≡ all_items (is_node_item schemas.now) t.now }
+{
+    match &t.node {
+        TyNode::Never | TyNode::Empty => true,
+        TyNode::Item(kind) => is_node_item(schemas, kind),
+        TyNode::Seq(first, second) | TyNode::Alt(first, second) => {
+            is_all_nodes(schemas, first) && is_all_nodes(schemas, second)
+        }
+        TyNode::Optional(part) | TyNode::Star(part) | TyNode::Plus(part) => {
+            is_all_nodes(schemas, part)
+        }
+    }
+}
+
+fn is_node_item(schemas: &Schemas, kind: &ItemType) -> bool
+    ensures { result ≡ is_node_item schemas.now kind.now }
+{
+    match kind {
+        ItemType::Element { name: _, kind } => {
+            derives(schemas, kind, &TypeName::Builtin(Builtin::AnyType))
+        }
+        ItemType::Attribute { name: _, kind } => {
+            derives(schemas, kind, &TypeName::Builtin(Builtin::AnySimple))
+        }
+        ItemType::Text | ItemType::Document(_) => true,
+        ItemType::Atom(_) => false,
+    }
 }

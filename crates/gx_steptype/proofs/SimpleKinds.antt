@@ -1,5 +1,5 @@
 -- Simple types are derived from xs:anySimpleType, and no type but xs:untyped is derived from xs:untyped.
-use Rattle.std.proofs.Common.{◌≡◌, ℕ, zero, suc, true, false, List, Option, None, Some, is_some, length, inl, inr, refl, sym, ◌∙◌, ap, subst}
+use Rattle.std.proofs.Common.{◌≡◌, ℕ, zero, suc, true, Option, None, Some, is_some, length, inl, inr, refl, sym, ◌∙◌, ap, subst}
 use Rattle.std.specs.Option.{option_map}
 use Rattle.std.proofs.lemmas.Bool.{true≢false}
 use Rattle.gx_base.specs.declared.type_name.Builtin.{Builtin}
