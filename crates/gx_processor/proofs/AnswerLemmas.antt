@@ -138,12 +138,12 @@ command_unique single files (Some command) a b h k = file_unique single files co
 texts_unique : (left right : List ℕ) (a b : Answer) → AnswersTexts left right a → AnswersTexts left right b → a ≡ b
 texts_unique left right a b (inl h) (inl k) = h.1 ∙ sym k.1
 texts_unique left right a b (inl h) (inr (inl k)) = absurd (h.0 k.0 k.1)
-texts_unique left right a b (inl h) (inr (inr k)) = absurd (h.0 k.1.1.lower k.1.1.left_is)
+texts_unique left right a b (inl h) (inr (inr k)) = absurd (h.0 k.1.lower k.1.left_is)
 texts_unique left right a b (inr (inl h)) (inl k) = absurd (k.0 h.0 h.1)
 texts_unique left right a b (inr (inl h)) (inr (inl k)) = h.3 ∙ sym k.3
-texts_unique left right a b (inr (inl h)) (inr (inr k)) = absurd (h.2 k.1.1.upper k.1.1.right_is)
-texts_unique left right a b (inr (inr h)) (inl k) = absurd (k.0 h.1.1.lower h.1.1.left_is)
-texts_unique left right a b (inr (inr h)) (inr (inl k)) = absurd (k.2 h.1.1.upper h.1.1.right_is)
+texts_unique left right a b (inr (inl h)) (inr (inr k)) = absurd (h.2 k.1.upper k.1.right_is)
+texts_unique left right a b (inr (inr h)) (inl k) = absurd (k.0 h.1.lower h.1.left_is)
+texts_unique left right a b (inr (inr h)) (inr (inl k)) = absurd (k.2 h.1.upper h.1.right_is)
 texts_unique left right a b (inr (inr h)) (inr (inr k)) = h.2 ∙ ap (λ (bytes : List ℕ). writes (line bytes)) (one_text left right h.0 k.0 h.1 k.1) ∙ sym k.2
 
 words_unique : ImportsAreOne → (files : Files) (texts : Option (List ℕ × List ℕ)) (asked : Option Command) (a b : Answer) → AnswersWords files texts asked a → AnswersWords files texts asked b → a ≡ b

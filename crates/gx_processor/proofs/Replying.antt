@@ -95,8 +95,8 @@ no_command words texts f = no_command_of words texts (command_of words) refl f
 written_has_types : (left right bytes line : List ℕ) → AnswersTexts left right (writes bytes) → AnswersTexts left right (refuses status.Usage line) → ⊥
 written_has_types left right bytes line (inl h) k = cc h.1
 written_has_types left right bytes line (inr (inl h)) k = cc h.3
-written_has_types left right bytes line (inr (inr h)) (inl k) = k.0 h.1.1.lower h.1.1.left_is
-written_has_types left right bytes line (inr (inr h)) (inr (inl k)) = k.2 h.1.1.upper h.1.1.right_is
+written_has_types left right bytes line (inr (inr h)) (inl k) = k.0 h.1.lower h.1.left_is
+written_has_types left right bytes line (inr (inr h)) (inr (inl k)) = k.2 h.1.upper h.1.right_is
 written_has_types left right bytes line (inr (inr h)) (inr (inr k)) = cc k.2
 
 pub texts_misused : (words : List (List ℕ)) (left right line : List ℕ) (r : Reply) → texts_to_compare words ≡ Some (left, right) → IsComparison (chars left) (chars right) r → IsMisuse words line → IsUsageOrStarved r
