@@ -3,3 +3,5 @@ pub mod LoadLemmas
 pub mod StoreLemmas
 pub mod OrderedLemmas
 pub mod TextLemmas
+pub mod TreeLemmas
+pub mod CombinedLemmas

@@ -25,7 +25,7 @@ use Rattle.gx_store.specs.NumberOrder.{number_eq, number_cmp, numbers_are_ordere
 
 -- each below the next
 
-every_goes_on : (x y : NodeId) (xs : List NodeId) → number_lt x y ≡ true → Every (λ z. number_lt y z ≡ true) xs → Every (λ z. number_lt x z ≡ true) xs
+pub every_goes_on : (x y : NodeId) (xs : List NodeId) → number_lt x y ≡ true → Every (λ z. number_lt y z ≡ true) xs → Every (λ z. number_lt x z ≡ true) xs
 every_goes_on x y [] h e = tt
 every_goes_on x y (z ∷ xs) h e =
     (lt-ltb x.number z.number (omega (arith, ltb-true x.number y.number h, ltb-true y.number z.number e.0)), every_goes_on x y xs h e.1)
@@ -63,7 +63,7 @@ equal_from_cmp m n e = by_test (nat_lt m n) (nat_eq m n) refl refl
     by_test false true f g = eqb-true m n g
     by_test false false f g = let k : nat_cmp m n ≡ Greater = rw (f, g) refl in absurd (cc)
 
-one_number : (a b : NodeId) → a.number ≡ b.number → a ≡ b
+pub one_number : (a b : NodeId) → a.number ≡ b.number → a ≡ b
 one_number a b e = λ i. record { number = e i }
 
 equal_as_compared : (a b : NodeId) → number_eq a b ≡ eq_by_cmp number_cmp a b
@@ -112,7 +112,7 @@ pub ascends_placed : (later : Forest) (xs : List NodeId) → Ascends number_lt x
 ascends_placed later [] h = tt
 ascends_placed later (x ∷ xs) h = (every_placed later x xs h.0, ascends_placed later xs h.1)
 
-any_placed : (later : Forest) (p : PlainNode → Bool) (xs : List NodeId) → list_any p (map (placed later) xs) ≡ list_any (λ m. p (placed later m)) xs
+pub any_placed : (later : Forest) (p : PlainNode → Bool) (xs : List NodeId) → list_any p (map (placed later) xs) ≡ list_any (λ m. p (placed later m)) xs
 any_placed later p [] = refl
 any_placed later p (x ∷ xs) = ap (λ (b : Bool). p (placed later x) || b) (any_placed later p xs)
 

@@ -260,6 +260,16 @@ named_later {A = A} forest later n part none x = at_later forest later x (λ f. 
         ap (λ (y : NodeEntry). part y.tree) (got_past (node_entries forest) n (beyond forest n) h) ∙ none
         ∙ sym (ap (λ (o : Option PlainTree). then_found o part) (place_is_not_there forest x.more n h))
 
+-- the node of a number, in each forest that grows from this one
+
+pub found_later : (forest later : Forest) (n : ℕ) → n < count_in forest → Extends forest later → node_in forest (place_of_number later n) ≡ Some (entry_in forest n).tree
+found_later forest later n h x =
+    at_later forest later x (λ f. node_in forest (place_of_number f n) ≡ Some (entry_in forest n).tree)
+    (ap (λ (e : NodeEntry). node_in forest e.place) (entry_stays forest x.more n h) ∙ node_found forest n h)
+
+pub not_found_later : (forest later : Forest) (n : ℕ) → count_in forest ≤ n → Extends forest later → node_in forest (place_of_number later n) ≡ None
+not_found_later forest later n h x = at_later forest later x (λ f. node_in forest (place_of_number f n) ≡ None) (place_is_not_there forest x.more n h)
+
 pub parent_past : (forest later : Forest) (n : ℕ) → count_in forest ≤ n → Extends forest later → None ≡ parent_in forest (place_of_number later n)
 parent_past forest later n h x = at_later forest later x (λ f. None ≡ parent_in forest (place_of_number f n)) (sym (no_parent_at forest x.more n h))
 

@@ -4,3 +4,5 @@ pub mod RowView
 pub mod Stored
 pub mod Left
 pub mod NumberOrder
+pub mod Combined
+pub mod Shaped

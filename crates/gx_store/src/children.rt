@@ -1,12 +1,12 @@
 // The attributes, the children and the descendants of a node, in document order.
 
-ghost use Rattle.std.specs.Prelude.{◌≡◌, suc, ◌+◌, map};
+ghost use Rattle.std.specs.Prelude.{◌≡◌, suc, ◌+◌, ◌<◌, map};
 ghost use Rattle.gx_model.specs.Forest.{Forest as PlainForest};
 ghost use Rattle.gx_model.specs.Growth.{Extends};
-ghost use Rattle.gx_nodes.specs.Entries.{place_of_number};
+ghost use Rattle.gx_nodes.specs.Entries.{count_in, place_of_number};
 ghost use Rattle.gx_nodes.specs.Near.{attributes_in, child_nodes_in, descendants_in};
 ghost use Rattle.gx_store.specs.Stored.{below_in, attributes_at};
-ghost use Rattle.gx_store.specs.Left.{descendants_left};
+ghost use Rattle.gx_store.specs.Left.{children_left, attributes_left, descendants_left};
 
 use crate::number::NodeId;
 use crate::store::Store;
@@ -129,7 +129,7 @@ impl<'a> Model for Descendants<'a> {
 
     ghost use Rattle.std.specs.Prelude.{◌≤◌};
     ghost use Rattle.gx_nodes.specs.Entries.{count_in};
-    ghost use Rattle.gx_store.specs.Left.{descendants_left};
+    ghost use Rattle.gx_store.specs.Left.{children_left, attributes_left, descendants_left};
 
     ghost view = { λ c. descendants_left c.store.now c.next c.end };
 
@@ -171,11 +171,7 @@ impl Store {
         ensures { (later : PlainForest) → Extends self.now later → map (λ m. place_of_number later m.number) result ≡ child_nodes_in self.now (place_of_number later node.number) }
     {
         if self.has(node) {
-            Children {
-                store: self,
-                next: self.after_attributes(node.number),
-                end: self.after(node.number),
-            }
+            self.children_of(node.number)
         } else {
             Children {
                 store: self,
@@ -185,22 +181,42 @@ impl Store {
         }
     }
 
+    // The children of a number's node, by their numbers.
+    pub(crate) fn children_of(&self, number: usize) -> Children<'_>
+        requires { number < count_in self.now }
+        ensures { result ≡ children_left self.now (suc (number + attributes_at self.now number)) (suc (number + below_in self.now number)) }
+    {
+        Children {
+            store: self,
+            next: self.after_attributes(number),
+            end: self.after(number),
+        }
+    }
+
     /// The attributes of a node, in order; none where the store has not the node.
     pub fn attributes(&self, node: NodeId) -> Attributes<'_>
         ensures { (later : PlainForest) → Extends self.now later → map (λ m. place_of_number later m.number) result ≡ attributes_in self.now (place_of_number later node.number) }
     {
         if self.has(node) {
-            Attributes {
-                store: self,
-                next: self.following(node.number),
-                end: self.after_attributes(node.number),
-            }
+            self.attributes_of(node.number)
         } else {
             Attributes {
                 store: self,
                 next: 0,
                 end: 0,
             }
+        }
+    }
+
+    // The attributes of a number's node, by their numbers.
+    pub(crate) fn attributes_of(&self, number: usize) -> Attributes<'_>
+        requires { number < count_in self.now }
+        ensures { result ≡ attributes_left (suc number) (suc (number + attributes_at self.now number)) }
+    {
+        Attributes {
+            store: self,
+            next: self.following(number),
+            end: self.after_attributes(number),
         }
     }
 

@@ -1,13 +1,13 @@
 // Stores of numbered nodes.
 
-ghost use Rattle.std.specs.Prelude.{◌≡◌, ℕ, suc, ◌+◌, ◌<◌, ◌≤◌, ◌↔◌, ◌++◌, ◌∷◌, [], IsTrue, IfOk, OnOk, OnErr, MatchOption, Some, None, option_copied};
+ghost use Rattle.std.specs.Prelude.{◌≡◌, ℕ, suc, ◌+◌, ◌<◌, ◌≤◌, ◌↔◌, ◌++◌, ◌∷◌, [], IsTrue, IfOk, OnOk, OnErr, MatchOption, Some, None, IsSome, option_copied};
 ghost use Rattle.std.specs.Option.{option_map};
 ghost use Rattle.gx_model.specs.Forest.{Forest as PlainForest, node_in, then_found};
 ghost use Rattle.gx_model.specs.DocumentOrder.{comes_before};
 ghost use Rattle.gx_model.specs.Growth.{Extends};
-ghost use Rattle.gx_nodes.specs.Entries.{count_in, place_of_number};
+ghost use Rattle.gx_nodes.specs.Entries.{count_in, entry_in, place_of_number};
 ghost use Rattle.gx_nodes.specs.Near.{parent_in};
-ghost use Rattle.gx_store.specs.Stored.{IsRowOf, below_in, attributes_at, attributes_in_form, label_of_form, name_of_tree, kind_of, label_in};
+ghost use Rattle.gx_store.specs.Stored.{IsRowOf, FitsForm, below_in, attributes_at, attributes_in_form, label_of_form, name_of_tree, kind_of, label_in};
 
 use crate::labels::{Label, Labels};
 use crate::load::push_tree;
@@ -110,6 +110,14 @@ impl Store {
         }
     }
 
+    // What a node is.
+    pub(crate) fn form(&self, number: usize) -> &Form
+        requires { number < count_in self.now }
+        ensures { FitsForm result.now (entry_in self.now number).tree }
+    {
+        &self.rows[number].form
+    }
+
     // The number behind a node and all below it.
     pub(crate) fn after(&self, number: usize) -> usize
         requires { number < count_in self.now }
@@ -148,6 +156,17 @@ impl Store {
             label_in_form(&self.labels, &self.rows[node.number].form)
         } else {
             None
+        }
+    }
+
+    // The label of an element or an attribute.
+    pub(crate) fn label_of(&self, node: NodeId) -> &Label
+        requires { IsSome (label_in self.now node.number) }
+        ensures { label_in self.now node.number ≡ Some result.now }
+    {
+        match self.label(node) {
+            Some(label) => label,
+            None => unreachable!(),
         }
     }
 

@@ -1,11 +1,17 @@
+use Rattle.std.proofs.Common.{suc, ◌+◌, map, refl, ap, ◌∙◌}
 use Rattle.gx_nodes.specs.Entries.{count_in}
 use Rattle.gx_nodes.specs.Near.{inner_trees, child_places}
+use Rattle.gx_store.specs.Stored.{below_in, attributes_at}
+use Rattle.gx_store.proofs.OrderedLemmas.{placed}
 use Rattle.gx_store.proofs.StoreLemmas.{not_there, nothing_later, children_from}
 use Rattle.gx_store.proofs.store.Store.children.Goals as goal
 
 pub returns-then-has : goal.returns-then-has
 returns-then-has c later x =
-    children_from c.args.self.now later c.args.node.number c.after_attributes.result c.after.result (c.has.ensures.0 c.if-has.true) c.after_attributes.ensures.next c.after.ensures.next x
+    let f = c.args.self.now in
+    let n = c.args.node.number in
+    ap (map (placed later)) c.children_of.ensures
+    ∙ children_from f later n (suc (n + attributes_at f n)) (suc (n + below_in f n)) (c.has.ensures.0 c.if-has.true) refl refl x
 
 pub returns-else-has : goal.returns-else-has
 returns-else-has c later x =

@@ -1,0 +1,11 @@
+use Rattle.std.proofs.Common.{◌≡◌, true, List, map, subst}
+use Rattle.std.specs.Prelude.{IfOk}
+use Rattle.gx_model.specs.DocumentOrder.{in_document_order}
+use Rattle.gx_model.specs.Forest.{PlainNode}
+use Rattle.gx_store.proofs.OrderedLemmas.{placed}
+use Rattle.gx_store.proofs.CombinedLemmas.{placed_selection}
+use Rattle.gx_store.proofs.store.Store.intersect.Goals as goal
+
+pub returns : goal.returns
+returns c later x =
+    subst (λ (ns : List PlainNode). IfOk c.compared.result (λ found. map (placed later) found.items ≡ in_document_order c.args.self.now ns)) (placed_selection later true c.args.first.now c.args.second.now) (c.compared.ensures later x)

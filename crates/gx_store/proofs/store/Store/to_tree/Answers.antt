@@ -1,0 +1,12 @@
+use Rattle.std.proofs.Common.{Some, sym, ap, ◌∙◌}
+use Rattle.gx_nodes.specs.Entries.{count_in}
+use Rattle.gx_store.proofs.StoreLemmas.{not_there, found_later, not_found_later}
+use Rattle.gx_store.proofs.store.Store.to_tree.Goals as goal
+
+pub returns-in_ok-tree_of : goal.returns-in_ok-tree_of
+returns-in_ok-tree_of c later x =
+    ap (λ t. Some t) c.in_ok-tree_of.ensures ∙ sym (found_later c.args.self.now later c.args.node.number (c.has.ensures.0 c.if-has.true) x)
+
+pub returns-else-has : goal.returns-else-has
+returns-else-has c later x =
+    sym (not_found_later c.args.self.now later c.args.node.number (not_there c.has.result c.args.node.number (count_in c.args.self.now) c.has.ensures c.if-has.false) x)
