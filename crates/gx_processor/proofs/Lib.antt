@@ -18,3 +18,4 @@ pub mod Promised
 pub mod AnswerExists
 pub mod Replying
 pub mod WholeQueries
+pub mod KnownTypes

@@ -182,7 +182,7 @@ run_of_query words h = (run_file h.0 h.1, h.2)
 form_line : (run : Run) (status : Status) (line : List ℕ) → HasForm run.words status line → Loaded run status line → Took run.err line → LineAfter status run
 form_line run Usage line form l t = (line, form, t)
 form_line run Query line form l t = (line, form.1, t)
-form_line run Dynamic line form l t = (form.1.0, subst (λ (xs : List ℕ). Took run.err xs) form.1.1 t)
+form_line run Dynamic line form l t = (form.1.0, form.1.1, subst (λ (xs : List ℕ). Took run.err xs) form.1.2 t)
 form_line run Done line form l t = absurd form
 form_line run Schema line form l t = let q = query_loaded run Schema line form.0 l in (q.0, q.1, line, q.2, t)
 form_line run Document line form l t = let q = query_loaded run Document line (run_of_query run.words form.0) l in (q.0, q.1, line, q.2, t)

@@ -1,13 +1,16 @@
 -- The steps of an answer, one behind another.
-use Rattle.std.proofs.Common.{◌≡◌, ℕ, ◌≤◌, Bool, true, false, List, [], ◌∷◌, length, Option, Some, None, IfSome, Result, Ok, Err, IfOk, IfErr, String, string_bytes, refl, sym, ap, ◌∙◌, subst, nat_le, arith}
+use Rattle.std.proofs.Common.{◌≡◌, ℕ, ◌≤◌, Bool, true, false, List, [], ◌∷◌, length, Option, Some, None, IfSome, Result, Ok, Err, IfOk, IfErr, String, string_bytes, refl, sym, ap, ◌∙◌, subst, nat_le, arith, rules}
 use Rattle.std.specs.Bool.{MatchBool}
+use Rattle.std.specs.List.{All}
 use Rattle.std.proofs.lemmas.Bool.{le-leb}
 use Rattle.gx_base.specs.declared.code.Code.{Code}
 use Rattle.gx_base.specs.declared.code.Code.TheVariants.{GLXS0001}
+use Rattle.gx_base.specs.Code.{is_static}
 use Rattle.gx_types.specs.SchemaSet.{SchemaSet}
 use Rattle.gx_schema.specs.Import.{declares}
 use Rattle.gx_core.specs.Queries.{Core, TypedCore}
-use Rattle.gx_static.specs.QueryJudgement.{QueryJudgement, query_typed, query_judged}
+use Rattle.gx_static.specs.QueryJudgement.{QueryJudgement, query_typed, query_rejected, query_judged}
+use Rattle.gx_static.proofs.StaticCodes.{queries_are_rejected_with_static_codes}
 use Rattle.gx_io.specs.Load.{file_of}
 use Rattle.gx_ast.specs.declared.query.Query.{Query as SyntaxQuery}
 use Rattle.gx_base.specs.declared.place.Place.{Place}
@@ -26,6 +29,8 @@ use Rattle.gx_names_scope.specs.declared.refusal.Refusal.{Refusal as NamedRefusa
 use Rattle.gx_base.specs.Stacked.{first}
 use Rattle.gx_names.specs.Refusals.{query_refusals}
 use Rattle.gx_names.specs.Resolution.{query_resolved}
+use Rattle.gx_names.specs.Laws.{IsOfStaticCode}
+use Rattle.gx_names.proofs.StaticCodes.{names_are_refused_with_static_codes}
 use Rattle.gx_normal.specs.Normalisation.{query_core}
 use Rattle.gx_processor.specs.NamedQuery.{NamedQuery, named_query, unknown_name, unless_refused, query_named}
 use Rattle.gx_processor.specs.Query.{IsTreeOf, HoldsSyntax, ImportsSchemas, HoldsQuery}
@@ -187,3 +192,18 @@ pub refused_so : (schemas : SchemaSet) (tree : SyntaxQuery) (code : Code) (place
 refused_so schemas tree code place files command h =
     subst (λ (n : NamedQuery). AnswersNamed files command schemas n (refuses status.Query (placed_line code place)))
     (sym (refused_among (query_refusals schemas tree) (query_core (query_resolved schemas tree)) code place h)) refl
+
+-- which has the code of a static error
+first_static : (refusals : List NamedRefusal) (code : Code) (place : Place) → All IsOfStaticCode refusals → first refusals ≡ Some (record { code = code; place = place }) → is_static code ≡ true
+first_static [] code place all h = absurd (cc)
+first_static (r ∷ rs) code place all h =
+    let same : r ≡ record { code = code; place = place } = cc in
+    let here : IsOfStaticCode r = all 0 r (search rules) in
+    subst (λ (x : NamedRefusal). IsOfStaticCode x) same here
+
+pub static_name : (schemas : SchemaSet) (tree : SyntaxQuery) (code : Code) (place : Place) → first (query_refusals schemas tree) ≡ Some (record { code = code; place = place }) → is_static code ≡ true
+static_name schemas tree code place h = first_static (query_refusals schemas tree) code place (names_are_refused_with_static_codes schemas tree) h
+
+-- a query that typing rejects, too
+pub static_type : (schemas : SchemaSet) (core : Core) (place : Place) (code : Code) → query_judged schemas core ≡ query_rejected place code → is_static code ≡ true
+static_type schemas core place code h = queries_are_rejected_with_static_codes schemas core place code h

@@ -57,7 +57,7 @@ module _ (library : LibraryUse) (tree : SyntaxQuery) where
   under_rest : (loads : List (List ℕ)) (e : Refusal) → IsOfRules e → FailsAtSchema {V = TypedQuery} library loads (Err e) × IsOfTree e
   under_rest loads refusal.ReadFault own = absurd own
   under_rest loads refusal.TooLong own = absurd own
-  under_rest loads (refusal.Query code place) own = (tt, tt)
+  under_rest loads (refusal.Query code place) own = (tt, own)
   under_rest loads refusal.Memory own = (tt, tt)
   under_rest loads (refusal.SchemaFile file fault) own = absurd own
   under_rest loads (refusal.Schema rule file name) own = absurd own
@@ -140,7 +140,7 @@ text_own : (e : Refusal) (Rose : Type 0) → IsOfText Rose e → IsOfQuery e
 text_own refusal.ReadFault Rose own = tt
 text_own refusal.Memory Rose own = tt
 text_own refusal.TooLong Rose own = tt
-text_own (refusal.Query code place) Rose own = tt
+text_own (refusal.Query code place) Rose own = own
 text_own (refusal.SchemaFile file fault) Rose own = absurd own
 text_own (refusal.Schema rule file construct) Rose own = absurd own
 text_own (refusal.Binding fault) Rose own = absurd own
@@ -231,7 +231,7 @@ module _ (library : LibraryUse) (between : library.Library) (name : List ℕ) (t
   tree_own refusal.ReadFault own = tt
   tree_own refusal.TooLong own = tt
   tree_own refusal.Memory own = tt
-  tree_own (refusal.Query code place) own = tt
+  tree_own (refusal.Query code place) own = own
   tree_own (refusal.SchemaFile file fault) own = own
   tree_own (refusal.Schema rule file construct) own = tt
   tree_own (refusal.Binding fault) own = absurd own

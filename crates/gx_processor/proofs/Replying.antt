@@ -178,7 +178,7 @@ fault_formed command told line Starved h k = tt
 pub refusal_formed : (command : Command) (e : Refusal) (r : Reply) → IsReplyOf (query_file command) e r → HasCause (IsRunCommand command) e → IsQueryReply command r
 refusal_formed command refusal.ReadFault r h k = fault_formed command status.ReadFault (read_fault_line (query_file command)) r h tt
 refusal_formed command refusal.TooLong r h k = fault_formed command status.Query (code_line GLXS0001) r h (inl refl)
-refusal_formed command (refusal.Query code place) r h k = fault_formed command status.Query (placed_line code place) r h (inr (code, place, refl))
+refusal_formed command (refusal.Query code place) r h k = fault_formed command status.Query (placed_line code place) r h (inr (code, k, place, refl))
 refusal_formed command (refusal.SchemaFile name faults.Unread) r h k = fault_formed command status.ReadFault (read_fault_line (string_bytes name)) r h tt
 refusal_formed command (refusal.SchemaFile name faults.TooLong) r h k = fault_formed command status.Schema (long_document_line (string_bytes name)) r h (inl (string_bytes name, inl refl))
 refusal_formed command (refusal.SchemaFile name (faults.Refused rule place)) r h k =
@@ -193,5 +193,5 @@ refusal_formed command (refusal.Document name (faults.Refused rule place)) r h k
     fault_formed command status.Document (document_line rule (string_bytes name) place) r h (k, (string_bytes name, inl (inr (rule, place, refl))))
 refusal_formed command (refusal.Document name (faults.Invalid rule path)) r h k =
     fault_formed command status.Document (invalid_line rule (string_bytes name) path) r h (k, (string_bytes name, inr (rule, path, refl)))
-refusal_formed command (refusal.Dynamic code) r h k = fault_formed command status.Dynamic (code_line code) r h (k, (code, refl))
+refusal_formed command (refusal.Dynamic code) r h k = fault_formed command status.Dynamic (code_line code) r h (k.0, (code, k.1, refl))
 refusal_formed command refusal.Memory r h k = subst (λ (z : Reply). IsQueryReply command z) (sym h) tt

@@ -2,14 +2,18 @@
 use Rattle.std.proofs.Common.{◌≡◌, ℕ, Bool, true, false, ◌||◌, List, [], ◌∷◌, ◌++◌, map, Option, Some, None, Result, Ok, Err, String, IfErr, inl, inr, refl, sym, ◌∙◌, ap, subst, string_bytes, if◌then◌else◌}
 use Rattle.std.specs.Prelude.{bytes_eq}
 use Rattle.std.specs.Bool.{MatchBool}
+use Rattle.gx_base.specs.declared.code.Code.{Code}
 use Rattle.gx_base.specs.declared.code.Code.TheVariants.{SENR0001}
+use Rattle.gx_base.specs.Code.{is_dynamic}
 use Rattle.gx_base.specs.declared.place.Place.{Place}
 use Rattle.gx_types.specs.SchemaSet.{SchemaSet}
-use Rattle.gx_core.specs.Queries.{TypedCore}
+use Rattle.gx_core.specs.Queries.{Core, TypedCore}
 use Rattle.gx_core.specs.Expression.{outer_of}
-use Rattle.gx_core.specs.QueryMeaning.{plain_query}
+use Rattle.gx_core.specs.Outcome.{raises}
+use Rattle.gx_core.specs.QueryMeaning.{plain_query, query_outcome}
+use Rattle.gx_core.proofs.DynamicCodes.{queries_raise_dynamic_codes}
 use Rattle.gx_tree.specs.PlainTree.{PlainTree}
-use Rattle.gx_model.specs.Forest.{Forest}
+use Rattle.gx_model.specs.Forest.{PlainNode, Forest}
 use Rattle.gx_io.specs.LibraryUse.{LibraryUse}
 use Rattle.gx_documents.specs.declared.bindings.BindingFault.{BindingFault}
 use Rattle.gx_documents.specs.declared.documents.DocumentFault.TheVariants as faults
@@ -106,7 +110,7 @@ module _ (library : LibraryUse) (bindings : List (List ℕ)) (schemas : SchemaSe
         (λ files. subst (λ (writable : Bool). MatchBool writable (BoundLoads files (misbound externals bindings) requests []) (◌≡◌ {A = List (List ℕ)} [] [])) (sym unwritable) refl);
     failed = tt;
     of_loads = tt;
-    own = tt;
+    own = refl;
   }
 
   pub run_starved : {Z : Type 0} → library.after ≡ library.before → RunsSo {Z = Z} library bindings schemas core (Err refusal.Memory)
@@ -185,7 +189,7 @@ module _ (library : LibraryUse) (bindings : List (List ℕ)) (schemas : SchemaSe
 
   evaluated_own : {Z : Type 0} (result : Result (String Z) Refusal) → IsEvaluated result → IsOfRun result
   evaluated_own (Ok text) own = tt
-  evaluated_own (Err (refusal.Dynamic code)) own = tt
+  evaluated_own (Err (refusal.Dynamic code)) own = own
   evaluated_own (Err refusal.Memory) own = tt
   evaluated_own (Err (refusal.Query code place)) own = absurd own
   evaluated_own (Err (refusal.SchemaFile file fault)) own = absurd own
@@ -303,3 +307,7 @@ module _ (library : LibraryUse) (bindings : List (List ℕ)) (schemas : SchemaSe
   misbound_so (refusal.Schema rule file name) untouched yes' h = absurd h
   misbound_so (refusal.Document file fault) untouched yes' h = absurd h
   misbound_so (refusal.Dynamic code) untouched yes' h = absurd h
+
+-- an evaluation raises the code of a dynamic error
+pub dynamic_error : (schemas : SchemaSet) (core : Core) (documents : List PlainNode) (forest : Forest) (code : Code) → query_outcome schemas core documents forest ≡ raises code → is_dynamic code ≡ true
+dynamic_error schemas core documents forest code h = queries_raise_dynamic_codes schemas core documents forest code h

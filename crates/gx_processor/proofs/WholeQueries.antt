@@ -130,7 +130,7 @@ one_more environment bodies earlier place (definitions.Variable binder kind init
 one_more environment bodies earlier place (definitions.Function name parameters result body) others h rest numbers free = rest numbers free
 
 -- a definition leaves the schemas as they are
-same_schemas : (node : DefinitionNode) (environment : Environment) → (definition_scope node environment).schemas ≡ environment.schemas
+pub same_schemas : (node : DefinitionNode) (environment : Environment) → (definition_scope node environment).schemas ≡ environment.schemas
 same_schemas (definitions.Variable binder kind initialiser) environment = refl
 same_schemas (definitions.Function name parameters result body) environment = refl
 
@@ -147,11 +147,11 @@ all_documents (d ∷ ds) bodies earlier environment h numbers free =
 
 -- ---- whole queries
 
-none_refused : (refusals : List Refusal) (whole core : Core) → unless_refused refusals whole ≡ named_query core → refusals ≡ []
+pub none_refused : (refusals : List Refusal) (whole core : Core) → unless_refused refusals whole ≡ named_query core → refusals ≡ []
 none_refused [] whole core e = refl
 none_refused (refusal ∷ others) whole core e = absurd (cc)
 
-whole_named : (refusals : List Refusal) (whole core : Core) → unless_refused refusals whole ≡ named_query core → whole ≡ core
+pub whole_named : (refusals : List Refusal) (whole core : Core) → unless_refused refusals whole ≡ named_query core → whole ≡ core
 whole_named [] whole core e = cc
 whole_named (refusal ∷ others) whole core e = absurd (cc)
 

@@ -1,9 +1,9 @@
 -- The lines that tell of refusals.
-use Rattle.std.specs.Prelude.{◌≡◌, ℕ, List, [], ◌∷◌, ◌++◌, codes, decimal, ◌⊎◌}
+use Rattle.std.specs.Prelude.{◌≡◌, ℕ, true, List, [], ◌∷◌, ◌++◌, codes, decimal, ◌⊎◌}
 use Rattle.gx_base.specs.declared.code.Code.{Code}
 use Rattle.gx_base.specs.declared.code.Code.TheVariants.{GLXS0001}
 use Rattle.gx_base.specs.declared.place.Place.{Place}
-use Rattle.gx_base.specs.Code.{spelling}
+use Rattle.gx_base.specs.Code.{spelling, is_static}
 use Rattle.gx_xml.specs.declared.refusal.XmlRule.{XmlRule}
 use Rattle.gx_xml.specs.declared.refusal.XmlRule.TheVariants as rules
 use Rattle.gx_validate.specs.declared.invalid.InvalidRule.{InvalidRule}
@@ -41,9 +41,9 @@ code_line code = line (spelling code)
 abbrev pub placed_line : Code → Place → List ℕ
 placed_line code place = line (spelling code ++ codes " at " ++ decimal place.line ++ codes ":" ++ decimal place.column)
 
--- the line of a refused query: the code of a file that is too long, alone, or a code with its place
+-- the line of a refused query: the code of a file that is too long, alone, or the code of a static error with its place
 abbrev pub IsQueryLine : List ℕ → Type 0
-IsQueryLine told = (told ≡ code_line GLXS0001) ⊎ ((code : Code) × (place : Place) × (told ≡ placed_line code place))
+IsQueryLine told = (told ≡ code_line GLXS0001) ⊎ ((code : Code) × (is_static code ≡ true) × (place : Place) × (told ≡ placed_line code place))
 
 -- why words bind external variables wrongly
 abbrev pub binding_text : Misbound → List ℕ

@@ -20,3 +20,4 @@ pub mod Headline
 pub mod Promises
 pub mod NamedQuery
 pub mod ExternalDocuments
+pub mod JudgedQueries

@@ -1,7 +1,8 @@
 -- What the public call promises of each run.
-use Rattle.std.specs.Prelude.{◌≡◌, ℕ, ◌<◌, List, ◌∷◌, length, Some, ◌⊎◌}
+use Rattle.std.specs.Prelude.{◌≡◌, ℕ, ◌<◌, true, List, ◌∷◌, length, Some, ◌⊎◌}
 use Rattle.gx_base.specs.declared.code.Code.{Code}
 use Rattle.gx_base.specs.declared.code.Code.TheVariants.{GLXS0001}
+use Rattle.gx_base.specs.Code.{is_dynamic}
 use Rattle.gx_io.specs.Load.{file_of}
 use Rattle.gx_io.specs.LibraryUse.{LoadsOnly}
 use Rattle.gx_io.specs.SinkUse.{IsUntouched, GrewByPrefix, Took, TookPart, SinkFailed}
@@ -82,12 +83,13 @@ OutputAfter Document run = IsUntouched run.out
 OutputAfter Dynamic run = IsUntouched run.out
 OutputAfter ReadFault run = IsUntouched run.out
 
--- the fault line after each status: one line, of the form that the status has, of a file that was loaded behind that of the query
+-- the fault line after each status: one line, of the form that the status has, of a file that was loaded behind that of the query; a
+-- refused query has the code of a static error, and an evaluation that of a dynamic one
 abbrev pub LineAfter : Status → Run → Type 0
 LineAfter Done run = IsUntouched run.err
 LineAfter Usage run = (line : List ℕ) × (IsMisuse run.words line ⊎ IsMisbinding run.words line) × Took run.err line
 LineAfter Query run = (line : List ℕ) × IsQueryLine line × Took run.err line
-LineAfter Dynamic run = (code : Code) × Took run.err (code_line code)
+LineAfter Dynamic run = (code : Code) × (is_dynamic code ≡ true) × Took run.err (code_line code)
 LineAfter ReadFault run = (file : List ℕ) × Took run.err (read_fault_line file)
 LineAfter WriteFault run = Took run.err write_fault_line ⊎ SinkFailed run.err
 LineAfter Memory run = Unit {0}

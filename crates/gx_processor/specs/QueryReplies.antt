@@ -1,5 +1,6 @@
 -- What reading and typing a query says.
-use Rattle.std.specs.Prelude.{◌≡◌, ℕ, List, ◌∷◌, None, IfSome, IfOk, IfErr, Result}
+use Rattle.std.specs.Prelude.{◌≡◌, ℕ, true, List, ◌∷◌, None, IfSome, IfOk, IfErr, Result}
+use Rattle.gx_base.specs.Code.{is_static}
 use Rattle.gx_core.specs.QueryMeaning.{plain_query}
 use Rattle.gx_io.specs.LibraryUse.{LibraryUse, LoadsOnly}
 use Rattle.gx_io.specs.Load.{file_of}
@@ -41,7 +42,7 @@ HoldsNone files name _ = Unit {0}
 
 -- a refusal of a query that is read
 abbrev pub IsOfTree : Refusal → Type 0
-IsOfTree (refusal.Query code place) = Unit {0}
+IsOfTree (refusal.Query code place) = is_static code ≡ true
 IsOfTree (refusal.SchemaFile file fault) = IsOfReader fault
 IsOfTree (refusal.Schema rule file name) = Unit {0}
 IsOfTree refusal.Memory = Unit {0}

@@ -1,8 +1,9 @@
 -- What a reply says of the answer.
-use Rattle.std.specs.Prelude.{◌≡◌, ℕ, List, [], ◌∷◌, ◌++◌, Option, Some, IfSome, IfErr, Result, Ok, Err, ◌⊎◌}
+use Rattle.std.specs.Prelude.{◌≡◌, ℕ, true, List, [], ◌∷◌, ◌++◌, Option, Some, IfSome, IfErr, Result, Ok, Err, ◌⊎◌}
 use Rattle.std.specs.String.{string_bytes}
 use Rattle.gx_base.specs.declared.code.Code.{Code}
 use Rattle.gx_base.specs.declared.code.Code.TheVariants.{GLXS0001}
+use Rattle.gx_base.specs.Code.{is_dynamic, is_static}
 use Rattle.gx_processor.specs.declared.status.Status.{Status}
 use Rattle.gx_processor.specs.declared.status.Status.TheVariants as status
 use Rattle.gx_processor.specs.declared.reply.Reply.{Reply}
@@ -44,40 +45,41 @@ abbrev pub IsOfReader : DocumentFault → Type 0
 IsOfReader (faults.Invalid rule path) = ⊥
 IsOfReader _ = Unit {0}
 
--- a refusal of the query or of its schema files
+-- a refusal of the query, with the code of a static error, or of its schema files
 abbrev pub IsOfQuery : Refusal → Type 0
 IsOfQuery refusal.ReadFault = Unit {0}
 IsOfQuery refusal.TooLong = Unit {0}
-IsOfQuery (refusal.Query code place) = Unit {0}
+IsOfQuery (refusal.Query code place) = is_static code ≡ true
 IsOfQuery (refusal.SchemaFile file fault) = IsOfReader fault
 IsOfQuery (refusal.Schema rule file name) = Unit {0}
 IsOfQuery refusal.Memory = Unit {0}
 IsOfQuery _ = ⊥
 
--- of the query alone; a read fault only where a count of faults rose
+-- of the query alone, with the code of a static error; a read fault only where a count of faults rose
 abbrev pub IsOfText : (Rose : Type 0) → Refusal → Type 0
 IsOfText Rose refusal.ReadFault = Rose
 IsOfText Rose refusal.TooLong = Unit {0}
-IsOfText Rose (refusal.Query code place) = Unit {0}
+IsOfText Rose (refusal.Query code place) = is_static code ≡ true
 IsOfText Rose refusal.Memory = Unit {0}
 IsOfText Rose _ = ⊥
 
--- of the query by its names or types
+-- of the query by its names or types, with the code of a static error
 abbrev pub IsOfRules : Refusal → Type 0
-IsOfRules (refusal.Query code place) = Unit {0}
+IsOfRules (refusal.Query code place) = is_static code ≡ true
 IsOfRules refusal.Memory = Unit {0}
 IsOfRules _ = ⊥
 
--- why a refusal comes: all but those of the query come where it is run
+-- why a refusal comes: all but those of the query come where it is run; a refusal of the query has the code of a static error, and an
+-- evaluation raises that of a dynamic one
 abbrev pub HasCause : (Runs : Type 0) → Refusal → Type 0
-HasCause Runs (refusal.Dynamic code) = Runs
+HasCause Runs (refusal.Dynamic code) = Runs × (is_dynamic code ≡ true)
 HasCause Runs (refusal.Binding fault) = Runs
 HasCause Runs (refusal.Document file fault) = Runs
 HasCause Runs (refusal.SchemaFile file fault) = IsOfReader fault
 HasCause Runs (refusal.Schema rule file name) = Unit {0}
 HasCause Runs refusal.ReadFault = Unit {0}
 HasCause Runs refusal.TooLong = Unit {0}
-HasCause Runs (refusal.Query code place) = Unit {0}
+HasCause Runs (refusal.Query code place) = is_static code ≡ true
 HasCause Runs refusal.Memory = Unit {0}
 
 -- likewise of a reply
@@ -102,7 +104,7 @@ IsMisbinding words line = AskToRun words × ((fault : Misbound) × (line ≡ bin
 abbrev pub HasForm : List (List ℕ) → Status → List ℕ → Type 0
 HasForm words status.Usage line = IsMisuse words line ⊎ IsMisbinding words line
 HasForm words status.Query line = AskOfQuery words × IsQueryLine line
-HasForm words status.Dynamic line = AskToRun words × ((code : Code) × (line ≡ code_line code))
+HasForm words status.Dynamic line = AskToRun words × ((code : Code) × (is_dynamic code ≡ true) × (line ≡ code_line code))
 HasForm words status.Done line = ⊥
 HasForm words status.Schema line = AskOfQuery words × IsSchemaLine line
 HasForm words status.Document line = AskToRun words × IsDocumentLine line
@@ -175,7 +177,7 @@ IsQueryForm command status.ReadFault line = Unit {0}
 IsQueryForm command status.Query line = IsQueryLine line
 IsQueryForm command status.Usage line = IsRunCommand command × ((fault : Misbound) × (line ≡ binding_line fault))
 IsQueryForm command status.Document line = IsRunCommand command × IsDocumentLine line
-IsQueryForm command status.Dynamic line = IsRunCommand command × ((code : Code) × (line ≡ code_line code))
+IsQueryForm command status.Dynamic line = IsRunCommand command × ((code : Code) × (is_dynamic code ≡ true) × (line ≡ code_line code))
 IsQueryForm command status.Done line = ⊥
 IsQueryForm command status.Schema line = IsSchemaLine line
 IsQueryForm command status.WriteFault line = ⊥

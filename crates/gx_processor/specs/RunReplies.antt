@@ -1,6 +1,7 @@
 -- What the run of a query that has a type says.
-use Rattle.std.specs.Prelude.{◌≡◌, ℕ, List, Option, None, Some, IfSome, IfErr, Result, Ok, Err, String}
+use Rattle.std.specs.Prelude.{◌≡◌, ℕ, true, List, Option, None, Some, IfSome, IfErr, Result, Ok, Err, String}
 use Rattle.std.specs.String.{string_bytes}
+use Rattle.gx_base.specs.Code.{is_dynamic, is_static}
 use Rattle.gx_core.specs.Queries.{Core, TypedCore, CoreDeclaration}
 use Rattle.gx_core.specs.QueryMeaning.{plain_query, query_type}
 use Rattle.gx_processor.specs.Command.{Command, run_file, check_file}
@@ -27,12 +28,15 @@ abbrev pub AnswersSo : {Z : Type 0} → (Answer → Type 0) → Result (String Z
 AnswersSo Answered (Ok text) = Answered (writes (string_bytes text))
 AnswersSo Answered (Err e) = RefusesSo e Answered
 
--- the file of the query has been read
+-- the file of the query has been read; the query is refused with the code of a static error, and its evaluation raises that of a
+-- dynamic one
 abbrev pub IsOfRun : {V : Type 0} → Result V Refusal → Type 0
 IsOfRun (Err refusal.ReadFault) = ⊥
 IsOfRun (Err refusal.TooLong) = ⊥
 IsOfRun (Err (refusal.SchemaFile file fault)) = ⊥
 IsOfRun (Err (refusal.Schema rule file name)) = ⊥
+IsOfRun (Err (refusal.Query code place)) = is_static code ≡ true
+IsOfRun (Err (refusal.Dynamic code)) = is_dynamic code ≡ true
 IsOfRun _ = Unit {0}
 
 abbrev pub FailsAtDocument : {V : Type 0} → LibraryUse → List (List ℕ) → Result V Refusal → Type 0
@@ -58,7 +62,7 @@ IsMisboundSo found _ = ⊥
 -- a dynamic error alone
 abbrev pub IsEvaluated : {V : Type 0} → Result V Refusal → Type 0
 IsEvaluated (Ok v) = Unit {0}
-IsEvaluated (Err (refusal.Dynamic code)) = Unit {0}
+IsEvaluated (Err (refusal.Dynamic code)) = is_dynamic code ≡ true
 IsEvaluated (Err refusal.Memory) = Unit {0}
 IsEvaluated (Err _) = ⊥
 

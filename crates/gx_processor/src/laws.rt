@@ -5,6 +5,7 @@ ghost use Rattle.gx_processor.specs.Answer.{Answer, Answers, AnAnswerExists, Che
 ghost use Rattle.gx_processor.specs.Loading.{AnswersLookAtTheirLoads};
 ghost use Rattle.gx_documents.specs.Documents.{Files};
 ghost use Rattle.gx_processor.specs.ExternalDocuments.{NamedQueriesHaveDocuments};
+ghost use Rattle.gx_processor.specs.JudgedQueries.{NamedQueriesAreJudgedByInclusion};
 
 use gx_schema::laws::{an_import_exists, imports_are_one, imports_are_schema_sets};
 
@@ -38,4 +39,10 @@ pub fn answers_look_at_their_loads()
 /// Each external variable of a query is a document without types, or one whose element is global and has its declared type.
 pub fn named_queries_have_documents()
     ensures { NamedQueriesHaveDocuments }
+{}
+
+/// Each operator in a query whose names are resolved has the type, or the code, that the static rules give it which demand inclusion of
+/// the types of its operands.
+pub fn named_queries_are_judged_by_inclusion()
+    ensures { NamedQueriesAreJudgedByInclusion }
 {}

@@ -1,6 +1,7 @@
 // Queries with their types.
 
-ghost use Rattle.std.specs.Prelude.{◌≡◌, ◌≤◌, [], ◌∷◌, length, IfOk, IfErr, IfSome, Some, None};
+ghost use Rattle.std.specs.Prelude.{◌≡◌, ◌≤◌, true, [], ◌∷◌, length, IfOk, IfErr, IfSome, Some, None};
+ghost use Rattle.gx_base.specs.Code.{is_static};
 ghost use Rattle.gx_core.specs.QueryMeaning.{plain_query, IsSoundQuery};
 ghost use Rattle.gx_static.specs.QueryJudgement.{query_judged, query_typed};
 ghost use Rattle.gx_io.specs.Calls.{Loads};
@@ -162,7 +163,8 @@ fn tree_of(alloc: Global, bytes: &[u8]) -> Result<Query, Refusal>
 
 // The code of a rule of syntax.
 fn rule_code(rule: SyntaxRule) -> Code
-    ensures { result ≡ rule_code rule }
+    ensures code { result ≡ rule_code rule }
+    ensures fixed { is_static result ≡ true }
 {
     match rule {
         SyntaxRule::NotUtf8 | SyntaxRule::Syntax => Code::XPST0003,
@@ -220,7 +222,7 @@ fn drop_initialiser(alloc: Global, initialiser: Initialiser) {
 }
 
 // The Core of a tree under schemas. The tree ends here.
-#[tactic(auto, using(crate::proofs::QueryLemmas::named_so, crate::proofs::QueryLemmas::refused_so))]
+#[tactic(auto, using(crate::proofs::QueryLemmas::named_so, crate::proofs::QueryLemmas::refused_so, crate::proofs::QueryLemmas::static_name))]
 fn core_of(alloc: Global, schemas: &Schemas, tree: Query) -> Result<Core, Refusal>
     ensures core { IfOk result (λ core. query_named schemas.now tree ≡ named_query core) }
     ensures refused { IfErr result (λ refusal. (files : Files) (command : Command) → RefusesSo refusal (AnswersNamed files command schemas.now (query_named schemas.now tree))) }
@@ -236,6 +238,7 @@ fn core_of(alloc: Global, schemas: &Schemas, tree: Query) -> Result<Core, Refusa
 }
 
 // A Core with its types under schemas.
+#[tactic(auto, using(crate::proofs::QueryLemmas::static_type))]
 fn typed_core(alloc: Global, schemas: &Schemas, core: Core) -> Result<TypedCore, Refusal>
     ensures typed { IfOk result (λ t. query_judged schemas.now core ≡ query_typed t) }
     ensures same { IfOk result (λ t. plain_query t ≡ core) }

@@ -302,6 +302,7 @@ fn writable_type(alloc: Global) -> Result<Ty, AllocError>
 }
 
 // The serialisation of the value over the trees of documents.
+#[tactic(auto, using(crate::proofs::RunLemmas::dynamic_error))]
 fn written(
     alloc: Global,
     schemas: &Schemas,

@@ -15,7 +15,7 @@ returns-in-Ok-clause-none c = not_built c.args.bytes.now c.in-Ok.tree c.built.re
 
 pub returns-in-Err-Refused-clause-refused : goal.returns-in-Err-Refused-clause-refused
 returns-in-Err-Refused-clause-refused c = λ files command.
-    rw (c.in-Err-Refused.place-is, c.rule_code-code.ensures, c.in-Err-Refused.rule-is)
+    rw (c.in-Err-Refused.place-is, c.rule_code-code.ensures.code, c.in-Err-Refused.rule-is)
     (refused c.in-Err-Refused.rule c.in-Err-Refused.place, subst (λ (e : SyntaxRefusal). RefusesBytes e c.args.bytes.now) c.in-Err-Refused.field-0-is c.in-Err-Refused.ensures.refused, refl)
 
 pub returns-in-Err-Refused-clause-none : goal.returns-in-Err-Refused-clause-none

@@ -1,0 +1,419 @@
+-- The types that a query names are known, and so it is judged by inclusion.
+use Rattle.std.proofs.Common.{◌≡◌, ℕ, ◌+◌, Bool, true, false, List, [], ◌∷◌, Option, Some, None, option_map, inl, inr, refl, sym, ◌∙◌, subst, if◌then◌else◌}
+use Rattle.std.specs.Prelude.{unwrap_or}
+use Rattle.std.specs.Bool.{IsTrue}
+use Rattle.gx_base.specs.Name.{same_name}
+use Rattle.gx_base.specs.Text.{same_text}
+use Rattle.gx_base.specs.declared.name.Name.{Name}
+use Rattle.gx_base.specs.declared.place.Place.{Place}
+use Rattle.gx_base.specs.declared.type_name.Builtin.TheVariants.{AnyAtomic}
+use Rattle.gx_base.specs.declared.type_name.TypeName.{TypeName}
+use Rattle.gx_base.specs.declared.type_name.TypeName.TheVariants as names
+use Rattle.gx_ast.specs.declared.expression.BinaryOperator.{BinaryOperator}
+use Rattle.gx_ast.specs.declared.expression.BinaryOperator.TheVariants as operator
+use Rattle.gx_ast.specs.declared.name.QName.{QName}
+use Rattle.gx_ast.specs.declared.name.Variable.{Variable}
+use Rattle.gx_ast.specs.declared.query.Definition.{Definition}
+use Rattle.gx_ast.specs.declared.query.DefinitionNode.{DefinitionNode}
+use Rattle.gx_ast.specs.declared.query.DefinitionNode.TheVariants as definitions
+use Rattle.gx_ast.specs.declared.query.Initialiser.TheVariants as initial
+use Rattle.gx_ast.specs.declared.sequence_type.BoundVariable.{BoundVariable}
+use Rattle.gx_ast.specs.SyntaxTree.{SyntaxTree, SyntaxForm, SyntaxTrees, Bindings, Clauses, Keys, Cases, Attributes, AttributeParts, Parts, at, number, string, variable, parenthesised, empty_sequence, context_item, call, comma, flwor, quantified, typeswitch, conditional, binary, instance_of, treat_as, castable_as, cast_as, signed, path, axis_step, parent_step, filtered, direct, document_node, text_node, element_node, empty_element, attribute_node, empty_attribute, no_tree, a_tree, no_binding, a_binding, no_clause, for_clause, let_clause, where_clause, no_key, a_key, no_case, a_case, no_attribute, an_attribute, no_attribute_part, attribute_text, attribute_enclosed, no_part, blank_part, text_part, element_part, enclosed_part}
+use Rattle.gx_types.specs.declared.declaration.GlobalElement.{GlobalElement}
+use Rattle.gx_types.specs.SchemaSet.{SchemaSet, type_of_element}
+use Rattle.gx_types.specs.SchemaInvariant.{HoldsOfEach, IsSchemaSet, is_named_type}
+use Rattle.gx_types.specs.SequenceType.{SequenceType}
+use Rattle.gx_types.specs.declared.step.Axis.{Axis}
+use Rattle.gx_types.specs.declared.step.Axis.TheVariants as axes
+use Rattle.gx_types.specs.declared.step.Test.{Test}
+use Rattle.gx_types.specs.declared.step.Test.TheVariants as tests
+use Rattle.gx_types.proofs.DerivationTest.{derives_when_tested}
+use Rattle.gx_types.proofs.EqualNames.{type_name_symm}
+use Rattle.gx_typetext.specs.KnownNames.{is_atomic_name, type_with_name, if_atomic, atomic_with_name}
+use Rattle.gx_funcs.specs.declared.function.Function.{Function}
+use Rattle.gx_funcs.specs.declared.function.Function.TheVariants as functions
+use Rattle.gx_funcs.specs.Function.{function_named}
+use Rattle.gx_resolved.specs.declared.tree.BindingWord.{BindingWord}
+use Rattle.gx_resolved.specs.declared.tree.BindingWord.TheVariants as words
+use Rattle.gx_resolved.specs.declared.tree.BoundName.{BoundName}
+use Rattle.gx_resolved.specs.declared.tree.Construct.{Construct}
+use Rattle.gx_resolved.specs.declared.tree.Construct.TheVariants as constructs
+use Rattle.gx_resolved.specs.declared.tree.Declaration.{Declaration}
+use Rattle.gx_resolved.specs.ResolvedTree.{ResolvedTree, ResolvedTrees, resolved_at, no_resolved, a_resolved, one_resolved, and_parts}
+use Rattle.gx_names_scope.specs.Environment.{Environment, function_uri, is_declared_function, element_name, called_name, or_nameless, with_variable, with_optional, with_bound}
+use Rattle.gx_names_scope.specs.StartTags.{declared_prefix, declares_namespace, with_namespace, with_namespaces}
+use Rattle.gx_names_scope.specs.TreeCounts.{count_trees}
+use Rattle.gx_names_types.specs.TypeNames.{atomic_named, type_written}
+use Rattle.gx_names_trees.specs.TreeRefusals.{built_in_call}
+use Rattle.gx_names_trees.specs.TreeResolution.{binder_resolved, optional_resolved, binding_resolved, call_resolved, direct_attribute_resolved, tree_resolved, form_resolved, trees_resolved, bindings_resolved, clauses_resolved, keys_resolved, cases_resolved, attributes_resolved, attribute_parts_resolved, parts_resolved}
+use Rattle.gx_names.specs.Refusals.{definition_scope, scope_after, with_functions, query_refusals}
+use Rattle.gx_names.specs.Resolution.{declaration_resolved, declarations_resolved, query_resolved}
+use Rattle.gx_names.specs.SettingRefusals.{prolog_environment}
+use Rattle.gx_core.specs.declared.expression.BinaryOp.{BinaryOp}
+use Rattle.gx_core.specs.Queries.{Core}
+use Rattle.gx_core.specs.Expression.{CoreExpression, At, all_parts}
+use Rattle.gx_normal.specs.Constructs.{within, core_sequence, operator_at, call_of, empty_at, of_one, data_at, conditional_at, and_at, or_at, signed_at, cast_at, castable_at, operator_in_core, joined_by, joining, context_item_at, step_at}
+use Rattle.gx_normal.specs.Normalisation.{Numbers, Focus, number_at, variable_at, of_two, of_three, joined_at, constructed, construct_core, core_of, cores_of, flwor_core, path_core, declared_type, declarations_of, behind_declarations, query_core}
+use Rattle.gx_static.specs.NormalTypes.{CastsToAtomicTypes, PartsCastToAtomicTypes}
+use Rattle.gx_static.specs.ByInclusion.{IsNormalIfWritten, NameKnownTypes, NamesKnownTypes}
+use Rattle.gx_static.proofs.AtomicTypes.{IsAtomic, top}
+use Rattle.gx_static.proofs.NormalData.{atomic_is_derived}
+use Rattle.gx_static.proofs.NormalSteps.{known_below, named_is_known}
+use Rattle.gx_static.proofs.JudgedByInclusion.{queries_are_judged_by_inclusion}
+use Rattle.gx_processor.specs.ExternalDocuments.{IsDocumentType, ExternalsAreDocuments}
+use Rattle.gx_processor.specs.JudgedQueries.{NamedQueriesAreJudgedByInclusion}
+use Rattle.gx_processor.proofs.WholeQueries.{named_queries_have_documents, same_schemas, whole_named}
+
+-- ---- casts of resolved trees
+
+abbrev CastsAtomically : SchemaSet → Construct → Type 0
+CastsAtomically s (constructs.CastAs kind optional) = IsAtomic s kind
+CastsAtomically s _ = Unit {0}
+
+abbrev mutual
+  AreCastsAtomic : SchemaSet → ResolvedTree → Type 0
+  AreCastsAtomic s (resolved_at place construct parts) = CastsAtomically s construct × AreAllCastsAtomic s parts
+
+  AreAllCastsAtomic : SchemaSet → ResolvedTrees → Type 0
+  AreAllCastsAtomic s no_resolved = Unit {0}
+  AreAllCastsAtomic s (a_resolved first others) = AreCastsAtomic s first × AreAllCastsAtomic s others
+
+both_atomic : (s : SchemaSet) (ts us : ResolvedTrees) → AreAllCastsAtomic s ts → AreAllCastsAtomic s us → AreAllCastsAtomic s (and_parts ts us)
+both_atomic s no_resolved us h k = k
+both_atomic s (a_resolved t ts) us h k = (h.0, both_atomic s ts us h.1 k)
+
+-- ---- the name of a type that a cast names
+
+name_is_atomic : (s : SchemaSet) → IsSchemaSet s → (t : TypeName) → is_atomic_name s t ≡ true → IsAtomic s t
+name_is_atomic s is (names.Builtin b) h = derives_when_tested s (names.Builtin b) (names.Builtin AnyAtomic) h
+name_is_atomic s is (names.Named n) h = atomic_is_derived s (names.Named n) is h
+name_is_atomic s is (names.Anonymous n) h = atomic_is_derived s (names.Anonymous n) is h
+
+if_atomic_is : (s : SchemaSet) → IsSchemaSet s → (found : Option TypeName) → IsAtomic s (unwrap_or (if_atomic s found) (names.Builtin AnyAtomic))
+if_atomic_is s is None = top s
+if_atomic_is s is (Some t) = by (is_atomic_name s t) refl
+  where
+    by : (b : Bool) → is_atomic_name s t ≡ b → IsAtomic s (unwrap_or (if b then Some t else None) (names.Builtin AnyAtomic))
+    by true h = name_is_atomic s is t h
+    by false h = top s
+
+named_is_atomic : (s : SchemaSet) → IsSchemaSet s → (environment : Environment) (name : QName) → environment.schemas ≡ s → IsAtomic s (atomic_named environment name)
+named_is_atomic s is environment name e =
+    subst (λ (schemas : SchemaSet). IsAtomic s (unwrap_or (atomic_with_name schemas (or_nameless (element_name environment name))) (names.Builtin AnyAtomic))) (sym e)
+    (if_atomic_is s is (type_with_name s (or_nameless (element_name environment name))))
+
+-- ---- what names stand for looks at the same schemas everywhere
+
+optional_same : (binder : Option Variable) (environment : Environment) → (with_optional binder environment).schemas ≡ environment.schemas
+optional_same None environment = refl
+optional_same (Some binder) environment = refl
+
+bound_same : (bound : BoundVariable) (environment : Environment) → (with_bound bound environment).schemas ≡ environment.schemas
+bound_same bound environment = optional_same bound.position (with_variable bound.variable environment)
+
+namespace_same : (prefix : Option (List ℕ)) (value : AttributeParts) (environment : Environment) → (with_namespace prefix value environment).schemas ≡ environment.schemas
+namespace_same None value environment = refl
+namespace_same (Some prefix) value environment = refl
+
+namespaces_same : (attributes : Attributes) (environment : Environment) → (with_namespaces attributes environment).schemas ≡ environment.schemas
+namespaces_same no_attribute environment = refl
+namespaces_same (an_attribute name value others) environment =
+    namespaces_same others (with_namespace (declared_prefix name) value environment) ∙ namespace_same (declared_prefix name) value environment
+
+-- ---- constructs that are no casts
+
+built_in_is_no_cast : (s : SchemaSet) (found : Option Function) → CastsAtomically s (unwrap_or (built_in_call found) (constructs.Call functions.True))
+built_in_is_no_cast s None = tt
+built_in_is_no_cast s (Some function) = tt
+
+called_is_no_cast : (s : SchemaSet) (name : Name) (arity : ℕ) (standard known : Bool)
+    → CastsAtomically s (unwrap_or (if standard then built_in_call (function_named name.local arity) else if known then Some (constructs.CallDeclared name) else None) (constructs.Call functions.True))
+called_is_no_cast s name arity true known = built_in_is_no_cast s (function_named name.local arity)
+called_is_no_cast s name arity false true = tt
+called_is_no_cast s name arity false false = tt
+
+call_is_no_cast : (s : SchemaSet) (environment : Environment) (name : QName) (arity : ℕ) → CastsAtomically s (call_resolved environment name arity)
+call_is_no_cast s environment name arity =
+    called_is_no_cast s (or_nameless (called_name environment name)) arity (same_text (or_nameless (called_name environment name)).uri function_uri)
+    (is_declared_function environment (or_nameless (called_name environment name)) arity)
+
+binding_is_no_cast : (s : SchemaSet) (word : BindingWord) (bound : BoundName) (position : Option BoundName) → CastsAtomically s (binding_resolved word bound position)
+binding_is_no_cast s words.Let bound position = tt
+binding_is_no_cast s words.For bound position = tt
+binding_is_no_cast s words.Satisfies bound position = tt
+
+-- ---- resolved trees
+
+module _ (s : SchemaSet) (is : IsSchemaSet s) where
+  abbrev Under : Environment → Type 0
+  Under environment = environment.schemas ≡ s
+
+  mutual
+    atomic_tree : (environment : Environment) (tree : SyntaxTree) → Under environment → AreCastsAtomic s (tree_resolved environment tree)
+    atomic_tree environment (at place form) e = atomic_form environment place form e
+
+    atomic_form : (environment : Environment) (place : Place) (form : SyntaxForm) → Under environment → AreCastsAtomic s (form_resolved environment place form)
+    atomic_form environment place (number value) e = (tt, tt)
+    atomic_form environment place (string characters) e = (tt, tt)
+    atomic_form environment place (variable name) e = (tt, tt)
+    atomic_form environment place (parenthesised inner) e = (tt, (atomic_tree environment inner e, tt))
+    atomic_form environment place empty_sequence e = (tt, tt)
+    atomic_form environment place context_item e = (tt, tt)
+    atomic_form environment place (call name arguments) e = (call_is_no_cast s environment name (count_trees arguments), atomic_trees environment arguments e)
+    atomic_form environment place (comma first second) e = (tt, (atomic_tree environment first e, (atomic_tree environment second e, tt)))
+    atomic_form environment place (flwor clauses order stable keys returned) e = (
+      tt,
+      atomic_clauses clauses (λ inner. and_parts (keys_resolved inner keys) (one_resolved (tree_resolved inner returned))) environment
+          (λ inner f. both_atomic s (keys_resolved inner keys) (one_resolved (tree_resolved inner returned)) (atomic_keys inner keys f) (atomic_tree inner returned f, tt)) e,
+    )
+    atomic_form environment place (quantified every bindings condition) e =
+        (tt, atomic_bindings words.Satisfies bindings (λ inner. one_resolved (tree_resolved inner condition)) environment (λ inner f. (atomic_tree inner condition f, tt)) e)
+    atomic_form environment place (typeswitch operand cases default otherwise) e =
+        let last : ResolvedTrees = one_resolved (resolved_at default.place (constructs.Default (optional_resolved environment default.variable)) (one_resolved (tree_resolved (with_optional default.variable environment) otherwise))) in (
+          tt,
+          (
+            atomic_tree environment operand e,
+            both_atomic s (cases_resolved environment cases) last (atomic_cases environment cases e)
+                ((tt, (atomic_tree (with_optional default.variable environment) otherwise (optional_same default.variable environment ∙ e), tt)), tt),
+          ),
+        )
+    atomic_form environment place (conditional test chosen otherwise) e =
+        (tt, (atomic_tree environment test e, (atomic_tree environment chosen e, (atomic_tree environment otherwise e, tt))))
+    atomic_form environment place (binary operator left right) e = (tt, (atomic_tree environment left e, (atomic_tree environment right e, tt)))
+    atomic_form environment place (instance_of operand kind) e = (tt, (atomic_tree environment operand e, tt))
+    atomic_form environment place (treat_as operand kind) e = (tt, (atomic_tree environment operand e, tt))
+    atomic_form environment place (castable_as operand kind) e = (tt, (atomic_tree environment operand e, tt))
+    atomic_form environment place (cast_as operand kind) e = (named_is_atomic s is environment kind.name e, (atomic_tree environment operand e, tt))
+    atomic_form environment place (signed minus operand) e = (tt, (atomic_tree environment operand e, tt))
+    atomic_form environment place (path descendants left right) e = (tt, (atomic_tree environment left e, (atomic_tree environment right e, tt)))
+    atomic_form environment place (axis_step step) e = (tt, tt)
+    atomic_form environment place parent_step e = (tt, tt)
+    atomic_form environment place (filtered bracket operand predicates) e = (tt, (atomic_tree environment operand e, atomic_trees environment predicates e))
+    atomic_form environment place (direct name attributes content) e =
+        let inner : Environment = with_namespaces attributes environment in
+        let f : Under inner = namespaces_same attributes environment ∙ e in
+        (tt, both_atomic s (attributes_resolved inner attributes) (parts_resolved inner place content) (atomic_attributes inner attributes f) (atomic_parts inner place content f))
+    atomic_form environment place (document_node content) e = (tt, (atomic_tree environment content e, tt))
+    atomic_form environment place (text_node content) e = (tt, (atomic_tree environment content e, tt))
+    atomic_form environment place (element_node name content) e = (tt, (atomic_tree environment content e, tt))
+    atomic_form environment place (empty_element name) e = (tt, tt)
+    atomic_form environment place (attribute_node name content) e = (tt, (atomic_tree environment content e, tt))
+    atomic_form environment place (empty_attribute name) e = (tt, tt)
+
+    atomic_trees : (environment : Environment) (trees : SyntaxTrees) → Under environment → AreAllCastsAtomic s (trees_resolved environment trees)
+    atomic_trees environment no_tree e = tt
+    atomic_trees environment (a_tree first others) e = (atomic_tree environment first e, atomic_trees environment others e)
+
+    atomic_bindings : (word : BindingWord) (bindings : Bindings) (next : Environment → ResolvedTrees) (environment : Environment)
+        → ((inner : Environment) → Under inner → AreAllCastsAtomic s (next inner)) → Under environment → AreAllCastsAtomic s (bindings_resolved word bindings next environment)
+    atomic_bindings word no_binding next environment k e = k environment e
+    atomic_bindings word (a_binding bound value others) next environment k e =
+        ((binding_is_no_cast s word (binder_resolved environment bound.variable bound.kind) (optional_resolved environment bound.position), (atomic_tree environment value e, tt)), atomic_bindings word others next (with_bound bound environment) k (bound_same bound environment ∙ e))
+
+    atomic_clauses : (clauses : Clauses) (next : Environment → ResolvedTrees) (environment : Environment)
+        → ((inner : Environment) → Under inner → AreAllCastsAtomic s (next inner)) → Under environment → AreAllCastsAtomic s (clauses_resolved clauses next environment)
+    atomic_clauses no_clause next environment k e = k environment e
+    atomic_clauses (for_clause place bindings others) next environment k e = atomic_bindings words.For bindings (clauses_resolved others next) environment (λ inner f. atomic_clauses others next inner k f) e
+    atomic_clauses (let_clause place bindings others) next environment k e = atomic_bindings words.Let bindings (clauses_resolved others next) environment (λ inner f. atomic_clauses others next inner k f) e
+    atomic_clauses (where_clause place condition others) next environment k e = ((tt, (atomic_tree environment condition e, tt)), atomic_clauses others next environment k e)
+
+    atomic_keys : (environment : Environment) (keys : Keys) → Under environment → AreAllCastsAtomic s (keys_resolved environment keys)
+    atomic_keys environment no_key e = tt
+    atomic_keys environment (a_key value order others) e = ((tt, (atomic_tree environment value e, tt)), atomic_keys environment others e)
+
+    atomic_cases : (environment : Environment) (cases : Cases) → Under environment → AreAllCastsAtomic s (cases_resolved environment cases)
+    atomic_cases environment no_case e = tt
+    atomic_cases environment (a_case heading body others) e =
+        ((tt, (atomic_tree (with_optional heading.variable environment) body (optional_same heading.variable environment ∙ e), tt)), atomic_cases environment others e)
+
+    atomic_attributes : (environment : Environment) (attributes : Attributes) → Under environment → AreAllCastsAtomic s (attributes_resolved environment attributes)
+    atomic_attributes environment no_attribute e = tt
+    atomic_attributes environment (an_attribute name value others) e =
+        let rest = atomic_attributes environment others e in
+        let here = atomic_attribute_parts environment name.place value e in
+        elim (declares_namespace name) as (λ (b : Bool). AreAllCastsAtomic s (if b then attributes_resolved environment others
+        else a_resolved (resolved_at name.place (direct_attribute_resolved environment name) (attribute_parts_resolved environment name.place value)) (attributes_resolved environment others))) [
+          | true ↦ rest
+          | false ↦ ((tt, here), rest)
+        ]
+
+    atomic_attribute_parts : (environment : Environment) (place : Place) (parts : AttributeParts) → Under environment → AreAllCastsAtomic s (attribute_parts_resolved environment place parts)
+    atomic_attribute_parts environment place no_attribute_part e = tt
+    atomic_attribute_parts environment place (attribute_text characters others) e = ((tt, tt), atomic_attribute_parts environment place others e)
+    atomic_attribute_parts environment place (attribute_enclosed value others) e = (atomic_tree environment value e, atomic_attribute_parts environment place others e)
+
+    atomic_parts : (environment : Environment) (place : Place) (parts : Parts) → Under environment → AreAllCastsAtomic s (parts_resolved environment place parts)
+    atomic_parts environment place no_part e = tt
+    atomic_parts environment place (blank_part characters others) e = ((tt, tt), atomic_parts environment place others e)
+    atomic_parts environment place (text_part characters others) e = ((tt, tt), atomic_parts environment place others e)
+    atomic_parts environment place (element_part element others) e = (atomic_tree environment element e, atomic_parts environment place others e)
+    atomic_parts environment place (enclosed_part value others) e = (atomic_tree environment value e, atomic_parts environment place others e)
+
+  -- ---- Core over parts whose casts are atomic
+
+  abbrev Casts : CoreExpression → Type 0
+  Casts e = CastsToAtomicTypes s e
+
+  abbrev AllCast : List CoreExpression → Type 0
+  AllCast [] = Unit {0}
+  AllCast (e ∷ es) = Casts e × AllCast es
+
+  one_casts : (place : Place) (make : CoreExpression → CoreExpression) → ((e : CoreExpression) → Casts e → Casts (make e)) → (es : List CoreExpression) → AllCast es → Casts (of_one place make es)
+  one_casts place make f [] h = (tt, tt)
+  one_casts place make f (a ∷ []) h = f a h.0
+  one_casts place make f (a ∷ b ∷ es) h = (tt, tt)
+
+  two_cast : (place : Place) (make : CoreExpression → CoreExpression → CoreExpression) → ((a b : CoreExpression) → Casts a → Casts b → Casts (make a b)) → (es : List CoreExpression) → AllCast es → Casts (of_two place make es)
+  two_cast place make f [] h = (tt, tt)
+  two_cast place make f (a ∷ []) h = (tt, tt)
+  two_cast place make f (a ∷ b ∷ []) h = f a b h.0 h.1.0
+  two_cast place make f (a ∷ b ∷ c ∷ es) h = (tt, tt)
+
+  conditional_casts : (place : Place) (a b c : CoreExpression) → Casts a → Casts b → Casts c → Casts (conditional_at place a b c)
+  conditional_casts place a b c h k l = (tt, ((tt, (h, tt)), (k, (l, tt))))
+
+  three_cast : (place : Place) (es : List CoreExpression) → AllCast es → Casts (of_three place (conditional_at place) es)
+  three_cast place [] h = (tt, tt)
+  three_cast place (a ∷ []) h = (tt, tt)
+  three_cast place (a ∷ b ∷ []) h = (tt, tt)
+  three_cast place (a ∷ b ∷ c ∷ []) h = conditional_casts place a b c h.0 h.1.0 h.1.1.0
+  three_cast place (a ∷ b ∷ c ∷ d ∷ es) h = (tt, tt)
+
+  within_casts : (place : Place) (e : CoreExpression) → Casts e → Casts (within place e)
+  within_casts place (At own outer tt operator parts) h = h
+
+  signed_casts : (place : Place) (minus : Bool) (e : CoreExpression) → Casts e → Casts (signed_at place minus e)
+  signed_casts place true e h = (tt, ((tt, (h, tt)), tt))
+  signed_casts place false e h = (tt, ((tt, (h, tt)), ((tt, tt), tt)))
+
+  joined_cast : (place : Place) (found : Option BinaryOp) (es : List CoreExpression) → AllCast es → Casts (joined_at place (joined_by place found) es)
+  joined_cast place None es h = (tt, tt)
+  joined_cast place (Some op) es h = two_cast place (operator_at place op) (λ a b k l. (tt, ((tt, (k, tt)), ((tt, (l, tt)), tt)))) es h
+
+  joining_casts : (place : Place) (o : BinaryOperator) (es : List CoreExpression) → AllCast es → Casts (joined_at place (joining place o) es)
+  joining_casts place operator.And es h = two_cast place (and_at place) (λ a b k l. (tt, ((tt, (k, tt)), ((tt, (l, tt)), ((tt, tt), tt))))) es h
+  joining_casts place operator.Or es h = two_cast place (or_at place) (λ a b k l. (tt, ((tt, (k, tt)), ((tt, tt), ((tt, (l, tt)), tt))))) es h
+  joining_casts place o es h = joined_cast place (operator_in_core o) es h
+
+  all_cast : (es : List CoreExpression) → AllCast es → PartsCastToAtomicTypes s (all_parts es)
+  all_cast [] h = tt
+  all_cast (e ∷ es) h = (h.0, all_cast es h.1)
+
+  call_casts : (place : Place) (function : Function) (es : List CoreExpression) → AllCast es → Casts (call_of place function es)
+  call_casts place functions.Data es h = one_casts place (data_at place) (λ e k. (tt, (k, tt))) es h
+  call_casts place function es h = (tt, all_cast es h)
+
+  constructed_casts : (place : Place) (construct : Construct) (es : List CoreExpression) → CastsAtomically s construct → AllCast es → Casts (constructed place construct es)
+  constructed_casts place (constructs.Number value) es c h = (tt, tt)
+  constructed_casts place (constructs.String characters) es c h = (tt, tt)
+  constructed_casts place constructs.Parenthesised es c h = one_casts place (within place) (within_casts place) es h
+  constructed_casts place (constructs.Call function) es c h = call_casts place function es h
+  constructed_casts place constructs.Sequence es c h = two_cast place core_sequence (λ a b k l. (tt, (k, (l, tt)))) es h
+  constructed_casts place constructs.If es c h = three_cast place es h
+  constructed_casts place (constructs.Binary o) es c h = joining_casts place o es h
+  constructed_casts place (constructs.CastableAs kind optional) es c h = one_casts place (castable_at place kind optional) (λ e k. (tt, ((tt, (k, tt)), tt))) es h
+  constructed_casts place (constructs.CastAs kind optional) es c h = one_casts place (cast_at place kind optional) (λ e k. (c, ((tt, (k, tt)), tt))) es h
+  constructed_casts place (constructs.Signed minus) es c h = one_casts place (signed_at place minus) (signed_casts place minus) es h
+  constructed_casts place _ es c h = (tt, tt)
+
+  variable_casts : (place : Place) (found : Option ℕ) → Casts (variable_at place found)
+  variable_casts place None = (tt, tt)
+  variable_casts place (Some bound) = (tt, tt)
+
+  context_casts : (place : Place) (focus : Focus) → Casts (context_item_at place focus)
+  context_casts place None = (tt, tt)
+  context_casts place (Some bound) = (tt, tt)
+
+  step_casts : (place : Place) (focus : Focus) (axis : Axis) (asks : Test) → Casts (step_at place focus axis asks)
+  step_casts place None axis asks = (tt, tt)
+  step_casts place (Some bound) axis asks = (tt, tt)
+
+  construct_casts : (place : Place) (construct : Construct) (numbers : Numbers) (focus : Focus) (free : ℕ) (parts : List CoreExpression × ℕ) (clauses steps : CoreExpression × ℕ)
+      → CastsAtomically s construct → AllCast parts.0 → Casts clauses.0 → Casts steps.0 → Casts (construct_core place construct numbers focus free parts clauses steps).0
+  construct_casts place (constructs.Variable name binder) numbers focus free parts clauses steps c h k l = variable_casts place (number_at numbers binder)
+  construct_casts place constructs.Context numbers focus free parts clauses steps c h k l = context_casts place focus
+  construct_casts place (constructs.Step axis asks) numbers focus free parts clauses steps c h k l = step_casts place focus axis asks
+  construct_casts place constructs.ParentStep numbers focus free parts clauses steps c h k l = step_casts place focus axes.Parent tests.Node
+  construct_casts place constructs.Flwor numbers focus free parts clauses steps c h k l = k
+  construct_casts place (constructs.Path false) numbers focus free parts clauses steps c h k l = l
+  construct_casts place construct numbers focus free parts clauses steps c h k l = constructed_casts place construct parts.0 c h
+
+  mutual
+    core_casts : (tree : ResolvedTree) (numbers : Numbers) (focus : Focus) (free : ℕ) → AreCastsAtomic s tree → Casts (core_of tree numbers focus free).0
+    core_casts (resolved_at place construct parts) numbers focus free c =
+        construct_casts place construct numbers focus free (cores_of parts numbers focus free) (flwor_core place parts numbers focus free) (path_core place parts numbers focus free) c.0
+        (cores_cast parts numbers focus free c.1) (flwor_casts place parts numbers focus free c.1) (path_casts place parts numbers focus free c.1)
+
+    cores_cast : (parts : ResolvedTrees) (numbers : Numbers) (focus : Focus) (free : ℕ) → AreAllCastsAtomic s parts → AllCast (cores_of parts numbers focus free).0
+    cores_cast no_resolved numbers focus free c = tt
+    cores_cast (a_resolved first others) numbers focus free c = (core_casts first numbers focus free c.0, cores_cast others numbers focus (core_of first numbers focus free).1 c.1)
+
+    flwor_casts : (place : Place) (parts : ResolvedTrees) (numbers : Numbers) (focus : Focus) (free : ℕ) → AreAllCastsAtomic s parts → Casts (flwor_core place parts numbers focus free).0
+    flwor_casts place no_resolved numbers focus free c = (tt, tt)
+    flwor_casts place (a_resolved (resolved_at there (constructs.Let bound) (a_resolved value more)) others) numbers focus free c =
+        let middle = (core_of value numbers focus free).1 in
+        (tt, (core_casts value numbers focus free c.0.1.0, (flwor_casts place others ((bound.place, middle) ∷ numbers) focus (middle + 1) c.1, tt)))
+    flwor_casts place (a_resolved returned others) numbers focus free c = core_casts returned numbers focus free c.0
+
+    path_casts : (place : Place) (parts : ResolvedTrees) (numbers : Numbers) (focus : Focus) (free : ℕ) → AreAllCastsAtomic s parts → Casts (path_core place parts numbers focus free).0
+    path_casts place (a_resolved first (a_resolved second no_resolved)) numbers focus free c =
+        let middle = (core_of first numbers focus free).1 in
+        (tt, ((tt, ((tt, (core_casts first numbers focus free c.0, tt)), (core_casts second numbers (Some middle) (middle + 1) c.1.0, tt))), tt))
+    path_casts place _ numbers focus free c = (tt, tt)
+
+  -- ---- types of external variables
+
+  element_is_named : (elements : List GlobalElement) (name : Name) (t : TypeName) → HoldsOfEach (λ (element : GlobalElement). IsTrue (is_named_type s element.kind)) elements → type_of_element elements name ≡ Some t
+      → is_named_type s t ≡ true
+  element_is_named [] name t h e = absurd (cc)
+  element_is_named (x ∷ xs) name t h e =
+      elim (same_name x.name name) as (λ (same : Bool). (if same then Some x.kind else type_of_element xs name) ≡ Some t → is_named_type s t ≡ true) [
+        | true ↦ λ f. let same : x.kind ≡ t = cc in subst (λ (u : TypeName). is_named_type s u ≡ true) same h.0
+        | false ↦ λ f. element_is_named xs name t h.1 f
+      ] e
+
+  document_is_normal : (kind : Option SequenceType) → IsDocumentType s kind → IsNormalIfWritten s kind
+  document_is_normal kind (inl e) = subst (λ (o : Option SequenceType). IsNormalIfWritten s o) (sym e) tt
+  document_is_normal kind (inr (inl e)) = subst (λ (o : Option SequenceType). IsNormalIfWritten s o) (sym e) refl
+  document_is_normal kind (inr (inr (root, found, written, f, same, e))) =
+      subst (λ (o : Option SequenceType). IsNormalIfWritten s o) (sym e)
+      (known_below s written found (0, type_name_symm found written same) (named_is_known s found (element_is_named s.elements root found is.elements f)))
+
+  -- ---- declarations
+
+  abbrev AllKnown : List Declaration → Type 0
+  AllKnown declarations = (numbers : Numbers) (free : ℕ) → ExternalsAreDocuments s (declarations_of declarations numbers free) → NameKnownTypes s (declarations_of declarations numbers free)
+
+  one_known : (environment : Environment) (place : Place) (node : DefinitionNode) (others : List Declaration) → Under environment → AllKnown others → AllKnown (declaration_resolved environment place node ∷ others)
+  one_known environment place (definitions.Variable binder kind (initial.Value value)) others e rest numbers free h =
+      (core_casts (tree_resolved environment value) numbers None free (atomic_tree environment value e), rest _ _ h)
+  one_known environment place (definitions.Variable binder kind initial.External) others e rest numbers free h =
+      (document_is_normal (Some (declared_type (option_map (type_written environment) kind))) h.0, rest _ _ h.1)
+  one_known environment place (definitions.Function name parameters result body) others e rest numbers free h = rest numbers free h
+
+  declarations_known : (ds : List Definition) (environment : Environment) → Under environment → AllKnown (declarations_resolved ds environment)
+  declarations_known [] environment e numbers free h = tt
+  declarations_known (d ∷ ds) environment e numbers free h =
+      let inner = definition_scope d.node environment in
+      one_known environment d.place d.node (declarations_resolved ds inner) e (declarations_known ds inner (same_schemas d.node environment ∙ e)) numbers free h
+
+-- ---- whole queries
+
+scope_same : (ds : List Definition) (environment : Environment) → (scope_after ds environment).schemas ≡ environment.schemas
+scope_same [] environment = refl
+scope_same (d ∷ ds) environment = scope_same ds (definition_scope d.node environment) ∙ same_schemas d.node environment
+
+pub named_queries_are_judged_by_inclusion : NamedQueriesAreJudgedByInclusion
+named_queries_are_judged_by_inclusion s query core is e =
+    let environment : Environment = with_functions query.definitions (prolog_environment s query.settings) in
+    let resolved = query_resolved s query in
+    let behind = behind_declarations resolved.declarations [] 1 in
+    let whole = query_core resolved in
+    let same = whole_named (query_refusals s query) whole core e in
+    let documents : ExternalsAreDocuments s whole.declarations = subst (λ (c : Core). ExternalsAreDocuments s c.declarations) (sym same) (named_queries_have_documents s query core e) in
+    let body = atomic_tree s is (scope_after query.definitions environment) query.body (scope_same query.definitions environment) in
+    let known : NamesKnownTypes s whole = record {
+      declarations = declarations_known s is query.definitions environment refl [] 1 documents;
+      body = core_casts s is (tree_resolved (scope_after query.definitions environment) query.body) behind.0 None behind.1 body;
+    } in
+    queries_are_judged_by_inclusion s core is (subst (λ (c : Core). NamesKnownTypes s c) same known)
