@@ -1,7 +1,18 @@
--- What the variables of a Core keep to: each stands in the scope of its binder, and no number is bound twice.
-use Rattle.std.specs.Prelude.{◌≡◌, ℕ, nat_eq, Bool, true, false, List, [], ◌∷◌, ◌++◌, Option, None, Some, is_some, All}
+-- What a Core keeps to: each variable stands in the scope of its binder, and no number is bound twice; each literal is a string or a
+-- number, and each call has the arguments of a function of the table.
+use Rattle.std.specs.Prelude.{◌≡◌, ◌≢◌, ℕ, ◌+◌, nat_eq, Bool, true, false, List, [], ◌∷◌, ◌++◌, Option, None, Some, is_some, All}
 use Rattle.std.specs.Bool.{IsTrue}
 use Rattle.std.specs.List.{list_any}
+use Rattle.gx_base.specs.declared.type_name.Builtin.TheVariants as builtins
+use Rattle.gx_base.specs.declared.type_name.TypeName.{TypeName}
+use Rattle.gx_base.specs.declared.type_name.TypeName.TheVariants as names
+use Rattle.gx_num.specs.declared.Number.TheVariants.{Int, Dec}
+use Rattle.gx_facets.specs.declared.Atomic.{Atomic}
+use Rattle.gx_facets.specs.declared.AtomValue.{AtomValue}
+use Rattle.gx_facets.specs.declared.AtomValue.TheVariants.{Untyped, Str, Truth, Num}
+use Rattle.gx_funcs.specs.declared.function.Function.{Function}
+use Rattle.gx_funcs.specs.declared.function.Function.TheVariants as functions
+use Rattle.gx_funcs.specs.Function.{arity_of}
 use Rattle.gx_core.specs.declared.operator.Operator.{Operator}
 use Rattle.gx_core.specs.declared.operator.Operator.TheVariants as operators
 use Rattle.gx_core.specs.Queries.{Core, CoreDeclaration}
@@ -84,3 +95,50 @@ pub record HasQueryVariablesInOrder (core : Core) : Type 0 where
   pub body : IsScoped (scope_behind core.declarations []) core.body
   pub once : AreDistinct (declared_numbers core.declarations ++ numbers_bound core.body)
   pub externals : All HasValueOrType core.declarations
+
+-- ---- literals and calls
+
+-- the value of a literal is a string, an integer or a decimal, and the type is that of the value
+abbrev pub IsCoreLiteralOf : AtomValue → TypeName → Type 0
+IsCoreLiteralOf (Str text) kind = kind ≡ names.Builtin builtins.Str
+IsCoreLiteralOf (Num (Int i)) kind = kind ≡ names.Builtin builtins.Integer
+IsCoreLiteralOf (Num (Dec units)) kind = kind ≡ names.Builtin builtins.Decimal
+IsCoreLiteralOf (Untyped text) kind = ⊥
+IsCoreLiteralOf (Truth truth) kind = ⊥
+
+abbrev pub IsCoreLiteral : Atomic → Type 0
+IsCoreLiteral literal = IsCoreLiteralOf literal.value literal.kind
+
+-- a call of a function of the table with its number of arguments; `data` is an operator of its own
+pub record IsTableCall (function : Function) (arguments : ℕ) : Type 0 where
+  pub other : function ≢ functions.Data
+  pub all : arguments ≡ arity_of function
+
+-- an operator over this number of parts
+abbrev pub IsWellFormedOver : Operator → (parts : ℕ) → Type 0
+IsWellFormedOver (operators.Lit value) parts = IsCoreLiteral value
+IsWellFormedOver (operators.Call function) parts = IsTableCall function parts
+IsWellFormedOver _ parts = Unit {0}
+
+abbrev pub number_of_parts : {A : Type 0} → Parts A → ℕ
+number_of_parts no_parts = 0
+number_of_parts (a_part first others) = 1 + number_of_parts others
+
+-- an expression and all that stand in it
+abbrev mutual
+  pub IsWellFormedExpression : {A : Type 0} → Expression A → Type 0
+  IsWellFormedExpression (At place outer annotation operator parts) = IsWellFormedOver operator (number_of_parts parts) × ArePartsWellFormed parts
+
+  pub ArePartsWellFormed : {A : Type 0} → Parts A → Type 0
+  ArePartsWellFormed no_parts = Unit {0}
+  ArePartsWellFormed (a_part first others) = IsWellFormedExpression first × ArePartsWellFormed others
+
+abbrev pub AreValuesWellFormed : List CoreDeclaration → Type 0
+AreValuesWellFormed [] = Unit {0}
+AreValuesWellFormed (Global name binder None ∷ others) = AreValuesWellFormed others
+AreValuesWellFormed (Global name binder (Some value) ∷ others) = IsWellFormedExpression value × AreValuesWellFormed others
+
+-- the literals and the calls of a whole query
+pub record IsWellFormedQuery (core : Core) : Type 0 where
+  pub values : AreValuesWellFormed core.declarations
+  pub body : IsWellFormedExpression core.body

@@ -1,3 +1,4 @@
 pub mod MakingLemmas
 pub mod NumberedVariables
 pub mod SearchLemmas
+pub mod WellFormedCores

@@ -1,5 +1,5 @@
 -- Variables stand in the scopes of their binders, and are numbered once each.
-use Rattle.std.proofs.Common.{◌≡◌, ℕ, ◌+◌, ◌<◌, ◌≤◌, Bool, true, false, ◌||◌, List, [], ◌∷◌, ◌++◌, map, Option, Some, None, Result, Ok, Err, IfOk, All, refl, sym, ◌∙◌, ap, subst, rules, arith, nat_eq, if◌then◌else◌}
+use Rattle.std.proofs.Common.{◌≡◌, ℕ, ◌+◌, ◌<◌, ◌≤◌, ◌==◌, length, Bool, true, false, ◌||◌, List, [], ◌∷◌, ◌++◌, map, Option, Some, None, Result, Ok, Err, IfOk, All, refl, sym, ◌∙◌, ap, subst, rules, arith, nat_eq, if◌then◌else◌}
 use Rattle.std.proofs.lemmas.Bool.{ne_eqb, eq-eqb}
 use Rattle.std.proofs.lemmas.List.Elements.{All-nil, All-cons}
 use Rattle.gx_base.specs.declared.place.Place.{Place}
@@ -12,6 +12,7 @@ use Rattle.gx_types.specs.declared.step.Test.{Test}
 use Rattle.gx_types.specs.declared.step.Test.TheVariants as tests
 use Rattle.gx_funcs.specs.declared.function.Function.{Function}
 use Rattle.gx_funcs.specs.declared.function.Function.TheVariants as functions
+use Rattle.gx_funcs.specs.Function.{arity_of}
 use Rattle.gx_resolved.specs.declared.tree.BoundName.{BoundName}
 use Rattle.gx_resolved.specs.declared.tree.Construct.{Construct}
 use Rattle.gx_resolved.specs.declared.tree.Construct.TheVariants as written
@@ -24,7 +25,7 @@ use Rattle.gx_core.specs.declared.expression.Declaration.TheVariants.{Global}
 use Rattle.gx_core.specs.declared.operator.Operator.TheVariants as operators
 use Rattle.gx_core.specs.Expression.{CoreExpression, At, no_parts, all_parts}
 use Rattle.gx_core.specs.Invariant.{is_among, IsScoped, ArePartsScoped, numbers_bound, numbers_bound_in, AreDistinct, scope_behind, AreValuesScoped, declared_numbers, HasValueOrType, HasQueryVariablesInOrder}
-use Rattle.gx_normal.specs.Constructs.{within, data_around, boolean_around, core_sequence, operator_at, call_at, call_of, empty_at, of_one, data_at, conditional_at, and_at, or_at, signed_at, cast_at, castable_at, let_at, operator_in_core, joined_by, joining, context_item_at, step_at, path_at}
+use Rattle.gx_normal.specs.Constructs.{within, data_around, boolean_around, core_sequence, operator_at, call_at, call_of, empty_at, of_one, data_at, conditional_at, counted_call, and_at, or_at, signed_at, cast_at, castable_at, let_at, operator_in_core, joined_by, joining, context_item_at, step_at, path_at}
 use Rattle.gx_normal.specs.Normalisation.{Numbers, Focus, same_place, number_at, variable_at, numbered_binder, of_two, of_three, joined_at, constructed, core_of, construct_core, cores_of, flwor_core, path_core, external_binder, declarations_of, behind_declarations, main_core}
 
 -- numbers that rise from one on, below another
@@ -213,9 +214,16 @@ call_is_numbered place function scope free next es h = record { scoped = (tt, pa
 data_of_numbered : (place : Place) → JoinsOne (data_at place)
 data_of_numbered place scope free next e h = record { scoped = (tt, (h.scoped, tt)); rising = rise_alone free next (numbers_bound e) h.rising }
 
+counted_call_numbered : (place : Place) (function : Function) (scope : List ℕ) (free next : ℕ) (es : List CoreExpression) → AreNumbered scope free next es → IsNumbered scope free next (counted_call place function es)
+counted_call_numbered place function scope free next es h =
+    elim (length es == arity_of function) as (λ (b : Bool). IsNumbered scope free next (if b then call_at place function (all_parts es) else empty_at place)) [
+      | true ↦ call_is_numbered place function scope free next es h
+      | false ↦ empty_numbered place scope free next (least scope free next es h)
+    ]
+
 call_numbered : (place : Place) (function : Function) (scope : List ℕ) (free next : ℕ) (es : List CoreExpression) → AreNumbered scope free next es → IsNumbered scope free next (call_of place function es)
 call_numbered place functions.Data scope free next es h = one_numbered place (data_at place) (data_of_numbered place) scope free next es h
-call_numbered place function scope free next es h = call_is_numbered place function scope free next es h
+call_numbered place function scope free next es h = counted_call_numbered place function scope free next es h
 
 constructed_numbered : (place : Place) (construct : Construct) (scope : List ℕ) (free next : ℕ) (es : List CoreExpression) → AreNumbered scope free next es → IsNumbered scope free next (constructed place construct es)
 constructed_numbered place (written.Number value) scope free next es h = record { scoped = (tt, tt); rising = least scope free next es h }

@@ -1,5 +1,5 @@
 -- What each construct of the language stands for in Core, over its parts (XQuery 1.0 and XPath 2.0 Formal Semantics, section 4).
-use Rattle.std.specs.Prelude.{ℕ, Bool, true, false, pos, List, [], ◌∷◌, Option, None, Some}
+use Rattle.std.specs.Prelude.{ℕ, Bool, true, false, pos, ◌==◌, if◌then◌else◌, List, [], ◌∷◌, length, Option, None, Some}
 use Rattle.gx_base.specs.declared.place.Place.{Place}
 use Rattle.gx_base.specs.declared.type_name.TypeName.{TypeName}
 use Rattle.gx_num.specs.declared.Number.TheVariants.{Int}
@@ -10,6 +10,7 @@ use Rattle.gx_types.specs.declared.step.Axis.{Axis}
 use Rattle.gx_types.specs.declared.step.Test.{Test}
 use Rattle.gx_funcs.specs.declared.function.Function.{Function}
 use Rattle.gx_funcs.specs.declared.function.Function.TheVariants as functions
+use Rattle.gx_funcs.specs.Function.{arity_of}
 use Rattle.gx_core.specs.declared.expression.BinaryOp.{BinaryOp}
 use Rattle.gx_core.specs.declared.expression.BinaryOp.TheVariants as core
 use Rattle.gx_core.specs.declared.expression.Binder.{Binder}
@@ -58,10 +59,15 @@ of_one place make _ = empty_at place
 abbrev pub data_at : Place → CoreExpression → CoreExpression
 data_at place e = core_at place place operators.DataOf (one_part e)
 
+-- a call of a function with its number of arguments; with another number it stands for nothing
+abbrev pub counted_call : Place → Function → List CoreExpression → CoreExpression
+counted_call place function arguments =
+    if length arguments == arity_of function then call_at place function (all_parts arguments) else empty_at place
+
 -- a call; `data` is an operator of its own
 abbrev pub call_of : Place → Function → List CoreExpression → CoreExpression
 call_of place functions.Data arguments = of_one place (data_at place) arguments
-call_of place function arguments = call_at place function (all_parts arguments)
+call_of place function arguments = counted_call place function arguments
 
 abbrev pub conditional_at : Place → CoreExpression → CoreExpression → CoreExpression → CoreExpression
 conditional_at place test chosen otherwise = core_at place place operators.If (three_parts (boolean_around test) chosen otherwise)

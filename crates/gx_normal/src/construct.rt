@@ -5,7 +5,7 @@ ghost use Rattle.gx_core.specs.Arithmetic.{number_atom};
 ghost use Rattle.gx_funcs.specs.Function.{string_atom};
 ghost use Rattle.gx_core.specs.Expression.{CoreExpression, core_at, no_parts, one_part};
 ghost use Rattle.gx_core.specs.ExpressionView.{operator_of, parts_of};
-ghost use Rattle.gx_normal.specs.Constructs.{boolean_around, call_at, call_of, cast_at, castable_at, conditional_at, data_at, empty_at, joining, of_one, let_at, operator_in_core, data_around, literal_at, signed_at, within, context_item_at, step_at, path_at};
+ghost use Rattle.gx_normal.specs.Constructs.{boolean_around, call_at, call_of, cast_at, castable_at, conditional_at, counted_call, data_at, empty_at, joining, of_one, let_at, operator_in_core, data_around, literal_at, signed_at, within, context_item_at, step_at, path_at};
 ghost use Rattle.gx_normal.specs.Normalisation.{constructed, of_two, of_three};
 ghost use Rattle.gx_normal.specs.Making.{made_of_one, made_of_two, operation_at};
 
@@ -311,8 +311,18 @@ fn call_of(
             Some(argument) => Ok(data_of(place, argument)),
             None => Ok(empty(place)),
         },
-        _ => Ok(at(place, Form::Call(function, arguments))),
+        _ => Ok(counted_call(place, function, arguments)),
     }
+}
+
+// A call of a function with its number of arguments.
+fn counted_call(place: Place, function: Function, arguments: Vec<CoreExpr>) -> CoreExpr
+    ensures { result ≡ counted_call place function arguments.items }
+{
+    if arguments.len() != function.arity() {
+        return empty(place);
+    }
+    at(place, Form::Call(function, arguments))
 }
 
 fn data_of(place: Place, operand: Box<CoreExpr>) -> CoreExpr

@@ -1,7 +1,7 @@
 // From resolved queries to Core.
 
 ghost use Rattle.std.specs.Prelude.{◌≡◌, [], ◌++◌, ◌∷◌, ◌+◌, None, IfOk, OnOk};
-ghost use Rattle.gx_core.specs.Invariant.{HasQueryVariablesInOrder};
+ghost use Rattle.gx_core.specs.Invariant.{HasQueryVariablesInOrder, IsWellFormedQuery};
 ghost use Rattle.gx_core.specs.declared.expression.Declaration.TheVariants as declarations;
 ghost use Rattle.gx_normal.specs.Normalisation.{behind_declarations, core_of, declarations_of, external_binder, main_core, query_core};
 
@@ -16,10 +16,12 @@ use gx_types::sequence_type::Ty;
 use std::alloc::{AllocError, Global};
 
 /// The Core of a query: each variable has the number of its binder, and operands are atomized (XQuery 1.0 and XPath 2.0 Formal
-/// Semantics, section 4; XQuery 1.0, section 3).
+/// Semantics, section 4; XQuery 1.0, section 3). Each literal is a string or a number, and each call has the arguments of a function of
+/// the table.
 pub fn normalise(alloc: Global, query: Resolved) -> Result<Core, AllocError>
     ensures core { IfOk result (λ core. core ≡ query_core query) }
     ensures variables { IfOk result (λ core. HasQueryVariablesInOrder core) }
+    ensures well_formed { IfOk result (λ core. IsWellFormedQuery core) }
 {
     let core = core_of_query(alloc, query.declarations.as_slice(), &query.body);
     drop_query(alloc, query);

@@ -1,5 +1,5 @@
 -- The types that a query names are known, and so it is judged by inclusion.
-use Rattle.std.proofs.Common.{◌≡◌, ℕ, ◌+◌, Bool, true, false, List, [], ◌∷◌, Option, Some, None, option_map, inl, inr, refl, sym, ◌∙◌, subst, if◌then◌else◌}
+use Rattle.std.proofs.Common.{◌≡◌, ℕ, ◌+◌, ◌==◌, length, Bool, true, false, List, [], ◌∷◌, Option, Some, None, option_map, inl, inr, refl, sym, ◌∙◌, subst, if◌then◌else◌}
 use Rattle.std.specs.Prelude.{unwrap_or}
 use Rattle.std.specs.Bool.{IsTrue}
 use Rattle.gx_base.specs.Name.{same_name}
@@ -32,7 +32,7 @@ use Rattle.gx_types.proofs.EqualNames.{type_name_symm}
 use Rattle.gx_typetext.specs.KnownNames.{is_atomic_name, type_with_name, if_atomic, atomic_with_name}
 use Rattle.gx_funcs.specs.declared.function.Function.{Function}
 use Rattle.gx_funcs.specs.declared.function.Function.TheVariants as functions
-use Rattle.gx_funcs.specs.Function.{function_named}
+use Rattle.gx_funcs.specs.Function.{arity_of, function_named}
 use Rattle.gx_resolved.specs.declared.tree.BindingWord.{BindingWord}
 use Rattle.gx_resolved.specs.declared.tree.BindingWord.TheVariants as words
 use Rattle.gx_resolved.specs.declared.tree.BoundName.{BoundName}
@@ -52,7 +52,7 @@ use Rattle.gx_names.specs.SettingRefusals.{prolog_environment}
 use Rattle.gx_core.specs.declared.expression.BinaryOp.{BinaryOp}
 use Rattle.gx_core.specs.Queries.{Core}
 use Rattle.gx_core.specs.Expression.{CoreExpression, At, all_parts}
-use Rattle.gx_normal.specs.Constructs.{within, core_sequence, operator_at, call_of, empty_at, of_one, data_at, conditional_at, and_at, or_at, signed_at, cast_at, castable_at, operator_in_core, joined_by, joining, context_item_at, step_at}
+use Rattle.gx_normal.specs.Constructs.{within, core_sequence, operator_at, call_at, counted_call, call_of, empty_at, of_one, data_at, conditional_at, and_at, or_at, signed_at, cast_at, castable_at, operator_in_core, joined_by, joining, context_item_at, step_at}
 use Rattle.gx_normal.specs.Normalisation.{Numbers, Focus, number_at, variable_at, of_two, of_three, joined_at, constructed, construct_core, core_of, cores_of, flwor_core, path_core, declared_type, declarations_of, behind_declarations, query_core}
 use Rattle.gx_static.specs.NormalTypes.{CastsToAtomicTypes, PartsCastToAtomicTypes}
 use Rattle.gx_static.specs.ByInclusion.{IsNormalIfWritten, NameKnownTypes, NamesKnownTypes}
@@ -299,9 +299,16 @@ module _ (s : SchemaSet) (is : IsSchemaSet s) where
   all_cast [] h = tt
   all_cast (e ∷ es) h = (h.0, all_cast es h.1)
 
+  counted_casts : (place : Place) (function : Function) (es : List CoreExpression) → AllCast es → Casts (counted_call place function es)
+  counted_casts place function es h =
+      elim (length es == arity_of function) as (λ (b : Bool). Casts (if b then call_at place function (all_parts es) else empty_at place)) [
+        | true ↦ (tt, all_cast es h)
+        | false ↦ (tt, tt)
+      ]
+
   call_casts : (place : Place) (function : Function) (es : List CoreExpression) → AllCast es → Casts (call_of place function es)
   call_casts place functions.Data es h = one_casts place (data_at place) (λ e k. (tt, (k, tt))) es h
-  call_casts place function es h = (tt, all_cast es h)
+  call_casts place function es h = counted_casts place function es h
 
   constructed_casts : (place : Place) (construct : Construct) (es : List CoreExpression) → CastsAtomically s construct → AllCast es → Casts (constructed place construct es)
   constructed_casts place (constructs.Number value) es c h = (tt, tt)

@@ -1,0 +1,192 @@
+-- The literals and the calls of what is made are well formed.
+use Rattle.std.proofs.Common.{◌≡◌, ℕ, ◌+◌, ◌==◌, length, Bool, true, false, List, [], ◌∷◌, Option, Some, None, Result, Ok, Err, IfOk, refl, sym, ◌∙◌, subst, if◌then◌else◌, arith}
+use Rattle.std.proofs.lemmas.Bool.{eqb-true}
+use Rattle.gx_base.specs.declared.place.Place.{Place}
+use Rattle.gx_num.specs.declared.Number.{Number}
+use Rattle.gx_num.specs.declared.Number.TheVariants.{Int, Dec}
+use Rattle.gx_ast.specs.declared.expression.BinaryOperator.{BinaryOperator}
+use Rattle.gx_ast.specs.declared.expression.BinaryOperator.TheVariants as operator
+use Rattle.gx_types.specs.declared.step.Axis.{Axis}
+use Rattle.gx_types.specs.declared.step.Axis.TheVariants as axes
+use Rattle.gx_types.specs.declared.step.Test.{Test}
+use Rattle.gx_types.specs.declared.step.Test.TheVariants as tests
+use Rattle.gx_funcs.specs.declared.function.Function.{Function}
+use Rattle.gx_funcs.specs.declared.function.Function.TheVariants as functions
+use Rattle.gx_funcs.specs.Function.{arity_of}
+use Rattle.gx_resolved.specs.declared.tree.Construct.{Construct}
+use Rattle.gx_resolved.specs.declared.tree.Construct.TheVariants as written
+use Rattle.gx_resolved.specs.declared.tree.Declaration.{Declaration}
+use Rattle.gx_resolved.specs.declared.tree.Declaration.TheVariants as declared
+use Rattle.gx_resolved.specs.ResolvedTree.{ResolvedTree, ResolvedTrees, resolved_at, no_resolved, a_resolved}
+use Rattle.gx_core.specs.declared.expression.BinaryOp.{BinaryOp}
+use Rattle.gx_core.specs.Arithmetic.{number_atom}
+use Rattle.gx_core.specs.Queries.{Core}
+use Rattle.gx_core.specs.Expression.{CoreExpression, At, all_parts}
+use Rattle.gx_core.specs.Invariant.{IsCoreLiteral, number_of_parts, IsWellFormedExpression, ArePartsWellFormed, AreValuesWellFormed, IsWellFormedQuery}
+use Rattle.gx_normal.specs.Constructs.{within, boolean_around, core_sequence, operator_at, call_at, counted_call, call_of, empty_at, of_one, data_at, conditional_at, and_at, or_at, signed_at, cast_at, castable_at, operator_in_core, joined_by, joining, context_item_at, step_at}
+use Rattle.gx_normal.specs.Normalisation.{Numbers, Focus, number_at, variable_at, of_two, of_three, joined_at, constructed, core_of, construct_core, cores_of, flwor_core, path_core, declarations_of, behind_declarations, main_core}
+
+-- ---- constructs over well-formed parts
+
+abbrev KeepsOne : (CoreExpression → CoreExpression) → Type 0
+KeepsOne make = (e : CoreExpression) → IsWellFormedExpression e → IsWellFormedExpression (make e)
+
+abbrev KeepsTwo : (CoreExpression → CoreExpression → CoreExpression) → Type 0
+KeepsTwo make = (a b : CoreExpression) → IsWellFormedExpression a → IsWellFormedExpression b → IsWellFormedExpression (make a b)
+
+abbrev AreWellFormed : List CoreExpression → Type 0
+AreWellFormed [] = Unit {0}
+AreWellFormed (e ∷ es) = IsWellFormedExpression e × AreWellFormed es
+
+within_formed : (place : Place) → KeepsOne (within place)
+within_formed place (At own outer tt operator parts) h = h
+
+number_is_literal : (value : Number) → IsCoreLiteral (number_atom value)
+number_is_literal (Int i) = refl
+number_is_literal (Dec units) = refl
+
+signed_formed : (place : Place) (minus : Bool) → KeepsOne (signed_at place minus)
+signed_formed place true e h = (tt, ((tt, (h, tt)), tt))
+signed_formed place false e h = (tt, ((tt, (h, tt)), ((refl, tt), tt)))
+
+boolean_formed : KeepsOne boolean_around
+boolean_formed e h = (record { other = λ c. cc; all = refl }, (h, tt))
+
+conditional_formed : (place : Place) (a b c : CoreExpression) → IsWellFormedExpression a → IsWellFormedExpression b → IsWellFormedExpression c → IsWellFormedExpression (conditional_at place a b c)
+conditional_formed place a b c h k l = (tt, (boolean_formed a h, (k, (l, tt))))
+
+and_formed : (place : Place) → KeepsTwo (and_at place)
+and_formed place a b h k = (tt, (boolean_formed a h, (boolean_formed b k, ((record { other = λ c. cc; all = refl }, tt), tt))))
+
+or_formed : (place : Place) → KeepsTwo (or_at place)
+or_formed place a b h k = (tt, (boolean_formed a h, ((record { other = λ c. cc; all = refl }, tt), (boolean_formed b k, tt))))
+
+one_formed : (place : Place) (make : CoreExpression → CoreExpression) → KeepsOne make → (es : List CoreExpression) → AreWellFormed es → IsWellFormedExpression (of_one place make es)
+one_formed place make f [] h = (tt, tt)
+one_formed place make f (a ∷ []) h = f a h.0
+one_formed place make f (a ∷ b ∷ es) h = (tt, tt)
+
+two_formed : (place : Place) (make : CoreExpression → CoreExpression → CoreExpression) → KeepsTwo make → (es : List CoreExpression) → AreWellFormed es → IsWellFormedExpression (of_two place make es)
+two_formed place make f [] h = (tt, tt)
+two_formed place make f (a ∷ []) h = (tt, tt)
+two_formed place make f (a ∷ b ∷ []) h = f a b h.0 h.1.0
+two_formed place make f (a ∷ b ∷ c ∷ es) h = (tt, tt)
+
+three_formed : (place : Place) (es : List CoreExpression) → AreWellFormed es → IsWellFormedExpression (of_three place (conditional_at place) es)
+three_formed place [] h = (tt, tt)
+three_formed place (a ∷ []) h = (tt, tt)
+three_formed place (a ∷ b ∷ []) h = (tt, tt)
+three_formed place (a ∷ b ∷ c ∷ []) h = conditional_formed place a b c h.0 h.1.0 h.1.1.0
+three_formed place (a ∷ b ∷ c ∷ d ∷ es) h = (tt, tt)
+
+joined_formed : (place : Place) (found : Option BinaryOp) (es : List CoreExpression) → AreWellFormed es → IsWellFormedExpression (joined_at place (joined_by place found) es)
+joined_formed place None es h = (tt, tt)
+joined_formed place (Some op) es h = two_formed place (operator_at place op) (λ a b k l. (tt, ((tt, (k, tt)), ((tt, (l, tt)), tt)))) es h
+
+joining_formed : (place : Place) (o : BinaryOperator) (es : List CoreExpression) → AreWellFormed es → IsWellFormedExpression (joined_at place (joining place o) es)
+joining_formed place operator.And es h = two_formed place (and_at place) (and_formed place) es h
+joining_formed place operator.Or es h = two_formed place (or_at place) (or_formed place) es h
+joining_formed place o es h = joined_formed place (operator_in_core o) es h
+
+-- ---- calls
+
+all_formed : (es : List CoreExpression) → AreWellFormed es → ArePartsWellFormed (all_parts es)
+all_formed [] h = tt
+all_formed (e ∷ es) h = (h.0, all_formed es h.1)
+
+number_of_all : (es : List CoreExpression) → number_of_parts (all_parts es) ≡ length es
+number_of_all [] = refl
+number_of_all (e ∷ es) = let h : number_of_parts (all_parts es) ≡ length es = number_of_all es in omega (arith, h)
+
+counted_formed : (place : Place) (function : Function) (es : List CoreExpression) → (function ≡ functions.Data → ⊥) → AreWellFormed es → IsWellFormedExpression (counted_call place function es)
+counted_formed place function es other h = by (length es == arity_of function) refl
+  where
+    by : (b : Bool) → (length es == arity_of function) ≡ b → IsWellFormedExpression (if b then call_at place function (all_parts es) else empty_at place)
+    by true e = (record { other = other; all = number_of_all es ∙ eqb-true (length es) (arity_of function) e }, all_formed es h)
+    by false e = (tt, tt)
+
+call_formed : (place : Place) (function : Function) (es : List CoreExpression) → AreWellFormed es → IsWellFormedExpression (call_of place function es)
+call_formed place functions.Data es h = one_formed place (data_at place) (λ e k. (tt, (k, tt))) es h
+call_formed place function es h = counted_formed place function es (λ e. cc) h
+
+-- ---- trees
+
+constructed_formed : (place : Place) (construct : Construct) (es : List CoreExpression) → AreWellFormed es → IsWellFormedExpression (constructed place construct es)
+constructed_formed place (written.Number value) es h = (number_is_literal value, tt)
+constructed_formed place (written.String characters) es h = (refl, tt)
+constructed_formed place written.Parenthesised es h = one_formed place (within place) (within_formed place) es h
+constructed_formed place (written.Call function) es h = call_formed place function es h
+constructed_formed place written.Sequence es h = two_formed place core_sequence (λ a b k l. (tt, (k, (l, tt)))) es h
+constructed_formed place written.If es h = three_formed place es h
+constructed_formed place (written.Binary o) es h = joining_formed place o es h
+constructed_formed place (written.CastableAs kind optional) es h = one_formed place (castable_at place kind optional) (λ e k. (tt, ((tt, (k, tt)), tt))) es h
+constructed_formed place (written.CastAs kind optional) es h = one_formed place (cast_at place kind optional) (λ e k. (tt, ((tt, (k, tt)), tt))) es h
+constructed_formed place (written.Signed minus) es h = one_formed place (signed_at place minus) (signed_formed place minus) es h
+constructed_formed place _ es h = (tt, tt)
+
+variable_formed : (place : Place) (found : Option ℕ) → IsWellFormedExpression (variable_at place found)
+variable_formed place None = (tt, tt)
+variable_formed place (Some number) = (tt, tt)
+
+context_formed : (place : Place) (focus : Focus) → IsWellFormedExpression (context_item_at place focus)
+context_formed place None = (tt, tt)
+context_formed place (Some number) = (tt, tt)
+
+step_formed : (place : Place) (focus : Focus) (axis : Axis) (asks : Test) → IsWellFormedExpression (step_at place focus axis asks)
+step_formed place None axis asks = (tt, tt)
+step_formed place (Some number) axis asks = (tt, tt)
+
+abbrev IsFormed : CoreExpression × ℕ → Type 0
+IsFormed made = IsWellFormedExpression made.0
+
+construct_formed : (place : Place) (construct : Construct) (numbers : Numbers) (focus : Focus) (free : ℕ) (parts : List CoreExpression × ℕ) (clauses path : CoreExpression × ℕ)
+    → AreWellFormed parts.0 → IsFormed clauses → IsFormed path → IsFormed (construct_core place construct numbers focus free parts clauses path)
+construct_formed place (written.Variable name binder) numbers focus free parts clauses path h k l = variable_formed place (number_at numbers binder)
+construct_formed place written.Context numbers focus free parts clauses path h k l = context_formed place focus
+construct_formed place (written.Step axis asks) numbers focus free parts clauses path h k l = step_formed place focus axis asks
+construct_formed place written.ParentStep numbers focus free parts clauses path h k l = step_formed place focus axes.Parent tests.Node
+construct_formed place written.Flwor numbers focus free parts clauses path h k l = k
+construct_formed place (written.Path false) numbers focus free parts clauses path h k l = l
+construct_formed place construct numbers focus free parts clauses path h k l = constructed_formed place construct parts.0 h
+
+mutual
+  core_formed : (tree : ResolvedTree) (numbers : Numbers) (focus : Focus) (free : ℕ) → IsFormed (core_of tree numbers focus free)
+  core_formed (resolved_at place construct parts) numbers focus free =
+      construct_formed place construct numbers focus free (cores_of parts numbers focus free) (flwor_core place parts numbers focus free) (path_core place parts numbers focus free)
+      (cores_formed parts numbers focus free) (flwor_formed place parts numbers focus free) (path_formed place parts numbers focus free)
+
+  cores_formed : (parts : ResolvedTrees) (numbers : Numbers) (focus : Focus) (free : ℕ) → AreWellFormed (cores_of parts numbers focus free).0
+  cores_formed no_resolved numbers focus free = tt
+  cores_formed (a_resolved first others) numbers focus free = (core_formed first numbers focus free, cores_formed others numbers focus (core_of first numbers focus free).1)
+
+  flwor_formed : (place : Place) (parts : ResolvedTrees) (numbers : Numbers) (focus : Focus) (free : ℕ) → IsFormed (flwor_core place parts numbers focus free)
+  flwor_formed place no_resolved numbers focus free = (tt, tt)
+  flwor_formed place (a_resolved (resolved_at there (written.Let bound) (a_resolved value more)) others) numbers focus free =
+      let middle = (core_of value numbers focus free).1 in
+      (tt, (core_formed value numbers focus free, (flwor_formed place others ((bound.place, middle) ∷ numbers) focus (middle + 1), tt)))
+  flwor_formed place (a_resolved returned others) numbers focus free = core_formed returned numbers focus free
+
+  path_formed : (place : Place) (parts : ResolvedTrees) (numbers : Numbers) (focus : Focus) (free : ℕ) → IsFormed (path_core place parts numbers focus free)
+  path_formed place (a_resolved first (a_resolved second no_resolved)) numbers focus free =
+      let middle = (core_of first numbers focus free).1 in
+      (tt, ((tt, ((tt, (core_formed first numbers focus free, tt)), (core_formed second numbers (Some middle) (middle + 1), tt))), tt))
+  path_formed place _ numbers focus free = (tt, tt)
+
+-- ---- whole queries
+
+values_formed : (ds : List Declaration) (numbers : Numbers) (free : ℕ) → AreValuesWellFormed (declarations_of ds numbers free)
+values_formed [] numbers free = tt
+values_formed (declared.Global g ∷ ds) numbers free =
+    let middle = (core_of g.value numbers None free).1 in
+    (core_formed g.value numbers None free, values_formed ds ((g.bound.place, middle) ∷ numbers) (middle + 1))
+values_formed (declared.External e ∷ ds) numbers free = values_formed ds ((e.bound.place, free) ∷ numbers) (free + 1)
+values_formed (declared.Function f ∷ ds) numbers free = values_formed ds numbers free
+
+query_formed : (ds : List Declaration) (tree : ResolvedTree) → IsWellFormedQuery (main_core ds tree)
+query_formed ds tree =
+    let behind = behind_declarations ds [] 1 in
+    record { values = values_formed ds [] 1; body = core_formed tree behind.0 None behind.1 }
+
+pub made_well_formed : {E : Type 0} (ds : List Declaration) (tree : ResolvedTree) (made : Result Core E) → IfOk made (λ core. core ≡ main_core ds tree) → IfOk made (λ core. IsWellFormedQuery core)
+made_well_formed ds tree (Ok core) h = subst (λ (c : Core). IsWellFormedQuery c) (sym h) (query_formed ds tree)
+made_well_formed ds tree (Err error) h = tt
