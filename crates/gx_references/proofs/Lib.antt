@@ -7,4 +7,3 @@ mod Endless
 mod PublicLaws
 mod Ways
 pub mod ReachSteps
-mod CircleExamples

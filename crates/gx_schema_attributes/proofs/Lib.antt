@@ -3,4 +3,3 @@ mod Distinct
 mod KindLemmas
 mod NameSets
 mod FoundUses
-mod UsesExamples

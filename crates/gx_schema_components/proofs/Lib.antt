@@ -6,5 +6,3 @@ pub mod Placed
 pub mod GlobalsBy
 pub mod TypesAndGroups
 pub mod ParticleSteps
-mod ComponentExamples
-mod UnknownExamples

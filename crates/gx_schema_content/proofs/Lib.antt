@@ -1,7 +1,5 @@
 mod Copies
 mod Counted
-mod Examples
-mod KnotExamples
 mod KnotLemmas
 mod Bodies
 mod ViewLemmas

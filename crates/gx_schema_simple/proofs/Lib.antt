@@ -8,4 +8,3 @@ pub mod SolvedVarieties
 pub mod FaultLemmas
 pub mod NoFaults
 pub mod MeaningLemmas
-pub mod Examples

@@ -1,8 +1,10 @@
-//! Worked values of validation. A row is a schema file in this folder, the name of a global element, and the text of a document; it is
-//! written again with the tree of the document and its types, or with the rule that is broken and the path of the element that breaks it.
+//! Worked values of schema documents and of validation. A row is `parts`, `files` or `written` and the texts of schema files; or a schema
+//! file in this folder, the name of a global element, and the text of a document, which is written again with the tree of the document
+//! and its types, or with the rule that is broken and the path of the element that breaks it.
 #![tactic(auto)]
 
 mod shown;
+mod written;
 
 use gx_base::limits::FILE_BYTES;
 use gx_base::name::Name;
@@ -21,6 +23,7 @@ use shown::shown_tree;
 use std::alloc::{AllocError, Global};
 use std::fs::Files;
 use std::io;
+use written::{files_row, parts_row, written_row};
 
 fn main(rt: HostRuntime) -> io::Result<()> {
     for line in rt.lines(rt.alloc()) {
@@ -36,7 +39,25 @@ fn main(rt: HostRuntime) -> io::Result<()> {
 fn row_answer<R: Files>(alloc: Global, files: &R, row: &str) -> Result<String, AllocError> {
     let words = words(alloc, row)?;
     match words.as_slice() {
-        [file, root, text] => match source_in(alloc, files, file.as_str())? {
+        [call, texts @ ..] => match call.as_str() {
+            "parts" => parts_row(alloc, texts),
+            "files" => files_row(alloc, texts),
+            "written" => written_row(alloc, texts),
+            file => validation_row(alloc, files, file, texts),
+        },
+        [] => not_a_row(alloc),
+    }
+}
+
+// The document of a text under the schema of a file.
+fn validation_row<R: Files>(
+    alloc: Global,
+    files: &R,
+    file: &str,
+    words: &[String],
+) -> Result<String, AllocError> {
+    match words {
+        [root, text] => match source_in(alloc, files, file)? {
             Some(schema) => imported(alloc, schema, root.as_str(), text.as_str()),
             None => not_a_row(alloc),
         },

@@ -1,11 +1,15 @@
-//! Worked values of texts, names, numbers and atomic values: each line of standard input is a call with its arguments, and
-//! is written again with its answer.
+//! Worked values of texts, names, numbers and atomic values, and of casts and comparisons of these: each line of standard
+//! input is a call with its arguments, and is written again with its answer.
 #![tactic(auto)]
 
+mod casts;
+mod comparisons;
 mod names;
 mod numbers;
 mod values;
 
+use casts::{cast_row, effective_row, fits_row};
+use comparisons::{any_row, single_row};
 use names::{build_row, code_row, names_row, texts_row, type_names_row};
 use numbers::{number, one_number, two_numbers};
 use rows_words::not_a_row;
@@ -47,6 +51,11 @@ fn answer(alloc: Global, words: &[&str]) -> Result<String, AllocError> {
         ["admits_list", facets @ .., "of", kind, text] => {
             admits_list_row(alloc, facets, kind, text)
         }
+        ["cast", kind, text, to] => cast_row(alloc, kind, text, to),
+        ["fits", kind, text, to] => fits_row(alloc, kind, text, to),
+        ["effective", kind, text] => effective_row(alloc, kind, text),
+        ["single", op, t, a, u, b] => single_row(alloc, op, (t, a), (u, b)),
+        ["any", op, lists @ ..] => any_row(alloc, op, lists),
         [call, a] => one_number(alloc, call, a),
         [call, a, b] => two_numbers(alloc, call, number(a), number(b)),
         _ => not_a_row(alloc),

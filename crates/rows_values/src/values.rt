@@ -17,6 +17,25 @@ pub fn value(alloc: Global, kind: &str, text: &str) -> Result<AtomValue, ValueRe
     read_value(alloc, kind, &Text::from_str(alloc, text)?)
 }
 
+/// The value with the type.
+pub fn atomic(alloc: Global, kind: &str, text: &str) -> Result<Atomic, ValueRead> {
+    let value = value(alloc, kind, text)?;
+    Ok(item(kind, value))
+}
+
+/// The values of a list of types, each with a text behind it.
+pub fn atomics(alloc: Global, words: &[&str]) -> Result<Vec<Atomic>, AllocError> {
+    let mut items = Vec::new(alloc);
+    for pair in words.chunks(2) {
+        if let [kind, text] = pair {
+            if let Ok(item) = atomic(alloc, kind, text) {
+                items.push(item)?;
+            }
+        }
+    }
+    Ok(items)
+}
+
 /// The kind and the text of the value that a text stands for.
 pub fn value_row(alloc: Global, kind: &str, text: &str) -> Result<String, AllocError> {
     match value(alloc, kind, text) {

@@ -1,11 +1,12 @@
-// Rows of inclusions.
+// Rows of inclusions, and of the lists of shapes that types take.
 
-use crate::types::{shape_of, types};
+use crate::types::types;
 use gx_include::include::included;
 use gx_include::verdict::{IncludeError, Verdict};
 use gx_include_takes::take::takes;
+use gx_types::item_type::ItemType;
 use gx_types::schemas::Schemas;
-use gx_types::sequence_type::Ty;
+use gx_types::sequence_type::{Ty, TyNode};
 use gx_types::shape::Shape;
 use gx_typetext::shapes::print_shapes;
 use rows_words::not_a_row;
@@ -62,4 +63,38 @@ fn takes_list(alloc: Global, t: &Ty, list: &[Shape]) -> Result<String, AllocErro
     let schemas = Schemas::empty(alloc)?;
     let answer = takes(alloc, &schemas, t, list)?;
     format!(in alloc; "{answer}")
+}
+
+// The shape that an item type names, or a text.
+fn shape_of(t: &Ty) -> Result<Shape, AllocError> {
+    match &t.node {
+        TyNode::Item(item) => shape_of_item(item),
+        _ => Ok(Shape::Text),
+    }
+}
+
+fn shape_of_item(item: &ItemType) -> Result<Shape, AllocError> {
+    match item {
+        ItemType::Element {
+            name: Some(name),
+            kind,
+        } => {
+            let name = name.clone()?;
+            Ok(Shape::Elem(name, kind.clone()?))
+        }
+        ItemType::Attribute {
+            name: Some(name),
+            kind,
+        } => {
+            let name = name.clone()?;
+            Ok(Shape::Attr(name, kind.clone()?))
+        }
+        ItemType::Document(Some((Some(name), kind))) => {
+            let name = name.clone()?;
+            Ok(Shape::Doc(Some((name, kind.clone()?))))
+        }
+        ItemType::Document(_) => Ok(Shape::Doc(None)),
+        ItemType::Atom(kind) => Ok(Shape::Atom(kind.clone()?)),
+        _ => Ok(Shape::Text),
+    }
 }

@@ -1,6 +1,6 @@
 // Rows of type texts.
 
-use crate::rows::verdict_row;
+use crate::inclusions::verdict_row;
 use gx_base::limits::{FILE_BYTES, INCLUSION_PAIRS};
 use gx_base::text::Text;
 use gx_types::schemas::Schemas;

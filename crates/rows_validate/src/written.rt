@@ -1,39 +1,25 @@
-//! Worked values of schema documents as they are written: each line of standard input has the texts of schema files, and is written
-//! again with what they say, or with the first construct that is outside the profile.
-#![tactic(auto)]
+// Rows of schema documents as they are written: the texts of schema files, with what they say, or with the first construct that is
+// outside the profile.
 
 use gx_base::limits::FILE_BYTES;
 use gx_schema_syntax::profile::{ProfileRefusal, schema_documents};
 use gx_xml::document::read_document;
 use gx_xml::source::Source;
-use rows_words::not_a_row;
-use rows_words::words::words;
 use std::alloc::{AllocError, Global};
-use std::io;
 
-fn main(rt: HostRuntime) -> io::Result<()> {
-    for line in rt.lines(rt.alloc()) {
-        let line = line?;
-        match row_answer(rt.alloc(), line.as_str()) {
-            Ok(answer) => println!(rt; "{line} = {answer}")?,
-            Err(_) => println!(rt; "{line} = no memory")?,
-        }
-    }
-    Ok(())
+/// Whether what stands in the schemas of files is within the profile.
+pub fn parts_row(alloc: Global, texts: &[String]) -> Result<String, AllocError> {
+    verdict(alloc, &sources(alloc, texts, true)?)
 }
 
-// A row is `parts` with what stands in the schema of each file, or `files` with their texts, or `written` with one text.
-fn row_answer(alloc: Global, row: &str) -> Result<String, AllocError> {
-    let words = words(alloc, row)?;
-    match words.as_slice() {
-        [call, texts @ ..] => match call.as_str() {
-            "parts" => verdict(alloc, &sources(alloc, texts, true)?),
-            "files" => verdict(alloc, &sources(alloc, texts, false)?),
-            "written" => shown(alloc, &sources(alloc, texts, false)?),
-            _ => not_a_row(alloc),
-        },
-        [] => not_a_row(alloc),
-    }
+/// Whether files of these texts are within the profile.
+pub fn files_row(alloc: Global, texts: &[String]) -> Result<String, AllocError> {
+    verdict(alloc, &sources(alloc, texts, false)?)
+}
+
+/// What files of these texts say.
+pub fn written_row(alloc: Global, texts: &[String]) -> Result<String, AllocError> {
+    shown(alloc, &sources(alloc, texts, false)?)
 }
 
 // The documents of the texts that are well-formed.
