@@ -182,7 +182,7 @@ fn keep_attribute(
 ) -> Result<(), AllocError>
     ensures { OnOk result (found.new.items ≡ found.old.items ++ map (node_of_tree owner.now.tree) (passing_attributes (passes schemas.now axes.Attribute test.now) owner.now.path position (attribute.now ∷ []))) }
 {
-    let passes = passes_attribute(schemas, true, test, attribute);
+    let passes = passes_attribute(schemas, true, test, &attribute.name, &attribute.kind);
     keep_sharing(passes, owner.tree, &owner.path, Some(position), found)
 }
 
@@ -213,7 +213,14 @@ fn passes_at(schemas: &Schemas, tree: &Tree, attribute: Option<usize>, test: &Te
         None => passes_test(schemas, false, test, tree),
         Some(position) => {
             let list = attributes(tree);
-            position < list.len() && passes_attribute(schemas, false, test, &list[position])
+            position < list.len()
+                && passes_attribute(
+                    schemas,
+                    false,
+                    test,
+                    &list[position].name,
+                    &list[position].kind,
+                )
         }
     }
 }

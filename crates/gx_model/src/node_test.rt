@@ -11,14 +11,13 @@ ghost use Rattle.gx_model.specs.NodeTest.{asked, meets, passes_name as name_pass
 
 use gx_base::name::Name;
 use gx_base::type_name::TypeName;
-use gx_tree::attribute::Attribute;
 use gx_tree::tree::{Tree, TreeNode};
 use gx_types::derivation::derives;
 use gx_types::schemas::Schemas;
 use gx_types::step::{Axis, NameTest, Test};
 
-// Whether an axis is that of attributes.
-pub(crate) fn is_attribute_axis(axis: Axis) -> bool
+/// Whether an axis is that of attributes.
+pub fn is_attribute_axis(axis: Axis) -> bool
     ensures { result ≡ attribute_axis axis }
 {
     matches!(axis, Axis::Attribute)
@@ -29,37 +28,46 @@ pub(crate) fn passes_test(schemas: &Schemas, attributes: bool, test: &Test, tree
     ensures { result ≡ meets schemas.now (asked schemas.now attributes test.now) (shape_of tree.now) }
 {
     match &tree.node {
-        TreeNode::Document(children) => passes_document(schemas, attributes, test, children),
+        TreeNode::Document(children) => {
+            passes_document(schemas, attributes, test, element_of(children))
+        }
         TreeNode::Element {
             name,
             kind,
             attributes: _,
             children: _,
         } => passes_element(schemas, attributes, test, name, kind),
-        TreeNode::Attribute(attribute) => passes_attribute(schemas, attributes, test, attribute),
+        TreeNode::Attribute(attribute) => passes_attribute(
+            schemas,
+            attributes,
+            test,
+            &attribute.name,
+            &attribute.kind,
+        ),
         TreeNode::Text(_) => passes_text(schemas, attributes, test),
     }
 }
 
-pub(crate) fn passes_attribute(
+/// Whether an attribute of this name and type passes a test.
+pub fn passes_attribute(
     schemas: &Schemas,
     attributes: bool,
     test: &Test,
-    attribute: &Attribute,
+    name: &Name,
+    kind: &TypeName,
 ) -> bool
-    ensures { result ≡ meets schemas.now (asked schemas.now attributes test.now) (shapes.Attr attribute.now.name attribute.now.kind) }
+    ensures { result ≡ meets schemas.now (asked schemas.now attributes test.now) (shapes.Attr name.now kind.now) }
 {
     match test {
         Test::Node => true,
-        Test::Named(wanted) => attributes && passes_name(wanted, &attribute.name),
-        Test::Attribute(wanted, kind) => {
-            has_name(wanted, &attribute.name) && has_type(schemas, kind, &attribute.kind)
-        }
+        Test::Named(wanted) => attributes && passes_name(wanted, name),
+        Test::Attribute(wanted, t) => has_name(wanted, name) && has_type(schemas, t, kind),
         _ => false,
     }
 }
 
-fn passes_element(
+/// Whether an element of this name and type passes a test.
+pub fn passes_element(
     schemas: &Schemas,
     attributes: bool,
     test: &Test,
@@ -77,24 +85,29 @@ fn passes_element(
     }
 }
 
-fn passes_document(schemas: &Schemas, attributes: bool, test: &Test, children: &Vec<Tree>) -> bool
-    ensures { result ≡ meets schemas.now (asked schemas.now attributes test.now) (shapes.Doc (only_element (trees_of children.now.items))) }
+/// Whether a document passes a test, where its one child may be an element of a name and a type.
+pub fn passes_document(
+    schemas: &Schemas,
+    attributes: bool,
+    test: &Test,
+    child: Option<(&Name, &TypeName)>,
+) -> bool
+    ensures { result ≡ meets schemas.now (asked schemas.now attributes test.now) (shapes.Doc (option_map (λ e. (e.0.now, e.1.now)) child.entry)) }
 {
-    match test {
-        Test::Node | Test::Document(None) => true,
-        Test::Document(Some((wanted, t))) => match element_of(children) {
-            Some((name, kind)) => has_name(wanted, name) && has_type(schemas, t, kind),
-            None => false,
-        },
-        Test::DocumentSchema(wanted) => match element_of(children) {
-            Some((name, kind)) => wanted == name && has_declared_type(schemas, wanted, kind),
-            None => false,
-        },
+    match (test, child) {
+        (Test::Node | Test::Document(None), _) => true,
+        (Test::Document(Some((wanted, t))), Some((name, kind))) => {
+            has_name(wanted, name) && has_type(schemas, t, kind)
+        }
+        (Test::DocumentSchema(wanted), Some((name, kind))) => {
+            wanted == name && has_declared_type(schemas, wanted, kind)
+        }
         _ => false,
     }
 }
 
-fn passes_text(schemas: &Schemas, attributes: bool, test: &Test) -> bool
+/// Whether a text passes a test.
+pub fn passes_text(schemas: &Schemas, attributes: bool, test: &Test) -> bool
     ensures { result ≡ meets schemas.now (asked schemas.now attributes test.now) shapes.Text }
 {
     matches!(test, Test::Node | Test::Text)

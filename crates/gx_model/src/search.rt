@@ -127,6 +127,12 @@ fn search_attribute(
     ensures { OnOk result (found.new.items ≡ found.old.items ++ map (node_of_tree from.now.tree) (sought_attributes (leads_to axis (location_of from.now)) (passes schemas.now axis test.now) path.now position (attribute.now ∷ []))) }
 {
     let passes = leads(axis, from, path, Some(position))
-        && passes_attribute(schemas, is_attribute_axis(axis), test, attribute);
+        && passes_attribute(
+            schemas,
+            is_attribute_axis(axis),
+            test,
+            &attribute.name,
+            &attribute.kind,
+        );
     keep(alloc, passes, from.tree, path, Some(position), found)
 }

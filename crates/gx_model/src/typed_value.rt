@@ -112,8 +112,8 @@ fn value_of_attribute(
     value_at_type(alloc, schemas, &list[position].kind, text)
 }
 
-// The typed value of a node of a type with this string value.
-fn value_at_type(
+/// The typed value of an element or an attribute of a type with this string value, if it has one.
+pub fn value_at_type(
     alloc: Global,
     schemas: &Schemas,
     kind: &TypeName,
@@ -196,8 +196,8 @@ fn simple_value(
     }
 }
 
-// A text as one value of type xs:untypedAtomic.
-fn untyped_value(alloc: Global, text: Text) -> Result<Vec<Atomic>, AllocError>
+/// A text as one value of type xs:untypedAtomic.
+pub fn untyped_value(alloc: Global, text: Text) -> Result<Vec<Atomic>, AllocError>
     ensures { IfOk result (λ values. values.items ≡ untyped_atomic text ∷ []) }
 {
     let mut values = Vec::with_capacity(alloc, 1)?;
