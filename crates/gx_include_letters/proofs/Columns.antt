@@ -2,7 +2,7 @@
 use Rattle.std.proofs.Common.{◌≡◌, ℕ, zero, suc, ◌+◌, ◌<◌, ◌≤◌, Bool, true, false, List, [], ◌∷◌, ◌++◌, ◌⊎◌, map, inl, inr, Some, refl, sym, ◌∙◌, ap, subst, get_or, length, take, slice_get, add-one, length-append, arith, if◌then◌else◌}
 use Rattle.std.specs.Prelude.{Vec, slice_set}
 use Rattle.std.specs.List.{flat_map, list_any}
-use Rattle.std.proofs.lemmas.Bool.{cases_lt}
+use Rattle.std.proofs.lemmas.Bool.{cases_lt, or_parts}
 use Rattle.std.proofs.lemmas.Grind.{flat_map-append}
 use Rattle.std.proofs.lemmas.List.{append-nil, length-set, take_all}
 use Rattle.std.proofs.lemmas.Option.{slice_get_within, get_or_from_slice_get}
@@ -52,12 +52,15 @@ at_push (z ∷ xs) y (suc i) x h = at_push xs y i x h
 some_injective : {X : Type 0} (x y : X) → Some x ≡ Some y → x ≡ y
 some_injective x y e = cc
 
--- a set without members has none
-not_set : (flags : List Bool) (i : ℕ) → list_any (λ marked. marked) flags ≡ false → get_or flags i false ≡ false
-not_set [] i h = refl
-not_set (true ∷ flags) i h = absurd (cc)
-not_set (false ∷ flags) zero h = refl
-not_set (false ∷ flags) (suc i) h = not_set flags i h
+-- a test that no item type passes is passed at no place
+not_passed : (test : ItemType → Bool) (kinds : List ItemType) (i : ℕ) → list_any test kinds ≡ false → get_or (map test kinds) i false ≡ false
+not_passed test [] i h = refl
+not_passed test (kind ∷ kinds) zero h = (or_parts (test kind) (list_any test kinds) h).0
+not_passed test (kind ∷ kinds) (suc i) h = not_passed test kinds i (or_parts (test kind) (list_any test kinds) h).1
+
+none_passes : (test : ItemType → Bool) (kinds : List ItemType) (i : ℕ) → list_any test kinds ≡ false → get_or (tests_at kinds test) i false ≡ false
+none_passes test kinds zero h = refl
+none_passes test kinds (suc i) h = not_passed test kinds i h
 
 -- the item types of a type
 
@@ -120,13 +123,13 @@ module _ {A : Type 0} where
   }
 
   -- a shape that no place takes has no letters
-  pub none_more : (columns : List (Vec Letter A)) (shape : Shape) (taking takers : List Bool) → list_any (λ marked. marked) taking ≡ false
-      → AreColumnsMore columns columns (λ place. entry_if place shape taking takers)
-  none_more columns shape taking takers none = record {
+  pub none_more : (columns : List (Vec Letter A)) (shape : Shape) (test : ItemType → Bool) (kinds : List ItemType) (takers : List Bool) → list_any test kinds ≡ false
+      → AreColumnsMore columns columns (λ place. entry_if place shape (tests_at kinds test) takers)
+  none_more columns shape test kinds takers none = record {
     count_is = refl;
     are = λ place before after was now.
         ap entries_of_column (some_injective after before (sym now ∙ was)) ∙ sym (append-nil (entries_of_column before))
-        ∙ ap (λ b. entries_of_column before ++ (if b then (place, shape, takers) ∷ [] else [])) (sym (not_set taking place none));
+        ∙ ap (λ b. entries_of_column before ++ (if b then (place, shape, takers) ∷ [] else [])) (sym (none_passes test kinds place none));
   }
 
   -- one shape more

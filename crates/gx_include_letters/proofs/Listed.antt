@@ -2,7 +2,8 @@
 use Rattle.std.proofs.Common.{◌≡◌, ◌≢◌, ℕ, zero, suc, ◌+◌, ◌<◌, ◌≤◌, Bool, true, false, List, [], ◌∷◌, ◌++◌, ◌⊎◌, map, inl, inr, Option, None, Some, refl, sym, ◌∙◌, ap, subst, get_or, length, slice_get, add-one, length-append, arith, if◌then◌else◌}
 use Rattle.std.specs.Prelude.{slice_set, IfSome, IsSome, Vec}
 use Rattle.std.proofs.Math.ListN.{replicate}
-use Rattle.std.proofs.lemmas.Bool.{and_parts, cases_lt, false≢true}
+use Rattle.std.specs.List.{list_any}
+use Rattle.std.proofs.lemmas.Bool.{and_parts, cases_lt, false≢true, or_from, or_left, or_right, false_from_ne_true}
 use Rattle.std.proofs.lemmas.List.{same_lists, get_or-set_same, get_or-set_other, get_or_past, get_or_default, set_past, length-set, length-replicate, length-map}
 use Rattle.std.proofs.lemmas.Option.{slice_get_within, get_or_from_slice_get}
 use Rattle.indexmap.specs.IndexMap.{IndexMap, get}
@@ -168,6 +169,35 @@ all_tested kinds test flags pending none t = same_lists flags (tests_at kinds te
         get_or_default flags k d false h
         ∙ both (get_or flags k false) (get_or (tests_at kinds test) k false) (t.sound k) (by_number k)
         ∙ get_or_default (tests_at kinds test) k false d (omega (arith, t.len))
+
+-- whether a test is passed, by the numbers that are listed
+
+-- each item type that passes a test is listed
+abbrev pub HasPassing : List ItemType → (ItemType → Bool) → List ℕ → Type 0
+HasPassing kinds test pending = (n : ℕ) → get_or (map test kinds) n false ≡ true → IsListed n pending
+
+pub all_pending : (s : SchemaSet) (x : Shape) (kinds : List ItemType) (numbers : List ℕ) → HasFitting kinds (name_given x) numbers → HasPassing kinds (is_taken s x) numbers
+all_pending s x kinds numbers has n h = let q = passes (is_taken s x) kinds n h in has n q.0 q.1 (taken_fits s x q.0 q.2)
+
+pub fewer_pending : (kinds : List ItemType) (test : ItemType → Bool) (m : ℕ) (pending rest : List ℕ) → HasPassing kinds test pending → pending ≡ m ∷ rest
+    → get_or (map test kinds) m false ≡ false → HasPassing kinds test rest
+fewer_pending kinds test m pending rest has front not n h =
+    elim (subst (λ ms. IsListed n ms) front (has n h)) [
+      | inl e ↦ absurd (false≢true (sym not ∙ ap (λ i. get_or (map test kinds) i false) e ∙ h))
+      | inr k ↦ k
+    ]
+
+pub some_passes : (kinds : List ItemType) (test : ItemType → Bool) (n : ℕ) → get_or (map test kinds) n false ≡ true → list_any test kinds ≡ true
+some_passes [] test n h = absurd (cc)
+some_passes (kind ∷ kinds) test zero h = or_left (test kind) (list_any test kinds) h
+some_passes (kind ∷ kinds) test (suc n) h = or_right (test kind) (list_any test kinds) (some_passes kinds test n h)
+
+pub none_pending : (kinds : List ItemType) (test : ItemType → Bool) (pending : List ℕ) → pending ≡ [] → HasPassing kinds test pending → list_any test kinds ≡ false
+none_pending kinds test pending none has = none_of kinds (λ n h. subst (λ ms. IsListed n ms) none (has n h))
+  where
+    none_of : (ks : List ItemType) → ((n : ℕ) → get_or (map test ks) n false ≡ true → ⊥) → list_any test ks ≡ false
+    none_of [] f = refl
+    none_of (k ∷ ks) f = or_from (test k) (list_any test ks) (false_from_ne_true (test k) (f 0)) (none_of ks (λ n h. f (suc n) h))
 
 -- the numbers below a bound were looked at
 abbrev AreFittingBelow : List ItemType → Option Name → List ℕ → ℕ → Type 0

@@ -1,7 +1,7 @@
 // The letters of two types.
 
 ghost use Rattle.std.specs.Prelude.{◌≡◌, ◌+◌, ◌++◌, [], ◌∷◌, map, length, IfOk, OnOk};
-ghost use Rattle.std.specs.List.{flat_map, list_any};
+ghost use Rattle.std.specs.List.{flat_map};
 ghost use Rattle.gx_types.specs.Grounded.{Grounded};
 ghost use Rattle.gx_types.specs.Derivation.{bases_of};
 ghost use Rattle.gx_include_letters.specs.Alphabet.{entry_of_letter, entry_if, entries_over, entries_of_column, entries_up_to, shapes_asked, AreColumns, AreColumnsMore, IsAlphabet};
@@ -186,10 +186,10 @@ fn add_shape(
 ) -> Result<(), AllocError>
     ensures { OnOk result (AreColumnsMore columns.old.items columns.new.items (λ place. entry_if place shape.now (tests_at left.now (is_taken schemas.now shape.now)) (tests_at right.now (is_taken schemas.now shape.now)))) }
 {
-    let taking = left.taking(alloc, schemas, shape)?;
-    if !has_member(taking.as_slice()) {
+    if !left.has_taker(schemas, shape) {
         return Ok(());
     }
+    let taking = left.taking(alloc, schemas, shape)?;
     add_taken(alloc, schemas, right, shape, taking.as_slice(), columns)?;
     Ok(())
 }
@@ -208,13 +208,6 @@ fn add_taken(
     let takers = right.taking(alloc, schemas, shape)?;
     add_letters(alloc, shape, taking, takers.as_slice(), columns)?;
     Ok(())
-}
-
-// Whether a set has a member.
-fn has_member(set: &[bool]) -> bool
-    ensures { result ≡ list_any (λ marked. marked) set.now }
-{
-    set.iter().any(|marked| *marked)
 }
 
 // Puts a letter of a shape behind those of each place of a set.

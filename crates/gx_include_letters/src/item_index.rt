@@ -1,6 +1,7 @@
 // The item types at the positions of a type, found by the names that they ask for.
 
-ghost use Rattle.std.specs.Prelude.{◌≡◌, ◌+◌, ◌++◌, [], ◌∷◌, if◌then◌else◌, IfOk, OnOk, IfSome, IsSome, Some, None, length, option_copied, slice_get, slice_set, slice_index_or, false, true};
+ghost use Rattle.std.specs.Prelude.{◌≡◌, ◌+◌, ◌++◌, [], ◌∷◌, if◌then◌else◌, IfOk, OnOk, IfSome, IsSome, Some, None, length, map, option_copied, slice_get, slice_set, slice_index_or, false, true};
+ghost use Rattle.std.specs.List.{list_any};
 ghost use Rattle.indexmap.specs.IndexMap.{get};
 ghost use Rattle.gx_base.specs.Name.{same_name};
 ghost use Rattle.gx_base.specs.declared.name.Name.{Name as NameRecord};
@@ -86,6 +87,13 @@ impl ItemIndex {
             self.items.as_slice(),
             self.fitting(shape),
         )
+    }
+
+    // Whether an item type takes a shape.
+    pub(crate) fn has_taker(&self, schemas: &Derivations<'_>, shape: &Shape) -> bool
+        ensures { result ≡ list_any (is_taken schemas.now shape.now) self.now }
+    {
+        takes_listed(schemas, shape, self.items.as_slice(), self.fitting(shape))
     }
 
     // The numbers of all item types that may take a shape by its name.
@@ -230,6 +238,34 @@ fn tests_of_listed(
         test_item(schemas, shape, items, *number, &mut tests);
     }
     Ok(tests)
+}
+
+// Whether an item type takes a shape, where those that may take it are listed by number.
+fn takes_listed(
+    schemas: &Derivations<'_>,
+    shape: &Shape,
+    items: &[ItemType],
+    numbers: &[usize],
+) -> bool
+    requires { HasFitting items.now (name_given shape.now) numbers.now }
+    ensures { result ≡ list_any (is_taken schemas.now shape.now) items.now }
+{
+    for number in numbers {
+        if takes_at(schemas, shape, items, *number) {
+            return true;
+        }
+    }
+    false
+}
+
+// Whether the item type of a number takes a shape.
+fn takes_at(schemas: &Derivations<'_>, shape: &Shape, items: &[ItemType], number: usize) -> bool
+    ensures { result ≡ slice_index_or (map (is_taken schemas.now shape.now) items.now) number false }
+{
+    match items.get(number) {
+        Some(item) => schemas.takes_shape(shape, item),
+        None => false,
+    }
 }
 
 // Puts down whether the item type of a number takes a shape.
