@@ -1,8 +1,26 @@
 -- The first of faults by place, in lists one after another.
-use Rattle.std.proofs.Common.{◌≡◌, Bool, true, false, nat_le, Option, None, Some, refl, arith}
+use Rattle.std.proofs.Common.{◌≡◌, Bool, true, false, nat_le, Option, None, Some, refl, arith, if◌then◌else◌}
 use Rattle.std.proofs.lemmas.Bool.Decides.{nat_tests}
 use Rattle.gx_schema.specs.declared.found.Found.{Found}
 use Rattle.gx_schema.specs.FirstFound.{earlier_found, is_in_front}
+
+-- nothing is found where neither is
+
+earlier_some : (t : Bool) (one other : Found) → (if t then Some one else Some other) ≡ None → ⊥
+earlier_some true one other e = cc
+earlier_some false one other e = cc
+
+pub left_none : (one other : Option Found) → earlier_found one other ≡ None → one ≡ None
+left_none None other e = refl
+left_none (Some one) None e = absurd (cc)
+left_none (Some one) (Some other) e = absurd (earlier_some (nat_le one.place other.place) one other e)
+
+pub right_none : (one other : Option Found) → earlier_found one other ≡ None → other ≡ None
+right_none None other e = e
+right_none (Some one) None e = refl
+right_none (Some one) (Some other) e = absurd (earlier_some (nat_le one.place other.place) one other e)
+
+-- the first of three
 
 pub earlier_found-none : (found : Option Found) → earlier_found found None ≡ found
 earlier_found-none None = refl

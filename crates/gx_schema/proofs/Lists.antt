@@ -1,8 +1,8 @@
 -- Facts of lists and options.
-use Rattle.std.proofs.Common.{◌≡◌, ◌∙◌, ℕ, zero, suc, ◌+◌, ◌<◌, ◌≤◌, Bool, true, false, List, [], ◌∷◌, ◌++◌, length, map, slice_get, Option, None, Some, refl, sym, ap, subst, arith, if◌then◌else◌, ◌||◌}
+use Rattle.std.proofs.Common.{◌≡◌, ◌∙◌, ℕ, zero, suc, ◌+◌, ◌<◌, ◌≤◌, Bool, true, false, List, [], ◌∷◌, ◌++◌, length, map, slice_get, Option, None, Some, refl, sym, ap, subst, arith, if◌then◌else◌, ◌&&◌, ◌||◌}
 use Rattle.std.specs.Prelude.{option_map, IfOk, Result, Ok, Err}
 use Rattle.std.specs.Option.{option_or}
-use Rattle.std.specs.List.{flat_map, list_any}
+use Rattle.std.specs.List.{flat_map, list_all, list_any}
 use Rattle.std.proofs.lemmas.Bool.Decides.{nat_tests}
 use Rattle.std.proofs.lemmas.List.{append_assoc}
 use Rattle.gx_types.specs.SchemaInvariant.{AreDistinctBy, HoldsOfEach}
@@ -65,6 +65,20 @@ holds_parted Fact f (x ∷ xs) h = (holds_front Fact (f x) (flat_map f xs) h, ho
 pub holds_both : {A : Type 0} (Fact Other : A → Type 0) (xs : List A) → HoldsOfEach Fact xs → HoldsOfEach Other xs → HoldsOfEach (λ x. Fact x × Other x) xs
 holds_both Fact Other [] h k = tt
 holds_both Fact Other (x ∷ xs) h k = ((h.0, k.0), holds_both Fact Other xs h.1 k.1)
+
+-- what passes a test, and what holds of each
+
+pub all_pass : {A : Type 0} (test : A → Bool) (xs : List A) → HoldsOfEach (λ x. test x ≡ true) xs → list_all test xs ≡ true
+all_pass test [] h = refl
+all_pass test (x ∷ xs) h = rw h.0 (all_pass test xs h.1)
+
+passes_and : (test rest : Bool) → (test && rest) ≡ true → (test ≡ true) × (rest ≡ true)
+passes_and true rest e = (refl, e)
+passes_and false rest e = absurd (cc)
+
+pub each_passes : {A : Type 0} (test : A → Bool) (xs : List A) → list_all test xs ≡ true → HoldsOfEach (λ x. test x ≡ true) xs
+each_passes test [] all = tt
+each_passes test (x ∷ xs) all = let told = passes_and (test x) (list_all test xs) all in (told.0, each_passes test xs told.1)
 
 -- ---- names that differ
 

@@ -26,11 +26,10 @@ use Rattle.gx_schema_simple.specs.declared.type_form.TypeForm.TheVariants as for
 use Rattle.gx_schema_simple.specs.declared.variety.TypeVariety.{TypeVariety}
 use Rattle.gx_schema_simple.specs.declared.variety.TypeVariety.TheVariants as varieties
 use Rattle.gx_schema.specs.DerivationFaults.{has_complex_content}
-use Rattle.gx_schema.specs.NamedKinds.{is_simple_form}
 use Rattle.gx_schema.specs.SimpleBases.{simple_base}
 use Rattle.gx_schema.specs.SchemaTypes.{TypeMeanings, base_name, content_declared, derived_from_name, simple_content}
 use Rattle.gx_schema.proofs.Declarations.{element_at, holds_of_each}
-use Rattle.gx_schema.proofs.SimpleForms.{AreReadTypes, HeldByTypes, HoldWhatFits, IsReadBase, meanings_with, schemas_with, types_with}
+use Rattle.gx_schema.proofs.SimpleForms.{AreReadTypes, HeldByTypes, HoldWhatFits, IsReadBase, meanings_with, schemas_with, types_with, is_simple_form}
 use Rattle.gx_schema.proofs.NumberedDeclarations.{declaration_by_number, declared_type, form_at, name_of_number}
 use Rattle.gx_schema.proofs.SimpleVarieties.{IsNotComplex, IsSimpleBase, IsSimpleVariety, not_complex, plain_form, plain_has_none, simple_base_is_simple, simple_content_base, variety_of_base_is_simple}
 

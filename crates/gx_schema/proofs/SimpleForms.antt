@@ -1,5 +1,5 @@
 -- Lists of types that are read and not faulty.
-use Rattle.std.proofs.Common.{◌≡◌, ℕ, ◌<◌, false, List, length, map, None, Some, slice_get}
+use Rattle.std.proofs.Common.{◌≡◌, ℕ, ◌<◌, Bool, true, false, List, length, map, Option, None, Some, slice_get}
 use Rattle.std.specs.Bool.{IsTrue}
 use Rattle.gx_base.specs.Name.{same_name}
 use Rattle.gx_base.specs.declared.type_name.TypeName.{TypeName}
@@ -33,6 +33,12 @@ IsReadForm count (forms.List place item) = IsReadBase count item
 IsReadForm count (forms.SimpleContent base facets) = IsReadBase count base
 IsReadForm count (forms.ComplexContent None) = Unit {0}
 IsReadForm count (forms.ComplexContent (Some base)) = IsReadBase count base
+
+-- a simple type has one of these forms
+abbrev pub is_simple_form : Option TypeForm → Bool
+is_simple_form (Some (forms.Restriction place base facets)) = true
+is_simple_form (Some (forms.List place item)) = true
+is_simple_form _ = false
 
 -- simple content does not rest on a type with complex content
 abbrev pub HasSimpleBases : List TypeForm → Type 0

@@ -23,12 +23,11 @@ use Rattle.gx_schema_simple.proofs.ShortCircles.{circles_are_short}
 use Rattle.std.specs.Bool.{IsTrue}
 use Rattle.gx_types.specs.SchemaInvariant.{is_nameable}
 use Rattle.gx_schema.specs.DerivationFaults.{has_complex_content}
-use Rattle.gx_schema.specs.NamedKinds.{is_simple_form}
 use Rattle.gx_schema.specs.SimpleBases.{base_of_simple_content, behind_simple_content, simple_base, simple_base_within}
 use Rattle.gx_schema.proofs.Declarations.{element_at}
 use Rattle.gx_schema.proofs.ShortEnds.{IsStraight, NamesWithin, ends_in_fewer}
 use Rattle.gx_schema.proofs.TypesByNumber.{reference_at}
-use Rattle.gx_schema.proofs.SimpleForms.{AreReadTypes, IsReadBase, IsReadForm}
+use Rattle.gx_schema.proofs.SimpleForms.{AreReadTypes, IsReadBase, IsReadForm, is_simple_form}
 
 -- ---- what types name ends
 

@@ -18,7 +18,7 @@ use Rattle.gx_schema_syntax.specs.declared.written.GlobalDeclaration.TheVariants
 use Rattle.gx_schema_components.specs.declared.mention.ComponentKind.TheVariants as kinds
 use Rattle.gx_schema_components.specs.declared.component.ModelGroup.{ModelGroup}
 use Rattle.gx_schema_components.specs.Components.{definitions_by, first_inner, globals_of, group_definitions_in, types_by}
-use Rattle.gx_schema_components.specs.DeclaredNames.{declarations_in, type_names_in}
+use Rattle.gx_schema_components.specs.DeclaredNames.{declarations_in}
 use Rattle.gx_schema_components.specs.GroupNumbers.{content_placed, definitions_placed}
 use Rattle.gx_schema_components.specs.Referred.{Globals}
 use Rattle.gx_schema_components.specs.Unknown.{unknown_name}
@@ -36,7 +36,7 @@ use Rattle.gx_schema.specs.Circular.{circular, circular_attribute_group, circula
 use Rattle.gx_schema.specs.FirstFound.{earlier_found}
 use Rattle.gx_schema.specs.FirstNumber.{first_number}
 use Rattle.gx_schema.specs.Found.{found_by_number, globals_found, types_found}
-use Rattle.gx_schema.specs.Import.{Imported, IsImported, IsJudged, after_judgement, breaks, declares, documents_judged, documents_of, found_in_file, kinds_judged, read_in_files, unknown_found, unless_broken}
+use Rattle.gx_schema.specs.Import.{Imported, IsImported, IsJudged, after_judgement, breaks, declares, documents_judged, documents_of, found_in_file, read_in_files, unknown_found, unless_broken}
 use Rattle.gx_schema.specs.Inconsistent.{inconsistent}
 use Rattle.gx_schema.specs.Laws.{ImportsAreSound}
 use Rattle.gx_schema.specs.RestrictedTypes.{restricted_types}
@@ -44,10 +44,11 @@ use Rattle.gx_schema.specs.SchemaTypes.{schemas_written, type_forms}
 use Rattle.gx_schema.specs.SeenComponents.{attribute_groups, attribute_groups_in_group, is_circular_attribute_group, is_circular_group, model_groups, seen_components}
 use Rattle.gx_schema.specs.SoundReading.{HasOneTypeAName, NothingIsCircular}
 use Rattle.gx_schema.specs.TooLarge.{too_large}
+use Rattle.gx_schema.proofs.EarlierFound.{left_none, right_none}
 use Rattle.gx_schema.proofs.Imports.{declared_is_read, imports_are_schema_sets}
 use Rattle.gx_schema.proofs.Lists.{mapped_none}
 use Rattle.gx_schema.proofs.NothingFound.{names_refer, none_found, rest_told}
-use Rattle.gx_schema.proofs.SchemaSets.{Laws, left_none, right_none}
+use Rattle.gx_schema.proofs.SchemaSets.{Laws}
 
 -- ---- the rules that are not broken
 
@@ -63,7 +64,7 @@ passes_rules documents schemas e =
     let unknown = option_map unknown_found (unknown_name documents) in
     let disagreeing = option_map found_in_file (inconsistent documents forms seen) in
     let circle = option_map found_in_file (circular documents forms) in
-    let large = unless_broken TooLarge (option_map found_in_file (too_large documents seen)) (kinds_judged (type_names_in documents) forms seen (declares (schemas_written documents))) in
+    let large = unless_broken TooLarge (option_map found_in_file (too_large documents seen)) (declares (schemas_written documents)) in
     let after_consistent = unless_broken Circular circle large in
     let after_known = unless_broken Inconsistent disagreeing after_consistent in
     let e2 = rest_told UnknownName unknown after_known schemas e in

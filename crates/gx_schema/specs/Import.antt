@@ -16,15 +16,12 @@ use Rattle.gx_schema_components.specs.declared.unknown.UnknownName.{UnknownName 
 use Rattle.gx_schema_components.specs.Unknown.{unknown_name}
 use Rattle.gx_schema_simple.specs.declared.type_form.TypeForm.{TypeForm}
 use Rattle.gx_schema.specs.declared.found.Found.{Found}
-use Rattle.gx_base.specs.declared.type_name.TypeName.{TypeName}
-use Rattle.gx_schema_components.specs.DeclaredNames.{type_names_in}
 use Rattle.gx_schema_restriction.specs.declared.restrictions.Restrictions.{Restrictions}
 use Rattle.gx_schema_restriction.specs.declared.restrictions.Restrictions.TheVariants.{Sound, Unsound, Undecided}
 use Rattle.gx_schema_restriction.specs.Restrictions.{AreJudged}
 use Rattle.gx_schema.specs.Circular.{circular}
 use Rattle.gx_schema.specs.Found.{found_by_number, types_found}
 use Rattle.gx_schema.specs.Inconsistent.{inconsistent}
-use Rattle.gx_schema.specs.NamedKinds.{unnamed_kind, unsimple_kind}
 use Rattle.gx_schema.specs.RestrictedTypes.{restricted_types}
 use Rattle.gx_schema.specs.SchemaTypes.{schemas_written, type_forms}
 use Rattle.gx_schema.specs.SeenComponents.{SeenComponents, seen_components}
@@ -56,15 +53,10 @@ found_in_file found = (found.file, found.name)
 abbrev pub names_judged : List DocumentTree → Imported → Imported
 names_judged documents otherwise = unless_broken UnknownName (option_map unknown_found (unknown_name documents)) otherwise
 
--- types and the other declarations; last, what elements and attributes are of is there, and simple for attributes
-abbrev pub kinds_judged : List TypeName → List TypeForm → SeenComponents → Imported → Imported
-kinds_judged declared forms seen otherwise =
-    unless_broken UnknownName (unnamed_kind declared seen) (unless_broken Inconsistent (unsimple_kind declared forms seen) otherwise)
-
 abbrev pub components_judged : List DocumentTree → List TypeForm → SeenComponents → Imported → Imported
 components_judged documents forms seen otherwise =
     unless_broken Inconsistent (option_map found_in_file (inconsistent documents forms seen)) (unless_broken Circular (option_map found_in_file (circular documents forms))
-    (unless_broken TooLarge (option_map found_in_file (too_large documents seen)) (kinds_judged (type_names_in documents) forms seen otherwise)))
+    (unless_broken TooLarge (option_map found_in_file (too_large documents seen)) otherwise))
 
 abbrev pub documents_judged : List DocumentTree → Imported
 documents_judged documents = names_judged documents (components_judged documents (type_forms documents) (seen_components documents) (declares (schemas_written documents)))

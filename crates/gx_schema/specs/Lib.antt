@@ -17,7 +17,6 @@ pub mod Inconsistent
 pub mod Circular
 pub mod TooLarge
 pub mod MeaningsView
-pub mod NamedKinds
 pub mod RestrictedTypes
 pub mod Import
 pub mod SoundReading

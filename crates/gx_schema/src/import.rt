@@ -6,7 +6,7 @@ ghost use Rattle.gx_schema_components.specs.DeclaredNames.{type_names_in};
 ghost use Rattle.gx_schema.specs.Circular.{circular};
 ghost use Rattle.gx_schema_syntax.specs.DocumentTree.{DocumentTree};
 ghost use Rattle.gx_schema_syntax.specs.Profile.{outside_files};
-ghost use Rattle.gx_schema.specs.Import.{AreWithinProfile, breaks, broken_at, components_judged, declares, found_in_file, documents_judged, documents_of, kinds_judged, names_judged, read_in_files, unknown_found, unless_broken, IsImported, IsJudged, IsRefusalTold, IsRefusalWith, IsSchemaRefusal};
+ghost use Rattle.gx_schema.specs.Import.{AreWithinProfile, breaks, broken_at, components_judged, declares, found_in_file, documents_judged, documents_of, names_judged, read_in_files, unknown_found, unless_broken, IsImported, IsJudged, IsRefusalTold, IsRefusalWith, IsSchemaRefusal};
 ghost use Rattle.gx_schema.specs.RestrictedTypes.{restricted_types};
 ghost use Rattle.gx_schema.specs.SchemaTypes.{meanings_seen, schemas_written, type_forms};
 ghost use Rattle.gx_schema_simple.specs.Varieties.{IsMarked};
@@ -19,7 +19,6 @@ use crate::circular::{circular_attribute_group, circular_group, circular_type};
 use crate::first_found::earlier_found;
 use crate::found::Found;
 use crate::inconsistent::inconsistent;
-use crate::named_kinds::{unnamed_kind, unsimple_kind};
 use crate::refusal::{SchemaRefusal, SchemaRule};
 use crate::restricted_types::judge_restricted;
 use crate::schema_types::{TypeTables, schema_elements, schema_types};
@@ -245,7 +244,7 @@ fn judge_components(
     if let Some(found) = too_large(alloc, documents, &read.seen)? {
         return Err(refused_at(alloc, SchemaRule::TooLarge, found));
     }
-    judge_kinds(alloc, documents, read)
+    Ok(())
 }
 
 fn circular(
@@ -261,25 +260,6 @@ fn circular(
     let group = circular_group(alloc, documents, &read.circles.groups, read.groups)?;
     let behind = earlier_found(group, attributes);
     Ok(earlier_found(circular_type(alloc, documents, &read.forms)?, behind))
-}
-
-// The types of elements are there, and those of attributes simple.
-fn judge_kinds(
-    alloc: Global,
-    documents: &[SchemaDocument],
-    read: &ReadComponents,
-) -> Result<(), SchemaRefusal>
-    requires { IsRead documents.now read.now }
-    ensures passes { OnOk result (kinds_judged (type_names_in documents.now) (type_forms documents.now) (seen_components documents.now) (declares (schemas_written documents.now)) ≡ declares (schemas_written documents.now)) }
-    ensures refused { IfErr result (IsRefusalWith (kinds_judged (type_names_in documents.now) (type_forms documents.now) (seen_components documents.now) (declares (schemas_written documents.now)))) }
-{
-    if let Some((file, name)) = unnamed_kind(alloc, &read.names, &read.seen)? {
-        return Err(refused(alloc, SchemaRule::UnknownName, file, name));
-    }
-    if let Some((file, name)) = unsimple_kind(alloc, &read.names, &read.forms, &read.seen)? {
-        return Err(refused(alloc, SchemaRule::Inconsistent, file, name));
-    }
-    Ok(())
 }
 
 fn refused_at(alloc: Global, rule: SchemaRule, found: Found) -> SchemaRefusal

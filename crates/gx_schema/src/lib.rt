@@ -11,7 +11,6 @@ mod found;
 pub mod import;
 mod inconsistent;
 pub mod laws;
-mod named_kinds;
 mod occurrences;
 pub mod refusal;
 mod restricted_types;
