@@ -15,6 +15,7 @@ pub mod MeaningLemmas
 pub mod NamedTypes
 pub mod NothingFound
 pub mod NumberedDeclarations
+pub mod NumberedFiles
 pub mod NumberedTypes
 pub mod NumberLemmas
 pub mod PartRoles

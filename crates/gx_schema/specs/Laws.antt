@@ -1,9 +1,11 @@
 -- The laws of imports.
-use Rattle.std.specs.Prelude.{◌≡◌, List}
+use Rattle.std.specs.Prelude.{◌≡◌, ℕ, ◌<◌, List, length}
 use Rattle.gx_types.specs.SchemaSet.{SchemaSet}
 use Rattle.gx_types.specs.SchemaInvariant.{IsSchemaSet}
+use Rattle.gx_types.specs.declared.shape.Shape.{Shape}
 use Rattle.gx_xml.specs.declared.source.Source.{Source}
-use Rattle.gx_schema.specs.Import.{Imported, IsImported, declares}
+use Rattle.gx_schema.specs.declared.refusal.SchemaRule.{SchemaRule}
+use Rattle.gx_schema.specs.Import.{Imported, IsImported, breaks, declares}
 use Rattle.gx_schema.specs.SoundReading.{IsSoundReading}
 
 -- what files declare keeps to what declarations keep to
@@ -21,3 +23,7 @@ ImportsAreOne = (files : List Source) (one other : Imported) → IsImported file
 -- and there is one
 abbrev pub AnImportExists : Type 0
 AnImportExists = (files : List Source) → (told : Imported) × IsImported files told
+
+-- a rule that files break is broken in one of them
+abbrev pub IsBrokenInAFile : Type 0
+IsBrokenInAFile = (files : List Source) (rule : SchemaRule) (file : ℕ) (name : List ℕ) (list : List Shape) → IsImported files (breaks rule file name list) → file < length files

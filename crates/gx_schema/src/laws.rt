@@ -1,6 +1,6 @@
 // Laws of schema import.
 
-ghost use Rattle.gx_schema.specs.Laws.{AnImportExists, ImportsAreOne, ImportsAreSchemaSets, ImportsAreSound};
+ghost use Rattle.gx_schema.specs.Laws.{AnImportExists, ImportsAreOne, ImportsAreSchemaSets, ImportsAreSound, IsBrokenInAFile};
 
 use gx_schema_attributes::laws::{kinds_are_written, uses_are_distinct};
 use gx_schema_content::laws::{contents_are_bounded, elements_keep, one_type_a_name};
@@ -57,3 +57,8 @@ pub fn an_import_exists()
     contents_are_bounded();
     a_judgement_exists();
 }
+
+/// The file of a rule that schema files break is one of them.
+pub fn a_rule_is_broken_in_a_file()
+    ensures { IsBrokenInAFile }
+{}
