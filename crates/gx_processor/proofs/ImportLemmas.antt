@@ -1,6 +1,7 @@
 -- What the schemas that a query imports say, from the reading of their files.
-use Rattle.std.proofs.Common.{◌≡◌, ℕ, zero, suc, List, [], ◌∷◌, map, slice_get, Option, Some, Result, Ok, Err, string_bytes, IfErr, MatchResult, inl, inr, refl, sym, ◌∙◌, ap, ap₂, subst}
+use Rattle.std.proofs.Common.{◌≡◌, ℕ, zero, suc, List, [], ◌∷◌, length, map, slice_get, Option, Some, Result, Ok, Err, string_bytes, IfErr, MatchResult, inl, inr, refl, sym, ◌∙◌, ap, ap₂, subst}
 use Rattle.std.specs.Prelude.{unwrap_or}
+use Rattle.std.proofs.lemmas.List.{length-map}
 use Rattle.gx_types.specs.SchemaSet.{SchemaSet}
 use Rattle.gx_io.specs.LibraryUse.{LibraryUse}
 use Rattle.gx_ast.specs.declared.query.Query.{Query as SyntaxQuery}
@@ -10,7 +11,7 @@ use Rattle.gx_schema.specs.Import.{declares, breaks, IsImported}
 use Rattle.gx_documents.specs.declared.documents.DocumentFault.TheVariants as faults
 use Rattle.gx_documents.specs.declared.documents.DocumentsError.{DocumentsError}
 use Rattle.gx_documents.specs.declared.documents.DocumentsError.TheVariants.{Failed, Memory as NoMemory}
-use Rattle.gx_documents.specs.Documents.{Files, Request, DocumentsLoaded, files_asked, source_request}
+use Rattle.gx_documents.specs.Documents.{AreKept, Files, Request, DocumentsLoaded, files_asked, source_request}
 use Rattle.gx_documents.specs.Reading.{EndsWith, HasReadFault, LoadsUpTo, OneBreaks, ReadSources}
 use Rattle.gx_processor.specs.declared.refusal.Refusal.{Refusal}
 use Rattle.gx_processor.specs.declared.refusal.Refusal.TheVariants as refusal
@@ -47,6 +48,16 @@ one_of_loads (name ∷ files) zero file h =
 one_of_loads (name ∷ files) (suc number) file h =
     let rest = one_of_loads files number file h in
     (name ∷ rest.0, rest.1, ap (λ (ns : List (List ℕ)). name ∷ ns) rest.2)
+
+-- there is a document for each file
+kept_count : {T : Type 0} (requests : List (Request T)) (all : List T) → AreKept requests all → length all ≡ length requests
+kept_count [] [] h = refl
+kept_count [] (kept ∷ all) h = absurd h
+kept_count (request ∷ requests) [] h = absurd h
+kept_count (request ∷ requests) (kept ∷ all) h = ap suc (kept_count requests all h.1)
+
+pub sources_count : (library : LibraryUse) (names : List (List ℕ)) (sources : List Source) → ReadSources library names (Ok sources) → length sources ≡ length names
+sources_count library names sources read = kept_count (map source_request names) sources read.kept ∙ length-map names source_request
 
 module _ (tree : SyntaxQuery) where
   abbrev names : List (List ℕ)

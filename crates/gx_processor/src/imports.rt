@@ -1,6 +1,6 @@
 // The schemas that a query imports.
 
-ghost use Rattle.std.specs.Prelude.{◌≡◌, ◌≤◌, ◌++◌, codes, map, slice_get, string_bytes, Some, IfOk, OnOk};
+ghost use Rattle.std.specs.Prelude.{◌≡◌, ◌<◌, ◌≤◌, ◌++◌, codes, length, map, slice_get, string_bytes, Some, IfOk, OnOk};
 ghost use Rattle.std.specs.Str.{encode_utf8_all};
 ghost use Rattle.gx_typetext.specs.NameText.{word};
 ghost use Rattle.gx_typetext.specs.ShapeText.{shapes_text};
@@ -18,7 +18,7 @@ use gx_base::text_builder::TextBuilder;
 use gx_documents::documents::{DocumentsError, read_sources};
 use gx_io::Library;
 use gx_schema::import::import;
-use gx_schema::laws::imports_are_schema_sets;
+use gx_schema::laws::{a_rule_is_broken_in_a_file, imports_are_schema_sets};
 use gx_schema::refusal::{SchemaRefusal, SchemaRule};
 use gx_types::schemas::Schemas;
 use gx_types::shape::Shape;
@@ -63,10 +63,12 @@ fn declared_in<L: Library>(
 
 // What the documents of schema files of these names declare.
 fn declared(alloc: Global, files: &[String], sources: &[Source]) -> Result<Schemas, Refusal>
+    requires { length sources.now ≡ length files.now }
     ensures declared { DeclaresIn (word_bytes files.now) sources.now result }
     ensures set { IfOk result IsSchemaSet }
 {
     imports_are_schema_sets();
+    a_rule_is_broken_in_a_file();
     match import(alloc, sources) {
         Ok(schemas) => Ok(schemas),
         Err(
@@ -119,12 +121,10 @@ fn with_list(alloc: Global, name: &Text, list: &[Shape]) -> Result<Text, AllocEr
 
 // The name of the file of a number, which is that of one of the files.
 fn file_name_at(alloc: Global, files: &[String], number: u32) -> Result<String, AllocError>
+    requires { number < length files.now }
     ensures { IfOk result (λ name. slice_get (word_bytes files.now) number ≡ Some (string_bytes name)) }
 {
-    match files.get(number as usize) {
-        Some(name) => String::from_str(alloc, name.as_str()),
-        None => Err(AllocError),
-    }
+    String::from_str(alloc, files[number as usize].as_str())
 }
 
 // The refusal of a schema file that holds no document.
