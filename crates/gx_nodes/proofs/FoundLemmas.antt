@@ -16,7 +16,7 @@ pub record IsFound (root : PlainTree) (number : ℕ) (e : NodeEntry) : Type 0 wh
   pub numbered : e.place.tree ≡ number
   pub found : then_found (tree_at root e.place.path) (attribute_at e.place.attribute) ≡ Some e.tree
 
-tree_behind : (t : PlainTree) (path rest : List ℕ) → tree_at t (path ++ rest) ≡ then_found (tree_at t path) (λ u. tree_at u rest)
+pub tree_behind : (t : PlainTree) (path rest : List ℕ) → tree_at t (path ++ rest) ≡ then_found (tree_at t path) (λ u. tree_at u rest)
 tree_behind t [] rest = refl
 tree_behind t (n ∷ path) rest = behind (λ c. tree_behind c path rest) (slice_get (children_of t) n)
   where
@@ -25,7 +25,7 @@ tree_behind t (n ∷ path) rest = behind (λ c. tree_behind c path rest) (slice_
     behind below None = refl
     behind below (Some c) = below c
 
-child_found : (root t u : PlainTree) (path : List ℕ) (position : ℕ) → tree_at root path ≡ Some t → slice_get (children_of t) position ≡ Some u → tree_at root (path ++ position ∷ []) ≡ Some u
+pub child_found : (root t u : PlainTree) (path : List ℕ) (position : ℕ) → tree_at root path ≡ Some t → slice_get (children_of t) position ≡ Some u → tree_at root (path ++ position ∷ []) ≡ Some u
 child_found root t u path position e f =
     tree_behind root path (position ∷ [])
     ∙ ap (λ (o : Option PlainTree). then_found o (λ v. tree_at v (position ∷ []))) e
@@ -162,3 +162,7 @@ pub place_is_not_there : (forest more : Forest) (n : ℕ) → count_in forest �
 place_is_not_there forest more n h =
     let p : PlainNode = place_of_number (forest ++ more) n in
     ap (λ (o : Option PlainTree). then_found o (λ t. then_found (tree_at t p.path) (attribute_at p.attribute))) (slice_get_past forest p.tree (late_place forest more n h))
+
+-- nor is the tree of its place there
+pub tree_is_not_there : (forest more : Forest) (n : ℕ) → count_in forest ≤ n → slice_get forest (place_of_number (forest ++ more) n).tree ≡ None
+tree_is_not_there forest more n h = slice_get_past forest (place_of_number (forest ++ more) n).tree (late_place forest more n h)

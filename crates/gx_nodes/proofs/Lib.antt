@@ -7,3 +7,5 @@ pub mod NumberOrder
 pub mod RowLemmas
 pub mod HopLemmas
 pub mod NearLemmas
+pub mod AxisNodes
+pub mod AncestorNodes
