@@ -1,7 +1,10 @@
 pub mod LabelLemmas
 pub mod LoadLemmas
+pub mod OpenedLemmas
 pub mod StoreLemmas
 pub mod OrderedLemmas
 pub mod TextLemmas
 pub mod TreeLemmas
 pub mod CombinedLemmas
+pub mod ValueLemmas
+pub mod StepLemmas

@@ -28,7 +28,8 @@ use Rattle.gx_store.specs.declared.row.Form.{Form}
 use Rattle.gx_store.specs.declared.row.Form.TheVariants as forms
 use Rattle.gx_store.specs.declared.row.Row.{Row}
 use Rattle.gx_store.specs.Grown.{Grows}
-use Rattle.gx_store.specs.RowView.{form_seen, row_seen, Adds}
+use Rattle.gx_store.specs.Opened.{Stand}
+use Rattle.gx_store.specs.RowView.{form_seen, row_seen}
 use Rattle.gx_store.specs.Stored.{known_of, forest_seen, IsStored, below_in, attributes_at, label_of, label_in, FitsForm, attributes_in_form, label_of_form, IsRowOf}
 use Rattle.gx_store.specs.Left.{numbered, children_left, attributes_left, descendants_left}
 use Rattle.gx_store.proofs.LoadLemmas.{got_stays, grows_not}
@@ -105,13 +106,13 @@ pub stays_rows : (labels later : List Label) (rows : List Row) (forest : Forest)
 stays_rows labels later rows forest g h = rows_stay labels later rows (rows_of forest) g h
 
 -- the rows of a tree behind others
-pub loaded_rows : (labels later : List Label) (rows fresh now : List Row) (forest : Forest) (t : PlainTree) → Grows labels later → AreRowsOf labels rows forest → Adds later [] fresh (tree_rows 0 t) → now ≡ rows ++ fresh
+pub loaded_rows : (labels later : List Label) (rows fresh now : List Row) (forest : Forest) (t : PlainTree) → Grows labels later → AreRowsOf labels rows forest → Stand later fresh (tree_rows 0 t) → now ≡ rows ++ fresh
     → AreRowsOf later now (forest ++ t ∷ [])
 loaded_rows labels later rows fresh now forest t g h x e =
-    ap (map (row_seen later)) (e ∙ ap (λ l. rows ++ l) x.is)
-    ∙ map_appended (row_seen later) rows x.more
-    ∙ ap (λ os. os ++ map (row_seen later) x.more) (stays_rows labels later rows forest g h)
-    ∙ ap (λ os. map (λ r. Some r) (rows_of forest) ++ os) (x.seen later (grows_not later))
+    ap (map (row_seen later)) e
+    ∙ map_appended (row_seen later) rows fresh
+    ∙ ap (λ os. os ++ map (row_seen later) fresh) (stays_rows labels later rows forest g h)
+    ∙ ap (λ os. map (λ r. Some r) (rows_of forest) ++ os) (x later (grows_not later))
     ∙ sym (map_appended (λ r. Some r) (rows_of forest) (tree_rows 0 t))
     ∙ ap (map (λ r. Some r)) (sym (rows_of_more forest t))
 
@@ -243,7 +244,7 @@ attributes_end forest n r h = (attributes_fit r.form (entry_in forest n).tree h.
 
 -- where the forest grows
 
-at_later : (forest later : Forest) (x : Extends forest later) (P : Forest → Type 0) → P (forest ++ x.more) → P later
+pub at_later : (forest later : Forest) (x : Extends forest later) (P : Forest → Type 0) → P (forest ++ x.more) → P later
 at_later forest later x P h = subst P (sym x.is) h
 
 pub named_later : {A : Type 0} (forest later : Forest) (n : ℕ) (part : PlainTree → Option A) → part (text []) ≡ None → Extends forest later

@@ -2,7 +2,10 @@ pub mod Grown
 pub mod SameLabel
 pub mod RowView
 pub mod Stored
+pub mod Opened
 pub mod Left
+pub mod Places
+pub mod Items
 pub mod NumberOrder
 pub mod Combined
 pub mod Shaped

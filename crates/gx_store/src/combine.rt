@@ -19,11 +19,11 @@ use std::alloc::{AllocError, Global};
 impl Store {
     /// The nodes that occur in either of two sequences, in document order and each once, without those that the store has not (XQuery 1.0,
     /// section 3.3.3).
-    pub fn union(&self, first: &[NodeId], second: &[NodeId]) -> Result<Vec<NodeId>, AllocError>
-        ensures { (later : PlainForest) → Extends self.now later → IfOk result (λ found. map (λ m. place_of_number later m.number) found.items ≡ union_of_nodes self.now (map (λ m. place_of_number later m.number) first.now) (map (λ m. place_of_number later m.number) second.now)) }
+    pub fn union(&self, first: Vec<NodeId>, second: Vec<NodeId>) -> Result<Vec<NodeId>, AllocError>
+        ensures { (later : PlainForest) → Extends self.now later → IfOk result (λ found. map (λ m. place_of_number later m.number) found.items ≡ union_of_nodes self.now (map (λ m. place_of_number later m.number) first.items) (map (λ m. place_of_number later m.number) second.items)) }
     {
-        let left = sorted(self.allocator(), first)?;
-        let right = sorted(self.allocator(), second)?;
+        let left = sorted(first);
+        let right = sorted(second);
         let mut found = merged(self.allocator(), left.as_slice(), right.as_slice())?;
         self.keep_own(&mut found);
         Ok(found)
@@ -31,16 +31,20 @@ impl Store {
 
     /// The nodes that occur in both of two sequences, in document order and each once, without those that the store has not (XQuery 1.0,
     /// section 3.3.3).
-    pub fn intersect(&self, first: &[NodeId], second: &[NodeId]) -> Result<Vec<NodeId>, AllocError>
-        ensures { (later : PlainForest) → Extends self.now later → IfOk result (λ found. map (λ m. place_of_number later m.number) found.items ≡ intersection_of_nodes self.now (map (λ m. place_of_number later m.number) first.now) (map (λ m. place_of_number later m.number) second.now)) }
+    pub fn intersect(
+        &self,
+        first: Vec<NodeId>,
+        second: Vec<NodeId>,
+    ) -> Result<Vec<NodeId>, AllocError>
+        ensures { (later : PlainForest) → Extends self.now later → IfOk result (λ found. map (λ m. place_of_number later m.number) found.items ≡ intersection_of_nodes self.now (map (λ m. place_of_number later m.number) first.items) (map (λ m. place_of_number later m.number) second.items)) }
     {
         self.compared(first, second, true)
     }
 
     /// The nodes that occur in the first of two sequences and not in the second, in document order and each once, without those that the
     /// store has not (XQuery 1.0, section 3.3.3).
-    pub fn except(&self, first: &[NodeId], second: &[NodeId]) -> Result<Vec<NodeId>, AllocError>
-        ensures { (later : PlainForest) → Extends self.now later → IfOk result (λ found. map (λ m. place_of_number later m.number) found.items ≡ difference_of_nodes self.now (map (λ m. place_of_number later m.number) first.now) (map (λ m. place_of_number later m.number) second.now)) }
+    pub fn except(&self, first: Vec<NodeId>, second: Vec<NodeId>) -> Result<Vec<NodeId>, AllocError>
+        ensures { (later : PlainForest) → Extends self.now later → IfOk result (λ found. map (λ m. place_of_number later m.number) found.items ≡ difference_of_nodes self.now (map (λ m. place_of_number later m.number) first.items) (map (λ m. place_of_number later m.number) second.items)) }
     {
         self.compared(first, second, false)
     }
@@ -48,14 +52,14 @@ impl Store {
     // The nodes of a sequence that occur in another one, if these are wanted, or else the others.
     fn compared(
         &self,
-        first: &[NodeId],
-        second: &[NodeId],
+        first: Vec<NodeId>,
+        second: Vec<NodeId>,
         wanted: bool,
     ) -> Result<Vec<NodeId>, AllocError>
-        ensures { (later : PlainForest) → Extends self.now later → IfOk result (λ found. map (λ m. place_of_number later m.number) found.items ≡ in_document_order self.now (map (λ m. place_of_number later m.number) (filter (selects wanted second.now) first.now))) }
+        ensures { (later : PlainForest) → Extends self.now later → IfOk result (λ found. map (λ m. place_of_number later m.number) found.items ≡ in_document_order self.now (map (λ m. place_of_number later m.number) (filter (selects wanted second.items) first.items))) }
     {
-        let left = sorted(self.allocator(), first)?;
-        let right = sorted(self.allocator(), second)?;
+        let left = sorted(first);
+        let right = sorted(second);
         let mut found = selected(self.allocator(), left.as_slice(), right.as_slice(), wanted)?;
         self.keep_own(&mut found);
         Ok(found)

@@ -55,7 +55,7 @@ impl Store {
     }
 
     // The label of the one child of a node, where that is an element.
-    fn only_label(&self, number: usize) -> Option<&Label>
+    pub(crate) fn only_label(&self, number: usize) -> Option<&Label>
         requires { number < count_in self.now }
         ensures { option_copied result ≡ label_of_only (inner_trees (entry_in self.now number).tree) }
     {

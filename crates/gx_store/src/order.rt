@@ -1,6 +1,6 @@
 // Nodes in document order.
 
-ghost use Rattle.std.specs.Prelude.{◌≡◌, Bool, IfOk, map, filter, nat_lt};
+ghost use Rattle.std.specs.Prelude.{◌≡◌, Bool, map, filter, nat_lt};
 ghost use Rattle.std.specs.List.{list_any};
 ghost use Rattle.gx_model.specs.Forest.{Forest as PlainForest};
 ghost use Rattle.gx_model.specs.Growth.{Extends};
@@ -12,17 +12,16 @@ ghost use Rattle.gx_store.specs.NumberOrder.{number_lt, numbers_ascend};
 
 use crate::number::NodeId;
 use crate::store::Store;
-use std::alloc::{AllocError, Global};
 
 impl Store {
     /// Nodes in document order, each once, without those that the store has not (XQuery 1.0, section 3.2). Nodes that come in order
     /// already are not sorted.
-    pub fn distinct_order(&self, nodes: &[NodeId]) -> Result<Vec<NodeId>, AllocError>
-        ensures { (later : PlainForest) → Extends self.now later → IfOk result (λ found. map (λ m. place_of_number later m.number) found.items ≡ in_document_order self.now (map (λ m. place_of_number later m.number) nodes.now)) }
+    pub fn distinct_order(&self, nodes: Vec<NodeId>) -> Vec<NodeId>
+        ensures { (later : PlainForest) → Extends self.now later → map (λ m. place_of_number later m.number) result.items ≡ in_document_order self.now (map (λ m. place_of_number later m.number) nodes.items) }
     {
-        let mut ordered = sorted(self.allocator(), nodes)?;
+        let mut ordered = sorted(nodes);
         self.keep_own(&mut ordered);
-        Ok(ordered)
+        ordered
     }
 
     // Leaves out the nodes that the store has not.
@@ -35,17 +34,17 @@ impl Store {
 }
 
 // The nodes in document order, each once.
-pub(crate) fn sorted(alloc: Global, nodes: &[NodeId]) -> Result<Vec<NodeId>, AllocError>
-    ensures ascending { IfOk result (λ found. Ascends number_lt found.items) }
-    ensures same { IfOk result (λ found. (test : PlainNodeId → Bool) → list_any test found.items ≡ list_any test nodes.now) }
+pub(crate) fn sorted(nodes: Vec<NodeId>) -> Vec<NodeId>
+    ensures ascending { Ascends number_lt result.items }
+    ensures same { (test : PlainNodeId → Bool) → list_any test result.items ≡ list_any test nodes.items }
 {
-    let mut found = Vec::from_slice(alloc, nodes)?;
-    if ascends(nodes) {
-        return Ok(found);
+    if ascends(nodes.as_slice()) {
+        return nodes;
     }
-    found.sort_unstable();
-    found.dedup();
-    Ok(found)
+    let mut nodes = nodes;
+    nodes.sort_unstable();
+    nodes.dedup();
+    nodes
 }
 
 // Whether each number is below the next.

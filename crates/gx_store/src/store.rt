@@ -1,16 +1,18 @@
 // Stores of numbered nodes.
 
-ghost use Rattle.std.specs.Prelude.{◌≡◌, ℕ, suc, ◌+◌, ◌<◌, ◌≤◌, ◌↔◌, ◌++◌, ◌∷◌, [], IsTrue, IfOk, OnOk, OnErr, MatchOption, Some, None, IsSome, option_copied};
+ghost use Rattle.std.specs.Prelude.{◌≡◌, ℕ, suc, ◌+◌, ◌<◌, ◌≤◌, ◌↔◌, ◌++◌, ◌∷◌, [], IsTrue, IfOk, OnOk, OnErr, MatchOption, Some, None, IsSome, IfSome, option_copied};
 ghost use Rattle.std.specs.Option.{option_map};
 ghost use Rattle.gx_model.specs.Forest.{Forest as PlainForest, node_in, then_found};
 ghost use Rattle.gx_model.specs.DocumentOrder.{comes_before};
 ghost use Rattle.gx_model.specs.Growth.{Extends};
 ghost use Rattle.gx_nodes.specs.Entries.{count_in, entry_in, place_of_number};
 ghost use Rattle.gx_nodes.specs.Near.{parent_in};
+ghost use Rattle.gx_store.specs.Left.{left_out};
 ghost use Rattle.gx_store.specs.Stored.{IsRowOf, FitsForm, below_in, attributes_at, attributes_in_form, label_of_form, name_of_tree, kind_of, label_in};
 
+use crate::children::Group;
 use crate::labels::{Label, Labels};
-use crate::load::push_tree;
+use crate::load::rows_of;
 use crate::number::NodeId;
 use crate::row::{Form, Row};
 use gx_base::name::Name;
@@ -74,14 +76,13 @@ impl Store {
         let node = NodeId {
             number: self.rows.len(),
         };
-        let mut fresh = Vec::new(self.alloc);
-        push_tree(&mut self.labels, &mut fresh, 0, tree)?;
+        let mut fresh = rows_of(self.alloc, &mut self.labels, tree)?;
         self.rows.append(&mut fresh)?;
         Ok(node)
     }
 
-    // The allocator.
-    pub(crate) fn allocator(&self) -> Global {
+    /// The allocator that the store was made with.
+    pub fn allocator(&self) -> Global {
         self.alloc
     }
 
@@ -148,6 +149,18 @@ impl Store {
         number + 1
     }
 
+    // The number behind a node of a group and what is left out behind it.
+    pub(crate) fn behind(&self, group: Group, number: usize) -> usize
+        requires { number < count_in self.now }
+        ensures { result ≡ suc (number + left_out group self.now number) }
+    {
+        match group {
+            Group::Attributes => self.following(number),
+            Group::Children => self.after(number),
+            Group::Descendants => self.after_attributes(number),
+        }
+    }
+
     // The label of a node, if the store has the node and it has one.
     pub(crate) fn label(&self, node: NodeId) -> Option<&Label>
         ensures { option_copied result ≡ label_in self.now node.number }
@@ -192,7 +205,8 @@ impl Store {
 
     /// The parent of a node, if the store has the node and it has one: that of an attribute is its element.
     pub fn parent(&self, node: NodeId) -> Option<NodeId>
-        ensures { (later : PlainForest) → Extends self.now later → option_map (λ p. place_of_number later p.number) result ≡ parent_in self.now (place_of_number later node.number) }
+        ensures parent { (later : PlainForest) → Extends self.now later → option_map (λ p. place_of_number later p.number) result ≡ parent_in self.now (place_of_number later node.number) }
+        ensures before { IfSome result (λ p. p.number < node.number) }
     {
         let Some(row) = self.row(node.number) else {
             return None;

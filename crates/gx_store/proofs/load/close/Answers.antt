@@ -1,5 +1,5 @@
 use Rattle.std.proofs.Common.{arith}
-use Rattle.gx_store.proofs.LoadLemmas.{closed_is}
+use Rattle.gx_store.proofs.OpenedLemmas.{closed_is}
 use Rattle.gx_store.proofs.load.close.Goals as goal
 
 pub returns : goal.returns

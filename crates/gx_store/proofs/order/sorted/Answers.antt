@@ -8,10 +8,7 @@ use Rattle.gx_store.proofs.order.sorted.Goals as goal
 
 pub returns-then-ascends-clause-ascending : goal.returns-then-ascends-clause-ascending
 returns-then-ascends-clause-ascending c =
-    ascends_whole c.in_ok-found.found.items (ap numbers_ascend c.in_ok-found.ensures.items ∙ sym c.ascends.ensures ∙ c.if-ascends.true)
-
-pub returns-then-ascends-clause-same : goal.returns-then-ascends-clause-same
-returns-then-ascends-clause-same c = λ p. ap (list_any p) c.in_ok-found.ensures.items
+    ascends_whole c.args.nodes.items (ap numbers_ascend (sym c.as_slice.ensures.value) ∙ sym c.ascends.ensures ∙ c.if-ascends.true)
 
 pub returns-clause-ascending : goal.returns-clause-ascending
 returns-clause-ascending c =
@@ -22,5 +19,4 @@ pub returns-clause-same : goal.returns-clause-same
 returns-clause-same c = λ p.
     ap (list_any p) (dedup_is number_eq c.sort_unstable.new.self.items c.dedup.new.self.items c.dedup.ensures.filtered)
     ∙ in_deduped p c.sort_unstable.new.self.items
-    ∙ sym (list_any-IsPermutation p c.in_ok-found.found.items c.sort_unstable.new.self.items c.sort_unstable.ensures.permutation)
-    ∙ ap (list_any p) c.in_ok-found.ensures.items
+    ∙ sym (list_any-IsPermutation p c.args.nodes.items c.sort_unstable.new.self.items c.sort_unstable.ensures.permutation)

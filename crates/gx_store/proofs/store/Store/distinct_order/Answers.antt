@@ -5,4 +5,4 @@ use Rattle.gx_store.proofs.store.Store.distinct_order.Goals as goal
 pub returns : goal.returns
 returns c later x =
     ap (map (placed later)) c.keep_own.ensures
-    ∙ ordered_numbers c.args.self.now later c.args.nodes.now c.in_ok-ordered.ordered.items x c.in_ok-ordered.ensures.ascending c.in_ok-ordered.ensures.same
+    ∙ ordered_numbers c.args.self.now later c.args.nodes.items c.sorted-ordered.result.items x c.sorted-ordered.ensures.ascending c.sorted-ordered.ensures.same

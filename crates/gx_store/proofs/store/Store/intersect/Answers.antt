@@ -8,4 +8,4 @@ use Rattle.gx_store.proofs.store.Store.intersect.Goals as goal
 
 pub returns : goal.returns
 returns c later x =
-    subst (λ (ns : List PlainNode). IfOk c.compared.result (λ found. map (placed later) found.items ≡ in_document_order c.args.self.now ns)) (placed_selection later true c.args.first.now c.args.second.now) (c.compared.ensures later x)
+    subst (λ (ns : List PlainNode). IfOk c.compared.result (λ found. map (placed later) found.items ≡ in_document_order c.args.self.now ns)) (placed_selection later true c.args.first.items c.args.second.items) (c.compared.ensures later x)
