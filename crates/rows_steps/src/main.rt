@@ -1,8 +1,14 @@
-//! Worked values of steps and of their types: each line of standard input is a call with its arguments, and is written again with its answer.
+//! Worked values of steps, of their types and of the store of numbered nodes: each line of standard input is a call with its
+//! arguments, and is written again with its answer.
 #![tactic(auto)]
 
 mod arguments;
+mod made;
+mod nodes;
+mod orders;
 mod parts;
+mod shown;
+mod stored;
 mod types;
 
 use arguments::{axis_of, node_of, nodes_of, shown_nodes, test_of};
@@ -17,6 +23,7 @@ use rows_words::not_a_row;
 use rows_words::words::words;
 use std::alloc::{AllocError, Global};
 use std::io;
+use stored::store_row;
 use types::{data_row, type_row};
 
 fn main(rt: HostRuntime) -> io::Result<()> {
@@ -37,6 +44,7 @@ fn row_answer(alloc: Global, row: &str) -> Result<String, AllocError> {
         borrowed.push(word.as_str())?;
     }
     match borrowed.as_slice() {
+        ["store", words @ ..] => store_row(alloc, words),
         ["before", a, b] => before_row(alloc, a, b),
         ["step", axis, test, node, words @ ..] => step_row(alloc, axis, test, node, words),
         ["order", nodes, words @ ..] => order_row(alloc, nodes, words),
