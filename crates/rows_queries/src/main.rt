@@ -1,11 +1,14 @@
 //! Rows of query texts. A row of the input is a text; the row of the output has it again, and its syntax tree, or the rule that
-//! refuses it and the place. A row that begins with `?` shows only whether the text has a tree. In a row `\n`, `\r`, `\t`, `\\` and
-//! `\1` (the character with the number 1) stand for characters.
+//! refuses it and the place. A row that begins with `?` shows only whether the text has a tree, and one that begins with `!` the names of
+//! the query, resolved where no schema is loaded. In a row `\n`, `\r`, `\t`, `\\` and `\1` (the character with the number 1) stand for
+//! characters.
 #![tactic(auto)]
 
+mod names;
 mod prolog;
 mod show;
 
+use gx_ast::query::Query;
 use gx_parse::parser::parse;
 use gx_parse_grammar::refusal::SyntaxRefusal;
 use std::alloc::{AllocError, Global};
@@ -20,14 +23,25 @@ fn main(rt: HostRuntime) -> io::Result<()> {
     Ok(())
 }
 
+// What is shown of a query.
+#[derive(Clone, Copy)]
+enum Shown {
+    Tree,
+    Names,
+    Nothing,
+}
+
 fn row_answer(alloc: Global, row: &str) -> Result<String, AllocError> {
-    match row.strip_prefix('?') {
-        Some(row) => answer(alloc, row, false),
-        None => answer(alloc, row, true),
+    if let Some(row) = row.strip_prefix('?') {
+        answer(alloc, row, Shown::Nothing)
+    } else if let Some(row) = row.strip_prefix('!') {
+        answer(alloc, row, Shown::Names)
+    } else {
+        answer(alloc, row, Shown::Tree)
     }
 }
 
-fn answer(alloc: Global, row: &str, shown: bool) -> Result<String, AllocError> {
+fn answer(alloc: Global, row: &str, shown: Shown) -> Result<String, AllocError> {
     let mut out = String::new(alloc);
     let text = query_text(alloc, row)?;
     if text.len() > 16777216 {
@@ -35,16 +49,34 @@ fn answer(alloc: Global, row: &str, shown: bool) -> Result<String, AllocError> {
         return Ok(out);
     }
     match parse(alloc, text.as_bytes()) {
-        Err(SyntaxRefusal::Refused { rule, place }) => {
-            let line = place.line;
-            let column = place.column;
-            write!(out, "{rule:?} {line}:{column}")?;
-        }
-        Err(SyntaxRefusal::Memory) => out.push_str("memory")?,
-        Ok(query) if shown => prolog::show_query(alloc, &mut out, &query)?,
-        Ok(_) => out.push_str("a query")?,
+        Err(refusal) => show_refusal(&mut out, refusal)?,
+        Ok(query) => show_parsed(alloc, &mut out, &query, shown)?,
     }
     Ok(out)
+}
+
+fn show_refusal(out: &mut String, refusal: SyntaxRefusal) -> Result<(), AllocError> {
+    match refusal {
+        SyntaxRefusal::Refused { rule, place } => {
+            let line = place.line;
+            let column = place.column;
+            write!(out, "{rule:?} {line}:{column}")
+        }
+        SyntaxRefusal::Memory => out.push_str("memory"),
+    }
+}
+
+fn show_parsed(
+    alloc: Global,
+    out: &mut String,
+    query: &Query,
+    shown: Shown,
+) -> Result<(), AllocError> {
+    match shown {
+        Shown::Tree => prolog::show_query(alloc, out, query),
+        Shown::Names => names::show_resolution(alloc, out, query),
+        Shown::Nothing => out.push_str("a query"),
+    }
 }
 
 // The query text that a row writes.

@@ -1,56 +1,16 @@
-//! Rows of query texts whose names are resolved, where no schema is loaded. A row of the input is a text; the row of the output has
-//! it again, and the code and the place of its first refusal, or that there is none and then the elements, attributes and texts of its
-//! body in their order.
-#![tactic(auto)]
+// The names of a query, resolved.
 
 use gx_ast::query::Query;
 use gx_base::name::Name;
 use gx_names::resolve::resolve;
 use gx_names_scope::refusal::NameRefusal;
-use gx_parse::parser::parse;
-use gx_parse_grammar::refusal::SyntaxRefusal;
 use gx_resolved::tree::{Construct, ResolvedExpr};
 use gx_types::schemas::Schemas;
 use std::alloc::{AllocError, Global};
-use std::io;
 
-fn main(rt: HostRuntime) -> io::Result<()> {
-    for line in rt.lines(rt.alloc()) {
-        let line = line?;
-        let answer = row_answer(rt.alloc(), line.as_str())?;
-        println!(rt; "{line} = {answer}")?;
-    }
-    Ok(())
-}
-
-fn row_answer(alloc: Global, row: &str) -> Result<String, AllocError> {
-    let mut out = String::new(alloc);
-    show_row(alloc, &mut out, row)?;
-    Ok(out)
-}
-
-fn show_row(alloc: Global, out: &mut String, row: &str) -> Result<(), AllocError> {
-    if row.len() > 16777216 {
-        return out.push_str("too long");
-    }
-    match parse(alloc, row.as_bytes()) {
-        Err(refusal) => show_unparsed(out, refusal),
-        Ok(query) => show_resolution(alloc, out, &query),
-    }
-}
-
-fn show_unparsed(out: &mut String, refusal: SyntaxRefusal) -> Result<(), AllocError> {
-    match refusal {
-        SyntaxRefusal::Refused { rule, place } => {
-            let line = place.line;
-            let column = place.column;
-            write!(out, "{rule:?} {line}:{column}")
-        }
-        SyntaxRefusal::Memory => out.push_str("memory"),
-    }
-}
-
-fn show_resolution(alloc: Global, out: &mut String, query: &Query) -> Result<(), AllocError> {
+/// Shows the code and the place of the first refusal of a query where no schema is loaded, or that there is none and then the elements,
+/// attributes and texts of its body in their order.
+pub fn show_resolution(alloc: Global, out: &mut String, query: &Query) -> Result<(), AllocError> {
     let schemas = Schemas::empty(alloc)?;
     match resolve(alloc, query, &schemas) {
         Err(refusal) => show_unresolved(out, refusal),
