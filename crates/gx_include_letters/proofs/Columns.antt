@@ -1,5 +1,5 @@
 -- Columns of letters, by place.
-use Rattle.std.proofs.Common.{◌≡◌, ℕ, zero, suc, ◌+◌, ◌<◌, ◌≤◌, Bool, true, false, List, [], ◌∷◌, ◌++◌, ◌⊎◌, map, inl, inr, Some, refl, sym, ◌∙◌, ap, subst, get_or, length, take, slice_get, add-one, length-append, arith, if◌then◌else◌}
+use Rattle.std.proofs.Common.{◌≡◌, ℕ, zero, suc, ◌+◌, ◌<◌, ◌≤◌, Bool, false, List, [], ◌∷◌, ◌++◌, ◌⊎◌, map, inl, inr, Some, refl, sym, ◌∙◌, ap, subst, get_or, length, take, slice_get, add-one, length-append, arith, if◌then◌else◌}
 use Rattle.std.specs.Prelude.{Vec, slice_set}
 use Rattle.std.specs.List.{flat_map, list_any}
 use Rattle.std.proofs.lemmas.Bool.{cases_lt, or_parts}

@@ -4,7 +4,6 @@
 pub mod doubled;
 pub mod given;
 pub mod groups;
-pub mod kinds;
 pub mod laws;
 pub mod own;
 pub mod uses;

@@ -10,7 +10,6 @@ pub mod extensions;
 pub mod group_content;
 mod group_outlines;
 mod group_positions;
-pub mod kinds;
 mod knot;
 pub mod laws;
 pub mod mixed;

@@ -14,4 +14,3 @@ pub mod PublicLaws
 pub mod BaseChains
 pub mod ListItems
 pub mod Admitted
-pub mod SimpleExamples

@@ -6,7 +6,6 @@ mod Phrases
 mod WordTests
 mod StepPhrases
 mod PieceSteps
-mod Examples
 mod Builds
 mod Holding
 mod Trees

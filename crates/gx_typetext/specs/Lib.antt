@@ -11,7 +11,6 @@ pub mod Verdicts
 pub mod Standings
 pub mod Steps
 pub mod Pieces
-pub mod Examples
 pub mod Reading
 pub mod KnownNames
 pub mod WrittenTypes

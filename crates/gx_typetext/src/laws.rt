@@ -2,7 +2,6 @@
 
 ghost use Rattle.std.specs.Prelude.{List, ℕ};
 ghost use Rattle.gx_grammar.specs.Text.{IsReadable, IsVerdict};
-ghost use Rattle.gx_typetext.specs.Examples.{Examples};
 ghost use Rattle.gx_typetext.specs.Grammar.{type_phrase, type_texts};
 ghost use Rattle.gx_typetext.specs.ReadBack.{PrintedTypesReadBack};
 ghost use Rattle.gx_typetext.specs.TextLaws.{TextsAreJudged, TypeTextsAreShort};
@@ -18,11 +17,6 @@ pub fn type_texts_are_readable()
 /// the longest front of it that opens a type text.
 pub fn texts_have_verdicts()
     ensures { (text : List ℕ) → IsVerdict type_texts type_phrase text (read_pieces text) }
-{}
-
-/// Some texts, with what they read as.
-pub fn texts_are_read()
-    ensures { Examples }
 {}
 
 /// The pieces of each type text are those of a tree.
