@@ -137,14 +137,14 @@ is_single set u one h j =
 
 -- reached sets
 
-one_more : (s : SchemaSet) (a b : SequenceType) → IsDeterministic s b → (set : List Bool) (l : Letter) → IsLetter s a b l → IsWellFormedShape s l.shape → HasOneAtMost set → HasOneAtMost (both_set (all_next b set) l.takers.items)
+one_more : (s : SchemaSet) (a b : SequenceType) → IsDeterministic s b → (set : List Bool) (l : Letter) → IsLetter s a b l → IsWellFormedShape s l.shape → HasOneAtMost set → HasOneAtMost (both_set (all_next b set) l.takers)
 one_more s a b det set l is formed one i j h k =
     elim (has_member set) [
       | inl u ↦
-          let same : both_set (all_next b set) l.takers.items ≡ step_over b (is_taken s l.shape) (single u.0) =
-          ap (λ xs. both_set xs l.takers.items) (all_next_agrees b set (single u.0) (is_single set u.0 one u.1)) ∙ ap (λ ys. both_set (all_next b (single u.0)) ys) is.takers in
+          let same : both_set (all_next b set) l.takers ≡ step_over b (is_taken s l.shape) (single u.0) =
+          ap (λ xs. both_set xs l.takers) (all_next_agrees b set (single u.0) (is_single set u.0 one u.1)) ∙ ap (λ ys. both_set (all_next b (single u.0)) ys) is.takers in
           det l.shape formed u.0 i j (subst (λ xs. get_or xs i false ≡ true) same h) (subst (λ xs. get_or xs j false ≡ true) same k)
-      | inr none ↦ absurd (nothing_follows b set none i ((both_set_parts (all_next b set) l.takers.items i h).0))
+      | inr none ↦ absurd (nothing_follows b set none i ((both_set_parts (all_next b set) l.takers i h).0))
     ]
 
 start_one : HasOneAtMost (single 0)

@@ -8,6 +8,7 @@ use Rattle.gx_include_positions.specs.Step.{single, all_next}
 use Rattle.gx_include.specs.Pairs.{start_pair, moved, moved_by, pair_step}
 use Rattle.gx_include.specs.Origins.{AreRuns, IsNoted, IsNotedIfFound}
 use Rattle.gx_include.specs.Walk.{StateAt, StayInPlace, run_at, Walked}
+use Rattle.gx_include.specs.Expanding.{Expanding}
 use Rattle.gx_include.specs.Traced.{Traced}
 use Rattle.gx_include.proofs.Walks.{walk_begins, goes_on, was_found, finds, walks_on, get_or_front, get_or_end, at_front, at_either, one_state}
 
@@ -49,15 +50,6 @@ runs_grow origins runs new are early = record {
   first = get_or_front runs (new.letter ∷ run_at runs new.from) [] 0 (omega arith) ∙ are.first;
   longer = longer_runs origins runs new are early;
 }
-
--- the letters of a pair that were looked at, with what may come next behind it
-pub record Expanding (a b : SequenceType) (letters : List Letter) (old : List (ℕ × List Bool)) (pairs : List (ℕ × List Bool)) (origins : List Origin) (at bound : ℕ) (left right : List Bool) : Type 0 where
-  pub pair : ℕ × List Bool
-  pub here : StateAt pairs at pair
-  pub left_is : left ≡ all_next a (single pair.0)
-  pub right_is : right ≡ all_next b pair.1
-  pub traced : Traced a b letters pairs origins at bound
-  pub kept : StayInPlace old pairs
 
 pub expand_begins : (a b : SequenceType) (letters : List Letter) (pairs : List (ℕ × List Bool)) (origins : List Origin) (at : ℕ) (left right : List Bool) (pair : ℕ × List Bool)
     → slice_get pairs at ≡ Some pair → left ≡ all_next a (single pair.0) → right ≡ all_next b pair.1 → Traced a b letters pairs origins at 0

@@ -2,10 +2,12 @@ pub mod Bound
 pub mod Counts
 pub mod Deciding
 pub mod Expanding
+pub mod Looking
 pub mod OneAnswer
 pub mod Outcomes
 pub mod PairRuns
 pub mod PairsAreOne
+pub mod PlacedLetters
 pub mod Searching
 pub mod SomeAlphabet
 pub mod SomeAnswer

@@ -84,8 +84,8 @@ module _ (s : SchemaSet) (a b : SequenceType) (L M : List Letter) (same : map en
       moved_as (all_next a (single pair.0)) (all_next b pair.1) (slice_get L n) ∙ ap (moved_entry (all_next a (single pair.0)) (all_next b pair.1)) (got n)
       ∙ sym (moved_as (all_next a (single pair.0)) (all_next b pair.1) (slice_get M n))))
 
-  same_places : place_step a L ≡ place_step a M
-  same_places =
+  same_number_sets : place_step a L ≡ place_step a M
+  same_number_sets =
       fun_ext (λ (place : ℕ). fun_ext (λ (n : ℕ).
       placed_as (all_next a (single place)) (slice_get L n) ∙ ap (placed_entry (all_next a (single place))) (got n) ∙ sym (placed_as (all_next a (single place)) (slice_get M n))))
 
@@ -107,7 +107,7 @@ module _ (s : SchemaSet) (a b : SequenceType) (L M : List Letter) (same : map en
 
   pub refused_as : (run : List ℕ) → IsRefusedRun s a b L run → IsRefusedRun s a b M run
   refused_as run r = (
-    (r.0.0, ap (λ (step : ℕ → ℕ → Option ℕ). leads_to step 0 run) (sym same_places) ∙ r.0.1, r.0.2),
+    (r.0.0, ap (λ (step : ℕ → ℕ → Option ℕ). leads_to step 0 run) (sym same_number_sets) ∙ r.0.1, r.0.2),
     λ taken. r.1 (subst (Takes s b) (sym (same_shapes run)) taken),
   )
 

@@ -44,9 +44,9 @@ gone_by step letter None next e = absurd (cc)
 gone_by step letter (Some s) next e = (s, refl, e)
 
 pub moved_parts : (left right : List Bool) (letter : Option Letter) (pair : ℕ × List Bool) → moved_by left right letter ≡ Some pair
-    → (l : Letter) × (letter ≡ Some l) × (get_or left l.place false ≡ true) × ((l.place, both_set right l.takers.items) ≡ pair)
+    → (l : Letter) × (letter ≡ Some l) × (get_or left l.place false ≡ true) × ((l.place, both_set right l.takers) ≡ pair)
 moved_parts left right None pair e = absurd (cc)
-moved_parts left right (Some l) pair e = let p = some_if (get_or left l.place false) (l.place, both_set right l.takers.items) pair e in (l, refl, p.0, p.1)
+moved_parts left right (Some l) pair e = let p = some_if (get_or left l.place false) (l.place, both_set right l.takers) pair e in (l, refl, p.0, p.1)
 
 placed_parts : (next : List Bool) (letter : Option Letter) (place : ℕ) → placed next letter ≡ Some place
     → (l : Letter) × (letter ≡ Some l) × (get_or next l.place false ≡ true) × (l.place ≡ place)
@@ -55,10 +55,10 @@ placed_parts next (Some l) place e = let p = some_if (get_or next l.place false)
 
 module _ (s : SchemaSet) (a b : SequenceType) (letters : List Letter) where
   moves : (pair : ℕ × List Bool) (number : ℕ) (l : Letter) → slice_get letters number ≡ Some l → get_or (all_next a (single pair.0)) l.place false ≡ true
-      → pair_step a b letters pair number ≡ Some (l.place, both_set (all_next b pair.1) l.takers.items)
+      → pair_step a b letters pair number ≡ Some (l.place, both_set (all_next b pair.1) l.takers)
   moves pair number l e f =
       ap (λ o. moved_by (all_next a (single pair.0)) (all_next b pair.1) o) e
-      ∙ ap (λ (g : Bool). if g then Some (l.place, both_set (all_next b pair.1) l.takers.items) else None) f
+      ∙ ap (λ (g : Bool). if g then Some (l.place, both_set (all_next b pair.1) l.takers) else None) f
 
   places : (place number : ℕ) (l : Letter) → slice_get letters number ≡ Some l → get_or (all_next a (single place)) l.place false ≡ true
       → place_step a letters place number ≡ Some l.place
@@ -85,17 +85,17 @@ module _ (s : SchemaSet) (a b : SequenceType) (letters : List Letter) where
       (larger_reads s a (single l.place) (step_over a (is_taken s l.shape) (single place))
       (single_within l.place (step_over a (is_taken s l.shape) (single place)) (both_set_has (all_next a (single place)) (all_tests a (is_taken s l.shape)) l.place f is.taken)) rest h)
 
-  right_is : (set : List Bool) (l : Letter) → IsLetter s a b l → both_set (all_next b set) l.takers.items ≡ step_over b (is_taken s l.shape) set
+  right_is : (set : List Bool) (l : Letter) → IsLetter s a b l → both_set (all_next b set) l.takers ≡ step_over b (is_taken s l.shape) set
   right_is set l is = ap (λ xs. both_set (all_next b set) xs) is.takers
 
-  right_goes : (set : List Bool) (l : Letter) (rest : List Shape) → IsLetter s a b l → Reads s b (both_set (all_next b set) l.takers.items) rest ↔ Reads s b set (l.shape ∷ rest)
+  right_goes : (set : List Bool) (l : Letter) (rest : List Shape) → IsLetter s a b l → Reads s b (both_set (all_next b set) l.takers) rest ↔ Reads s b set (l.shape ∷ rest)
   right_goes set l rest is = (
     λ h. reads_forward s l.shape b set rest is.right (subst (λ xs. Reads s b xs rest) (right_is set l is) h),
     λ h. subst (λ xs. Reads s b xs rest) (sym (right_is set l is)) (reads_back s l.shape b set rest is.right h),
   )
 
   along_more : (run : List ℕ) (pair : ℕ × List Bool) (number : ℕ) (l : Letter) → Along run pair → IsLetter s a b l → slice_get letters number ≡ Some l
-      → get_or (all_next a (single pair.0)) l.place false ≡ true → Along (number ∷ run) (l.place, both_set (all_next b pair.1) l.takers.items)
+      → get_or (all_next a (single pair.0)) l.place false ≡ true → Along (number ∷ run) (l.place, both_set (all_next b pair.1) l.takers)
   along_more run pair number l x is e f = record {
     place = ap (λ o. go_by (place_step a letters) number o) x.place ∙ places pair.0 number l e f;
     left = λ rest h. subst (λ xs. Takes s a xs) (one_shape run number l rest e) (x.left (l.shape ∷ rest) (left_goes pair.0 l rest is f h));
@@ -120,9 +120,9 @@ module _ (s : SchemaSet) (a b : SequenceType) (letters : List Letter) where
       let g = gone_by (place_step a letters) number (leads_to (place_step a letters) 0 run) place e in
       let m = placed_parts (all_next a (single g.0)) (slice_get letters number) place g.2 in
       let q = pair_of_run run g.0 g.1 in (
-        both_set (all_next b q.0) m.0.takers.items,
+        both_set (all_next b q.0) m.0.takers,
         ap (λ o. go_by (pair_step a b letters) number o) q.1 ∙ moves (g.0, q.0) number m.0 m.1 m.2
-            ∙ ap (λ n. let p : ℕ × List Bool = (n, both_set (all_next b q.0) m.0.takers.items) in Some p) m.3,
+            ∙ ap (λ n. let p : ℕ × List Bool = (n, both_set (all_next b q.0) m.0.takers) in Some p) m.3,
       )
 
   -- a bad pair
@@ -180,7 +180,7 @@ module _ (s : SchemaSet) (a b : SequenceType) (letters : List Letter) where
       let q = member_reads s a (step_over a (is_taken s x) (single pair.0)) list (reads_back s x a (single pair.0) list (all.left x wf.0) h) in
       let p = both_set_parts (all_next a (single pair.0)) (all_tests a (is_taken s x)) q.0 q.1 in
       let z = all.stands x wf.0 q.0 p.1 in
-      let next : ℕ × List Bool = (z.letter.place, both_set (all_next b pair.1) z.letter.takers.items) in
+      let next : ℕ × List Bool = (z.letter.place, both_set (all_next b pair.1) z.letter.takers) in
       let leads : leads_to (pair_step a b letters) start_pair (z.number ∷ run) ≡ Some next =
       ap (λ o. go_by (pair_step a b letters) z.number o) e ∙ moves pair z.number z.letter z.here (subst (λ n. get_or (all_next a (single pair.0)) n false ≡ true) (sym z.at) p.0) in
       let r = follows_on all none list wf.1 (z.number ∷ run) next leads (subst (λ n. Reads s a (single n) list) (sym z.at) q.2) in

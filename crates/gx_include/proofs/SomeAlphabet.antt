@@ -26,7 +26,6 @@ use Rattle.gx_include_letters.specs.WellFormed.{plain_types}
 use Rattle.gx_include_positions.specs.Names.{name_of, is_named, with_name, with_names}
 use Rattle.gx_include_letters.specs.Trials.{other_name, IsOther, trial_shapes}
 use Rattle.gx_include_letters.specs.Alphabet.{LetterEntry, entry_of_letter, entries_at, entries_below, IsAlphabet}
-use Rattle.gx_include_positions.proofs.SetReads.{length_tests}
 use Rattle.gx_include_positions.proofs.Lists.{In}
 use Rattle.gx_include.proofs.Counts.{AreDifferent, fits_in}
 
@@ -46,22 +45,16 @@ AreMade entries = (letters : List Letter) × (map entry_of_letter letters ≡ en
 both_made : (es fs : List LetterEntry) → AreMade es → AreMade fs → AreMade (es ++ fs)
 both_made es fs m n = (m.0 ++ n.0, map-append entry_of_letter m.0 n.0 ∙ ap (λ xs. xs ++ map entry_of_letter n.0) m.1 ∙ ap (λ xs. es ++ xs) n.1)
 
-made_if : (place : ℕ) (shape : Shape) (taken : Bool) (takers : List Bool) → length takers < 2 ^ 63 → AreMade (if taken then (place, shape, takers) ∷ [] else [])
-made_if place shape true takers h =
-    let v = vec_of takers h in
-    let letter : Letter = record { place = place; shape = shape; takers = v.0 } in
-    (letter ∷ [], ap (λ (xs : List Bool). let e : LetterEntry = (place, shape, xs) in e ∷ []) v.1)
-made_if place shape false takers h = ([], refl)
+made_if : (place : ℕ) (shape : Shape) (taken : Bool) (takers : List Bool) → AreMade (if taken then (place, shape, takers) ∷ [] else [])
+made_if place shape true takers = let letter : Letter = record { place = place; shape = shape; takers = takers } in (letter ∷ [], refl)
+made_if place shape false takers = ([], refl)
 
-module _ (s : SchemaSet) (a b : SequenceType) (small : positions_of b < 2 ^ 62) where
-  few_takers : (shape : Shape) → length (all_tests b (is_taken s shape)) < 2 ^ 63
-  few_takers shape = omega (arith, length_tests b (is_taken s shape))
-
+module _ (s : SchemaSet) (a b : SequenceType) where
   made_at : (shapes : List Shape) (place : ℕ) → AreMade (entries_at s a b shapes place)
   made_at [] place = ([], refl)
   made_at (x ∷ xs) place =
       both_made _ (entries_at s a b xs place)
-      (made_if place x (slice_index_or (all_tests a (is_taken s x)) place false) (all_tests b (is_taken s x)) (few_takers x)) (made_at xs place)
+      (made_if place x (slice_index_or (all_tests a (is_taken s x)) place false) (all_tests b (is_taken s x))) (made_at xs place)
 
   made_below : (shapes : List Shape) (bound : ℕ) → AreMade (entries_below s a b shapes bound)
   made_below shapes zero = ([], refl)
@@ -203,5 +196,5 @@ pub an_alphabet_exists : (s : SchemaSet) (a b : SequenceType) → positions_of a
 an_alphabet_exists s a b m n =
     let names : List Name = with_names (with_names [] a) b in
     let other = some_other (with_names (with_names [] a) b) (omega (arith, few_names [] a, few_names (with_names [] a) b)) in
-    let made = made_below s a b n (trial_shapes (plain_types s) (with_names (with_names [] a) b ++ other.0 ∷ [])) (positions_of a + 1) in
+    let made = made_below s a b (trial_shapes (plain_types s) (with_names (with_names [] a) b ++ other.0 ∷ [])) (positions_of a + 1) in
     (made.0, record { other = other.0; fresh = other.1; are = made.1 })

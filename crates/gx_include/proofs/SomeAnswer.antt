@@ -22,11 +22,12 @@ use Rattle.gx_include.specs.PairOrder.{same_pair}
 use Rattle.gx_include.specs.Pairs.{start_pair, moved, is_bad}
 use Rattle.gx_include.specs.Runs.{shapes_of_letter, shapes_of}
 use Rattle.gx_include_positions.specs.Step.{single, all_next}
+use Rattle.gx_include.specs.Expanding.{Expanding}
 use Rattle.gx_include.specs.Traced.{Traced}
 use Rattle.gx_include.specs.Verdict.{IsPast, IsVerdictOver}
 use Rattle.gx_include.specs.Walk.{StayInPlace, run_at}
 use Rattle.gx_include_letters.proofs.Alphabets.{are_letters, serve_all}
-use Rattle.gx_include.proofs.Expanding.{Expanding, expand_begins, expand_by, expand_ends}
+use Rattle.gx_include.proofs.Expanding.{expand_begins, expand_by, expand_ends}
 use Rattle.gx_include.proofs.Outcomes.{judge_next, stay_judged, none_below, walked_none, ended}
 use Rattle.gx_include.proofs.PairsAreOne.{equal_pairs}
 use Rattle.gx_include.proofs.SomeAlphabet.{vec_of, an_alphabet_exists}

@@ -1,6 +1,8 @@
 pub mod Answer
+pub mod ByPlace
 pub mod Decision
 pub mod Existence
+pub mod Expanding
 pub mod Inclusion
 pub mod Laws
 pub mod Origins

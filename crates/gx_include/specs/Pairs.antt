@@ -11,7 +11,7 @@ start_pair = (0, single 0)
 
 -- where a letter leads, from the positions that may come next on either side
 abbrev pub moved : (left right : List Bool) → Letter → Option (ℕ × List Bool)
-moved left right letter = if slice_index_or left letter.place false then Some (letter.place, both_set right letter.takers.items) else None
+moved left right letter = if slice_index_or left letter.place false then Some (letter.place, both_set right letter.takers) else None
 
 abbrev pub moved_by : (left right : List Bool) → Option Letter → Option (ℕ × List Bool)
 moved_by left right None = None

@@ -10,11 +10,13 @@ ghost use Rattle.gx_include.specs.Runs.{shapes_of_letter, shapes_of};
 ghost use Rattle.gx_include.specs.Verdict.{IsNoVerdictOver, IsVerdictOver};
 ghost use Rattle.gx_include.specs.Walk.{run_at};
 
+use crate::by_place::LettersByPlace;
 use crate::pair::Pair;
 use crate::verdict::{IncludeError, Verdict};
 use crate::walk::{Origin, Outcome, walk};
+use gx_include_followers::followers::Followers;
+use gx_include_followers::number_set::NumberSet;
 use gx_include_letters::letter::Letter;
-use gx_include_positions::step::only;
 use gx_types::sequence_type::Ty;
 use gx_types::shape::Shape;
 use indexmap::IndexSet;
@@ -31,6 +33,23 @@ pub(crate) fn decide(
     ensures verdict { IfOk result (λ verdict. (schemas : SchemaSet) → AreLetters schemas left.now right.now letters.now → ServeAll schemas left.now right.now letters.now → IsVerdictOver schemas left.now right.now letters.now limit verdict) }
     ensures none { IfErr result (IsNoVerdictOver left.now right.now letters.now limit) }
 {
+    let left = Followers::new(alloc, left)?;
+    let right = Followers::new(alloc, right)?;
+    let letters = LettersByPlace::new(alloc, letters)?;
+    decide_by(alloc, &left, &right, &letters, limit)
+}
+
+// The same by what may come next behind the positions of each type.
+fn decide_by(
+    alloc: Global,
+    left: &Followers<'_>,
+    right: &Followers<'_>,
+    letters: &LettersByPlace<'_>,
+    limit: Option<u64>,
+) -> Result<Verdict, IncludeError>
+    ensures verdict { IfOk result (λ verdict. (schemas : SchemaSet) → AreLetters schemas left.now right.now letters.now → ServeAll schemas left.now right.now letters.now → IsVerdictOver schemas left.now right.now letters.now limit verdict) }
+    ensures none { IfErr result (IsNoVerdictOver left.now right.now letters.now limit) }
+{
     let mut pairs = start_pairs(alloc)?;
     let mut origins = Vec::new(alloc);
     let outcome = walk(alloc, left, right, letters, limit, &mut pairs, &mut origins)?;
@@ -39,7 +58,7 @@ pub(crate) fn decide(
         Outcome::TooMany => Err(IncludeError::TooManyPairs),
         Outcome::Bad(place) => {
             let run = run_of(alloc, origins.as_slice(), place)?;
-            let list = spell(alloc, letters, run)?;
+            let list = spell(alloc, letters.letters(), run)?;
             Ok(Verdict::No(list))
         }
     }
@@ -50,7 +69,7 @@ fn start_pairs(alloc: Global) -> Result<IndexSet<Pair>, AllocError>
     ensures { IfOk result (λ pairs. pairs.keys ≡ start_pair ∷ []) }
 {
     let mut pairs = IndexSet::new(alloc);
-    let set = only(alloc, 0)?;
+    let set = NumberSet::only(alloc, 0)?;
     pairs.insert_full(Pair { place: 0, set })?;
     Ok(pairs)
 }

@@ -1,6 +1,7 @@
 //! Whether a type is included in another one.
 #![tactic(auto)]
 
+mod by_place;
 mod decide;
 pub mod decision;
 pub mod include;

@@ -1,5 +1,6 @@
 // Pairs of a position of the left type and a set of positions of the right type.
 
+use gx_include_followers::number_set::NumberSet;
 use std::hash::{Hash, Hasher};
 use std::marker::Model;
 
@@ -7,7 +8,7 @@ use std::marker::Model;
 #[derive(Drop)]
 pub struct Pair {
     pub place: usize,
-    pub set: Vec<bool>,
+    pub set: NumberSet,
 }
 
 impl Model for Pair {
@@ -15,7 +16,7 @@ impl Model for Pair {
 
     ghost Value = { ℕ × List Bool };
 
-    ghost view = { λ p. (p.place, p.set.items) };
+    ghost view = { λ p. (p.place, p.set) };
 }
 
 impl PartialEq for Pair {
@@ -42,9 +43,10 @@ impl Eq for Pair {
 impl Hash for Pair {
     ghost use Rattle.std.specs.Prelude.{◌++◌};
     ghost use Rattle.std.specs.Hash as fed;
+    ghost use Rattle.gx_include_followers.specs.NumberSet.{flagged};
     ghost use Rattle.gx_include.specs.PairOrder.{pairs_are_alike};
 
-    ghost hash_input = { λ p. fed.usize p.0 ++ fed.slice fed.bool p.1 };
+    ghost hash_input = { λ p. fed.usize p.0 ++ fed.slice fed.usize (flagged p.1) };
 
     ghost respects_eq = { pairs_are_alike.fed };
 

@@ -1,18 +1,21 @@
 // A walk in breadth over the pairs that letters lead to.
 
-ghost use Rattle.std.specs.Prelude.{◌≡◌, ◌+◌, ◌<◌, ◌≤◌, [], ◌∷◌, IfOk, OnOk, Some, length, slice_index_or, false, reverse};
+ghost use Rattle.std.specs.Prelude.{◌≡◌, ◌+◌, ◌<◌, ◌≤◌, [], ◌∷◌, IfOk, OnOk, length, slice_get, ℕ, Bool, List};
+ghost use Rattle.gx_types.specs.SequenceType.{SequenceType};
 ghost use Rattle.gx_include_positions.specs.Step.{single, all_next};
-ghost use Rattle.gx_include.specs.Pairs.{start_pair, moved, is_bad};
+ghost use Rattle.gx_include.specs.Pairs.{start_pair, moved, moved_by, is_bad};
 ghost use Rattle.gx_include.specs.Origins.{AreRuns, IsNoted, IsNotedIfFound};
 ghost use Rattle.gx_include.specs.Traced.{Traced};
 ghost use Rattle.gx_include.specs.Outcome.{IsOutcome, outcome_at, exceeds, first_bad_place, is_settled};
+ghost use Rattle.gx_include.specs.ByPlace.{HasLettersAt};
+ghost use Rattle.gx_include.specs.Expanding.{Expanding};
 ghost use Rattle.gx_include.specs.Walk.{StayInPlace};
 
+use crate::by_place::LettersByPlace;
 use crate::pair::Pair;
+use gx_include_followers::followers::Followers;
+use gx_include_followers::number_set::NumberSet;
 use gx_include_letters::letter::Letter;
-use gx_include_positions::places::meet;
-use gx_include_positions::step::{ends_at, is_set, next_positions, only};
-use gx_types::sequence_type::Ty;
 use indexmap::IndexSet;
 use std::alloc::{AllocError, Global};
 
@@ -23,43 +26,48 @@ pub struct Origin {
     pub letter: usize,
 }
 
-// The positions that may come next behind a pair.
+// The places that may come next behind a pair.
 fn nexts(
     alloc: Global,
-    left: &Ty,
-    right: &Ty,
+    left: &Followers<'_>,
+    right: &Followers<'_>,
     pair: &Pair,
-) -> Result<(Vec<bool>, Vec<bool>), AllocError>
-    ensures left { IfOk result (λ next. next.0.items ≡ all_next left.now (single pair.now.0)) }
-    ensures right { IfOk result (λ next. next.1.items ≡ all_next right.now pair.now.1) }
+) -> Result<(NumberSet, NumberSet), AllocError>
+    ensures left { IfOk result (λ next. next.0 ≡ all_next left.now (single pair.now.0)) }
+    ensures right { IfOk result (λ next. next.1 ≡ all_next right.now pair.now.1) }
 {
-    let place = only(alloc, pair.place)?;
-    let left = next_positions(alloc, left, place.as_slice())?;
-    let right = next_positions(alloc, right, pair.set.as_slice())?;
+    let place = NumberSet::only(alloc, pair.place)?;
+    let left = left.next(alloc, &place)?;
+    let right = right.next(alloc, &pair.set)?;
     Ok((left, right))
 }
 
 // Whether a list may end at a pair on the left and not on the right.
-fn refuses(alloc: Global, left: &Ty, right: &Ty, pair: &Pair) -> Result<bool, AllocError>
+fn refuses(
+    alloc: Global,
+    left: &Followers<'_>,
+    right: &Followers<'_>,
+    pair: &Pair,
+) -> Result<bool, AllocError>
     ensures { IfOk result (λ bad. bad ≡ is_bad left.now right.now pair.now) }
 {
-    let place = only(alloc, pair.place)?;
-    Ok(ends_at(left, place.as_slice()) && !ends_at(right, pair.set.as_slice()))
+    let place = NumberSet::only(alloc, pair.place)?;
+    Ok(left.ends(&place) && !right.ends(&pair.set))
 }
 
-// Where a letter leads, from the positions that may come next on either side.
+// Where a letter leads, from the places that may come next on either side.
 fn target(
     alloc: Global,
-    left: &[bool],
-    right: &[bool],
+    left: &NumberSet,
+    right: &NumberSet,
     letter: &Letter,
 ) -> Result<Option<Pair>, AllocError>
     ensures { IfOk result (λ pair. pair ≡ moved left.now right.now letter.now) }
 {
-    if !is_set(left, letter.place) {
+    if !left.has(letter.place) {
         return Ok(None);
     }
-    let set = meet(alloc, right, letter.takers.as_slice())?;
+    let set = right.meet(alloc, &letter.takers)?;
     Ok(Some(Pair {
         place: letter.place,
         set,
@@ -97,12 +105,12 @@ fn note_found(
     }
 }
 
-// Looks at all letters of a pair.
+// Looks at the letters that may come next behind a pair.
 fn expand(
     alloc: Global,
-    left: &Ty,
-    right: &Ty,
-    letters: &[Letter],
+    left: &Followers<'_>,
+    right: &Followers<'_>,
+    letters: &LettersByPlace<'_>,
     at: usize,
     pairs: &mut IndexSet<Pair>,
     origins: &mut Vec<Origin>,
@@ -113,15 +121,61 @@ fn expand(
     ensures kept { OnOk result (StayInPlace pairs.old.keys pairs.new.keys) }
 {
     let (next_left, next_right) = nexts(alloc, left, right, &pairs[at])?;
-    for (number, letter) in letters.iter().enumerate() {
-        let found = target(alloc, next_left.as_slice(), next_right.as_slice(), letter)?;
+    let numbers = letters.numbers_in(alloc, &next_left)?;
+    let letters = letters.letters();
+    look(
+        alloc,
+        &next_left,
+        &next_right,
+        letters,
+        &numbers,
+        at,
+        pairs,
+        origins,
+    )?;
+    Ok(())
+}
+
+// Looks at the letters of some numbers, where the others may not come next.
+fn look(
+    alloc: Global,
+    left: &NumberSet,
+    right: &NumberSet,
+    letters: &[Letter],
+    numbers: &NumberSet,
+    at: usize,
+    pairs: &mut IndexSet<Pair>,
+    origins: &mut Vec<Origin>,
+) -> Result<(), AllocError>
+    requires count { length numbers.now ≡ length letters.now }
+    requires has { HasLettersAt letters.now left.now numbers.now }
+    ensures { OnOk result ((a b : SequenceType) (old : List (ℕ × List Bool)) → Expanding a b letters.now old pairs.old.keys origins.old.items at 0 left.now right.now → Expanding a b letters.now old pairs.new.keys origins.new.items at (length letters.now) left.now right.now) }
+{
+    for number in numbers.members() {
         let origin = Origin {
             from: at,
-            letter: number,
+            letter: *number,
         };
-        note_found(pairs, origins, found, origin)?;
+        follow(alloc, left, right, letters, origin, pairs, origins)?;
     }
     Ok(())
+}
+
+// Notes where the letter of an origin leads, if it leads anywhere.
+fn follow(
+    alloc: Global,
+    left: &NumberSet,
+    right: &NumberSet,
+    letters: &[Letter],
+    origin: Origin,
+    pairs: &mut IndexSet<Pair>,
+    origins: &mut Vec<Origin>,
+) -> Result<(), AllocError>
+    requires { origin.letter < length letters.now }
+    ensures { OnOk result (IsNotedIfFound pairs.old.keys origins.old.items (moved_by left.now right.now (slice_get letters.now origin.letter)) origin pairs.new.keys origins.new.items) }
+{
+    let found = target(alloc, left, right, &letters[origin.letter])?;
+    note_found(pairs, origins, found, origin)
 }
 
 /// What a walk comes to: no pair is bad, the pair at this place is the first bad one, or more pairs than the limit were found.
@@ -135,9 +189,9 @@ pub enum Outcome {
 // Walks over the pairs that the letters lead to from the start. Without a limit the walk ends at the first bad pair.
 pub(crate) fn walk(
     alloc: Global,
-    left: &Ty,
-    right: &Ty,
-    letters: &[Letter],
+    left: &Followers<'_>,
+    right: &Followers<'_>,
+    letters: &LettersByPlace<'_>,
     limit: Option<u64>,
     pairs: &mut IndexSet<Pair>,
     origins: &mut Vec<Origin>,
@@ -165,8 +219,8 @@ pub(crate) fn walk(
 // The first bad pair so far, where the pairs before this one were judged.
 fn judge(
     alloc: Global,
-    left: &Ty,
-    right: &Ty,
+    left: &Followers<'_>,
+    right: &Followers<'_>,
     pair: &Pair,
     at: usize,
     bad: Option<usize>,

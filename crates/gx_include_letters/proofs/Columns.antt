@@ -1,10 +1,10 @@
 -- Columns of letters, by place.
-use Rattle.std.proofs.Common.{◌≡◌, ℕ, zero, suc, ◌+◌, ◌<◌, ◌≤◌, Bool, false, List, [], ◌∷◌, ◌++◌, ◌⊎◌, map, inl, inr, Some, refl, sym, ◌∙◌, ap, subst, get_or, length, take, slice_get, add-one, length-append, arith, if◌then◌else◌}
+use Rattle.std.proofs.Common.{◌≡◌, ℕ, zero, suc, ◌+◌, ◌<◌, ◌≤◌, Bool, true, false, nat_eq, append_assoc, List, [], ◌∷◌, ◌++◌, ◌⊎◌, map, inl, inr, Some, refl, sym, ◌∙◌, ap, subst, get_or, length, take, slice_get, add-one, length-append, arith, if◌then◌else◌}
 use Rattle.std.specs.Prelude.{Vec, slice_set}
 use Rattle.std.specs.List.{flat_map, list_any}
-use Rattle.std.proofs.lemmas.Bool.{cases_lt, or_parts}
+use Rattle.std.proofs.lemmas.Bool.{eqb-true, eq-eqb, false≢true, or_parts}
 use Rattle.std.proofs.lemmas.Grind.{flat_map-append}
-use Rattle.std.proofs.lemmas.List.{append-nil, length-set, take_all}
+use Rattle.std.proofs.lemmas.List.{append-nil, get_or_default, length-set, take_all}
 use Rattle.std.proofs.lemmas.Option.{slice_get_within, get_or_from_slice_get}
 use Rattle.gx_base.specs.declared.name.Name.{Name}
 use Rattle.gx_types.specs.declared.item_type.ItemType.{ItemType}
@@ -20,7 +20,8 @@ use Rattle.gx_include_positions.specs.Step.{all_tests}
 use Rattle.gx_include_positions.specs.Test.{is_taken}
 use Rattle.gx_include_positions.specs.Names.{with_names}
 use Rattle.gx_include_letters.specs.Trials.{IsOther, trial_shapes}
-use Rattle.gx_include_letters.specs.Alphabet.{LetterEntry, entry_of_letter, entry_if, entries_at, entries_below, entries_over, entries_up_to, entries_of_column, shapes_asked, AreColumns, AreColumnsMore, IsAlphabet}
+use Rattle.gx_include_letters.specs.Alphabet.{LetterEntry, entry_of_letter, entry_if, entry_only, entries_at, entries_below, entries_over, entries_up_to, entries_of_column, shapes_asked, AreColumns, AreColumnsMore, IsAlphabet}
+use Rattle.gx_include_followers.specs.NumberSet.{flagged_from, flagged}
 use Rattle.gx_include_letters.proofs.AskedShapes.{asked_enough}
 use Rattle.gx_include_positions.proofs.Lists.{flat_step}
 use Rattle.gx_include_positions.proofs.SetReads.{tests_are}
@@ -31,12 +32,12 @@ there [] i h = absurd (omega arith)
 there (x ∷ xs) zero h = (x, refl)
 there (x ∷ xs) (suc i) h = there xs i (omega arith)
 
-get_set_here : {X : Type 0} (xs : List X) (i : ℕ) (x : X) → i < length xs → slice_get (slice_set xs i x) i ≡ Some x
+pub get_set_here : {X : Type 0} (xs : List X) (i : ℕ) (x : X) → i < length xs → slice_get (slice_set xs i x) i ≡ Some x
 get_set_here [] i x h = absurd (omega arith)
 get_set_here (y ∷ xs) zero x h = refl
 get_set_here (y ∷ xs) (suc i) x h = get_set_here xs i x (omega arith)
 
-get_set_other : {X : Type 0} (xs : List X) (i j : ℕ) (x : X) → (j ≡ i → ⊥) → slice_get (slice_set xs i x) j ≡ slice_get xs j
+pub get_set_other : {X : Type 0} (xs : List X) (i j : ℕ) (x : X) → (j ≡ i → ⊥) → slice_get (slice_set xs i x) j ≡ slice_get xs j
 get_set_other [] i j x h = refl
 get_set_other (y ∷ xs) zero zero x h = absurd (h refl)
 get_set_other (y ∷ xs) zero (suc j) x h = refl
@@ -51,6 +52,13 @@ at_push (z ∷ xs) y (suc i) x h = at_push xs y i x h
 
 some_injective : {X : Type 0} (x y : X) → Some x ≡ Some y → x ≡ y
 some_injective x y e = cc
+
+not_equal : (m n : ℕ) → (m ≡ n → ⊥) → nat_eq m n ≡ false
+not_equal m n apart = by_test (nat_eq m n) refl
+  where
+    by_test : (b : Bool) → nat_eq m n ≡ b → nat_eq m n ≡ false
+    by_test true e = absurd (apart (eqb-true m n e))
+    by_test false e = e
 
 -- a test that no item type passes is passed at no place
 not_passed : (test : ItemType → Bool) (kinds : List ItemType) (i : ℕ) → list_any test kinds ≡ false → get_or (map test kinds) i false ≡ false
@@ -83,43 +91,59 @@ over_is s a b (x ∷ shapes) place =
     ∙ ap (λ es. entry_if place x (all_tests a (is_taken s x)) (all_tests b (is_taken s x)) ++ es) (over_is s a b shapes place)
 
 module _ {A : Type 0} where
-  -- the columns below a place have more letters behind, and the others stayed
-  pub record AreMoreBelow (old new : List (Vec Letter A)) (more : ℕ → List LetterEntry) (bound : ℕ) : Type 0 where
-    pub count_is : length new ≡ length old
-    pub done : (place : ℕ) (before after : Vec Letter A) → place < bound → slice_get old place ≡ Some before → slice_get new place ≡ Some after
-        → entries_of_column after ≡ entries_of_column before ++ more place
-    pub left : (place : ℕ) → bound ≤ place → slice_get new place ≡ slice_get old place
-
-  pub nothing_below : (columns : List (Vec Letter A)) (more : ℕ → List LetterEntry) → AreMoreBelow columns columns more 0
-  nothing_below columns more = record { count_is = refl; done = λ place before after h. absurd (omega arith); left = λ place h. refl }
-
-  pub more_below : (old columns after : List (Vec Letter A)) (more : ℕ → List LetterEntry) (k : ℕ) (here column : Vec Letter A) → AreMoreBelow old columns more k
-      → k < length columns → slice_get columns k ≡ Some here → after ≡ slice_set columns k column → entries_of_column column ≡ entries_of_column here ++ more k
-      → AreMoreBelow old after more (k + 1)
-  more_below old columns after more k here column is within at e grown =
-      subst (λ cs. AreMoreBelow old cs more (k + 1)) (sym e) (record {
-        count_is = length-set columns k column ∙ is.count_is;
-        done = done;
-        left = λ place h. get_set_other columns k place column (λ f. omega arith) ∙ is.left place (omega arith);
+  -- one column has a letter more, and the others stayed
+  pub one_more : (old after : List (Vec Letter A)) (entry : LetterEntry) (here column : Vec Letter A) → entry.0 < length old → slice_get old entry.0 ≡ Some here → after ≡ slice_set old entry.0 column
+      → entries_of_column column ≡ entries_of_column here ++ entry ∷ [] → AreColumnsMore old after (entry_only entry)
+  one_more old after entry here column within at e grown =
+      subst (λ cs. AreColumnsMore old cs (entry_only entry)) (sym e) (record {
+        count_is = length-set old entry.0 column;
+        are = λ place before end was now. by_place place before end (nat_eq entry.0 place) refl was now;
       })
     where
-      done : (place : ℕ) (before end : Vec Letter A) → place < k + 1 → slice_get old place ≡ Some before → slice_get (slice_set columns k column) place ≡ Some end
-          → entries_of_column end ≡ entries_of_column before ++ more place
-      done place before end below was now =
-          elim (cases_lt place k) [
-            | inl l ↦ is.done place before end l was (sym (get_set_other columns k place column (λ f. omega arith)) ∙ now)
-            | inr l ↦
-                let last : place ≡ k = omega arith in
-                let last_is : column ≡ end =
-                some_injective column end (sym (get_set_here columns k column within) ∙ ap (λ i. slice_get (slice_set columns k column) i) (sym last) ∙ now) in
-                let was_here : here ≡ before = some_injective here before (sym at ∙ is.left k (omega arith) ∙ ap (λ i. slice_get old i) (sym last) ∙ was) in
-                ap entries_of_column (sym last_is) ∙ grown ∙ ap (λ (v : Vec Letter A). entries_of_column v ++ more k) was_here ∙ ap (λ i. entries_of_column before ++ more i) (sym last)
-          ]
+      by_place : (place : ℕ) (before end : Vec Letter A) (b : Bool) → nat_eq entry.0 place ≡ b → slice_get old place ≡ Some before → slice_get (slice_set old entry.0 column) place ≡ Some end
+          → entries_of_column end ≡ entries_of_column before ++ (if b then entry ∷ [] else [])
+      by_place place before end true same was now =
+          let here_is : entry.0 ≡ place = eqb-true entry.0 place same in
+          let last_is : column ≡ end =
+          some_injective column end (sym (get_set_here old entry.0 column within) ∙ ap (λ i. slice_get (slice_set old entry.0 column) i) here_is ∙ now) in
+          let was_here : here ≡ before = some_injective here before (sym at ∙ ap (λ i. slice_get old i) here_is ∙ was) in
+          ap entries_of_column (sym last_is) ∙ grown ∙ ap (λ (v : Vec Letter A). entries_of_column v ++ entry ∷ []) was_here
+      by_place place before end false other was now =
+          let apart : place ≡ entry.0 → ⊥ = λ f. false≢true (sym other ∙ eq-eqb entry.0 place (sym f)) in
+          let stays : end ≡ before = some_injective end before (sym now ∙ get_set_other old entry.0 place column apart ∙ was) in
+          ap entries_of_column stays ∙ sym (append-nil (entries_of_column before))
 
-  pub all_more : (old new : List (Vec Letter A)) (more : ℕ → List LetterEntry) (bound : ℕ) → length old ≤ bound → AreMoreBelow old new more bound → AreColumnsMore old new more
-  all_more old new more bound past is = record {
-    count_is = is.count_is;
-    are = λ place before after was now. is.done place before after (let k = slice_get_within old place before was in omega arith) was now;
+  pub same_columns : (columns : List (Vec Letter A)) (more : ℕ → List LetterEntry) → ((place : ℕ) → place < length columns → more place ≡ []) → AreColumnsMore columns columns more
+  same_columns columns more none = record {
+    count_is = refl;
+    are = λ place before after was now.
+        ap entries_of_column (some_injective after before (sym now ∙ was)) ∙ sym (append-nil (entries_of_column before))
+        ∙ ap (λ es. entries_of_column before ++ es) (sym (none place (slice_get_within columns place before was)));
+  }
+
+  -- no column for an entry
+  pub past_columns : (columns : List (Vec Letter A)) (entry : LetterEntry) → length columns ≤ entry.0 → AreColumnsMore columns columns (entry_only entry)
+  past_columns columns entry past =
+      same_columns columns (entry_only entry) (λ place within. by_test place within (nat_eq entry.0 place) refl)
+    where
+      by_test : (place : ℕ) → place < length columns → (b : Bool) → nat_eq entry.0 place ≡ b → (if b then entry ∷ [] else []) ≡ []
+      by_test place within true same = let e = eqb-true entry.0 place same in absurd (omega arith)
+      by_test place within false other = refl
+
+  pub more_and_more : (old columns after : List (Vec Letter A)) (one other whole : ℕ → List LetterEntry) → ((place : ℕ) → whole place ≡ one place ++ other place) → AreColumnsMore old columns one
+      → AreColumnsMore columns after other → AreColumnsMore old after whole
+  more_and_more old columns after one other whole is first second = record {
+    count_is = second.count_is ∙ first.count_is;
+    are = λ place before end was now.
+        let between = there columns place (let k = slice_get_within after place end now in omega (arith, second.count_is)) in
+        second.are place between.0 end between.1 now ∙ ap (λ es. es ++ other place) (first.are place before between.0 was between.1)
+        ∙ append_assoc (entries_of_column before) (one place) (other place) ∙ ap (λ es. entries_of_column before ++ es) (sym (is place));
+  }
+
+  pub more_alike : (old after : List (Vec Letter A)) (one other : ℕ → List LetterEntry) → ((place : ℕ) → one place ≡ other place) → AreColumnsMore old after one → AreColumnsMore old after other
+  more_alike old after one other same more = record {
+    count_is = more.count_is;
+    are = λ place before end was now. more.are place before end was now ∙ ap (λ es. entries_of_column before ++ es) (same place);
   }
 
   -- a shape that no place takes has no letters
@@ -218,3 +242,55 @@ alphabet_is s a b letters left right other fresh f g is = record {
       ∙ ap (λ n. entries_up_to (entries_over s (items_of a) (items_of b) (shapes_asked s (items_of a) names)) (n + 1)) (length_items a)
       ∙ below_is s a b names (positions_of a + 1);
 }
+
+-- the entries of the members of a set
+
+abbrev pub entries_of_members : Shape → List Bool → List ℕ → ℕ → List LetterEntry
+entries_of_members shape takers members place = flat_map (λ m. entry_only (m, shape, takers) place) members
+
+none_of_members : (shape : Shape) (takers flags : List Bool) (first place : ℕ) → place < first → entries_of_members shape takers (flagged_from first flags) place ≡ []
+none_of_members shape takers [] first place h = refl
+none_of_members shape takers (true ∷ flags) first place h =
+    ap (λ b. (if b then (first, shape, takers) ∷ [] else []) ++ entries_of_members shape takers (flagged_from (suc first) flags) place) (not_equal first place (λ e. omega arith))
+    ∙ none_of_members shape takers flags (suc first) place (omega arith)
+none_of_members shape takers (false ∷ flags) first place h = none_of_members shape takers flags (suc first) place (omega arith)
+
+entries_from : (shape : Shape) (takers flags : List Bool) (first i : ℕ)
+    → entries_of_members shape takers (flagged_from first flags) (first + i) ≡ (if get_or flags i false then (first + i, shape, takers) ∷ [] else [])
+entries_from shape takers [] first i = refl
+entries_from shape takers (true ∷ flags) first zero =
+    let e : first ≡ first + 0 = omega arith in
+    ap (λ b. (if b then (first, shape, takers) ∷ [] else []) ++ entries_of_members shape takers (flagged_from (suc first) flags) (first + 0)) (eq-eqb first (first + 0) e)
+    ∙ ap (λ es. (first, shape, takers) ∷ es) (none_of_members shape takers flags (suc first) (first + 0) (omega arith))
+    ∙ ap (λ n. let entry : LetterEntry = (n, shape, takers) in entry ∷ []) e
+entries_from shape takers (false ∷ flags) first zero = none_of_members shape takers flags (suc first) (first + 0) (omega arith)
+entries_from shape takers (true ∷ flags) first (suc i) =
+    let e : suc first + i ≡ first + suc i = omega arith in
+    ap (λ b. (if b then (first, shape, takers) ∷ [] else []) ++ entries_of_members shape takers (flagged_from (suc first) flags) (first + suc i)) (not_equal first (first + suc i) (λ f. omega arith))
+    ∙ ap (entries_of_members shape takers (flagged_from (suc first) flags)) (sym e) ∙ entries_from shape takers flags (suc first) i
+    ∙ ap (λ n. if get_or flags i false then (n, shape, takers) ∷ [] else []) e
+entries_from shape takers (false ∷ flags) first (suc i) =
+    let e : suc first + i ≡ first + suc i = omega arith in
+    ap (entries_of_members shape takers (flagged_from (suc first) flags)) (sym e) ∙ entries_from shape takers flags (suc first) i
+    ∙ ap (λ n. if get_or flags i false then (n, shape, takers) ∷ [] else []) e
+
+pub entries_are : (shape : Shape) (taking takers : List Bool) (place : ℕ) → entries_of_members shape takers (flagged taking) place ≡ entry_if place shape taking takers
+entries_are shape taking takers place =
+    let e : 0 + place ≡ place = omega arith in
+    ap (entries_of_members shape takers (flagged taking)) (sym e) ∙ entries_from shape takers taking 0 place ∙ ap (λ n. if get_or taking place false then (n, shape, takers) ∷ [] else []) e
+
+pub letters_more : {A : Type 0} (shape : Shape) (taking takers : List Bool) (members : List ℕ) (i place : ℕ) (old columns after : List (Vec Letter A)) → members ≡ flagged taking → i < length members
+    → place ≡ get_or members i 0 → AreColumnsMore old columns (entries_of_members shape takers (take i (flagged taking))) → AreColumnsMore columns after (entry_only (place, shape, takers))
+    → AreColumnsMore old after (entries_of_members shape takers (take (i + 1) (flagged taking)))
+letters_more shape taking takers members i place old columns after e within is first second =
+    subst (λ ms. AreColumnsMore old after (entries_of_members shape takers (take (i + 1) ms))) e
+    (more_and_more old columns after (entries_of_members shape takers (take i members)) (entry_only (place, shape, takers)) (entries_of_members shape takers (take (i + 1) members))
+    (λ p. sym (flat_step (λ m. entry_only (m, shape, takers) p) members i place within (is ∙ get_or_default members i 0 place within) [] (entries_of_members shape takers (take i members) p)
+    (entries_of_members shape takers (take i members) p ++ entry_only (place, shape, takers) p) refl refl))
+    (subst (λ ms. AreColumnsMore old columns (entries_of_members shape takers (take i ms))) (sym e) first) second)
+
+pub letters_end : {A : Type 0} (shape : Shape) (taking takers : List Bool) (members : List ℕ) (i : ℕ) (old after : List (Vec Letter A)) → members ≡ flagged taking → length members ≤ i
+    → AreColumnsMore old after (entries_of_members shape takers (take i (flagged taking))) → AreColumnsMore old after (λ place. entry_if place shape taking takers)
+letters_end shape taking takers members i old after e past more =
+    more_alike old after (entries_of_members shape takers (take i (flagged taking))) (λ place. entry_if place shape taking takers)
+    (λ p. ap (λ ms. entries_of_members shape takers ms p) (take_all i (flagged taking) (let f = ap length e in omega (arith, f, past))) ∙ entries_are shape taking takers p) more

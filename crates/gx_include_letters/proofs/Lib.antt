@@ -3,4 +3,5 @@ pub mod AskedShapes
 pub mod Columns
 pub mod FormedLetters
 pub mod Listed
+pub mod NumberTable
 pub mod Stand

@@ -1,5 +1,5 @@
 -- The letters of two types, in the order in which runs are compared: by position of the left type, and then by shape.
-use Rattle.std.specs.Prelude.{◌≡◌, ℕ, zero, suc, ◌+◌, Bool, false, List, [], ◌∷◌, ◌++◌, map, length, Some, Vec, slice_get, slice_index_or, if◌then◌else◌}
+use Rattle.std.specs.Prelude.{◌≡◌, ℕ, zero, suc, ◌+◌, Bool, false, List, [], ◌∷◌, ◌++◌, map, length, Some, Vec, nat_eq, slice_get, slice_index_or, if◌then◌else◌}
 use Rattle.std.specs.List.{flat_map}
 use Rattle.gx_base.specs.declared.name.Name.{Name}
 use Rattle.gx_types.specs.declared.item_type.ItemType.{ItemType}
@@ -21,11 +21,15 @@ abbrev pub LetterEntry : Type 0
 LetterEntry = ℕ × Shape × List Bool
 
 abbrev pub entry_of_letter : Letter → LetterEntry
-entry_of_letter letter = (letter.place, letter.shape, letter.takers.items)
+entry_of_letter letter = (letter.place, letter.shape, letter.takers)
 
 -- the letter of a shape at a place, if the place is among those that take it
 abbrev pub entry_if : ℕ → Shape → (left right : List Bool) → List LetterEntry
 entry_if place shape left right = if slice_index_or left place false then (place, shape, right) ∷ [] else []
+
+-- an entry, at its own place
+abbrev pub entry_only : LetterEntry → ℕ → List LetterEntry
+entry_only entry place = if nat_eq entry.0 place then entry ∷ [] else []
 
 -- the shapes that are tried, at a place
 abbrev pub entries_at : SchemaSet → (a b : SequenceType) → List Shape → ℕ → List LetterEntry

@@ -13,7 +13,7 @@ pub record IsLetter (schemas : SchemaSet) (a b : SequenceType) (letter : Letter)
   pub left : IsDecided schemas letter.shape a
   pub right : IsDecided schemas letter.shape b
   pub taken : slice_index_or (all_tests a (is_taken schemas letter.shape)) letter.place false ≡ true
-  pub takers : letter.takers.items ≡ all_tests b (is_taken schemas letter.shape)
+  pub takers : letter.takers ≡ all_tests b (is_taken schemas letter.shape)
 
 abbrev pub AreLetters : SchemaSet → (a b : SequenceType) → List Letter → Type 0
 AreLetters schemas a b letters = (number : ℕ) (letter : Letter) → slice_get letters number ≡ Some letter → IsLetter schemas a b letter
@@ -24,7 +24,7 @@ pub record HasLetterFor (schemas : SchemaSet) (a b : SequenceType) (letters : Li
   pub letter : Letter
   pub here : slice_get letters number ≡ Some letter
   pub at : letter.place ≡ place
-  pub alike : letter.takers.items ≡ all_tests b (is_taken schemas shape)
+  pub alike : letter.takers ≡ all_tests b (is_taken schemas shape)
 
 -- each well-formed shape that is taken at a position of the left type has a letter there, and is decided
 pub record ServeAll (schemas : SchemaSet) (a b : SequenceType) (letters : List Letter) : Type 0 where

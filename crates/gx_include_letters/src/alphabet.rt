@@ -4,7 +4,7 @@ ghost use Rattle.std.specs.Prelude.{◌≡◌, ◌+◌, ◌++◌, [], ◌∷◌,
 ghost use Rattle.std.specs.List.{flat_map};
 ghost use Rattle.gx_types.specs.Grounded.{Grounded};
 ghost use Rattle.gx_types.specs.Derivation.{bases_of};
-ghost use Rattle.gx_include_letters.specs.Alphabet.{entry_of_letter, entry_if, entries_over, entries_of_column, entries_up_to, shapes_asked, AreColumns, AreColumnsMore, IsAlphabet};
+ghost use Rattle.gx_include_letters.specs.Alphabet.{entry_of_letter, entry_if, entry_only, entries_over, entries_of_column, entries_up_to, shapes_asked, AreColumns, AreColumnsMore, IsAlphabet};
 ghost use Rattle.gx_include_letters.specs.WellFormed.{built_in_types};
 ghost use Rattle.gx_include_letters.specs.ItemIndex.{tests_at};
 ghost use Rattle.gx_include_positions.specs.Test.{is_taken};
@@ -17,8 +17,8 @@ use crate::trial::{other_than, trials};
 use gx_base::name::Name;
 use gx_base::type_name::{Builtin, TypeName};
 use gx_include_derivations::derivations::Derivations;
+use gx_include_followers::number_set::NumberSet;
 use gx_include_positions::names::add_names;
-use gx_include_positions::step::is_set;
 use gx_types::item_type::ItemType;
 use gx_types::sequence_type::Ty;
 use gx_types::shape::Shape;
@@ -190,68 +190,53 @@ fn add_shape(
         return Ok(());
     }
     let taking = left.taking(alloc, schemas, shape)?;
-    add_taken(alloc, schemas, right, shape, taking.as_slice(), columns)?;
-    Ok(())
-}
-
-// Puts the letters of a shape behind those of the places of a set.
-fn add_taken(
-    alloc: Global,
-    schemas: &Derivations<'_>,
-    right: &ItemIndex,
-    shape: &Shape,
-    taking: &[bool],
-    columns: &mut Vec<Vec<Letter>>,
-) -> Result<(), AllocError>
-    ensures { OnOk result (AreColumnsMore columns.old.items columns.new.items (λ place. entry_if place shape.now taking.now (tests_at right.now (is_taken schemas.now shape.now)))) }
-{
     let takers = right.taking(alloc, schemas, shape)?;
-    add_letters(alloc, shape, taking, takers.as_slice(), columns)?;
+    add_letters(shape, &taking, &takers, columns)?;
     Ok(())
 }
 
 // Puts a letter of a shape behind those of each place of a set.
 fn add_letters(
-    alloc: Global,
     shape: &Shape,
-    taking: &[bool],
-    takers: &[bool],
+    taking: &NumberSet,
+    takers: &NumberSet,
     columns: &mut Vec<Vec<Letter>>,
 ) -> Result<(), AllocError>
     ensures { OnOk result (AreColumnsMore columns.old.items columns.new.items (λ place. entry_if place shape.now taking.now takers.now)) }
 {
-    for place in 0..columns.len() {
-        add_letter(alloc, shape, place, taking, takers, &mut columns[place])?;
+    for place in taking.members() {
+        add_letter(shape, *place, takers, columns)?;
     }
     Ok(())
 }
 
-// Puts a letter behind those of a place, if the place is among those that take the shape.
+// Puts a letter of a shape behind those of a place, if there is such a place.
 fn add_letter(
-    alloc: Global,
     shape: &Shape,
     place: usize,
-    taking: &[bool],
-    takers: &[bool],
-    letters: &mut Vec<Letter>,
+    takers: &NumberSet,
+    columns: &mut Vec<Vec<Letter>>,
 ) -> Result<(), AllocError>
-    ensures { OnOk result (map entry_of_letter letters.new.items ≡ map entry_of_letter letters.old.items ++ entry_if place shape.now taking.now takers.now) }
+    ensures { OnOk result (AreColumnsMore columns.old.items columns.new.items (entry_only (place, shape.now, takers.now))) }
 {
-    if is_set(taking, place) {
-        letters.push(letter_of(alloc, shape, place, takers)?)?;
+    if place < columns.len() {
+        let letter = letter_of(shape, place, takers)?;
+        push_letter(&mut columns[place], letter)?;
     }
     Ok(())
 }
 
-fn letter_of(
-    alloc: Global,
-    shape: &Shape,
-    place: usize,
-    takers: &[bool],
-) -> Result<Letter, AllocError>
+fn push_letter(letters: &mut Vec<Letter>, letter: Letter) -> Result<(), AllocError>
+    ensures { OnOk result (map entry_of_letter letters.new.items ≡ map entry_of_letter letters.old.items ++ entry_of_letter letter ∷ []) }
+{
+    letters.push(letter)?;
+    Ok(())
+}
+
+fn letter_of(shape: &Shape, place: usize, takers: &NumberSet) -> Result<Letter, AllocError>
     ensures { IfOk result (λ letter. entry_of_letter letter ≡ (place, shape.now, takers.now)) }
 {
-    let takers = takers.to_vec(alloc)?;
+    let takers = takers.clone()?;
     Ok(Letter {
         place,
         shape: shape.clone()?,

@@ -1,31 +1,32 @@
 // The item types at the positions of a type, found by the names that they ask for.
 
-ghost use Rattle.std.specs.Prelude.{◌≡◌, ◌+◌, ◌++◌, [], ◌∷◌, if◌then◌else◌, IfOk, OnOk, IfSome, IsSome, Some, None, length, map, option_copied, slice_get, slice_set, slice_index_or, false, true};
-ghost use Rattle.std.specs.List.{list_any};
-ghost use Rattle.indexmap.specs.IndexMap.{get};
+ghost use Rattle.std.specs.Prelude.{◌≡◌, ◌+◌, ◌++◌, [], ◌∷◌, ℕ, nat_eq, if◌then◌else◌, IfOk, OnOk, length, map, slice_index_or, false};
+ghost use Rattle.std.specs.List.{flat_map, list_any, position_or_len};
 ghost use Rattle.gx_base.specs.Name.{same_name};
-ghost use Rattle.gx_base.specs.declared.name.Name.{Name as NameRecord};
 ghost use Rattle.gx_types.specs.Prime.{items_of};
-ghost use Rattle.gx_include_letters.specs.ItemIndex.{tests_at, HasFitting, HasNames, IsListed};
-ghost use Rattle.gx_include_positions.specs.Names.{name_given, may_fit, name_of};
+ghost use Rattle.gx_include_letters.specs.ItemIndex.{tests_at, numbers_at, numbers_asking, place_if, HasFitting, IsItemIndex};
+ghost use Rattle.gx_include_positions.specs.Names.{name_given};
 ghost use Rattle.gx_include_positions.specs.Test.{is_taken};
 
+use crate::number_table::add_number;
 use gx_base::name::Name;
 use gx_include_derivations::derivations::Derivations;
-use gx_include_positions::names::{may_take, name_asked};
+use gx_include_followers::number_set::NumberSet;
+use gx_include_positions::names::name_asked;
 use gx_types::item_type::ItemType;
 use gx_types::sequence_type::{Ty, TyNode};
 use gx_types::shape::Shape;
-use indexmap::IndexMap;
+use indexmap::IndexSet;
 use std::alloc::{AllocError, Global};
 use std::marker::Model;
 
-// The item types at the positions of a type. `named` has for each name that one of them asks for the numbers of those that
-// ask for it or for none, and `unnamed` the numbers of those that ask for none.
+// The item types at the positions of a type. `asking` has at the place of each name the numbers of those that ask for it, and
+// `unnamed` the numbers of those that ask for none.
 #[derive(Drop)]
 pub(crate) struct ItemIndex {
     items: Vec<ItemType>,
-    named: IndexMap<Name, Vec<usize>>,
+    names: IndexSet<Name>,
+    asking: Vec<Vec<usize>>,
     unnamed: Vec<usize>,
 }
 
@@ -38,7 +39,7 @@ impl Model for ItemIndex {
 
     ghost view = { λ index. index.items.items };
 
-    ghost invariant = { λ index. IsItemIndex index.items.items index.named index.unnamed.items };
+    ghost invariant = { λ index. IsItemIndex index.items.items index.names.keys index.asking.items index.unnamed.items };
 }
 
 impl ItemIndex {
@@ -47,12 +48,21 @@ impl ItemIndex {
         ensures { IfOk result (λ index. index ≡ items_of t.now) }
     {
         let mut items = Vec::new(alloc);
+        let mut names = IndexSet::new(alloc);
+        let mut asking = Vec::new(alloc);
+        let mut unnamed = Vec::new(alloc);
         add_items(&mut items, t)?;
-        let named = by_name(alloc, items.as_slice())?;
-        let unnamed = fitting(alloc, items.as_slice(), None)?;
+        index(
+            alloc,
+            items.as_slice(),
+            &mut names,
+            &mut asking,
+            &mut unnamed,
+        )?;
         Ok(ItemIndex {
             items,
-            named,
+            names,
+            asking,
             unnamed,
         })
     }
@@ -71,21 +81,23 @@ impl ItemIndex {
         self.items.as_slice()
     }
 
-    // Whether each item type takes a shape, behind the start.
+    // The places of the item types that take a shape, behind the start.
     pub(crate) fn taking(
         &self,
         alloc: Global,
         schemas: &Derivations<'_>,
         shape: &Shape,
-    ) -> Result<Vec<bool>, AllocError>
-        ensures { IfOk result (λ tests. tests.items ≡ tests_at self.now (is_taken schemas.now shape.now)) }
+    ) -> Result<NumberSet, AllocError>
+        ensures { IfOk result (λ taking. taking ≡ tests_at self.now (is_taken schemas.now shape.now)) }
     {
-        tests_of_listed(
+        let (asking, unnamed) = self.fitting(shape);
+        takers_among(
             alloc,
             schemas,
             shape,
             self.items.as_slice(),
-            self.fitting(shape),
+            asking,
+            unnamed,
         )
     }
 
@@ -93,28 +105,38 @@ impl ItemIndex {
     pub(crate) fn has_taker(&self, schemas: &Derivations<'_>, shape: &Shape) -> bool
         ensures { result ≡ list_any (is_taken schemas.now shape.now) self.now }
     {
-        takes_listed(schemas, shape, self.items.as_slice(), self.fitting(shape))
+        let (asking, unnamed) = self.fitting(shape);
+        let items = self.items.as_slice();
+        has_taker_among(schemas, shape, items, asking, unnamed)
     }
 
-    // The numbers of all item types that may take a shape by its name.
-    pub(crate) fn fitting(&self, shape: &Shape) -> &[usize]
-        ensures { HasFitting self.now (name_given shape.now) result.now }
+    // The numbers of all item types that may take a shape by its name: those that ask for it, and those that ask for none.
+    fn fitting(&self, shape: &Shape) -> (&[usize], &[usize])
+        ensures { HasFitting self.now (name_given shape.now) (result.0.now ++ result.1.now) }
     {
+        let unnamed = self.unnamed.as_slice();
         match shape {
             Shape::Elem(name, _) | Shape::Attr(name, _) | Shape::Doc(Some((name, _))) => {
-                self.fitting_name(name)
+                (
+                    asking_for(&self.names, self.asking.as_slice(), name),
+                    unnamed,
+                )
             }
-            Shape::Text | Shape::Doc(None) | Shape::Atom(_) => self.unnamed.as_slice(),
+            Shape::Text | Shape::Doc(None) | Shape::Atom(_) => (&[], unnamed),
         }
     }
+}
 
-    fn fitting_name(&self, name: &Name) -> &[usize]
-        ensures { HasFitting self.now (Some name.now) result.now }
-    {
-        match self.named.get(name) {
+// The numbers of the item types that ask for a name.
+fn asking_for<'t>(names: &IndexSet<Name>, asking: &'t [Vec<usize>], name: &Name) -> &'t [usize]
+    ensures { result.now ≡ numbers_asking names.now.keys asking.now name.now }
+{
+    match names.get_index_of(name) {
+        Some(place) => match asking.get(place) {
             Some(numbers) => numbers.as_slice(),
-            None => self.unnamed.as_slice(),
-        }
+            None => &[],
+        },
+        None => &[],
     }
 }
 
@@ -141,114 +163,112 @@ fn add_item(items: &mut Vec<ItemType>, item: &ItemType) -> Result<(), AllocError
     Ok(())
 }
 
-// The numbers of the item types that may take a shape of a name, or of none.
-fn fitting(
+// Puts the numbers of item types into a table by the names that they ask for.
+fn index(
     alloc: Global,
     items: &[ItemType],
-    given: Option<&Name>,
-) -> Result<Vec<usize>, AllocError>
-    ensures { IfOk result (λ numbers. HasFitting items.now (option_copied given.entry) numbers.items) }
+    names: &mut IndexSet<Name>,
+    asking: &mut Vec<Vec<usize>>,
+    unnamed: &mut Vec<usize>,
+) -> Result<(), AllocError>
+    ensures { OnOk result (IsItemIndex items.now names.new.keys asking.new.items unnamed.new.items) }
 {
-    let mut numbers = Vec::new(alloc);
     for (number, item) in items.iter().enumerate() {
-        add_fitting(&mut numbers, number, item, given)?;
+        match name_asked(item) {
+            Some(name) => add_asking(alloc, number, name, names, asking)?,
+            None => unnamed.push(number)?,
+        }
     }
-    Ok(numbers)
+    Ok(())
 }
 
-// Puts the number of an item type behind those of a list, if it may take a shape of a name, or of none.
-fn add_fitting(
-    numbers: &mut Vec<usize>,
+// Puts the number of an item type behind those that ask for the same name.
+fn add_asking(
+    alloc: Global,
     number: usize,
-    item: &ItemType,
-    given: Option<&Name>,
-) -> Result<(), AllocError>
-    ensures { OnOk result (numbers.new.items ≡ numbers.old.items ++ (if may_fit (name_of item.now) (option_copied given.entry) then number ∷ [] else [])) }
-{
-    if may_take(item, given) {
-        numbers.push(number)?;
-    }
-    Ok(())
-}
-
-// For each name that an item type asks for, the numbers of the item types that may take a shape of the name.
-fn by_name(alloc: Global, items: &[ItemType]) -> Result<IndexMap<Name, Vec<usize>>, AllocError>
-    ensures listed { IfOk result (λ named. (name : NameRecord) → IfSome (get same_name named name) (λ numbers. HasFitting items.now (Some name) numbers.items)) }
-    ensures all { IfOk result (λ named. HasNames items.now named) }
-{
-    let mut named = IndexMap::new(alloc);
-    for item in items {
-        add_name_of(alloc, items, item, &mut named)?;
-    }
-    Ok(named)
-}
-
-// Puts the name that an item type asks for, if it does, with its numbers into a table.
-fn add_name_of(
-    alloc: Global,
-    items: &[ItemType],
-    item: &ItemType,
-    named: &mut IndexMap<Name, Vec<usize>>,
-) -> Result<(), AllocError>
-    requires { (other : NameRecord) → IfSome (get same_name named.old other) (λ numbers. HasFitting items.now (Some other) numbers.items) }
-    ensures listed { OnOk result ((other : NameRecord) → IfSome (get same_name named.new other) (λ numbers. HasFitting items.now (Some other) numbers.items)) }
-    ensures has { OnOk result ((name : NameRecord) → name_of item.now ≡ Some name → (other : NameRecord) → same_name name other ≡ true → IsSome (get same_name named.new other)) }
-    ensures kept { OnOk result ((other : NameRecord) → IsSome (get same_name named.old other) → IsSome (get same_name named.new other)) }
-{
-    match name_asked(item) {
-        Some(name) => add_name(alloc, items, name, named),
-        None => Ok(()),
-    }
-}
-
-// Puts a name with its numbers into a table, unless an equal one is there.
-fn add_name(
-    alloc: Global,
-    items: &[ItemType],
     name: &Name,
-    named: &mut IndexMap<Name, Vec<usize>>,
+    names: &mut IndexSet<Name>,
+    asking: &mut Vec<Vec<usize>>,
 ) -> Result<(), AllocError>
-    requires { (other : NameRecord) → IfSome (get same_name named.old other) (λ numbers. HasFitting items.now (Some other) numbers.items) }
-    ensures listed { OnOk result ((other : NameRecord) → IfSome (get same_name named.new other) (λ numbers. HasFitting items.now (Some other) numbers.items)) }
-    ensures has { OnOk result ((other : NameRecord) → same_name name.now other ≡ true → IsSome (get same_name named.new other)) }
-    ensures kept { OnOk result ((other : NameRecord) → IsSome (get same_name named.old other) → IsSome (get same_name named.new other)) }
+    ensures names { OnOk result (names.new.keys ≡ (if list_any (same_name name.now) names.old.keys then names.old.keys else names.old.keys ++ name.now ∷ [])) }
+    ensures asking { OnOk result ((p : ℕ) → numbers_at asking.new.items p ≡ numbers_at asking.old.items p ++ (if nat_eq (position_or_len (same_name name.now) names.old.keys) p then number ∷ [] else [])) }
 {
-    if named.contains_key(name) {
-        return Ok(());
-    }
-    let numbers = fitting(alloc, items, Some(name))?;
-    named.insert(name.clone()?, numbers)?;
-    Ok(())
+    let (place, _) = names.insert_full(name.clone()?)?;
+    add_number(alloc, place, number, asking)
 }
 
-// Whether each item type takes a shape, behind the start, where those that may take it are listed by number.
-fn tests_of_listed(
+// The places of the item types that take a shape, behind the start, where those that may take it are listed by number.
+fn takers_among(
     alloc: Global,
     schemas: &Derivations<'_>,
     shape: &Shape,
     items: &[ItemType],
-    numbers: &[usize],
-) -> Result<Vec<bool>, AllocError>
-    requires { HasFitting items.now (name_given shape.now) numbers.now }
-    ensures { IfOk result (λ tests. tests.items ≡ tests_at items.now (is_taken schemas.now shape.now)) }
+    asking: &[usize],
+    unnamed: &[usize],
+) -> Result<NumberSet, AllocError>
+    requires { HasFitting items.now (name_given shape.now) (asking.now ++ unnamed.now) }
+    ensures { IfOk result (λ taking. taking ≡ tests_at items.now (is_taken schemas.now shape.now)) }
 {
-    let mut tests = vec![in alloc; false; items.len()]?;
-    tests.push(false)?;
+    let mut places = Vec::new(alloc);
+    add_takers(schemas, shape, items, asking, &mut places)?;
+    add_takers(schemas, shape, items, unnamed, &mut places)?;
+    Ok(NumberSet::of(items.len() + 1, places))
+}
+
+// Puts the places of those item types of some numbers that take a shape behind others.
+fn add_takers(
+    schemas: &Derivations<'_>,
+    shape: &Shape,
+    items: &[ItemType],
+    numbers: &[usize],
+    places: &mut Vec<usize>,
+) -> Result<(), AllocError>
+    ensures { OnOk result (places.new.items ≡ places.old.items ++ flat_map (place_if items.now (is_taken schemas.now shape.now)) numbers.now) }
+{
     for number in numbers {
-        test_item(schemas, shape, items, *number, &mut tests);
+        add_taker(schemas, shape, items, *number, places)?;
     }
-    Ok(tests)
+    Ok(())
+}
+
+// Puts the place of the item type of a number behind others, if the item type takes a shape.
+fn add_taker(
+    schemas: &Derivations<'_>,
+    shape: &Shape,
+    items: &[ItemType],
+    number: usize,
+    places: &mut Vec<usize>,
+) -> Result<(), AllocError>
+    ensures { OnOk result (places.new.items ≡ places.old.items ++ place_if items.now (is_taken schemas.now shape.now) number) }
+{
+    if takes_at(schemas, shape, items, number) {
+        places.push(number + 1)?;
+    }
+    Ok(())
 }
 
 // Whether an item type takes a shape, where those that may take it are listed by number.
+fn has_taker_among(
+    schemas: &Derivations<'_>,
+    shape: &Shape,
+    items: &[ItemType],
+    asking: &[usize],
+    unnamed: &[usize],
+) -> bool
+    requires { HasFitting items.now (name_given shape.now) (asking.now ++ unnamed.now) }
+    ensures { result ≡ list_any (is_taken schemas.now shape.now) items.now }
+{
+    takes_listed(schemas, shape, items, asking) || takes_listed(schemas, shape, items, unnamed)
+}
+
+// Whether an item type of some numbers takes a shape.
 fn takes_listed(
     schemas: &Derivations<'_>,
     shape: &Shape,
     items: &[ItemType],
     numbers: &[usize],
 ) -> bool
-    requires { HasFitting items.now (name_given shape.now) numbers.now }
-    ensures { result ≡ list_any (is_taken schemas.now shape.now) items.now }
+    ensures { result ≡ list_any (λ n. slice_index_or (map (is_taken schemas.now shape.now) items.now) n false) numbers.now }
 {
     for number in numbers {
         if takes_at(schemas, shape, items, *number) {
@@ -265,21 +285,5 @@ fn takes_at(schemas: &Derivations<'_>, shape: &Shape, items: &[ItemType], number
     match items.get(number) {
         Some(item) => schemas.takes_shape(shape, item),
         None => false,
-    }
-}
-
-// Puts down whether the item type of a number takes a shape.
-fn test_item(
-    schemas: &Derivations<'_>,
-    shape: &Shape,
-    items: &[ItemType],
-    number: usize,
-    tests: &mut Vec<bool>,
-)
-    requires { length tests.old.items ≡ length items.now + 1 }
-    ensures { tests.new.items ≡ slice_set tests.old.items (number + 1) (slice_index_or (tests_at items.now (is_taken schemas.now shape.now)) (number + 1) false) }
-{
-    if number < items.len() {
-        tests[number + 1] = schemas.takes_shape(shape, &items[number]);
     }
 }

@@ -1,5 +1,6 @@
 // Letters: the shapes that are tried at a position.
 
+use gx_include_followers::number_set::NumberSet;
 use gx_types::shape::Shape;
 
 /// A shape that the item type at a position of the left type takes, with the positions of the right type that take it.
@@ -7,5 +8,5 @@ use gx_types::shape::Shape;
 pub struct Letter {
     pub place: usize,
     pub shape: Shape,
-    pub takers: Vec<bool>,
+    pub takers: NumberSet,
 }

@@ -4,4 +4,5 @@
 pub mod alphabet;
 mod item_index;
 pub mod letter;
+pub mod number_table;
 mod trial;

@@ -1,18 +1,21 @@
-use Rattle.std.proofs.Common.{sym, subst}
-use Rattle.gx_include.specs.Origins.{AreRuns}
-use Rattle.gx_include.specs.Outcome.{IsOutcome}
-use Rattle.gx_include.proofs.Verdicts.{says_yes, says_no}
+use Rattle.std.proofs.Common.{ℕ, List, Option, subst}
+use Rattle.std.specs.Prelude.{Result, IfOk}
+use Rattle.gx_types.specs.SchemaSet.{SchemaSet}
+use Rattle.gx_types.specs.SequenceType.{SequenceType}
+use Rattle.gx_include_letters.specs.declared.letter.Letter.{Letter}
+use Rattle.gx_include_letters.specs.Letters.{AreLetters, ServeAll}
+use Rattle.gx_include.specs.declared.verdict.IncludeError.{IncludeError}
+use Rattle.gx_include.specs.declared.verdict.Verdict.{Verdict}
+use Rattle.gx_include.specs.Verdict.{IsVerdictOver}
 use Rattle.gx_include.proofs.decide.decide.Goals as goal
 
-pub returns-in-Safe-clause-verdict : goal.returns-in-Safe-clause-verdict
-returns-in-Safe-clause-verdict c = λ s are serve.
-    says_yes c.args.left.now c.args.right.now c.args.letters.now s c.args.limit c.walk.new.pairs.keys c.walk.new.origins.items serve
-    (subst (IsOutcome c.args.left.now c.args.right.now c.args.letters.now c.args.limit c.walk.new.pairs.keys c.walk.new.origins.items) c.in-Safe.is c.in_ok-outcome.ensures)
+-- a verdict, if there is one, over all schemas that the letters serve
+abbrev VerdictsOver : Option ℕ → Result Verdict IncludeError → (a b : SequenceType) → List Letter → Type 0
+VerdictsOver limit result a b letters =
+    IfOk result (λ verdict. (schemas : SchemaSet) → AreLetters schemas a b letters → ServeAll schemas a b letters → IsVerdictOver schemas a b letters limit verdict)
 
 pub returns-clause-verdict : goal.returns-clause-verdict
-returns-clause-verdict c = λ s are serve.
-    let o = subst (IsOutcome c.args.left.now c.args.right.now c.args.letters.now c.args.limit c.walk.new.pairs.keys c.walk.new.origins.items) c.in-Bad.is c.in_ok-outcome.ensures in
-    let n =
-    says_no c.args.left.now c.args.right.now c.args.letters.now s c.args.limit c.walk.new.pairs.keys c.walk.new.origins.items are c.in-Bad.place o c.in_ok-run-in-Bad.run'.items
-    (λ runs r. c.in_ok-run-in-Bad.ensures runs (subst (λ os. AreRuns os runs) (sym c.as_slice.ensures.value) r)) in
-    (n.0, (c.in_ok-run-in-Bad.run'.items, c.in_ok-list-in-Bad.ensures, n.1))
+returns-clause-verdict c =
+    subst (λ (a : SequenceType). VerdictsOver c.args.limit c.decide_by.result a c.args.right.now c.args.letters.now) c.in_ok-left.ensures
+    (subst (λ (b : SequenceType). VerdictsOver c.args.limit c.decide_by.result c.in_ok-left.left b c.args.letters.now) c.in_ok-right.ensures
+    (subst (VerdictsOver c.args.limit c.decide_by.result c.in_ok-left.left c.in_ok-right.right) c.in_ok-letters.ensures c.decide_by.ensures.verdict))

@@ -13,5 +13,5 @@ returns-then-not-has_taker c =
 pub returns : goal.returns
 returns c =
     let x = is_taken c.args.schemas.now c.args.shape.now in
-    subst (λ (ts : List Bool). AreColumnsMore c.args.columns.now.items c.add_taken.new.columns.items (λ place. entry_if place c.args.shape.now ts (tests_at c.args.right.now x)))
-    (c.as_slice.ensures.value ∙ c.in_ok-taking.ensures) c.in_ok-add_taken.ensures
+    subst (λ (ts : List Bool). AreColumnsMore c.args.columns.now.items c.add_letters.new.columns.items (λ place. entry_if place c.args.shape.now ts (tests_at c.args.right.now x))) c.in_ok-taking.ensures
+    (subst (λ (ts : List Bool). AreColumnsMore c.args.columns.now.items c.add_letters.new.columns.items (λ place. entry_if place c.args.shape.now c.in_ok-taking.taking ts)) c.in_ok-takers.ensures c.in_ok-add_letters.ensures)

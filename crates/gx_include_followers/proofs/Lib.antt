@@ -1,0 +1,4 @@
+pub mod BehindLemmas
+pub mod Booleans
+pub mod NumberSetLemmas
+pub mod RowLemmas
