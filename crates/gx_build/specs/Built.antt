@@ -1,5 +1,6 @@
 -- The trees that constructors make (XQuery 1.0, sections 3.7.1.3 and 3.7.3).
 use Rattle.std.specs.Prelude.{ℕ, suc, max, Bool, true, false, ◌||◌, nat_lt, List, [], ◌∷◌, ◌++◌, Option, None, Some, if◌then◌else◌}
+use Rattle.std.specs.List.{list_any}
 use Rattle.std.specs.Option.{option_map}
 use Rattle.gx_base.specs.declared.limits.TheConstants.{CONSTRUCTED_DEPTH}
 use Rattle.gx_base.specs.declared.name.Name.{Name}
@@ -70,10 +71,12 @@ abbrev pub behind_attributes : List PlainTree → List PlainTree
 behind_attributes (attribute a ∷ ts) = behind_attributes ts
 behind_attributes ts = ts
 
+abbrev pub is_attribute : PlainTree → Bool
+is_attribute (attribute a) = true
+is_attribute _ = false
+
 abbrev pub holds_attribute : List PlainTree → Bool
-holds_attribute [] = false
-holds_attribute (attribute a ∷ ts) = true
-holds_attribute (t ∷ ts) = holds_attribute ts
+holds_attribute = list_any is_attribute
 
 -- two attributes have equal names
 abbrev pub repeats_name : List Attribute → Bool

@@ -1,1 +1,5 @@
 pub mod Built
+pub mod Making
+pub mod Made
+pub mod Depths
+pub mod Parts
