@@ -137,12 +137,12 @@ other_gives (Element name kind list children) t h e = ap children_or_self e
 other_gives (AttributeForm a) t h e = ap children_or_self e
 other_gives (Text x) t h e = ap children_or_self e
 
-pub copies_put : (before now : Content) (found : Option PlainTree) (t copy : PlainTree) (rest : List PlainTree) → found ≡ Some t → copy ≡ erased t → content_seen now rest ≡ content_seen before (children_or_self copy ++ rest)
+pub copies_put : (before now : Content) (found : Option PlainTree) (copy : PlainTree) (rest : List PlainTree) → Some copy ≡ option_map erased found → content_seen now rest ≡ content_seen before (children_or_self copy ++ rest)
     → content_if true now rest ≡ content_with before (option_map copies_of found) rest
-copies_put before now found t copy rest f e h =
-    ap (λ (ts : List PlainTree). Some ts) h
-    ∙ ap (λ (u : PlainTree). Some (content_seen before (children_or_self u ++ rest))) e
-    ∙ ap (λ (o : Option PlainTree). content_with before (option_map copies_of o) rest) (sym f)
+copies_put before now None copy rest e h = absurd (cc)
+copies_put before now (Some t) copy rest e h =
+    let same : copy ≡ erased t = cc in
+    ap (λ (ts : List PlainTree). Some ts) h ∙ ap (λ (u : PlainTree). Some (content_seen before (children_or_self u ++ rest))) same
 
 -- ---- the content of all parts
 

@@ -16,7 +16,6 @@ use gx_facets::{Atomic, print_value};
 use gx_store::item::Item;
 use gx_store::number::NodeId;
 use gx_store::store::Store;
-use gx_tree::erase::erase;
 use gx_tree::tree::{Tree, TreeNode};
 use std::alloc::{AllocError, Global};
 use std::mem;
@@ -116,10 +115,10 @@ impl Content {
     fn push_copies(&mut self, store: &Store, node: NodeId) -> Result<bool, AllocError>
         ensures { (rest : List PlainTree) → IfOk result (λ found. content_if found self.new rest ≡ content_with self.old (option_map copies_of (node_in store.now (place_of_number store.now node.number))) rest) }
     {
-        let Some(tree) = store.to_tree(node)? else {
+        let Some(copy) = store.to_erased_tree(node)? else {
             return Ok(false);
         };
-        self.push_erased(erase(self.alloc, &tree)?)?;
+        self.push_erased(copy)?;
         Ok(true)
     }
 

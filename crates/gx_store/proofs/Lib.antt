@@ -8,3 +8,4 @@ pub mod TreeLemmas
 pub mod CombinedLemmas
 pub mod ValueLemmas
 pub mod StepLemmas
+pub mod CopyLemmas

@@ -1,25 +1,21 @@
 -- The trees of what stands near a node, from their numbers.
-use Rattle.std.proofs.Common.{◌≡◌, ℕ, zero, suc, ◌+◌, ◌-◌, ◌<◌, ◌≤◌, Bool, true, false, nat_lt, List, [], ◌∷◌, ◌++◌, map, length, Option, None, Some, refl, sym, ap, ◌∙◌, arith, subst, if◌then◌else◌}
+use Rattle.std.proofs.Common.{◌≡◌, ℕ, suc, ◌+◌, ◌<◌, true, false, List, [], ◌∷◌, ◌++◌, map, length, Option, None, Some, refl, sym, ap, ◌∙◌, arith, subst}
 use Rattle.std.specs.Prelude.{MatchOption, is_some}
-use Rattle.std.proofs.lemmas.Bool.{ltb-true}
 use Rattle.gx_tree.specs.declared.attribute.Attribute.{Attribute}
-use Rattle.gx_tree.specs.PlainTree.{PlainTree, PlainTrees, document, element, attribute, text, no_trees, a_tree, trees_of, list_of}
+use Rattle.gx_tree.specs.PlainTree.{PlainTree, PlainTrees, document, element, attribute, text, no_trees, a_tree, list_of}
 use Rattle.gx_model.specs.Forest.{Forest, own_attributes}
-use Rattle.gx_model.specs.OrderLaws.{Every}
 use Rattle.gx_model.proofs.ListLemmas.{map_after}
 use Rattle.gx_nodes.specs.Entries.{NodeEntry, entry_at, count_below, count_of_all, attribute_entries, entries_of, child_entries, node_entries, count_in, beyond, entry_in}
 use Rattle.gx_nodes.specs.Near.{inner_trees}
-use Rattle.gx_nodes.specs.Hops.{hops_within, hops}
+use Rattle.gx_nodes.specs.Hops.{hops}
 use Rattle.gx_nodes.specs.Rows.{attributes_among}
 use Rattle.gx_nodes.proofs.Standing.{Stands, stands_front, stands_behind, stands_first, stands_next, got_from}
-use Rattle.gx_nodes.proofs.EntryLemmas.{inner_entries, below_of, entries_parts, below_parts, length_tree, length_attributes, below_within, forest_nests}
+use Rattle.gx_nodes.proofs.EntryLemmas.{inner_entries, below_of, entries_parts, below_parts, length_tree, length_attributes, forest_nests}
 use Rattle.gx_nodes.proofs.HopLemmas.{hops_end, hops_more}
-use Rattle.gx_store.specs.declared.labels.Label.{Label}
 use Rattle.gx_store.specs.declared.number.NodeId.{NodeId}
-use Rattle.gx_store.specs.declared.row.Form.TheVariants as forms
 use Rattle.gx_store.specs.Left.{numbered, children_left, attributes_left, trees_numbered}
 use Rattle.gx_store.specs.Shaped.{element_label_of, only_label}
-use Rattle.gx_store.specs.Stored.{below_in, attributes_at, label_of, FitsForm}
+use Rattle.gx_store.specs.Stored.{below_in, attributes_at}
 
 abbrev tree_at_number : Forest → ℕ → PlainTree
 tree_at_number forest n = (entry_in forest n).tree
@@ -80,38 +76,6 @@ attributes_trees forest n h =
     ∙ attributes_hop forest e.place.tree e.place.path 0 (own_attributes e.tree) (suc n) (suc (n + attributes_at forest n))
     (stands_front (node_entries forest) (suc n) A C (stands_next (node_entries forest) n e (A ++ C) (forest_nests forest n h))) (omega arith)
 
--- the store has the children of a node
-
-left_known : (left_out : ℕ → ℕ) (turns n end bound : ℕ) → end ≤ bound → Every (λ (m : NodeId). m.number < bound) (map numbered (hops_within turns left_out n end))
-left_known left_out zero n end bound h = tt
-left_known left_out (suc turns) n end bound h = by_test (nat_lt n end) refl (left_known left_out turns (suc (n + left_out n)) end bound h)
-  where
-    by_test : (b : Bool) → nat_lt n end ≡ b → Every (λ (m : NodeId). m.number < bound) (map numbered (hops_within turns left_out (suc (n + left_out n)) end))
-        → Every (λ (m : NodeId). m.number < bound) (map numbered (if b then n ∷ hops_within turns left_out (suc (n + left_out n)) end else []))
-    by_test true e rest = (omega (arith, h, ltb-true n end e), rest)
-    by_test false e rest = tt
-
-pub children_known : (forest : Forest) (n : ℕ) → n < count_in forest → Every (λ (m : NodeId). m.number < count_in forest) (children_left forest (suc (n + attributes_at forest n)) (suc (n + below_in forest n)))
-children_known forest n h =
-    left_known (below_in forest) (suc (n + below_in forest n) - suc (n + attributes_at forest n)) (suc (n + attributes_at forest n)) (suc (n + below_in forest n)) (count_in forest) (omega (arith, below_within forest n h))
-
-pub known_parts : (bound : ℕ) (left next : List NodeId) (m : NodeId) → left ≡ m ∷ next → Every (λ (k : NodeId). k.number < bound) left → (m.number < bound) × Every (λ (k : NodeId). k.number < bound) next
-known_parts bound left next m e h = subst (λ (ms : List NodeId). Every (λ (k : NodeId). k.number < bound) ms) e h
-
--- less is below a child than below its parent
-
-member_smaller : (ts : PlainTrees) (front : List PlainTree) (t : PlainTree) (rest : List PlainTree) → front ++ t ∷ rest ≡ list_of ts → count_below t < count_of_all ts
-member_smaller no_trees [] t rest e = absurd (cc)
-member_smaller no_trees (u ∷ front) t rest e = absurd (cc)
-member_smaller (a_tree v ts) [] t rest e = let same : t ≡ v = cc in omega (arith, ap count_below same)
-member_smaller (a_tree v ts) (u ∷ front) t rest e = let others : front ++ t ∷ rest ≡ list_of ts = cc in omega (arith, member_smaller ts front t rest others)
-
-pub child_smaller : (forest : Forest) (n : ℕ) (front : List PlainTree) (left next : List NodeId) (m : NodeId) → left ≡ m ∷ next → front ++ trees_numbered forest left ≡ list_of (inner_trees (entry_in forest n).tree)
-    → below_in forest m.number < below_in forest n
-child_smaller forest n front left next m e h =
-    let whole : front ++ (entry_in forest m.number).tree ∷ trees_numbered forest next ≡ list_of (inner_trees (entry_in forest n).tree) = ap (λ (ms : List NodeId). front ++ trees_numbered forest ms) (sym e) ∙ h in
-    omega (arith, member_smaller (inner_trees (entry_in forest n).tree) front (entry_in forest m.number).tree (trees_numbered forest next) whole, below_parts (entry_in forest n).tree)
-
 -- attributes among trees
 
 pub among_back : (l : List Attribute) → attributes_among (map attribute l) ≡ l
@@ -123,30 +87,6 @@ among_joined (document ts) us = refl
 among_joined (element name kind l ts) us = refl
 among_joined (attribute a) us = refl
 among_joined (text x) us = refl
-
--- copies
-
-trees_back : (ts : PlainTrees) → trees_of (list_of ts) ≡ ts
-trees_back no_trees = refl
-trees_back (a_tree t ts) = ap (a_tree t) (trees_back ts)
-
-pub document_copied : (t : PlainTree) (us : List PlainTree) → FitsForm forms.Document t → us ≡ list_of (inner_trees t) → document (trees_of us) ≡ t
-document_copied (document ts) us h e = ap (λ (vs : List PlainTree). document (trees_of vs)) e ∙ ap document (trees_back ts)
-document_copied (element name kind l ts) us h e = absurd h
-document_copied (attribute a) us h e = absurd h
-document_copied (text x) us h e = absurd h
-
-pub element_copied : (n k : ℕ) (l : Label) (t : PlainTree) (list : List Attribute) (us : List PlainTree) → FitsForm (forms.Element n k) t → label_of t ≡ Some l → list ≡ own_attributes t → us ≡ list_of (inner_trees t)
-    → element l.name l.kind list (trees_of us) ≡ t
-element_copied n k l (document ts) list us h e f g = absurd h
-element_copied n k l (element name kind own ts) list us h e f g =
-    let whole : record { name = name; kind = kind } ≡ l = cc in
-    ap (λ (vs : List PlainTree). element l.name l.kind list (trees_of vs)) g
-    ∙ ap (element l.name l.kind list) (trees_back ts)
-    ∙ ap (λ (own' : List Attribute). element l.name l.kind own' ts) f
-    ∙ ap (λ (m : Label). element m.name m.kind own ts) (sym whole)
-element_copied n k l (attribute a) list us h e f g = absurd h
-element_copied n k l (text x) list us h e f g = absurd h
 
 -- the one child
 

@@ -9,3 +9,4 @@ pub mod Items
 pub mod NumberOrder
 pub mod Combined
 pub mod Shaped
+pub mod Copied

@@ -1,6 +1,7 @@
 // Stores of numbered nodes.
 
 ghost use Rattle.std.specs.Prelude.{◌≡◌, ℕ, suc, ◌+◌, ◌<◌, ◌≤◌, ◌↔◌, ◌++◌, ◌∷◌, [], IsTrue, IfOk, OnOk, OnErr, MatchOption, Some, None, IsSome, IfSome, option_copied};
+ghost use Rattle.std.specs.Global.{Global as PlainGlobal};
 ghost use Rattle.std.specs.Option.{option_map};
 ghost use Rattle.gx_model.specs.Forest.{Forest as PlainForest, node_in, then_found};
 ghost use Rattle.gx_model.specs.DocumentOrder.{comes_before};
@@ -81,8 +82,10 @@ impl Store {
         Ok(node)
     }
 
-    /// The allocator that the store was made with.
-    pub fn allocator(&self) -> Global {
+    /// The allocator that the store was made with; all allocators of this type are one.
+    pub fn allocator(&self) -> Global
+        ensures { (other : PlainGlobal) → result ≡ other }
+    {
         self.alloc
     }
 

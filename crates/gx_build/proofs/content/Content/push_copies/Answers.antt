@@ -8,5 +8,4 @@ use Rattle.gx_build.proofs.content.Content.push_copies.Goals as goal
 pub returns : goal.returns
 returns c rest =
     let forest = c.args.store.now in
-    copies_put c.args.self.now c.push_erased.new.self (node_in forest (place_of_number forest c.args.node.number)) c.in-Some.tree c.in_ok-erase.field-0 rest
-    (sym (c.in_ok-tree.ensures forest (extends_itself forest)) ∙ c.in-Some.is) c.in_ok-erase.ensures (c.in_ok-push_erased.ensures rest)
+    copies_put c.args.self.now c.push_erased.new.self (node_in forest (place_of_number forest c.args.node.number)) c.in-Some.copy rest (sym c.in-Some.is ∙ c.in_ok-copy.ensures forest (extends_itself forest)) (c.in_ok-push_erased.ensures rest)

@@ -3,9 +3,9 @@ use Rattle.gx_nodes.specs.Entries.{count_in}
 use Rattle.gx_store.proofs.StoreLemmas.{not_there, found_later, not_found_later}
 use Rattle.gx_store.proofs.store.Store.to_tree.Goals as goal
 
-pub returns-in_ok-tree_of : goal.returns-in_ok-tree_of
-returns-in_ok-tree_of c later x =
-    ap (λ t. Some t) c.in_ok-tree_of.ensures ∙ sym (found_later c.args.self.now later c.args.node.number (c.has.ensures.0 c.if-has.true) x)
+pub returns-in_ok-copy : goal.returns-in_ok-copy
+returns-in_ok-copy c later x =
+    ap (λ t. Some t) c.in_ok-copy.ensures ∙ sym (found_later c.args.self.now later c.args.node.number (c.has.ensures.0 c.if-has.true) x)
 
 pub returns-else-has : goal.returns-else-has
 returns-else-has c later x =
