@@ -2,3 +2,4 @@ pub mod Words
 pub mod UntypedTexts
 pub mod DocumentTrees
 pub mod ReadLemmas
+pub mod Roots

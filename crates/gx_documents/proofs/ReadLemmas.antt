@@ -238,6 +238,10 @@ pub either_outcome : {A E : Type 0} (r : Result A E) (P R : A → Type 0) (Q S :
 either_outcome (Ok a) P R Q S f g h = f a h
 either_outcome (Err e) P R Q S f g h = g e h
 
+pub of_either : {A E : Type 0} (r : Result A E) (P : Result A E → Type 0) → MatchResult r (λ a. P (Ok a)) (λ e. P (Err e)) → P r
+of_either (Ok a) P h = h
+of_either (Err e) P h = h
+
 -- lists of what is made twice
 pub map_twice : {A B C : Type 0} (f : B → C) (g : A → B) (xs : List A) → map (λ x. f (g x)) xs ≡ map f (map g xs)
 map_twice f g [] = refl

@@ -1,7 +1,9 @@
 // The documents in the files of a library.
 
-ghost use Rattle.std.specs.Prelude.{◌≡◌, ◌≤◌, ◌++◌, ◌∷◌, [], Ok, Err, length, map, IfOk, IfErr, IsSome, MatchResult, OnOk};
+ghost use Rattle.std.specs.Prelude.{◌≡◌, ◌<◌, ◌≤◌, ◌++◌, ◌∷◌, [], Ok, Err, length, map, All, IfOk, IfErr, IsSome, MatchResult, OnOk};
 ghost use Rattle.gx_io.specs.Faults.{Rose};
+ghost use Rattle.gx_nodes.specs.Entries.{count_in};
+ghost use Rattle.gx_store.specs.Places.{node_places};
 ghost use Rattle.gx_types.specs.SchemaInvariant.{HoldsOfEach};
 ghost use Rattle.gx_types.specs.SchemaSet.{global_type};
 ghost use Rattle.gx_validate.specs.Outcome.{validated};
@@ -18,8 +20,8 @@ use gx_base::name::Name;
 use gx_base::place::Place;
 use gx_base::text::Text;
 use gx_io::{Library, LoadError};
-use gx_model::forest::Forest;
-use gx_model::node::Node;
+use gx_store::number::NodeId;
+use gx_store::store::Store;
 use gx_tree::tree::Tree;
 use gx_types::schemas::Schemas;
 use gx_validate::invalid::{Invalid, InvalidRule};
@@ -82,23 +84,20 @@ impl From<AllocError> for TreeError {
 }
 
 /// Reads the documents in files, in order, up to the first that holds none or is not valid (XQuery 1.0, section 2.2.1; XML Schema 1.0
-/// part 1, section 3.3.4), each to its tree in the form that is asked for. Each file is loaded once, and none after one of which nothing
-/// is kept.
+/// part 1, section 3.3.4), and puts the tree of each into a store, in the form that is asked for. Each file is loaded once, and none
+/// after one of which nothing is kept.
 pub fn read_documents<'a, L: Library>(
     alloc: Global,
     schemas: &Schemas,
     requests: &[DocumentRequest<'a>],
     library: &mut L,
-) -> Result<Forest, DocumentsError>
+) -> Result<Store, DocumentsError>
     requires { AreGlobal schemas.now (all_asked requests.now) }
     ensures reads { ReadDocuments (library_use L.files L.faults L.was_loaded library.old library.new) schemas.entry.now (all_asked requests.entry.now) result }
     ensures told { L.files library.new ≡ L.files library.old }
     ensures counted { L.faults library.old ≤ L.faults library.new }
 {
-    match read_all(alloc, &Trees { schemas }, requests, library) {
-        Ok(trees) => Ok(Forest { trees }),
-        Err(error) => Err(error),
-    }
+    read_all(alloc, &Trees { schemas }, requests, library)
 }
 
 /// Reads the documents in files, in order, up to the first that holds none, as they are written. Each file is loaded once, and
@@ -124,13 +123,24 @@ pub(crate) trait Kept {
 
     type Form: Drop;
 
-    ghost use Rattle.std.specs.Prelude.{◌≡◌};
+    // All that is kept so far, one behind another.
+    type All: Drop;
+
+    ghost use Rattle.std.specs.Prelude.{◌≡◌, List, [], ◌∷◌, ◌++◌, OnOk};
     ghost use Rattle.gx_documents.specs.Documents.{Request};
     ghost use Rattle.gx_documents.specs.Reading.{IsInvalidSo};
 
     ghost asks: { Self → Self.Wanted → Request Self.Form };
 
     ghost can_ask: { Self → Self.Wanted → Type 0 };
+
+    ghost in_order: { Self.All → List Self.Form };
+
+    fn nothing(&self, alloc: Global) -> Self::All
+        ensures { in_order result ≡ [] };
+
+    fn add(&self, all: &mut Self::All, form: Self::Form) -> Result<(), AllocError>
+        ensures { OnOk result (in_order all.new ≡ in_order all.old ++ form ∷ []) };
 
     fn file<'r>(&self, request: &'r Self::Wanted) -> &'r str
         ensures { result.now ≡ (asks self.now request.entry.now).file };
@@ -156,12 +166,26 @@ impl<'s> Kept for Trees<'s> {
 
     type Form = Tree;
 
+    type All = Store;
+
     ghost use Rattle.gx_documents.specs.Documents.{IsGlobal, tree_request};
     ghost use Rattle.gx_documents.specs.Requests.{asked_by};
 
     ghost asks = { λ trees request. tree_request trees.schemas.now (asked_by request) };
 
     ghost can_ask = { λ trees request. IsGlobal trees.schemas.now (asked_by request) };
+
+    ghost in_order = { λ forest. forest };
+
+    fn nothing(&self, alloc: Global) -> Store {
+        Store::new(alloc)
+    }
+
+    // The store keeps rows of the tree, which goes at once.
+    fn add(&self, all: &mut Store, form: Tree) -> Result<(), AllocError> {
+        all.load(&form)?;
+        Ok(())
+    }
 
     fn file<'r>(&self, request: &'r DocumentRequest<'s>) -> &'r str {
         request.file
@@ -188,12 +212,24 @@ impl Kept for Sources {
 
     type Form = Source;
 
+    type All = Vec<Source>;
+
     ghost use Rattle.std.specs.String.{string_bytes};
     ghost use Rattle.gx_documents.specs.Documents.{source_request};
 
     ghost asks = { λ _ file. source_request (string_bytes file) };
 
     ghost can_ask = { λ _ _. Unit {0} };
+
+    ghost in_order = { λ all. all.items };
+
+    fn nothing(&self, alloc: Global) -> Vec<Source> {
+        Vec::new(alloc)
+    }
+
+    fn add(&self, all: &mut Vec<Source>, form: Source) -> Result<(), AllocError> {
+        Ok(all.push(form)?)
+    }
 
     fn file<'r>(&self, request: &'r String) -> &'r str {
         request.as_str()
@@ -228,15 +264,15 @@ fn read_all<K: Kept, L: Library>(
     form: &K,
     requests: &[K::Wanted],
     library: &mut L,
-) -> Result<Vec<K::Form>, DocumentsError>
+) -> Result<K::All, DocumentsError>
     requires { HoldsOfEach (K.can_ask form.now) requests.now }
     ensures reads { MatchResult result
-        (λ all. ReadsFrom (L.files library.old) L.was_loaded L.faults (map (K.asks form.now) requests.now) [] (Ok all.items) library.old library.new)
+        (λ all. ReadsFrom (L.files library.old) L.was_loaded L.faults (map (K.asks form.now) requests.now) [] (Ok (K.in_order all)) library.old library.new)
         (λ error. ReadsFrom (L.files library.old) L.was_loaded L.faults (map (K.asks form.now) requests.now) [] (Err error) library.old library.new) }
     ensures told { L.files library.new ≡ L.files library.old }
     ensures counted { L.faults library.old ≤ L.faults library.new }
 {
-    let mut all = Vec::new(alloc);
+    let mut all = form.nothing(alloc);
     let mut left = requests;
     while let Some((request, others)) = left.split_first() {
         read_next(alloc, form, request, &mut all, library)?;
@@ -245,17 +281,17 @@ fn read_all<K: Kept, L: Library>(
     Ok(all)
 }
 
-/// The document nodes of the trees of a forest, in order.
-pub fn document_nodes(alloc: Global, forest: &Forest) -> Result<Vec<Node>, AllocError>
-    ensures { IfOk result (λ nodes. nodes.items ≡ document_nodes forest.now) }
+/// The document nodes of the trees of a store, in order: those of its nodes that have no parent.
+pub fn document_nodes(alloc: Global, store: &Store) -> Result<Vec<NodeId>, AllocError>
+    ensures there { IfOk result (λ nodes. All (λ m. m.number < count_in store.now) nodes.items) }
+    ensures nodes { IfOk result (λ nodes. node_places store.now nodes.items ≡ document_nodes store.now) }
 {
-    let mut nodes = Vec::with_capacity(alloc, forest.trees.len())?;
-    let mut number = 0;
-    let mut left = forest.trees.as_slice();
-    while let Some((_, others)) = left.split_first() {
-        nodes.push(Node::root(alloc, number)?)?;
-        number += 1;
-        left = others;
+    let mut nodes = Vec::new(alloc);
+    for number in 0..store.count() {
+        let node = NodeId { number };
+        if store.parent(node).is_none() {
+            nodes.push(node)?;
+        }
     }
     Ok(nodes)
 }
@@ -265,18 +301,18 @@ fn read_next<K: Kept, L: Library>(
     alloc: Global,
     form: &K,
     request: &K::Wanted,
-    all: &mut Vec<K::Form>,
+    all: &mut K::All,
     library: &mut L,
 ) -> Result<(), DocumentsError>
     requires { K.can_ask form.now request.now }
     ensures loaded { L.was_loaded library.old (K.asks form.now request.now).file library.new }
     ensures told { L.files library.new ≡ L.files library.old }
     ensures counted { L.faults library.old ≤ L.faults library.new }
-    ensures next { OnOk result ((next : K.Form) × WasRead (L.files library.old) (K.asks form.now request.now) next × (all.new.items ≡ all.old.items ++ next ∷ [])) }
+    ensures next { OnOk result ((next : K.Form) × WasRead (L.files library.old) (K.asks form.now request.now) next × (K.in_order all.new ≡ K.in_order all.old ++ next ∷ [])) }
     ensures ends { IfErr result (EndsAt (L.files library.old) (K.asks form.now request.now) (Rose (L.faults library.old) (L.faults library.new))) }
 {
     match document(alloc, form, request, library) {
-        Ok(kept) => match all.push(kept) {
+        Ok(kept) => match form.add(all, kept) {
             Ok(()) => Ok(()),
             Err(_) => Err(DocumentsError::Memory),
         },

@@ -1,3 +1,4 @@
+pub mod LaterItems
 pub mod Operands
 pub mod NodeOperators
 pub mod Resuming

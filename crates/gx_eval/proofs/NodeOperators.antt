@@ -1,5 +1,5 @@
 -- Operators over nodes.
-use Rattle.std.proofs.Common.{◌≡◌, ℕ, Bool, true, false, if◌then◌else◌, List, [], ◌∷◌, ◌++◌, map, take, drop, append_assoc, Option, None, Some, refl, sym, ◌∙◌, ap}
+use Rattle.std.proofs.Common.{◌≡◌, ℕ, Bool, true, false, if◌then◌else◌, List, [], ◌∷◌, ◌++◌, map, take, drop, append_assoc, Option, None, Some, refl, sym, ◌∙◌, ap, subst}
 use Rattle.std.specs.List.{list_all, list_any}
 use Rattle.std.specs.Option.{option_map}
 use Rattle.std.proofs.lemmas.List.{take-append-drop}
@@ -16,6 +16,9 @@ use Rattle.gx_core.specs.declared.operator.Operator.TheVariants as operators
 use Rattle.gx_core.specs.Outcome.{Outcome, gives, wrong, after, given}
 use Rattle.gx_core.specs.Meaning.{Context, Bindings, Denotation, acts, denoted}
 use Rattle.gx_core.specs.Paths.{is_node, places_of, put_in_order, stepped}
+use Rattle.gx_eval.specs.declared.failure.Failure.{Failure}
+use Rattle.gx_eval.specs.declared.failure.Failure.TheVariants.{Raised, Wrong, Memory}
+use Rattle.gx_eval.specs.Failing.{FailsSo}
 use Rattle.gx_eval.specs.OneItem.{only_node}
 use Rattle.gx_eval.specs.Resume.{changed}
 
@@ -63,6 +66,18 @@ one_more_typed s forest x typed now rest e =
     ap (λ (v : Items). joined_values (Some v) (atomized s forest rest)) found.2
     ∙ sym (joined_grouped typed found.0 (atomized s forest rest))
     ∙ ap (λ (o : Option Items). joined_values (Some typed) (joined_values o (atomized s forest rest))) (sym found.1)
+
+-- where an item has no typed values
+pub one_fails : (s : SchemaSet) (forest : Forest) (x : Item) (typed rest : Items) (all : Option Items) (e : Failure) → joined_values (Some typed) (atomized s forest (x ∷ rest)) ≡ all
+    → FailsSo e (given (values_of_item s forest x) (λ values. gives values forest)) → FailsSo e (given all (λ values. gives values forest))
+one_fails s forest x typed rest all e same h =
+    subst (λ (o : Option Items). FailsSo e (given o (λ values. gives values forest))) same (before (values_of_item s forest x) e h)
+  where
+    before : (found : Option Items) (f : Failure) → FailsSo f (given found (λ values. gives values forest)) → FailsSo f (given (joined_values (Some typed) (joined_values found (atomized s forest rest))) (λ values. gives values forest))
+    before None f g = g
+    before (Some values) (Raised code) g = absurd (cc)
+    before (Some values) Wrong g = absurd (cc)
+    before (Some values) Memory g = tt
 
 -- atomic values at hand are their own typed values
 pub data_at_hand : (k : Context) (forest : Forest) (operand : Denotation) (xs : Items) (bindings : Bindings) → operand bindings forest ≡ gives xs forest → list_any is_node xs ≡ false

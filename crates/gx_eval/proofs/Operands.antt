@@ -14,7 +14,7 @@ use Rattle.gx_atomic.specs.Cast.{Casts, code_of}
 use Rattle.gx_atomic.specs.Comparison.{Decision, general_comparison}
 use Rattle.gx_atomic.proofs.PublicLaws.{empty_lists_compare_false}
 use Rattle.gx_funcs.specs.declared.function.Function.TheVariants as functions
-use Rattle.gx_funcs.specs.Function.{string_of_items, effective_boolean, one_answer, truth_atom}
+use Rattle.gx_funcs.specs.Function.{string_of_items, effective_boolean, one_answer, string_atom, truth_atom}
 use Rattle.gx_model.specs.Forest.{Forest, PlainNode}
 use Rattle.gx_model.specs.Item.{Item, atom, node, Items, atoms}
 use Rattle.gx_core.specs.Outcome.{Outcome, gives, wrong, given}
@@ -176,6 +176,14 @@ contrary_called forest xs truth a e f =
 
 pub no_contrary : (forest : Forest) (xs : Items) → effective_boolean (views_of forest xs) ≡ None → called functions.Not (xs ∷ []) forest ≡ wrong
 no_contrary forest xs e = ap (λ (o : Option Bool). given (option_map (λ t. one_answer (truth_atom (not t))) o) (λ answer. answered answer forest)) e
+
+-- what `string` answers
+pub string_called : (forest : Forest) (xs : Items) (text : List ℕ) (a : Atomic) → string_of_items (views_of forest xs) ≡ Some text → a ≡ string_atom text → called functions.String (xs ∷ []) forest ≡ gives (atom a ∷ []) forest
+string_called forest xs text a e f =
+    ap (λ (o : Option (List ℕ)). given (option_map (λ t. one_answer (string_atom t)) o) (λ answer. answered answer forest)) e ∙ ap (λ (b : Atomic). gives (atom b ∷ []) forest) (sym f)
+
+pub no_string : (forest : Forest) (xs : Items) → string_of_items (views_of forest xs) ≡ None → called functions.String (xs ∷ []) forest ≡ wrong
+no_string forest xs e = ap (λ (o : Option (List ℕ)). given (option_map (λ t. one_answer (string_atom t)) o) (λ answer. answered answer forest)) e
 
 -- atomic values among items
 after_atoms : (xs : List Atomic) (ys : Items) → atoms_among (atoms xs ++ ys) ≡ option_map (λ zs. xs ++ zs) (atoms_among ys)

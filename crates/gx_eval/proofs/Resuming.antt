@@ -18,11 +18,9 @@ use Rattle.gx_core.specs.Comparing.{condition_of}
 use Rattle.gx_core.specs.Calling.{views_of, answered, called}
 use Rattle.gx_core.specs.Soundness.{TypedExpression}
 use Rattle.gx_core.specs.Expression.{all_parts}
-use Rattle.gx_core.specs.Bindings.{look_up}
 use Rattle.gx_core.specs.Meaning.{Context, Bindings, Denotation, binary_meaning, acts, all_of, branch, denoted, for_each, meaning, meanings}
 use Rattle.gx_eval.specs.declared.failure.Failure.{Failure}
 use Rattle.gx_eval.specs.declared.failure.Failure.TheVariants.{Raised, Wrong, Memory}
-use Rattle.gx_eval.specs.declared.bound.Bound.{Bound}
 use Rattle.gx_eval.specs.declared.change.Change.{Change}
 use Rattle.gx_eval.specs.declared.change.Change.TheVariants as changes
 use Rattle.gx_eval.specs.declared.single.Single.{Single}
@@ -30,9 +28,8 @@ use Rattle.gx_eval.specs.declared.single.Single.TheVariants as singles
 use Rattle.gx_eval.specs.declared.evaluation.Pending.{Pending}
 use Rattle.gx_eval.specs.declared.evaluation.Pending.TheVariants.{Change as Altering, Single as Operate, Binary, Call}
 use Rattle.gx_eval.specs.Failing.{FailsSo}
-use Rattle.gx_eval.specs.BoundItems.{bound_items}
 use Rattle.gx_eval.specs.Operators.{single_operator, changing_operator}
-use Rattle.gx_eval.specs.Resume.{Stacks, with_marks, with_sources, items_of, operated, changed, right_meaning, between_marks, in_order, turn, resume}
+use Rattle.gx_eval.specs.Resume.{Stacks, with_marks, with_sources, operated, changed, right_meaning, between_marks, in_order, turn, resume}
 
 -- what is left to do behind these values
 abbrev pub Rest : Type 0
@@ -154,11 +151,12 @@ one_operand k operator values next (gives xs f) =
 one_operand k operator values next (raises code) = refl
 one_operand k operator values next wrong = refl
 
-pub single_opens : (k : Context) (forest : Forest) (operator : Single) (operand : Denotation) (work : List Pending) (values : Items) (stacks : Stacks) (bindings : Bindings)
-    → after (operand bindings forest) (λ xs f. resume k (Operate operator (length values) ∷ work) (values ++ xs) stacks bindings f)
+pub single_opens : (k : Context) (forest : Forest) (operator : Single) (operand : Denotation) (work : List Pending) (values : Items) (first : ℕ) (stacks : Stacks) (bindings : Bindings) → first ≡ length values
+    → after (operand bindings forest) (λ xs f. resume k (Operate operator first ∷ work) (values ++ xs) stacks bindings f)
     ≡ after (denoted k (single_operator operator) (operand ∷ []) bindings forest) (λ more left. resume k work (values ++ more) stacks bindings left)
-single_opens k forest operator operand work values stacks bindings =
-    one_operand k (single_operator operator) values (λ vs left. resume k work vs stacks bindings left) (operand bindings forest)
+single_opens k forest operator operand work values first stacks bindings h =
+    ap (λ (n : ℕ). after (operand bindings forest) (λ xs f. resume k (Operate operator n ∷ work) (values ++ xs) stacks bindings f)) h
+    ∙ one_operand k (single_operator operator) values (λ vs left. resume k work vs stacks bindings left) (operand bindings forest)
     ∙ ap (λ (o : Outcome Items). after o (λ more left. resume k work (values ++ more) stacks bindings left)) (sym (single_denoted k operator operand bindings forest))
 
 change_denoted : (k : Context) (operator : Change) (operand : Denotation) (bindings : Bindings) (forest : Forest)
@@ -167,18 +165,21 @@ change_denoted k changes.Data operand bindings forest = refl
 change_denoted k changes.Nodes operand bindings forest = refl
 change_denoted k changes.Order operand bindings forest = refl
 
-pub change_opens : (k : Context) (forest : Forest) (operator : Change) (operand : Denotation) (work : List Pending) (values : Items) (stacks : Stacks) (bindings : Bindings)
-    → after (operand bindings forest) (λ xs f. resume k (Altering operator (length values) ∷ work) (values ++ xs) stacks bindings f)
+pub change_opens : (k : Context) (forest : Forest) (operator : Change) (operand : Denotation) (work : List Pending) (values : Items) (first : ℕ) (stacks : Stacks) (bindings : Bindings) → first ≡ length values
+    → after (operand bindings forest) (λ xs f. resume k (Altering operator first ∷ work) (values ++ xs) stacks bindings f)
     ≡ after (denoted k (changing_operator operator) (operand ∷ []) bindings forest) (λ more left. resume k work (values ++ more) stacks bindings left)
-change_opens k forest operator operand work values stacks bindings =
-    one_operand k (changing_operator operator) values (λ vs left. resume k work vs stacks bindings left) (operand bindings forest)
+change_opens k forest operator operand work values first stacks bindings h =
+    ap (λ (n : ℕ). after (operand bindings forest) (λ xs f. resume k (Altering operator n ∷ work) (values ++ xs) stacks bindings f)) h
+    ∙ one_operand k (changing_operator operator) values (λ vs left. resume k work vs stacks bindings left) (operand bindings forest)
     ∙ ap (λ (o : Outcome Items). after o (λ more left. resume k work (values ++ more) stacks bindings left)) (sym (change_denoted k operator operand bindings forest))
 
 -- the right operand behind the left one
-pub right_opens : (k : Context) (forest : Forest) (operator : BinaryOp) (right : TypedExpression) (work : List Pending) (values : Items) (first : ℕ) (stacks : Stacks) (bindings : Bindings)
-    → after (meaning k right bindings forest) (λ ys f. resume k (Binary operator first (length values) ∷ work) (values ++ ys) stacks bindings f)
+pub right_opens : (k : Context) (forest : Forest) (operator : BinaryOp) (right : TypedExpression) (work : List Pending) (values : Items) (first second : ℕ) (stacks : Stacks) (bindings : Bindings) → second ≡ length values
+    → after (meaning k right bindings forest) (λ ys f. resume k (Binary operator first second ∷ work) (values ++ ys) stacks bindings f)
     ≡ after (meaning k right bindings forest) (λ ys left. operated k (operators.Binary operator) (drop first values ∷ ys ∷ []) (take first values) left (λ vs last. resume k work vs stacks bindings last))
-right_opens k forest operator right work values first stacks bindings = opened (meaning k right bindings forest)
+right_opens k forest operator right work values first second stacks bindings h =
+    ap (λ (n : ℕ). after (meaning k right bindings forest) (λ ys f. resume k (Binary operator first n ∷ work) (values ++ ys) stacks bindings f)) h
+    ∙ opened (meaning k right bindings forest)
   where
     opened : (o : Outcome Items)
         → after o (λ ys f. resume k (Binary operator first (length values) ∷ work) (values ++ ys) stacks bindings f)
@@ -209,6 +210,15 @@ binary_opens k forest operator left right values bindings next = opened (left bi
     opened (gives xs f) = binary_second k operator values xs next (right bindings f)
     opened (raises code) = refl
     opened wrong = refl
+
+pub binary_opens_at : (k : Context) (forest : Forest) (operator : BinaryOp) (left right : Denotation) (work : List Pending) (values : Items) (first : ℕ) (stacks : Stacks) (bindings : Bindings) → first ≡ length values
+    → after (left bindings forest) (λ xs f. after (right bindings f)
+    (λ ys g. operated k (operators.Binary operator) (drop first (values ++ xs) ∷ ys ∷ []) (take first (values ++ xs)) g (λ vs last. resume k work vs stacks bindings last)))
+    ≡ after (denoted k (operators.Binary operator) (left ∷ right ∷ []) bindings forest) (λ more left. resume k work (values ++ more) stacks bindings left)
+binary_opens_at k forest operator left right work values first stacks bindings h =
+    ap (λ (n : ℕ). after (left bindings forest) (λ xs f. after (right bindings f)
+    (λ ys g. operated k (operators.Binary operator) (drop n (values ++ xs) ∷ ys ∷ []) (take n (values ++ xs)) g (λ vs last. resume k work vs stacks bindings last)))) h
+    ∙ binary_opens k forest operator left right values bindings (λ vs last. resume k work vs stacks bindings last)
 
 -- ---- calls of no argument, and of more than one
 
@@ -344,6 +354,15 @@ conditional_opens k forest condition yes' no' work values stacks bindings = open
     opened (raises code) = refl
     opened wrong = refl
 
+pub conditional_opens_at : (k : Context) (forest : Forest) (condition yes' no' : Denotation) (work : List Pending) (values : Items) (first : ℕ) (stacks : Stacks) (bindings : Bindings) → first ≡ length values
+    → after (condition bindings forest) (λ xs f. given (condition_of (drop first (values ++ xs)))
+    (λ truth. after (branch truth yes' no' bindings f) (λ more left. resume k work (take first (values ++ xs) ++ more) stacks bindings left)))
+    ≡ after (denoted k operators.If (condition ∷ yes' ∷ no' ∷ []) bindings forest) (λ more left. resume k work (values ++ more) stacks bindings left)
+conditional_opens_at k forest condition yes' no' work values first stacks bindings h =
+    ap (λ (n : ℕ). after (condition bindings forest) (λ xs f. given (condition_of (drop n (values ++ xs)))
+    (λ truth. after (branch truth yes' no' bindings f) (λ more left. resume k work (take n (values ++ xs) ++ more) stacks bindings left)))) h
+    ∙ conditional_opens k forest condition yes' no' work values stacks bindings
+
 -- the branch that a value chooses
 pub chosen_is : (k : Context) (forest : Forest) (yes' no' : Denotation) (work : List Pending) (values : Items) (first : ℕ) (stacks : Stacks) (bindings : Bindings) (truth : Bool)
     → condition_of (drop first values) ≡ Some truth
@@ -390,6 +409,13 @@ let_opens k forest variable value body work values stacks bindings = opened (val
         ∙ ap (λ (v : Items). after (body ((variable, xs) ∷ bindings) f) (λ more left. resume k work (v ++ more) stacks bindings left)) (take-append_seam values xs)
     opened (raises code) = refl
     opened wrong = refl
+
+pub let_opens_at : (k : Context) (forest : Forest) (variable : ℕ) (value body : Denotation) (work : List Pending) (values : Items) (first : ℕ) (stacks : Stacks) (bindings : Bindings) → first ≡ length values
+    → after (value bindings forest) (λ xs f. after (body ((variable, drop first (values ++ xs)) ∷ bindings) f) (λ more left. resume k work (take first (values ++ xs) ++ more) stacks bindings left))
+    ≡ after (after (value bindings forest) (λ xs f. body ((variable, xs) ∷ bindings) f)) (λ more left. resume k work (values ++ more) stacks bindings left)
+let_opens_at k forest variable value body work values first stacks bindings h =
+    ap (λ (n : ℕ). after (value bindings forest) (λ xs f. after (body ((variable, drop n (values ++ xs)) ∷ bindings) f) (λ more left. resume k work (take n (values ++ xs) ++ more) stacks bindings left))) h
+    ∙ let_opens k forest variable value body work values stacks bindings
 
 -- ---- a `for`
 
@@ -444,23 +470,25 @@ gathered k forest variable body work values first stacks bindings =
     (drop-append_seam stacks.sources (drop first values))
     ∙ ap (λ (v : Items). after (for_each (turn body variable bindings) (take first values) (drop first values) forest) (λ vs left. resume k work vs (with_sources stacks v) bindings left)) (take-append_seam stacks.sources (drop first values))
 
+pub gathered_at : (k : Context) (forest : Forest) (variable : ℕ) (body : Denotation) (work : List Pending) (values front sources : Items) (first start : ℕ) (stacks : Stacks) (bindings : Bindings)
+    → front ≡ take first values → sources ≡ stacks.sources ++ drop first values → start ≡ length stacks.sources
+    → after (for_each (turn body variable bindings) front (drop start sources) forest) (λ vs left. resume k work vs (with_sources stacks (take start sources)) bindings left)
+    ≡ after (for_each (turn body variable bindings) (take first values) (drop first values) forest) (λ vs left. resume k work vs stacks bindings left)
+gathered_at k forest variable body work values front sources first start stacks bindings e f h =
+    ap (λ (v : Items). after (for_each (turn body variable bindings) v (drop start sources) forest) (λ vs left. resume k work vs (with_sources stacks (take start sources)) bindings left)) e
+    ∙ ap (λ (s : Items). after (for_each (turn body variable bindings) (take first values) (drop start s) forest) (λ vs left. resume k work vs (with_sources stacks (take start s)) bindings left)) f
+    ∙ ap (λ (n : ℕ). after (for_each (turn body variable bindings) (take first values) (drop n (stacks.sources ++ drop first values)) forest) (λ vs left. resume k work vs (with_sources stacks (take n (stacks.sources ++ drop first values))) bindings left)) h
+    ∙ gathered k forest variable body work values first stacks bindings
+
 -- a turn, and what is left of the loop
-pub one_turn : (k : Context) (forest : Forest) (variable : ℕ) (body : Denotation) (values : Items) (x : Item) (rest : Items) (bindings : Bindings) (next : Rest)
+pub next_turn : (forest : Forest) (variable : ℕ) (body : Denotation) (values : Items) (x : Item) (rest all : Items) (bindings : Bindings) (next : Rest) → all ≡ x ∷ rest
     → after (body ((variable, x ∷ []) ∷ bindings) forest) (λ more left. after (for_each (turn body variable bindings) (values ++ more) rest left) next)
-    ≡ after (for_each (turn body variable bindings) values (x ∷ rest) forest) next
-one_turn k forest variable body values x rest bindings next =
+    ≡ after (for_each (turn body variable bindings) values all forest) next
+next_turn forest variable body values x rest all bindings next e =
     after_after (body ((variable, x ∷ []) ∷ bindings) forest) (λ more left. for_each (turn body variable bindings) (values ++ more) rest left) next
+    ∙ ap (λ (v : Items). after (for_each (turn body variable bindings) values v forest) next) (sym e)
 
 -- ---- variables
 
 pub none_is_bound : (found : Option Items) (forest : Forest) (next : Rest) → found ≡ None → after (given found (λ xs. gives xs forest)) next ≡ wrong
 none_is_bound found forest next e = ap (λ (o : Option Items). after (given o (λ xs. gives xs forest)) next) e
-
--- what is bound to a variable
-pub look_up_items : (bindings : List (ℕ × Bound)) (number : ℕ) → look_up (items_of bindings) number ≡ option_map bound_items (look_up bindings number)
-look_up_items [] number = refl
-look_up_items (b ∷ bindings) number =
-    elim (nat_eq b.0 number) as (λ (same : Bool). (if same then Some (bound_items b.1) else look_up (items_of bindings) number) ≡ option_map bound_items (if same then Some b.1 else look_up bindings number)) [
-      | true ↦ refl
-      | false ↦ look_up_items bindings number
-    ]

@@ -1,16 +1,18 @@
--- What a variable is bound to, and values at hand.
+-- What a variable is bound to, and values at hand, in a forest in which numbers stand for nodes.
 use Rattle.std.specs.Prelude.{[], ◌∷◌}
+use Rattle.gx_model.specs.Forest.{Forest}
 use Rattle.gx_model.specs.Item.{Items}
+use Rattle.gx_store.specs.Items.{item_in, items_in}
 use Rattle.gx_eval.specs.declared.bound.Bound.{Bound}
 use Rattle.gx_eval.specs.declared.bound.Bound.TheVariants.{One, Many}
 use Rattle.gx_eval.specs.declared.hand.AtHand.{AtHand}
 use Rattle.gx_eval.specs.declared.hand.AtHand.TheVariants.{Literal, There}
 
-abbrev pub bound_items : Bound → Items
-bound_items (One item) = item ∷ []
-bound_items (Many items) = items.items
+abbrev pub bound_items : Forest → Bound → Items
+bound_items later (One item) = item_in later item ∷ []
+bound_items later (Many items) = items_in later items.items
 
 -- the items of a value at hand
-abbrev pub hand_items : AtHand → Items
-hand_items (Literal item) = item ∷ []
-hand_items (There items) = items.now
+abbrev pub hand_items : Forest → AtHand → Items
+hand_items later (Literal item) = item_in later item ∷ []
+hand_items later (There items) = items_in later items.now

@@ -12,6 +12,8 @@ use Rattle.gx_core.specs.Comparing.{condition_of}
 use Rattle.gx_core.specs.Outcome.{Outcome, gives, wrong, after, given}
 use Rattle.gx_core.specs.Meaning.{Context, Bindings, Denotation, acts, branch, for_each, meaning}
 use Rattle.gx_core.specs.Soundness.{TypedExpression}
+use Rattle.gx_store.specs.Items.{items_in}
+use Rattle.gx_store.specs.Places.{node_places}
 use Rattle.gx_eval.specs.BoundItems.{bound_items}
 use Rattle.gx_eval.specs.Operators.{single_operator, changing_operator}
 use Rattle.gx_eval.specs.declared.bound.Bound.{Bound}
@@ -23,9 +25,9 @@ use Rattle.gx_eval.specs.declared.evaluation.Evaluation.{Evaluation}
 abbrev pub context_over : SchemaSet → Context
 context_over schemas = record { schemas = schemas }
 
--- the values of each binding
-abbrev pub items_of : List (ℕ × Bound) → Bindings
-items_of = map (λ binding. (binding.0, bound_items binding.1))
+-- the values of each binding, in a forest in which numbers stand for nodes
+abbrev pub items_of : Forest → List (ℕ × Bound) → Bindings
+items_of later = map (λ binding. (binding.0, bound_items later binding.1))
 
 -- what stands beside the values: the marks of operands, the items that loops go over, and the documents that no variable is
 -- bound to as yet
@@ -128,24 +130,28 @@ resume k (Declare variable ∷ work) values stacks bindings forest = resume k wo
 resume k (External variable ∷ work) values stacks bindings forest =
     next_document stacks.documents (λ document rest. resume k work values (with_documents stacks rest) ((variable, node document ∷ []) ∷ bindings) forest)
 
-abbrev pub stacks_of : Evaluation → Stacks
-stacks_of evaluation = record { marks = evaluation.marks; sources = evaluation.sources.items; documents = evaluation.documents.now }
+-- ---- an evaluation in its midst; its numbers stand for nodes of the later forest
 
-abbrev pub outcome_of : Context → Forest → Evaluation → Outcome Items
-outcome_of k forest evaluation = resume k evaluation.work evaluation.values.items (stacks_of evaluation) (items_of evaluation.scope) forest
+abbrev pub stacks_of : (later : Forest) → Evaluation → Stacks
+stacks_of later evaluation =
+    record { marks = evaluation.marks; sources = items_in later evaluation.sources.items; documents = node_places later evaluation.documents.now }
+
+abbrev pub outcome_of : Context → (forest later : Forest) → Evaluation → Outcome Items
+outcome_of k forest later evaluation =
+    resume k evaluation.work (items_in later evaluation.values.items) (stacks_of later evaluation) (items_of later evaluation.scope) forest
 
 -- with one more piece of work that comes first
-abbrev pub outcome_with : Context → Forest → Pending → Evaluation → Outcome Items
-outcome_with k forest pending evaluation =
-    resume k (pending ∷ evaluation.work) evaluation.values.items (stacks_of evaluation) (items_of evaluation.scope) forest
+abbrev pub outcome_with : Context → (forest later : Forest) → Pending → Evaluation → Outcome Items
+outcome_with k forest later pending evaluation =
+    resume k (pending ∷ evaluation.work) (items_in later evaluation.values.items) (stacks_of later evaluation) (items_of later evaluation.scope) forest
 
 -- with a part that comes next, whose value goes behind the values that are there
-abbrev pub outcome_behind : Context → Forest → Outcome Items → Evaluation → Outcome Items
-outcome_behind k forest part evaluation =
-    after part (λ more left. resume k evaluation.work (evaluation.values.items ++ more) (stacks_of evaluation) (items_of evaluation.scope) left)
+abbrev pub outcome_behind : Context → (later : Forest) → Outcome Items → Evaluation → Outcome Items
+outcome_behind k later part evaluation =
+    after part (λ more left. resume k evaluation.work (items_in later evaluation.values.items ++ more) (stacks_of later evaluation) (items_of later evaluation.scope) left)
 
 -- with a part that comes next, and a piece of work behind it
-abbrev pub outcome_then : Context → Forest → TypedExpression → Pending → Evaluation → Outcome Items
-outcome_then k forest part behind evaluation =
-    after (meaning k part (items_of evaluation.scope) forest)
-    (λ more left. resume k (behind ∷ evaluation.work) (evaluation.values.items ++ more) (stacks_of evaluation) (items_of evaluation.scope) left)
+abbrev pub outcome_then : Context → (forest later : Forest) → TypedExpression → Pending → Evaluation → Outcome Items
+outcome_then k forest later part behind evaluation =
+    after (meaning k part (items_of later evaluation.scope) forest)
+    (λ more left. resume k (behind ∷ evaluation.work) (items_in later evaluation.values.items ++ more) (stacks_of later evaluation) (items_of later evaluation.scope) left)

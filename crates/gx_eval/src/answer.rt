@@ -7,18 +7,20 @@ ghost use Rattle.gx_core.specs.Outcome.{gives};
 ghost use Rattle.gx_core.specs.Operands.{on_two};
 ghost use Rattle.gx_core.specs.Meaning.{binary_meaning};
 ghost use Rattle.gx_core.specs.Ranging.{range_of_items, range_between};
+ghost use Rattle.gx_store.specs.Items.{item_in, items_in};
 ghost use Rattle.gx_eval.specs.Answering.{answer_items, AnswerFits, paired_meaning};
 ghost use Rattle.gx_eval.specs.Failing.{FailsSo};
 
 use crate::arithmetic::computed;
 use crate::comparison::{compared, generally_compared};
 use crate::failure::Failure;
+use crate::operand::push_atom;
 use crate::range::{integer_of, put_integers, range_count};
 use gx_atomic::Op;
 use gx_base::code::Code;
 use gx_core::expression::{ArithmeticOp, BinaryClass};
 use gx_facets::Atomic;
-use gx_model::item::{ItemForm, ModelItem};
+use gx_store::item::Item;
 use std::alloc::{AllocError, Global};
 
 // Nothing, one atomic value, or so many integers from the first on.
@@ -41,30 +43,28 @@ enum Paired {
 pub(crate) fn of_two(
     alloc: Global,
     class: BinaryClass,
-    left: &[ModelItem],
-    right: &[ModelItem],
+    left: &[Item],
+    right: &[Item],
 ) -> Result<Answer, Failure>
-    ensures value { (forest : Forest) → IfOk result (λ r. binary_meaning class left.now right.now forest ≡ gives (answer_items r) forest) }
+    ensures value { (forest later : Forest) → IfOk result (λ r. binary_meaning class (items_in later left.now) (items_in later right.now) forest ≡ gives (answer_items r) forest) }
     ensures fits { IfOk result (λ r. AnswerFits r) }
-    ensures failed { (forest : Forest) → IfErr result (λ e. FailsSo e (binary_meaning class left.now right.now forest)) }
+    ensures failed { (forest later : Forest) → IfErr result (λ e. FailsSo e (binary_meaning class (items_in later left.now) (items_in later right.now) forest)) }
 {
     match class {
-        BinaryClass::Arithmetic(operation) => {
-            Ok(on_two(Paired::Arithmetic(operation), left, right)?)
-        }
-        BinaryClass::Value(op) => Ok(on_two(Paired::Value(op), left, right)?),
+        BinaryClass::Arithmetic(operation) => on_two(Paired::Arithmetic(operation), left, right),
+        BinaryClass::Value(op) => on_two(Paired::Value(op), left, right),
         BinaryClass::General(op) => Ok(Answer::One(generally_compared(alloc, op, left, right)?)),
-        BinaryClass::Range => Ok(on_two(Paired::Range, left, right)?),
+        BinaryClass::Range => on_two(Paired::Range, left, right),
     }
 }
 
 // Nothing where an operand is empty.
 #[tactic(auto, using(crate::proofs::Operands::many_on_the_left, crate::proofs::Operands::many_on_the_right))]
-fn on_two(operation: Paired, left: &[ModelItem], right: &[ModelItem]) -> Result<Answer, Failure>
-    ensures value { (forest : Forest) → IfOk result (λ r.
-        on_two left.now right.now forest (paired_meaning operation) ≡ gives (answer_items r) forest) }
+fn on_two(operation: Paired, left: &[Item], right: &[Item]) -> Result<Answer, Failure>
+    ensures value { (forest later : Forest) → IfOk result (λ r.
+        on_two (items_in later left.now) (items_in later right.now) forest (paired_meaning operation) ≡ gives (answer_items r) forest) }
     ensures fits { IfOk result (λ r. AnswerFits r) }
-    ensures failed { (forest : Forest) → IfErr result (λ e. FailsSo e (on_two left.now right.now forest (paired_meaning operation))) }
+    ensures failed { (forest later : Forest) → IfErr result (λ e. FailsSo e (on_two (items_in later left.now) (items_in later right.now) forest (paired_meaning operation))) }
 {
     match left {
         [] => match right {
@@ -82,14 +82,14 @@ fn on_two(operation: Paired, left: &[ModelItem], right: &[ModelItem]) -> Result<
 }
 
 #[tactic(auto, using(crate::proofs::Operands::no_pair_on_the_left, crate::proofs::Operands::no_pair_on_the_right))]
-fn of_pair(operation: Paired, left: &ModelItem, right: &ModelItem) -> Result<Answer, Failure>
-    ensures value { (forest : Forest) → IfOk result (λ r.
-        paired_meaning operation left.now right.now forest ≡ gives (answer_items r) forest) }
+fn of_pair(operation: Paired, left: &Item, right: &Item) -> Result<Answer, Failure>
+    ensures value { (forest later : Forest) → IfOk result (λ r.
+        paired_meaning operation (item_in later left.now) (item_in later right.now) forest ≡ gives (answer_items r) forest) }
     ensures fits { IfOk result (λ r. AnswerFits r) }
-    ensures failed { (forest : Forest) → IfErr result (λ e. FailsSo e (paired_meaning operation left.now right.now forest)) }
+    ensures failed { (forest later : Forest) → IfErr result (λ e. FailsSo e (paired_meaning operation (item_in later left.now) (item_in later right.now) forest)) }
 {
-    match (&left.form, &right.form) {
-        (ItemForm::Atom(left), ItemForm::Atom(right)) => of_atoms(operation, left, right),
+    match (left, right) {
+        (Item::Atom(left), Item::Atom(right)) => of_atoms(operation, left, right),
         _ => Err(Failure::Wrong),
     }
 }
@@ -136,13 +136,13 @@ fn between(first: i128, last: i128) -> Result<Answer, Failure>
 }
 
 // Puts an answer behind the values.
-pub(crate) fn put(answer: Answer, values: &mut Vec<ModelItem>) -> Result<(), AllocError>
+pub(crate) fn put(answer: Answer, values: &mut Vec<Item>) -> Result<(), AllocError>
     requires { AnswerFits answer }
-    ensures { OnOk result (values.new.items ≡ values.old.items ++ answer_items answer) }
+    ensures { (later : Forest) → OnOk result (items_in later values.new.items ≡ items_in later values.old.items ++ answer_items answer) }
 {
     match answer {
         Answer::Nothing => Ok(()),
-        Answer::One(atomic) => Ok(values.push(ModelItem::atom(atomic))?),
+        Answer::One(atomic) => push_atom(atomic, values),
         Answer::Integers(first, count) => put_integers(first, count, values),
     }
 }

@@ -6,6 +6,7 @@ ghost use Rattle.gx_model.specs.Forest.{Forest};
 ghost use Rattle.gx_model.specs.Item.{atom};
 ghost use Rattle.gx_core.specs.Outcome.{gives};
 ghost use Rattle.gx_core.specs.Arithmetic.{computed_of_items, negation_of_item, number_atom, fault_code, result_of};
+ghost use Rattle.gx_store.specs.Items.{item_in};
 ghost use Rattle.gx_eval.specs.Failing.{FailsSo};
 
 use crate::failure::Failure;
@@ -13,8 +14,8 @@ use gx_base::code::Code;
 use gx_base::type_name::{Builtin, TypeName};
 use gx_core::expression::ArithmeticOp;
 use gx_facets::{AtomValue, Atomic};
-use gx_model::item::{ItemForm, ModelItem};
 use gx_num::{NumFault, Number, add, div, idiv, modulo, mul, negate, sub};
+use gx_store::item::Item;
 
 // What an operation makes of two values.
 pub(crate) fn computed(
@@ -35,13 +36,13 @@ pub(crate) fn computed(
 }
 
 // The negation of a value.
-pub(crate) fn negated(operand: &ModelItem) -> Result<Atomic, Failure>
-    ensures value { (forest : Forest) → IfOk result (λ r. negation_of_item operand.now forest ≡ gives (atom r ∷ []) forest) }
-    ensures failed { (forest : Forest) → IfErr result (λ e. FailsSo e (negation_of_item operand.now forest)) }
+pub(crate) fn negated(operand: &Item) -> Result<Atomic, Failure>
+    ensures value { (forest later : Forest) → IfOk result (λ r. negation_of_item (item_in later operand.now) forest ≡ gives (atom r ∷ []) forest) }
+    ensures failed { (forest later : Forest) → IfErr result (λ e. FailsSo e (negation_of_item (item_in later operand.now) forest)) }
 {
-    match &operand.form {
-        ItemForm::Atom(operand) => negated_atom(operand),
-        ItemForm::Node(_) => Err(Failure::Wrong),
+    match operand {
+        Item::Atom(operand) => negated_atom(operand),
+        Item::Node(_) => Err(Failure::Wrong),
     }
 }
 

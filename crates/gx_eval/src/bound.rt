@@ -1,21 +1,23 @@
 // What a variable is bound to.
 
 ghost use Rattle.std.specs.Prelude.{◌≡◌};
+ghost use Rattle.gx_model.specs.Forest.{Forest as PlainForest};
+ghost use Rattle.gx_store.specs.Items.{items_in};
 ghost use Rattle.gx_eval.specs.BoundItems.{bound_items};
 
-use gx_model::item::ModelItem;
+use gx_store::item::Item;
 use std::slice;
 
 // One item, or any number of them. One takes no memory.
 #[derive(Drop)]
 pub(crate) enum Bound {
-    One(ModelItem),
-    Many(Vec<ModelItem>),
+    One(Item),
+    Many(Vec<Item>),
 }
 
 impl Bound {
-    pub(crate) fn as_slice(&self) -> &[ModelItem]
-        ensures { result.now ≡ bound_items self.now }
+    pub(crate) fn as_slice(&self) -> &[Item]
+        ensures { (later : PlainForest) → items_in later result.now ≡ bound_items later self.now }
     {
         match self {
             Bound::One(item) => slice::from_ref(item),

@@ -3,8 +3,10 @@
 ghost use Rattle.std.specs.Prelude.{◌≡◌, ◌∷◌, [], IfOk, IfErr};
 ghost use Rattle.gx_funcs.specs.Function.{effective_boolean as boolean_of_views, string_of_item as string_of_view, string_of_items as string_of_views};
 ghost use Rattle.gx_model.specs.Forest.{Forest as PlainForest};
+ghost use Rattle.gx_model.specs.Growth.{Extends};
 ghost use Rattle.gx_core.specs.Calling.{called, view_of, views_of};
 ghost use Rattle.gx_core.specs.Outcome.{gives};
+ghost use Rattle.gx_store.specs.Items.{item_in, items_in};
 ghost use Rattle.gx_eval.specs.Answering.{answer_items, AnswerFits};
 ghost use Rattle.gx_eval.specs.Failing.{FailsSo};
 
@@ -14,9 +16,8 @@ use gx_atomic::effective_boolean_value;
 use gx_base::text::Text;
 use gx_facets::print_value;
 use gx_funcs::function::{Function, apply_to_none, integer_atom, string_atom, truth_atom};
-use gx_model::forest::Forest;
-use gx_model::item::{ItemForm, ModelItem};
-use gx_model::typed_value::string_value_of;
+use gx_store::item::Item;
+use gx_store::store::Store;
 use std::alloc::{AllocError, Global};
 
 // What a function answers of no argument.
@@ -34,13 +35,13 @@ pub(crate) fn called_with_none(function: Function) -> Result<Answer, Failure>
 // What a function answers of one argument.
 pub(crate) fn called_with_one(
     alloc: Global,
-    forest: &Forest,
+    store: &Store,
     function: Function,
-    argument: &[ModelItem],
+    argument: &[Item],
 ) -> Result<Answer, Failure>
-    ensures value { IfOk result (λ r. called function (argument.now ∷ []) forest.now ≡ gives (answer_items r) forest.now) }
+    ensures value { (later : PlainForest) → Extends store.now later → IfOk result (λ r. called function (items_in later argument.now ∷ []) store.now ≡ gives (answer_items r) store.now) }
     ensures fits { IfOk result (λ r. AnswerFits r) }
-    ensures failed { IfErr result (λ e. FailsSo e (called function (argument.now ∷ []) forest.now)) }
+    ensures failed { (later : PlainForest) → Extends store.now later → IfErr result (λ e. FailsSo e (called function (items_in later argument.now ∷ []) store.now)) }
 {
     match function {
         Function::Boolean => match effective_boolean(argument) {
@@ -54,7 +55,7 @@ pub(crate) fn called_with_one(
         Function::Count => Ok(Answer::One(integer_atom(argument.len() as i128))),
         Function::Empty => Ok(Answer::One(truth_atom(argument.is_empty()))),
         Function::Exists => Ok(Answer::One(truth_atom(!argument.is_empty()))),
-        Function::String => match string_of(alloc, forest, argument)? {
+        Function::String => match string_of(alloc, store, argument)? {
             Some(text) => Ok(Answer::One(string_atom(text))),
             None => Err(Failure::Wrong),
         },
@@ -64,42 +65,36 @@ pub(crate) fn called_with_one(
 
 // The effective boolean value: true where the first item is a node, and of one atomic value its own; there is none of more
 // atomic values (XQuery 1.0, section 2.4.3).
-fn effective_boolean(items: &[ModelItem]) -> Option<bool>
-    ensures { (forest : PlainForest) → result ≡ boolean_of_views (views_of forest items.now) }
+fn effective_boolean(items: &[Item]) -> Option<bool>
+    ensures { (forest later : PlainForest) → result ≡ boolean_of_views (views_of forest (items_in later items.now)) }
 {
     match items.split_first() {
         None => Some(false),
-        Some((first, others)) => match &first.form {
-            ItemForm::Node(_) => Some(true),
-            ItemForm::Atom(value) if others.is_empty() => {
-                Some(effective_boolean_value(&value.value))
-            }
-            ItemForm::Atom(_) => None,
+        Some((first, others)) => match first {
+            Item::Node(_) => Some(true),
+            Item::Atom(value) if others.is_empty() => Some(effective_boolean_value(&value.value)),
+            Item::Atom(_) => None,
         },
     }
 }
 
 // The string value of at most one item.
 #[tactic(auto, using(crate::proofs::Operands::many_have_no_string))]
-fn string_of(
-    alloc: Global,
-    forest: &Forest,
-    items: &[ModelItem],
-) -> Result<Option<Text>, AllocError>
-    ensures { IfOk result (λ text. text ≡ string_of_views (views_of forest.now items.now)) }
+fn string_of(alloc: Global, store: &Store, items: &[Item]) -> Result<Option<Text>, AllocError>
+    ensures { (later : PlainForest) → Extends store.now later → IfOk result (λ text. text ≡ string_of_views (views_of store.now (items_in later items.now))) }
 {
     match items {
         [] => Ok(Some(Text::empty(alloc)?)),
-        [single] => Ok(Some(string_of_item(alloc, forest, single)?)),
+        [single] => Ok(Some(string_of_item(alloc, store, single)?)),
         _ => Ok(None),
     }
 }
 
-fn string_of_item(alloc: Global, forest: &Forest, item: &ModelItem) -> Result<Text, AllocError>
-    ensures { IfOk result (λ text. text ≡ string_of_view (view_of forest.now item.now)) }
+fn string_of_item(alloc: Global, store: &Store, item: &Item) -> Result<Text, AllocError>
+    ensures { (later : PlainForest) → Extends store.now later → IfOk result (λ text. text ≡ string_of_view (view_of store.now (item_in later item.now))) }
 {
-    match &item.form {
-        ItemForm::Atom(value) => print_value(alloc, &value.value),
-        ItemForm::Node(place) => string_value_of(alloc, forest, place),
+    match item {
+        Item::Atom(value) => print_value(alloc, &value.value),
+        Item::Node(node) => store.string_value(*node),
     }
 }

@@ -4,15 +4,18 @@ ghost use Rattle.std.specs.Prelude.{◌≡◌, ◌++◌, ◌∷◌, [], OnOk, If
 ghost use Rattle.gx_core.specs.Outcome.{gives, after};
 ghost use Rattle.gx_core.specs.Meaning.{Context, acts};
 ghost use Rattle.gx_core.specs.declared.operator.Operator.TheVariants as operators;
+ghost use Rattle.gx_model.specs.Forest.{Forest as PlainForest};
+ghost use Rattle.gx_model.specs.Growth.{Extends};
+ghost use Rattle.gx_store.specs.Items.{items_in};
 ghost use Rattle.gx_eval.specs.Failing.{FailsSo};
 ghost use Rattle.gx_eval.specs.Operators.{changing_operator};
 ghost use Rattle.gx_eval.specs.Resume.{changed, context_over};
 
 use crate::failure::Failure;
 use crate::nodes::{append_nodes, atomized, put_in_order};
-use crate::operand::{all_nodes, any_node, cut_at};
-use gx_model::forest::Forest;
-use gx_model::item::ModelItem;
+use crate::operand::{all_nodes, any_node, cut_off, move_behind, values_from};
+use gx_store::item::Item;
+use gx_store::store::Store;
 use gx_types::schemas::Schemas;
 use std::alloc::Global;
 
@@ -28,48 +31,46 @@ pub(crate) enum Change {
 pub(crate) fn change_values(
     alloc: Global,
     schemas: &Schemas,
-    forest: &Forest,
+    store: &Store,
     operator: Change,
     first: usize,
-    values: &mut Vec<ModelItem>,
+    values: &mut Vec<Item>,
 ) -> Result<(), Failure>
-    ensures value { let k = context_over schemas.now in OnOk result (changed k (changing_operator operator) first values.old.items forest.now ≡ gives values.new.items forest.now) }
-    ensures failed { let k = context_over schemas.now in IfErr result (λ e. FailsSo e (acts k (changing_operator operator) (drop first values.old.items ∷ []) forest.now)) }
+    ensures value { (later : PlainForest) → Extends store.now later → OnOk result (changed (context_over schemas.now) (changing_operator operator) first (items_in later values.old.items) store.now ≡ gives (items_in later values.new.items) store.now) }
+    ensures failed { (later : PlainForest) → Extends store.now later → IfErr result (λ e. FailsSo e (acts (context_over schemas.now) (changing_operator operator) (drop first (items_in later values.old.items) ∷ []) store.now)) }
 {
     match operator {
-        Change::Data => atomize(alloc, schemas, forest, first, values),
-        Change::Nodes => check_nodes(forest, first, values),
-        Change::Order => order(alloc, forest, first, values),
+        Change::Data => atomize(alloc, schemas, store, first, values),
+        Change::Nodes => check_nodes(first, values),
+        Change::Order => order(alloc, store, first, values),
     }
 }
 
 // Atomic values stay where they stand.
-#[tactic(auto, using(crate::proofs::NodeOperators::atoms_stay, crate::proofs::NodeOperators::data_changes))]
 fn atomize(
     alloc: Global,
     schemas: &Schemas,
-    forest: &Forest,
+    store: &Store,
     first: usize,
-    values: &mut Vec<ModelItem>,
+    values: &mut Vec<Item>,
 ) -> Result<(), Failure>
-    ensures value { let k = context_over schemas.now in OnOk result (changed k operators.DataOf first values.old.items forest.now ≡ gives values.new.items forest.now) }
-    ensures failed { let k = context_over schemas.now in IfErr result (λ e. FailsSo e (acts k operators.DataOf (drop first values.old.items ∷ []) forest.now)) }
+    ensures value { (later : PlainForest) → Extends store.now later → OnOk result (changed (context_over schemas.now) operators.DataOf first (items_in later values.old.items) store.now ≡ gives (items_in later values.new.items) store.now) }
+    ensures failed { (later : PlainForest) → Extends store.now later → IfErr result (λ e. FailsSo e (acts (context_over schemas.now) operators.DataOf (drop first (items_in later values.old.items) ∷ []) store.now)) }
 {
-    let (_, operand) = cut_at(values.as_slice(), first);
+    let operand = values_from(values, first);
     if !any_node(operand) {
         return Ok(());
     }
-    let mut typed = atomized(alloc, schemas, forest, operand)?;
-    values.truncate(first);
-    Ok(values.append(&mut typed)?)
+    let typed = atomized(alloc, schemas, store, operand)?;
+    cut_off(values, first);
+    Ok(move_behind(typed, values)?)
 }
 
-#[tactic(auto, using(crate::proofs::NodeOperators::nodes_stay, crate::proofs::NodeOperators::others_are_wrong))]
-fn check_nodes(_forest: &Forest, first: usize, values: &mut Vec<ModelItem>) -> Result<(), Failure>
-    ensures value { (k : Context) → OnOk result (changed k operators.Nodes first values.old.items _forest.now ≡ gives values.new.items _forest.now) }
-    ensures failed { (k : Context) → IfErr result (λ e. FailsSo e (acts k operators.Nodes (drop first values.old.items ∷ []) _forest.now)) }
+fn check_nodes(first: usize, values: &mut Vec<Item>) -> Result<(), Failure>
+    ensures value { (k : Context) (forest later : PlainForest) → OnOk result (changed k operators.Nodes first (items_in later values.old.items) forest ≡ gives (items_in later values.new.items) forest) }
+    ensures failed { (k : Context) (forest later : PlainForest) → IfErr result (λ e. FailsSo e (acts k operators.Nodes (drop first (items_in later values.old.items) ∷ []) forest)) }
 {
-    let (_, operand) = cut_at(values.as_slice(), first);
+    let operand = values_from(values, first);
     if all_nodes(operand) {
         Ok(())
     } else {
@@ -77,20 +78,14 @@ fn check_nodes(_forest: &Forest, first: usize, values: &mut Vec<ModelItem>) -> R
     }
 }
 
-#[tactic(auto, using(crate::proofs::NodeOperators::order_changes, crate::proofs::NodeOperators::order_stays))]
-fn order(
-    alloc: Global,
-    forest: &Forest,
-    first: usize,
-    values: &mut Vec<ModelItem>,
-) -> Result<(), Failure>
-    ensures value { (k : Context) → OnOk result (changed k operators.Order first values.old.items forest.now ≡ gives values.new.items forest.now) }
-    ensures failed { (k : Context) → IfErr result (λ e. FailsSo e (acts k operators.Order (drop first values.old.items ∷ []) forest.now)) }
+fn order(alloc: Global, store: &Store, first: usize, values: &mut Vec<Item>) -> Result<(), Failure>
+    ensures value { (k : Context) (later : PlainForest) → Extends store.now later → OnOk result (changed k operators.Order first (items_in later values.old.items) store.now ≡ gives (items_in later values.new.items) store.now) }
+    ensures failed { (k : Context) (later : PlainForest) → Extends store.now later → IfErr result (λ e. FailsSo e (acts k operators.Order (drop first (items_in later values.old.items) ∷ []) store.now)) }
 {
-    let (_, operand) = cut_at(values.as_slice(), first);
-    let Some(nodes) = put_in_order(alloc, forest, operand)? else {
+    let operand = values_from(values, first);
+    let Some(nodes) = put_in_order(alloc, store, operand)? else {
         return Ok(());
     };
-    values.truncate(first);
+    cut_off(values, first);
     Ok(append_nodes(nodes.as_slice(), values)?)
 }

@@ -5,6 +5,7 @@ ghost use Rattle.gx_model.specs.Forest.{Forest};
 ghost use Rattle.gx_model.specs.Item.{atom, atoms};
 ghost use Rattle.gx_core.specs.Outcome.{gives};
 ghost use Rattle.gx_core.specs.Comparing.{compared_items, generally_compared};
+ghost use Rattle.gx_store.specs.Items.{items_in};
 ghost use Rattle.gx_eval.specs.Answering.{failure_of};
 ghost use Rattle.gx_eval.specs.Failing.{FailsSo};
 
@@ -14,7 +15,7 @@ use gx_atomic::{CastError, Op, compare_single, try_compare_any};
 use gx_base::code::Code;
 use gx_facets::Atomic;
 use gx_funcs::function::truth_atom;
-use gx_model::item::ModelItem;
+use gx_store::item::Item;
 use std::alloc::Global;
 use std::slice;
 
@@ -34,11 +35,11 @@ pub(crate) fn compared(op: Op, left: &Atomic, right: &Atomic) -> Result<Atomic, 
 pub(crate) fn generally_compared(
     alloc: Global,
     op: Op,
-    left: &[ModelItem],
-    right: &[ModelItem],
+    left: &[Item],
+    right: &[Item],
 ) -> Result<Atomic, Failure>
-    ensures value { (forest : Forest) → IfOk result (λ r. generally_compared op left.now right.now forest ≡ gives (atom r ∷ []) forest) }
-    ensures failed { (forest : Forest) → IfErr result (λ e. FailsSo e (generally_compared op left.now right.now forest)) }
+    ensures value { (forest later : Forest) → IfOk result (λ r. generally_compared op (items_in later left.now) (items_in later right.now) forest ≡ gives (atom r ∷ []) forest) }
+    ensures failed { (forest later : Forest) → IfErr result (λ e. FailsSo e (generally_compared op (items_in later left.now) (items_in later right.now) forest)) }
 {
     if left.is_empty() || right.is_empty() {
         return Ok(truth_atom(false));
@@ -52,16 +53,11 @@ pub(crate) fn generally_compared(
 }
 
 // A general comparison of operands that are not empty, by copies of their atomic values.
-fn compared_copies(
-    alloc: Global,
-    op: Op,
-    left: &[ModelItem],
-    right: &[ModelItem],
-) -> Result<Atomic, Failure>
+fn compared_copies(alloc: Global, op: Op, left: &[Item], right: &[Item]) -> Result<Atomic, Failure>
     requires left_one { 0 < length left.now }
     requires right_one { 0 < length right.now }
-    ensures value { (forest : Forest) → IfOk result (λ r. generally_compared op left.now right.now forest ≡ gives (atom r ∷ []) forest) }
-    ensures failed { (forest : Forest) → IfErr result (λ e. FailsSo e (generally_compared op left.now right.now forest)) }
+    ensures value { (forest later : Forest) → IfOk result (λ r. generally_compared op (items_in later left.now) (items_in later right.now) forest ≡ gives (atom r ∷ []) forest) }
+    ensures failed { (forest later : Forest) → IfErr result (λ e. FailsSo e (generally_compared op (items_in later left.now) (items_in later right.now) forest)) }
 {
     let Some(left_values) = atoms_among(alloc, left)? else {
         return Err(Failure::Wrong);

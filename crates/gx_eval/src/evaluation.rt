@@ -2,11 +2,14 @@
 
 ghost use Rattle.std.specs.Prelude.{◌≡◌, ◌++◌, ◌+◌, ◌≤◌, ◌∷◌, [], List, length, map, IfOk, OnOk, IfErr, IfSome, take, drop};
 ghost use Rattle.gx_model.specs.Forest.{Forest as PlainForest, PlainNode};
+ghost use Rattle.gx_model.specs.Growth.{Extends};
 ghost use Rattle.gx_core.specs.declared.operator.Operator.TheVariants as operators;
 ghost use Rattle.gx_core.specs.Bindings.{look_up};
 ghost use Rattle.gx_core.specs.Outcome.{gives, after, given};
 ghost use Rattle.gx_core.specs.Meaning.{Context, Bindings, denoted, meaning};
 ghost use Rattle.gx_core.specs.Paths.{stepped as step_meaning};
+ghost use Rattle.gx_store.specs.Items.{items_in};
+ghost use Rattle.gx_store.specs.Places.{node_places};
 ghost use Rattle.gx_eval.specs.Answering.{answer_items, AnswerFits};
 ghost use Rattle.gx_eval.specs.Failing.{FailsSo};
 ghost use Rattle.gx_eval.specs.Operators.{single_operator, changing_operator};
@@ -20,15 +23,18 @@ use crate::change::{Change, change_values};
 use crate::failure::Failure;
 use crate::hand::at_hand;
 use crate::nodes::{append_nodes, stepped};
-use crate::operand::{append_all, condition_of, cut_at, split_at};
+use crate::operand::{
+    append_all, condition_of, count_of, cut_at, cut_off, move_behind, push_atom, split_at,
+    values_from,
+};
 use crate::single::{Single, of_one};
 use gx_base::stack::Stack;
 use gx_core::expression::{BinaryOp, Form, TypedCore, TypedDeclaration, TypedExpr};
 use gx_core::scope::Scope;
 use gx_funcs::function::Function;
-use gx_model::forest::Forest;
-use gx_model::item::ModelItem;
-use gx_model::node::Node;
+use gx_store::item::Item;
+use gx_store::number::NodeId;
+use gx_store::store::Store;
 use gx_types::schemas::Schemas;
 use gx_types::step::{Axis, Test};
 use std::alloc::{AllocError, Global};
@@ -63,10 +69,10 @@ pub(crate) enum Pending<'a> {
 #[derive(Drop)]
 pub(crate) struct Evaluation<'a> {
     pub(crate) work: Stack<Pending<'a>>,
-    pub(crate) values: Vec<ModelItem>,
+    pub(crate) values: Vec<Item>,
     marks: Stack<usize>,
-    sources: Vec<ModelItem>,
-    documents: &'a [Node],
+    sources: Vec<Item>,
+    documents: &'a [NodeId],
     scope: Scope<Bound>,
 }
 
@@ -75,9 +81,9 @@ impl<'a> Evaluation<'a> {
     pub(crate) fn new(
         alloc: Global,
         core: &'a TypedCore,
-        documents: &'a [Node],
+        documents: &'a [NodeId],
     ) -> Result<Evaluation<'a>, AllocError>
-        ensures { (k : Context) (forest : PlainForest) → IfOk result (λ e. outcome_of k forest e ≡ typed_outcome k core.now documents.now forest) }
+        ensures { (k : Context) (forest later : PlainForest) → IfOk result (λ e. outcome_of k forest later e ≡ typed_outcome k core.now (node_places later documents.now) forest) }
     {
         let work = work_of(alloc, core)?;
         Ok(Evaluation {
@@ -95,19 +101,19 @@ impl<'a> Evaluation<'a> {
         &mut self,
         alloc: Global,
         schemas: &Schemas,
-        forest: &Forest,
+        store: &Store,
         pending: Pending<'a>,
     ) -> Result<(), Failure>
-        ensures value { OnOk result (outcome_of (context_over schemas.now) forest.now self.new ≡ outcome_with (context_over schemas.now) forest.now pending.entry self.old) }
-        ensures failed { IfErr result (λ e. FailsSo e (outcome_with (context_over schemas.now) forest.now pending.entry self.old)) }
+        ensures value { (later : PlainForest) → Extends store.now later → OnOk result (outcome_of (context_over schemas.now) store.now later self.new ≡ outcome_with (context_over schemas.now) store.now later pending.entry self.old) }
+        ensures failed { (later : PlainForest) → Extends store.now later → IfErr result (λ e. FailsSo e (outcome_with (context_over schemas.now) store.now later pending.entry self.old)) }
     {
         match pending {
-            Pending::Evaluate(expression) => self.open(alloc, schemas, forest, expression),
+            Pending::Evaluate(expression) => self.open(alloc, schemas, store, expression),
             Pending::Change(operator, first) => {
-                self.apply_change(alloc, schemas, forest, operator, first)
+                self.apply_change(alloc, schemas, store, operator, first)
             },
             Pending::Single(operator, first) => {
-                self.apply_single(alloc, schemas, forest, operator, first)
+                self.apply_single(alloc, schemas, store, operator, first)
             }
             Pending::Right(operator, first, right) => {
                 self.open_right(alloc, operator, first, right)
@@ -116,7 +122,7 @@ impl<'a> Evaluation<'a> {
                 self.apply_binary(alloc, operator, first, second)
             }
             Pending::Choose(first, chosen, otherwise) => self.choose(first, chosen, otherwise),
-            Pending::Mark => Ok(self.marks.push(self.values.len())?),
+            Pending::Mark => Ok(self.marks.push(count_of(&self.values))?),
             Pending::Call(function, more) => self.apply_call(function, more),
             Pending::Gather(variable, first, body) => {
                 Ok(self.gather(alloc, variable, first, body)?)
@@ -139,15 +145,15 @@ impl<'a> Evaluation<'a> {
         &mut self,
         alloc: Global,
         schemas: &Schemas,
-        forest: &Forest,
+        store: &Store,
         expression: &'a TypedExpr,
     ) -> Result<(), Failure>
-        ensures value { OnOk result (outcome_of (context_over schemas.now) forest.now self.new ≡ outcome_with (context_over schemas.now) forest.now (work.Evaluate expression.entry) self.old) }
-        ensures failed { IfErr result (λ e. FailsSo e (outcome_with (context_over schemas.now) forest.now (work.Evaluate expression.entry) self.old)) }
+        ensures value { (later : PlainForest) → Extends store.now later → OnOk result (outcome_of (context_over schemas.now) store.now later self.new ≡ outcome_with (context_over schemas.now) store.now later (work.Evaluate expression.entry) self.old) }
+        ensures failed { (later : PlainForest) → Extends store.now later → IfErr result (λ e. FailsSo e (outcome_with (context_over schemas.now) store.now later (work.Evaluate expression.entry) self.old)) }
     {
-        let first = self.values.len();
+        let first = count_of(&self.values);
         match &expression.form {
-            Form::Lit(value) => Ok(self.values.push(ModelItem::atom(value.clone()?))?),
+            Form::Lit(value) => Ok(push_atom(value.clone()?, &mut self.values)?),
             Form::Var(number) => self.append_variable(*number),
             Form::Empty => Ok(()),
             Form::Seq(left, right) => Ok(self.open_part(left, Pending::Evaluate(right))?),
@@ -162,23 +168,23 @@ impl<'a> Evaluation<'a> {
             }
             Form::Cast(operand, kind, allows_empty) => {
                 let cast = Single::Cast(kind, *allows_empty);
-                self.open_single(alloc, schemas, forest, cast, operand)
+                self.open_single(alloc, schemas, store, cast, operand)
             }
             Form::Castable(operand, kind, allows_empty) => {
                 let castable = Single::Castable(kind, *allows_empty);
-                self.open_single(alloc, schemas, forest, castable, operand)
+                self.open_single(alloc, schemas, store, castable, operand)
             }
             Form::Step(axis, test, number) => {
-                self.append_step(alloc, schemas, forest, *axis, test, *number)
+                self.append_step(schemas, store, *axis, test, *number)
             }
             Form::Nodes(operand) => Ok(self.open_change(Change::Nodes, operand)?),
             Form::Order(operand) => Ok(self.open_change(Change::Order, operand)?),
             Form::DataOf(operand) => Ok(self.open_change(Change::Data, operand)?),
             Form::NoContext => Err(Failure::Wrong),
             Form::Call(function, arguments) => {
-                self.open_call(alloc, schemas, forest, *function, arguments.as_slice())
+                self.open_call(alloc, schemas, store, *function, arguments.as_slice())
             }
-            Form::Neg(operand) => { self.open_single(alloc, schemas, forest, Single::Neg, operand) }
+            Form::Neg(operand) => { self.open_single(alloc, schemas, store, Single::Neg, operand) }
             Form::Binary(operator, left, right) => {
                 Ok(self.open_part(left, Pending::Right(*operator, first, right))?)
             }
@@ -187,57 +193,54 @@ impl<'a> Evaluation<'a> {
 
     // A part that is evaluated first, and what is done behind it.
     fn open_part(&mut self, part: &'a TypedExpr, behind: Pending<'a>) -> Result<(), AllocError>
-        ensures { (k : Context) (forest : PlainForest) → OnOk result (outcome_of k forest self.new ≡ outcome_then k forest part.now behind.entry self.old) }
+        ensures { (k : Context) (forest later : PlainForest) → OnOk result (outcome_of k forest later self.new ≡ outcome_then k forest later part.now behind.entry self.old) }
     {
         self.work.push(behind)?;
         self.work.push(Pending::Evaluate(part))
     }
 
     // An operand that is to be changed where it stands.
-    #[tactic(auto, using(crate::proofs::Resuming::change_opens))]
     fn open_change(&mut self, operator: Change, operand: &'a TypedExpr) -> Result<(), AllocError>
-        ensures { (k : Context) (forest : PlainForest) → OnOk result (outcome_of k forest self.new
-            ≡ outcome_behind k forest (denoted k (changing_operator operator) (meaning k operand.now ∷ []) (items_of self.old.scope) forest) self.old) }
+        ensures { (k : Context) (forest later : PlainForest) → OnOk result (outcome_of k forest later self.new
+            ≡ outcome_behind k later (denoted k (changing_operator operator) (meaning k operand.now ∷ []) (items_of later self.old.scope) forest) self.old) }
     {
         self.work
-            .push(Pending::Change(operator, self.values.len()))?;
+            .push(Pending::Change(operator, count_of(&self.values)))?;
         self.work.push(Pending::Evaluate(operand))
     }
 
     // Changes the values from the number on.
-    #[tactic(auto, using(crate::proofs::Resuming::change_applies, crate::proofs::Resuming::change_fails))]
     fn apply_change(
         &mut self,
         alloc: Global,
         schemas: &Schemas,
-        forest: &Forest,
+        store: &Store,
         operator: Change,
         first: usize,
     ) -> Result<(), Failure>
-        ensures value { let k = context_over schemas.now in OnOk result (outcome_of k forest.now self.new ≡ outcome_with k forest.now (work.Change operator first) self.old) }
-        ensures failed { let k = context_over schemas.now in IfErr result (λ e. FailsSo e (outcome_with k forest.now (work.Change operator first) self.old)) }
+        ensures value { let k = context_over schemas.now in (later : PlainForest) → Extends store.now later → OnOk result (outcome_of k store.now later self.new ≡ outcome_with k store.now later (work.Change operator first) self.old) }
+        ensures failed { let k = context_over schemas.now in (later : PlainForest) → Extends store.now later → IfErr result (λ e. FailsSo e (outcome_with k store.now later (work.Change operator first) self.old)) }
     {
-        change_values(alloc, schemas, forest, operator, first, &mut self.values)?;
+        change_values(alloc, schemas, store, operator, first, &mut self.values)?;
         Ok(())
     }
 
     // What an operator makes of its operand, where that is at hand.
-    #[tactic(auto, using(crate::proofs::Resuming::one_at_hand, crate::proofs::Resuming::one_fails_at_hand))]
     fn single_at_hand(
         &self,
         alloc: Global,
         schemas: &Schemas,
-        forest: &Forest,
+        store: &Store,
         operator: Single<'a>,
         operand: &TypedExpr,
     ) -> Result<Option<Answer>, Failure>
-        ensures value { let k = context_over schemas.now in IfOk result (λ found. IfSome found (λ r.
-            denoted k (single_operator operator.entry) (meaning k operand.now ∷ []) (items_of self.now.scope) forest.now ≡ gives (answer_items r) forest.now)) }
+        ensures value { let k = context_over schemas.now in (later : PlainForest) → Extends store.now later → IfOk result (λ found. IfSome found (λ r.
+            denoted k (single_operator operator.entry) (meaning k operand.now ∷ []) (items_of later self.now.scope) store.now ≡ gives (answer_items r) store.now)) }
         ensures fits { IfOk result (λ found. IfSome found AnswerFits) }
-        ensures failed { let k = context_over schemas.now in IfErr result (λ e. FailsSo e (denoted k (single_operator operator.entry) (meaning k operand.now ∷ []) (items_of self.now.scope) forest.now)) }
+        ensures failed { let k = context_over schemas.now in (later : PlainForest) → Extends store.now later → IfErr result (λ e. FailsSo e (denoted k (single_operator operator.entry) (meaning k operand.now ∷ []) (items_of later self.now.scope) store.now)) }
     {
         match at_hand(&self.scope, operand)? {
-            Some(hand) => Ok(Some(of_one(alloc, schemas, forest, operator, hand.as_slice())?)),
+            Some(hand) => Ok(Some(of_one(alloc, schemas, store, operator, hand.as_slice())?)),
             None => Ok(None),
         }
     }
@@ -250,12 +253,12 @@ impl<'a> Evaluation<'a> {
         first: usize,
         right: &TypedExpr,
     ) -> Result<Option<Answer>, Failure>
-        ensures value { (k : Context) (forest : PlainForest) → IfOk result (λ found. IfSome found (λ r.
-            right_meaning k operator first right.now self.now.values.items (items_of self.now.scope) forest ≡ gives (answer_items r) forest)) }
+        ensures value { (k : Context) (forest later : PlainForest) → IfOk result (λ found. IfSome found (λ r.
+            right_meaning k operator first right.now (items_in later self.now.values.items) (items_of later self.now.scope) forest ≡ gives (answer_items r) forest)) }
         ensures fits { IfOk result (λ found. IfSome found AnswerFits) }
-        ensures failed { (k : Context) (forest : PlainForest) → IfErr result (λ e. FailsSo e (right_meaning k operator first right.now self.now.values.items (items_of self.now.scope) forest)) }
+        ensures failed { (k : Context) (forest later : PlainForest) → IfErr result (λ e. FailsSo e (right_meaning k operator first right.now (items_in later self.now.values.items) (items_of later self.now.scope) forest)) }
     {
-        let (_, left) = cut_at(self.values.as_slice(), first);
+        let left = values_from(&self.values, first);
         match at_hand(&self.scope, right)? {
             Some(hand) => Ok(Some(of_two(alloc, operator.class(), left, hand.as_slice())?)),
             None => Ok(None),
@@ -263,30 +266,28 @@ impl<'a> Evaluation<'a> {
     }
 
     // An operator of one operand is applied at once where the operand is at hand.
-    #[tactic(auto, using(crate::proofs::Resuming::single_opens))]
     fn open_single(
         &mut self,
         alloc: Global,
         schemas: &Schemas,
-        forest: &Forest,
+        store: &Store,
         operator: Single<'a>,
         operand: &'a TypedExpr,
     ) -> Result<(), Failure>
-        ensures value { let k = context_over schemas.now in OnOk result (outcome_of k forest.now self.new
-            ≡ outcome_behind k forest.now (denoted k (single_operator operator.entry) (meaning k operand.now ∷ []) (items_of self.old.scope) forest.now) self.old) }
-        ensures failed { let k = context_over schemas.now in IfErr result (λ e. FailsSo e
-            (outcome_behind k forest.now (denoted k (single_operator operator.entry) (meaning k operand.now ∷ []) (items_of self.old.scope) forest.now) self.old)) }
+        ensures value { let k = context_over schemas.now in (later : PlainForest) → Extends store.now later → OnOk result (outcome_of k store.now later self.new
+            ≡ outcome_behind k later (denoted k (single_operator operator.entry) (meaning k operand.now ∷ []) (items_of later self.old.scope) store.now) self.old) }
+        ensures failed { let k = context_over schemas.now in (later : PlainForest) → Extends store.now later → IfErr result (λ e. FailsSo e
+            (outcome_behind k later (denoted k (single_operator operator.entry) (meaning k operand.now ∷ []) (items_of later self.old.scope) store.now) self.old)) }
     {
-        if let Some(answer) = self.single_at_hand(alloc, schemas, forest, operator, operand)? {
+        if let Some(answer) = self.single_at_hand(alloc, schemas, store, operator, operand)? {
             return Ok(put(answer, &mut self.values)?);
         }
-        let first = self.values.len();
+        let first = count_of(&self.values);
         self.work.push(Pending::Single(operator, first))?;
         Ok(self.work.push(Pending::Evaluate(operand))?)
     }
 
     // The operator of a left operand that is there is applied at once where the right one is at hand.
-    #[tactic(auto, using(crate::proofs::Resuming::right_opens))]
     fn open_right(
         &mut self,
         alloc: Global,
@@ -294,45 +295,38 @@ impl<'a> Evaluation<'a> {
         first: usize,
         right: &'a TypedExpr,
     ) -> Result<(), Failure>
-        ensures value { (k : Context) (forest : PlainForest) → OnOk result (outcome_of k forest self.new ≡ outcome_with k forest (work.Right operator first right.entry) self.old) }
-        ensures failed { (k : Context) (forest : PlainForest) → IfErr result (λ e. FailsSo e (outcome_with k forest (work.Right operator first right.entry) self.old)) }
+        ensures value { (k : Context) (forest later : PlainForest) → OnOk result (outcome_of k forest later self.new ≡ outcome_with k forest later (work.Right operator first right.entry) self.old) }
+        ensures failed { (k : Context) (forest later : PlainForest) → IfErr result (λ e. FailsSo e (outcome_with k forest later (work.Right operator first right.entry) self.old)) }
     {
         if let Some(answer) = self.right_at_hand(alloc, operator, first, right)? {
-            self.values.truncate(first);
+            cut_off(&mut self.values, first);
             return Ok(put(answer, &mut self.values)?);
         }
-        let second = self.values.len();
+        let second = count_of(&self.values);
         self.work.push(Pending::Binary(operator, first, second))?;
         Ok(self.work.push(Pending::Evaluate(right))?)
     }
 
     // A call of no argument or of one is applied at once; each of several arguments is marked.
-    #[tactic(auto, using(crate::proofs::Resuming::none_applies))]
     fn open_call(
         &mut self,
         alloc: Global,
         schemas: &Schemas,
-        forest: &Forest,
+        store: &Store,
         function: Function,
         arguments: &'a [TypedExpr],
     ) -> Result<(), Failure>
-        ensures value { let k = context_over schemas.now in OnOk result (outcome_of k forest.now self.new
-            ≡ outcome_behind k forest.now (denoted k (operators.Call function) (map (meaning k) arguments.now) (items_of self.old.scope) forest.now) self.old) }
-        ensures failed { let k = context_over schemas.now in IfErr result (λ e. FailsSo e
-            (outcome_behind k forest.now (denoted k (operators.Call function) (map (meaning k) arguments.now) (items_of self.old.scope) forest.now) self.old)) }
+        ensures value { let k = context_over schemas.now in (later : PlainForest) → Extends store.now later → OnOk result (outcome_of k store.now later self.new
+            ≡ outcome_behind k later (denoted k (operators.Call function) (map (meaning k) arguments.now) (items_of later self.old.scope) store.now) self.old) }
+        ensures failed { let k = context_over schemas.now in (later : PlainForest) → Extends store.now later → IfErr result (λ e. FailsSo e
+            (outcome_behind k later (denoted k (operators.Call function) (map (meaning k) arguments.now) (items_of later self.old.scope) store.now) self.old)) }
     {
         match arguments {
             [] => {
                 let answer = called_with_none(function)?;
                 Ok(put(answer, &mut self.values)?)
             }
-            [argument] => self.open_single(
-                alloc,
-                schemas,
-                forest,
-                Single::Call(function),
-                argument,
-            ),
+            [argument] => self.open_single(alloc, schemas, store, Single::Call(function), argument),
             _ => Ok(self.open_arguments(function, arguments)?),
         }
     }
@@ -343,8 +337,8 @@ impl<'a> Evaluation<'a> {
         arguments: &'a [TypedExpr],
     ) -> Result<(), AllocError>
         requires { 2 ≤ length arguments.now }
-        ensures { (k : Context) (forest : PlainForest) → OnOk result (outcome_of k forest self.new
-            ≡ outcome_behind k forest (denoted k (operators.Call function) (map (meaning k) arguments.now) (items_of self.old.scope) forest) self.old) }
+        ensures { (k : Context) (forest later : PlainForest) → OnOk result (outcome_of k forest later self.new
+            ≡ outcome_behind k later (denoted k (operators.Call function) (map (meaning k) arguments.now) (items_of later self.old.scope) forest) self.old) }
     {
         self.work
             .push(Pending::Call(function, arguments.len() - 2))?;
@@ -358,12 +352,11 @@ impl<'a> Evaluation<'a> {
     }
 
     // Adds the value of a variable behind those that are there.
-    #[tactic(auto, using(crate::proofs::Resuming::look_up_items))]
     fn append_variable(&mut self, number: u32) -> Result<(), Failure>
-        ensures value { (k : Context) (forest : PlainForest) → OnOk result (outcome_of k forest self.new
-            ≡ outcome_behind k forest (given (look_up (items_of self.old.scope) number) (λ xs. gives xs forest)) self.old) }
-        ensures failed { (k : Context) (forest : PlainForest) → IfErr result (λ e. FailsSo e
-            (outcome_behind k forest (given (look_up (items_of self.old.scope) number) (λ xs. gives xs forest)) self.old)) }
+        ensures value { (k : Context) (forest later : PlainForest) → OnOk result (outcome_of k forest later self.new
+            ≡ outcome_behind k later (given (look_up (items_of later self.old.scope) number) (λ xs. gives xs forest)) self.old) }
+        ensures failed { (k : Context) (forest later : PlainForest) → IfErr result (λ e. FailsSo e
+            (outcome_behind k later (given (look_up (items_of later self.old.scope) number) (λ xs. gives xs forest)) self.old)) }
     {
         match self.scope.find(number) {
             Some(bound) => Ok(append_all(bound.as_slice(), &mut self.values)?),
@@ -372,25 +365,23 @@ impl<'a> Evaluation<'a> {
     }
 
     // Adds the nodes of a step from the node of a variable.
-    #[tactic(auto, using(crate::proofs::Resuming::look_up_items))]
     fn append_step(
         &mut self,
-        alloc: Global,
         schemas: &Schemas,
-        forest: &Forest,
+        store: &Store,
         axis: Axis,
         test: &Test,
         number: u32,
     ) -> Result<(), Failure>
-        ensures value { OnOk result (outcome_of (context_over schemas.now) forest.now self.new
-            ≡ outcome_behind (context_over schemas.now) forest.now (given (look_up (items_of self.old.scope) number) (λ xs. step_meaning schemas.now axis test.now xs forest.now)) self.old) }
-        ensures failed { IfErr result (λ e. FailsSo e
-            (outcome_behind (context_over schemas.now) forest.now (given (look_up (items_of self.old.scope) number) (λ xs. step_meaning schemas.now axis test.now xs forest.now)) self.old)) }
+        ensures value { (later : PlainForest) → Extends store.now later → OnOk result (outcome_of (context_over schemas.now) store.now later self.new
+            ≡ outcome_behind (context_over schemas.now) later (given (look_up (items_of later self.old.scope) number) (λ xs. step_meaning schemas.now axis test.now xs store.now)) self.old) }
+        ensures failed { (later : PlainForest) → Extends store.now later → IfErr result (λ e. FailsSo e
+            (outcome_behind (context_over schemas.now) later (given (look_up (items_of later self.old.scope) number) (λ xs. step_meaning schemas.now axis test.now xs store.now)) self.old)) }
     {
         let Some(bound) = self.scope.find(number) else {
             return Err(Failure::Wrong);
         };
-        let found = stepped(alloc, schemas, forest, axis, test, bound.as_slice())?;
+        let found = stepped(schemas, store, axis, test, bound.as_slice())?;
         Ok(append_nodes(found.as_slice(), &mut self.values)?)
     }
 
@@ -402,12 +393,13 @@ impl<'a> Evaluation<'a> {
         first: usize,
         body: &'a TypedExpr,
     ) -> Result<(), AllocError>
-        ensures { (k : Context) (forest : PlainForest) → OnOk result (outcome_of k forest self.new ≡ outcome_with k forest (work.Gather variable first body.entry) self.old) }
+        ensures { (k : Context) (forest later : PlainForest) → OnOk result (outcome_of k forest later self.new ≡ outcome_with k forest later (work.Gather variable first body.entry) self.old) }
     {
-        let start = self.sources.len();
-        let mut source = split_at(alloc, &mut self.values, first)?;
-        self.sources.append(&mut source)?;
-        self.work.push(Pending::Each(variable, start, start, body))
+        let start = count_of(&self.sources);
+        let source = split_at(alloc, &mut self.values, first)?;
+        move_behind(source, &mut self.sources)?;
+        self.work.push(Pending::Each(variable, start, start, body))?;
+        Ok(())
     }
 
     // Evaluates the body of a loop for the next item, or ends the loop.
@@ -418,10 +410,10 @@ impl<'a> Evaluation<'a> {
         start: usize,
         body: &'a TypedExpr,
     ) -> Result<(), AllocError>
-        ensures { (k : Context) (forest : PlainForest) → OnOk result (outcome_of k forest self.new ≡ outcome_with k forest (work.Each variable next start body.entry) self.old) }
+        ensures { (k : Context) (forest later : PlainForest) → OnOk result (outcome_of k forest later self.new ≡ outcome_with k forest later (work.Each variable next start body.entry) self.old) }
     {
         if next >= self.sources.len() {
-            self.sources.truncate(start);
+            cut_off(&mut self.sources, start);
             return Ok(());
         }
         let item = self.sources[next].clone()?;
@@ -434,13 +426,13 @@ impl<'a> Evaluation<'a> {
 
     // Binds an external variable to the next document.
     fn bind_document(&mut self, variable: u32) -> Result<(), Failure>
-        ensures value { (k : Context) (forest : PlainForest) → OnOk result (outcome_of k forest self.new ≡ outcome_with k forest (work.External variable) self.old) }
-        ensures failed { (k : Context) (forest : PlainForest) → IfErr result (λ e. FailsSo e (outcome_with k forest (work.External variable) self.old)) }
+        ensures value { (k : Context) (forest later : PlainForest) → OnOk result (outcome_of k forest later self.new ≡ outcome_with k forest later (work.External variable) self.old) }
+        ensures failed { (k : Context) (forest later : PlainForest) → IfErr result (λ e. FailsSo e (outcome_with k forest later (work.External variable) self.old)) }
     {
         let Some((document, others)) = self.documents.split_first() else {
             return Err(Failure::Wrong);
         };
-        let item = ModelItem::node(document.clone()?);
+        let item = Item::Node(*document);
         self.documents = others;
         Ok(self.scope.bind(variable, Bound::One(item))?)
     }
@@ -453,7 +445,7 @@ impl<'a> Evaluation<'a> {
         first: usize,
         body: &'a TypedExpr,
     ) -> Result<(), AllocError>
-        ensures { (k : Context) (forest : PlainForest) → OnOk result (outcome_of k forest self.new ≡ outcome_with k forest (work.Bind variable first body.entry) self.old) }
+        ensures { (k : Context) (forest later : PlainForest) → OnOk result (outcome_of k forest later self.new ≡ outcome_with k forest later (work.Bind variable first body.entry) self.old) }
     {
         let value = split_at(alloc, &mut self.values, first)?;
         self.scope.bind(variable, Bound::Many(value))?;
@@ -464,28 +456,27 @@ impl<'a> Evaluation<'a> {
 
     // Binds a global variable to all values that are there.
     fn declare(&mut self, alloc: Global, variable: u32) -> Result<(), AllocError>
-        ensures { (k : Context) (forest : PlainForest) → OnOk result (outcome_of k forest self.new ≡ outcome_with k forest (work.Declare variable) self.old) }
+        ensures { (k : Context) (forest later : PlainForest) → OnOk result (outcome_of k forest later self.new ≡ outcome_with k forest later (work.Declare variable) self.old) }
     {
         let value = mem::replace(&mut self.values, Vec::new(alloc));
         self.scope.bind(variable, Bound::Many(value))
     }
 
     // Puts the branch to the work that the values from the number on choose.
-    #[tactic(auto, using(crate::proofs::Resuming::none_is_chosen))]
     fn choose(
         &mut self,
         first: usize,
         chosen: &'a TypedExpr,
         otherwise: &'a TypedExpr,
     ) -> Result<(), Failure>
-        ensures value { (k : Context) (forest : PlainForest) → OnOk result (outcome_of k forest self.new ≡ outcome_with k forest (work.Choose first chosen.entry otherwise.entry) self.old) }
-        ensures failed { (k : Context) (forest : PlainForest) → IfErr result (λ e. FailsSo e (outcome_with k forest (work.Choose first chosen.entry otherwise.entry) self.old)) }
+        ensures value { (k : Context) (forest later : PlainForest) → OnOk result (outcome_of k forest later self.new ≡ outcome_with k forest later (work.Choose first chosen.entry otherwise.entry) self.old) }
+        ensures failed { (k : Context) (forest later : PlainForest) → IfErr result (λ e. FailsSo e (outcome_with k forest later (work.Choose first chosen.entry otherwise.entry) self.old)) }
     {
-        let (_, condition) = cut_at(self.values.as_slice(), first);
+        let condition = values_from(&self.values, first);
         let Some(truth) = condition_of(condition) else {
             return Err(Failure::Wrong);
         };
-        self.values.truncate(first);
+        cut_off(&mut self.values, first);
         if truth {
             Ok(self.work.push(Pending::Evaluate(chosen))?)
         } else {
@@ -494,26 +485,24 @@ impl<'a> Evaluation<'a> {
     }
 
     // Applies an operator to the values from the number on.
-    #[tactic(auto, using(crate::proofs::Resuming::single_applies, crate::proofs::Resuming::single_fails))]
     fn apply_single(
         &mut self,
         alloc: Global,
         schemas: &Schemas,
-        forest: &Forest,
+        store: &Store,
         operator: Single<'a>,
         first: usize,
     ) -> Result<(), Failure>
-        ensures value { let k = context_over schemas.now in OnOk result (outcome_of k forest.now self.new ≡ outcome_with k forest.now (work.Single operator.entry first) self.old) }
-        ensures failed { let k = context_over schemas.now in IfErr result (λ e. FailsSo e (outcome_with k forest.now (work.Single operator.entry first) self.old)) }
+        ensures value { let k = context_over schemas.now in (later : PlainForest) → Extends store.now later → OnOk result (outcome_of k store.now later self.new ≡ outcome_with k store.now later (work.Single operator.entry first) self.old) }
+        ensures failed { let k = context_over schemas.now in (later : PlainForest) → Extends store.now later → IfErr result (λ e. FailsSo e (outcome_with k store.now later (work.Single operator.entry first) self.old)) }
     {
-        let (_, operand) = cut_at(self.values.as_slice(), first);
-        let answer = of_one(alloc, schemas, forest, operator, operand)?;
-        self.values.truncate(first);
+        let operand = values_from(&self.values, first);
+        let answer = of_one(alloc, schemas, store, operator, operand)?;
+        cut_off(&mut self.values, first);
         Ok(put(answer, &mut self.values)?)
     }
 
     // Applies an operator to two operands, the left one from the first number on, and the right one from the second.
-    #[tactic(auto, using(crate::proofs::Resuming::binary_applies, crate::proofs::Resuming::binary_fails))]
     fn apply_binary(
         &mut self,
         alloc: Global,
@@ -521,22 +510,22 @@ impl<'a> Evaluation<'a> {
         first: usize,
         second: usize,
     ) -> Result<(), Failure>
-        ensures value { (k : Context) (forest : PlainForest) → OnOk result (outcome_of k forest self.new ≡ outcome_with k forest (work.Binary operator first second) self.old) }
-        ensures failed { (k : Context) (forest : PlainForest) → IfErr result (λ e. FailsSo e (outcome_with k forest (work.Binary operator first second) self.old)) }
+        ensures value { (k : Context) (forest later : PlainForest) → OnOk result (outcome_of k forest later self.new ≡ outcome_with k forest later (work.Binary operator first second) self.old) }
+        ensures failed { (k : Context) (forest later : PlainForest) → IfErr result (λ e. FailsSo e (outcome_with k forest later (work.Binary operator first second) self.old)) }
     {
         let (left, right) = cut_at(self.values.as_slice(), second);
         let (_, left) = cut_at(left, first);
         let answer = of_two(alloc, operator.class(), left, right)?;
-        self.values.truncate(second);
-        self.values.truncate(first);
+        cut_off(&mut self.values, second);
+        cut_off(&mut self.values, first);
         Ok(put(answer, &mut self.values)?)
     }
 
     // No function has more than one argument as yet.
     #[tactic(auto, using(crate::proofs::Resuming::more_are_wrong))]
     fn apply_call(&mut self, _function: Function, _more: usize) -> Result<(), Failure>
-        ensures value { (k : Context) (forest : PlainForest) → OnOk result (outcome_of k forest self.new ≡ outcome_with k forest (work.Call _function _more) self.old) }
-        ensures failed { (k : Context) (forest : PlainForest) → IfErr result (λ e. FailsSo e (outcome_with k forest (work.Call _function _more) self.old)) }
+        ensures value { (k : Context) (forest later : PlainForest) → OnOk result (outcome_of k forest later self.new ≡ outcome_with k forest later (work.Call _function _more) self.old) }
+        ensures failed { (k : Context) (forest later : PlainForest) → IfErr result (λ e. FailsSo e (outcome_with k forest later (work.Call _function _more) self.old)) }
     {
         Err(Failure::Wrong)
     }

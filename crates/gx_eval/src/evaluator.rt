@@ -1,11 +1,16 @@
 // The evaluation of queries.
 
-ghost use Rattle.std.specs.Prelude.{◌≡◌, ◌≢◌, IfOk, IfErr};
-ghost use Rattle.gx_model.specs.Honest.{IsHonest};
+ghost use Rattle.std.specs.Prelude.{◌≡◌, ◌≢◌, ◌<◌, IfOk, IfErr, All};
 ghost use Rattle.gx_model.specs.Belongs.{Belongs};
+ghost use Rattle.gx_model.specs.Forest.{Forest as PlainForest};
+ghost use Rattle.gx_model.specs.Growth.{Extends};
+ghost use Rattle.gx_model.specs.Honest.{IsHonest};
 ghost use Rattle.gx_core.specs.QueryMeaning.{query_outcome, query_type, plain_query, DocumentsFit, IsSoundQuery};
 ghost use Rattle.gx_core.specs.Outcome.{gives, wrong};
 ghost use Rattle.gx_core.specs.Refusal.{Fails};
+ghost use Rattle.gx_nodes.specs.Entries.{count_in};
+ghost use Rattle.gx_store.specs.Items.{items_in};
+ghost use Rattle.gx_store.specs.Places.{node_places};
 ghost use Rattle.gx_eval.specs.Failing.{FailsSo};
 ghost use Rattle.gx_eval.specs.Resume.{context_over, typed_outcome};
 
@@ -14,30 +19,36 @@ use crate::failure::Failure;
 use gx_core::dyn_error::DynError;
 use gx_core::expression::TypedCore;
 use gx_core::laws::sound_queries_keep_their_types;
-use gx_model::forest::Forest;
-use gx_model::item::ModelItem;
-use gx_model::node::Node;
+use gx_model::laws::growth_is_an_order;
+use gx_store::item::Item;
+use gx_store::number::NodeId;
+use gx_store::store::Store;
 use gx_types::schemas::Schemas;
 use std::alloc::Global;
 
 /// The value of a query that does not go wrong, or the dynamic error that it raises (XQuery 1.0, section 2.2.3.2), with the
-/// documents of its external variables, in the order of their declarations. The globals are evaluated in order before the body.
-/// Where the forest is honest, the documents are of their declared types and the typing is sound, the value belongs to the type.
+/// documents of its external variables, nodes of the store in the order of their declarations. The globals are evaluated in order
+/// before the body. Where the forest is honest, the documents are of their declared types and the typing is sound, the value belongs
+/// to the type. Whatever the answer, the store keeps its nodes.
 pub fn evaluate(
     alloc: Global,
     schemas: &Schemas,
     core: &TypedCore,
-    forest: &mut Forest,
-    documents: &[Node],
-) -> Result<Vec<ModelItem>, DynError>
-    requires { query_outcome schemas.now (plain_query core.now) documents.now forest.old ≢ wrong }
-    ensures value { IfOk result (λ v. query_outcome schemas.now (plain_query core.now) documents.now forest.old ≡ gives v.items forest.new) }
-    ensures raised { IfErr result (λ e. Fails e (query_outcome schemas.now (plain_query core.now) documents.now forest.old)) }
-    ensures belongs { IsHonest schemas.now forest.old → DocumentsFit schemas.now forest.old (plain_query core.now).declarations documents.now → IsSoundQuery schemas.now core.now
-        → IfOk result (λ v. Belongs schemas.now forest.new v.items (query_type core.now)) }
+    store: &mut Store,
+    documents: &[NodeId],
+) -> Result<Vec<Item>, DynError>
+    requires there { All (λ m. m.number < count_in store.old) documents.now }
+    requires right { query_outcome schemas.now (plain_query core.now) (node_places store.old documents.now) store.old ≢ wrong }
+    ensures extends { Extends store.old store.new }
+    ensures honest { IsHonest schemas.now store.old → IsHonest schemas.now store.new }
+    ensures value { IfOk result (λ v. query_outcome schemas.now (plain_query core.now) (node_places store.old documents.now) store.old ≡ gives (items_in store.new v.items) store.new) }
+    ensures raised { IfErr result (λ e. Fails e (query_outcome schemas.now (plain_query core.now) (node_places store.old documents.now) store.old)) }
+    ensures belongs { IsHonest schemas.now store.old → DocumentsFit schemas.now store.old (plain_query core.now).declarations (node_places store.old documents.now) → IsSoundQuery schemas.now core.now
+        → IfOk result (λ v. Belongs schemas.now store.new (items_in store.new v.items) (query_type core.now)) }
 {
+    growth_is_an_order();
     sound_queries_keep_their_types();
-    match value_of(alloc, schemas, core, forest, documents) {
+    match value_of(alloc, schemas, core, store, documents) {
         Ok(items) => Ok(items),
         Err(Failure::Raised(code)) => Err(DynError::Raised(code)),
         Err(Failure::Memory) => Err(DynError::Memory),
@@ -50,17 +61,19 @@ fn value_of(
     alloc: Global,
     schemas: &Schemas,
     core: &TypedCore,
-    forest: &Forest,
-    documents: &[Node],
-) -> Result<Vec<ModelItem>, Failure>
-    ensures value { IfOk result (λ v. typed_outcome (context_over schemas.now) core.now documents.now forest.now ≡ gives v.items forest.now) }
-    ensures failed { IfErr result (λ e. FailsSo e (typed_outcome (context_over schemas.now) core.now documents.now forest.now)) }
+    store: &Store,
+    documents: &[NodeId],
+) -> Result<Vec<Item>, Failure>
+    ensures value { (later : PlainForest) → Extends store.now later → IfOk result (λ v.
+        typed_outcome (context_over schemas.now) core.now (node_places later documents.now) store.now ≡ gives (items_in later v.items) store.now) }
+    ensures failed { (later : PlainForest) → Extends store.now later → IfErr result (λ e.
+        FailsSo e (typed_outcome (context_over schemas.now) core.now (node_places later documents.now) store.now)) }
 {
     let mut evaluation = Evaluation::new(alloc, core, documents)?;
     for _ in 0..u64::MAX {
         match evaluation.work.pop() {
             None => return Ok(evaluation.values),
-            Some(pending) => evaluation.step(alloc, schemas, forest, pending)?,
+            Some(pending) => evaluation.step(alloc, schemas, store, pending)?,
         }
     }
     Err(Failure::Memory)

@@ -1,25 +1,29 @@
 // The items of an operand.
 
-ghost use Rattle.std.specs.Prelude.{◌≡◌, ◌++◌, OnOk, IfOk, take, drop, option_copied, MatchOption, Some, None};
+ghost use Rattle.std.specs.Prelude.{◌≡◌, ◌++◌, ◌∷◌, [], length, OnOk, IfOk, take, drop, option_copied, option_map, MatchOption, Some, None};
 ghost use Rattle.std.specs.List.{list_all, list_any};
+ghost use Rattle.gx_model.specs.Forest.{Forest as PlainForest};
+ghost use Rattle.gx_model.specs.Item.{atom};
 ghost use Rattle.gx_core.specs.Comparing.{atoms_among, condition_of, truth_of_value};
 ghost use Rattle.gx_core.specs.Paths.{is_node as item_is_node};
+ghost use Rattle.gx_nodes.specs.Entries.{place_of_number};
+ghost use Rattle.gx_store.specs.Items.{item_in, items_in};
 ghost use Rattle.gx_eval.specs.OneItem.{only_atom, only_node};
 
 use gx_facets::{AtomValue, Atomic};
-use gx_model::item::{ItemForm, ModelItem};
-use gx_model::node::Node;
+use gx_store::item::Item;
+use gx_store::number::NodeId;
 use std::alloc::{AllocError, Global};
 
-fn is_node(item: &ModelItem) -> bool
-    ensures { result ≡ item_is_node item.now }
+fn is_node(item: &Item) -> bool
+    ensures { (later : PlainForest) → result ≡ item_is_node (item_in later item.now) }
 {
-    matches!(&item.form, ItemForm::Node(_))
+    matches!(item, Item::Node(_))
 }
 
 // Whether all items are nodes.
-pub(crate) fn all_nodes(items: &[ModelItem]) -> bool
-    ensures { result ≡ list_all item_is_node items.now }
+pub(crate) fn all_nodes(items: &[Item]) -> bool
+    ensures { (later : PlainForest) → result ≡ list_all item_is_node (items_in later items.now) }
 {
     let mut rest = items;
     while let Some((item, others)) = rest.split_first() {
@@ -32,8 +36,8 @@ pub(crate) fn all_nodes(items: &[ModelItem]) -> bool
 }
 
 // Whether an item is a node.
-pub(crate) fn any_node(items: &[ModelItem]) -> bool
-    ensures { result ≡ list_any item_is_node items.now }
+pub(crate) fn any_node(items: &[Item]) -> bool
+    ensures { (later : PlainForest) → result ≡ list_any item_is_node (items_in later items.now) }
 {
     let mut rest = items;
     while let Some((item, others)) = rest.split_first() {
@@ -47,36 +51,30 @@ pub(crate) fn any_node(items: &[ModelItem]) -> bool
 
 // The node that a value of one item is.
 #[tactic(auto, using(crate::proofs::Operands::many_are_no_node))]
-pub(crate) fn only_node(items: &[ModelItem]) -> Option<&Node>
-    ensures { option_copied result ≡ only_node items.now }
+pub(crate) fn only_node(items: &[Item]) -> Option<NodeId>
+    ensures { (later : PlainForest) → option_map (λ m. place_of_number later m.number) result ≡ only_node (items_in later items.now) }
 {
     match items {
-        [single] => match &single.form {
-            ItemForm::Node(place) => Some(place),
-            ItemForm::Atom(_) => None,
-        },
+        [Item::Node(node)] => Some(*node),
         _ => None,
     }
 }
 
 // The atomic value that a value of one item is.
 #[tactic(auto, using(crate::proofs::Operands::many_are_no_atom))]
-pub(crate) fn only_atom(items: &[ModelItem]) -> Option<&Atomic>
-    ensures { option_copied result ≡ only_atom items.now }
+pub(crate) fn only_atom(items: &[Item]) -> Option<&Atomic>
+    ensures { (later : PlainForest) → option_copied result ≡ only_atom (items_in later items.now) }
 {
     match items {
-        [single] => match &single.form {
-            ItemForm::Atom(value) => Some(value),
-            ItemForm::Node(_) => None,
-        },
+        [Item::Atom(value)] => Some(value),
         _ => None,
     }
 }
 
 // The boolean that a value of one item is.
 #[tactic(auto, using(crate::proofs::Operands::condition_is))]
-pub(crate) fn condition_of(items: &[ModelItem]) -> Option<bool>
-    ensures { result ≡ condition_of items.now }
+pub(crate) fn condition_of(items: &[Item]) -> Option<bool>
+    ensures { (later : PlainForest) → result ≡ condition_of (items_in later items.now) }
 {
     match only_atom(items) {
         Some(value) => truth_of(&value.value),
@@ -94,26 +92,24 @@ fn truth_of(value: &AtomValue) -> Option<bool>
 }
 
 // The atomic values that the items are, if no item is a node.
-pub(crate) fn atoms_among(
-    alloc: Global,
-    items: &[ModelItem],
-) -> Result<Option<Vec<Atomic>>, AllocError>
-    ensures { IfOk result (λ found. MatchOption found (atoms_among items.now ≡ None) (λ values. atoms_among items.now ≡ Some values.items)) }
+pub(crate) fn atoms_among(alloc: Global, items: &[Item]) -> Result<Option<Vec<Atomic>>, AllocError>
+    ensures { (later : PlainForest) → IfOk result (λ found.
+        MatchOption found (atoms_among (items_in later items.now) ≡ None) (λ values. atoms_among (items_in later items.now) ≡ Some values.items)) }
 {
     let mut values = Vec::with_capacity(alloc, items.len())?;
     for item in items {
-        match &item.form {
-            ItemForm::Atom(value) => values.push(value.clone()?)?,
-            ItemForm::Node(_) => return Ok(None),
+        match item {
+            Item::Atom(value) => values.push(value.clone()?)?,
+            Item::Node(_) => return Ok(None),
         }
     }
     Ok(Some(values))
 }
 
 // The items before a number of them, and those from it on.
-pub(crate) fn cut_at(items: &[ModelItem], number: usize) -> (&[ModelItem], &[ModelItem])
-    ensures front { result.0.now ≡ take number items.now }
-    ensures rest { result.1.now ≡ drop number items.now }
+pub(crate) fn cut_at(items: &[Item], number: usize) -> (&[Item], &[Item])
+    ensures front { (later : PlainForest) → items_in later result.0.now ≡ take number (items_in later items.now) }
+    ensures rest { (later : PlainForest) → items_in later result.1.now ≡ drop number (items_in later items.now) }
 {
     if number <= items.len() {
         items.split_at(number)
@@ -122,14 +118,36 @@ pub(crate) fn cut_at(items: &[ModelItem], number: usize) -> (&[ModelItem], &[Mod
     }
 }
 
+// How many values there are.
+pub(crate) fn count_of(values: &Vec<Item>) -> usize
+    ensures { (later : PlainForest) → result ≡ length (items_in later values.now.items) }
+{
+    values.len()
+}
+
+// The values from a number of them on.
+pub(crate) fn values_from(values: &Vec<Item>, number: usize) -> &[Item]
+    ensures { (later : PlainForest) → items_in later result.now ≡ drop number (items_in later values.now.items) }
+{
+    let (_, rest) = cut_at(values.as_slice(), number);
+    rest
+}
+
+// Leaves the values before a number of them.
+pub(crate) fn cut_off(values: &mut Vec<Item>, number: usize)
+    ensures { (later : PlainForest) → items_in later values.new.items ≡ take number (items_in later values.old.items) }
+{
+    values.truncate(number);
+}
+
 // Takes the values from a number of them on.
 pub(crate) fn split_at(
     alloc: Global,
-    values: &mut Vec<ModelItem>,
+    values: &mut Vec<Item>,
     number: usize,
-) -> Result<Vec<ModelItem>, AllocError>
-    ensures front { OnOk result (values.new.items ≡ take number values.old.items) }
-    ensures rest { IfOk result (λ taken. taken.items ≡ drop number values.old.items) }
+) -> Result<Vec<Item>, AllocError>
+    ensures front { (later : PlainForest) → OnOk result (items_in later values.new.items ≡ take number (items_in later values.old.items)) }
+    ensures rest { (later : PlainForest) → IfOk result (λ taken. items_in later taken.items ≡ drop number (items_in later values.old.items)) }
 {
     if number <= values.len() {
         values.split_off(number)
@@ -138,12 +156,27 @@ pub(crate) fn split_at(
     }
 }
 
+// Adds an atomic value behind the values.
+pub(crate) fn push_atom(value: Atomic, values: &mut Vec<Item>) -> Result<(), AllocError>
+    ensures { (later : PlainForest) → OnOk result (items_in later values.new.items ≡ items_in later values.old.items ++ atom value ∷ []) }
+{
+    Ok(values.push(Item::Atom(value))?)
+}
+
 // Adds copies of the items behind the values.
-pub(crate) fn append_all(items: &[ModelItem], values: &mut Vec<ModelItem>) -> Result<(), AllocError>
-    ensures { OnOk result (values.new.items ≡ values.old.items ++ items.now) }
+pub(crate) fn append_all(items: &[Item], values: &mut Vec<Item>) -> Result<(), AllocError>
+    ensures { (later : PlainForest) → OnOk result (items_in later values.new.items ≡ items_in later values.old.items ++ items_in later items.now) }
 {
     for item in items {
         values.push(item.clone()?)?;
     }
     Ok(())
+}
+
+// Moves items behind the values.
+pub(crate) fn move_behind(taken: Vec<Item>, values: &mut Vec<Item>) -> Result<(), AllocError>
+    ensures { (later : PlainForest) → OnOk result (items_in later values.new.items ≡ items_in later values.old.items ++ items_in later taken.items) }
+{
+    let mut taken = taken;
+    values.append(&mut taken)
 }

@@ -2,15 +2,18 @@
 
 ghost use Rattle.std.specs.Prelude.{◌≡◌, ◌<◌, ◌≤◌, ◌++◌, OnOk, MatchOption, IfSome};
 ghost use Rattle.gx_base.specs.declared.limits.TheConstants.{RANGE_ITEMS};
+ghost use Rattle.gx_model.specs.Forest.{Forest};
 ghost use Rattle.gx_model.specs.Item.{atom, atoms};
 ghost use Rattle.gx_core.specs.Ranging.{integer_of_item, integers_from, range_length};
+ghost use Rattle.gx_store.specs.Items.{items_in};
 ghost use Rattle.gx_eval.specs.Answering.{IntegersFit};
 
 use crate::arithmetic::number_atom;
+use crate::operand::push_atom;
 use gx_base::limits::RANGE_ITEMS;
 use gx_facets::{AtomValue, Atomic};
-use gx_model::item::ModelItem;
 use gx_num::Number;
+use gx_store::item::Item;
 use std::alloc::AllocError;
 
 // The integer that a value is.
@@ -44,15 +47,15 @@ pub(crate) fn range_count(first: i128, last: i128) -> Option<u32>
 pub(crate) fn put_integers(
     first: i128,
     count: u32,
-    values: &mut Vec<ModelItem>,
+    values: &mut Vec<Item>,
 ) -> Result<(), AllocError>
     requires { IntegersFit first count }
-    ensures { OnOk result (values.new.items ≡ values.old.items ++ atoms (integers_from first count)) }
+    ensures { (later : Forest) → OnOk result (items_in later values.new.items ≡ items_in later values.old.items ++ atoms (integers_from first count)) }
 {
     values.reserve(count as usize)?;
     for offset in 0..count {
         let integer = first + i128::from(offset);
-        values.push(ModelItem::atom(number_atom(Number::int(integer))))?;
+        push_atom(number_atom(Number::int(integer)), values)?;
     }
     Ok(())
 }

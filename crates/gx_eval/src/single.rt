@@ -6,11 +6,13 @@ ghost use Rattle.gx_atomic.specs.declared.casting.CastError.{CastError};
 ghost use Rattle.gx_atomic.specs.Cast.{Casts, cast_of};
 ghost use Rattle.gx_funcs.specs.Function.{truth_atom};
 ghost use Rattle.gx_model.specs.Forest.{Forest as PlainForest};
+ghost use Rattle.gx_model.specs.Growth.{Extends};
 ghost use Rattle.gx_model.specs.Item.{atom};
 ghost use Rattle.gx_core.specs.Outcome.{gives};
 ghost use Rattle.gx_core.specs.Arithmetic.{negation};
 ghost use Rattle.gx_core.specs.Meaning.{acts};
 ghost use Rattle.gx_core.specs.Casting.{cast_outcome, cast_items, castable_items};
+ghost use Rattle.gx_store.specs.Items.{item_in, items_in};
 ghost use Rattle.gx_eval.specs.Answering.{answer_items, AnswerFits};
 ghost use Rattle.gx_eval.specs.Failing.{FailsSo};
 ghost use Rattle.gx_eval.specs.Operators.{single_operator};
@@ -26,8 +28,8 @@ use gx_atomic::CastError;
 use gx_base::type_name::TypeName;
 use gx_facets::Atomic;
 use gx_funcs::function::{Function, truth_atom};
-use gx_model::forest::Forest;
-use gx_model::item::{ItemForm, ModelItem};
+use gx_store::item::Item;
+use gx_store::store::Store;
 use gx_types::schemas::Schemas;
 use std::alloc::Global;
 
@@ -44,13 +46,15 @@ pub(crate) enum Single<'a> {
 pub(crate) fn of_one(
     alloc: Global,
     schemas: &Schemas,
-    forest: &Forest,
+    store: &Store,
     operator: Single<'_>,
-    operand: &[ModelItem],
+    operand: &[Item],
 ) -> Result<Answer, Failure>
-    ensures value { let k = context_over schemas.now in IfOk result (λ r. acts k (single_operator operator.entry) (operand.now ∷ []) forest.now ≡ gives (answer_items r) forest.now) }
+    ensures value { (later : PlainForest) → Extends store.now later → IfOk result (λ r.
+        acts (context_over schemas.now) (single_operator operator.entry) (items_in later operand.now ∷ []) store.now ≡ gives (answer_items r) store.now) }
     ensures fits { IfOk result (λ r. AnswerFits r) }
-    ensures failed { let k = context_over schemas.now in IfErr result (λ e. FailsSo e (acts k (single_operator operator.entry) (operand.now ∷ []) forest.now)) }
+    ensures failed { (later : PlainForest) → Extends store.now later → IfErr result (λ e.
+        FailsSo e (acts (context_over schemas.now) (single_operator operator.entry) (items_in later operand.now ∷ []) store.now)) }
 {
     match operator {
         Single::Neg => negation(operand),
@@ -58,16 +62,16 @@ pub(crate) fn of_one(
         Single::Castable(kind, allows_empty) => {
             castable(alloc, schemas, kind, allows_empty, operand)
         }
-        Single::Call(function) => called_with_one(alloc, forest, function, operand),
+        Single::Call(function) => called_with_one(alloc, store, function, operand),
     }
 }
 
 // The negation of a number.
 #[tactic(auto, using(crate::proofs::Operands::many))]
-fn negation(operand: &[ModelItem]) -> Result<Answer, Failure>
-    ensures value { (forest : PlainForest) → IfOk result (λ r. negation operand.now forest ≡ gives (answer_items r) forest) }
+fn negation(operand: &[Item]) -> Result<Answer, Failure>
+    ensures value { (forest later : PlainForest) → IfOk result (λ r. negation (items_in later operand.now) forest ≡ gives (answer_items r) forest) }
     ensures fits { IfOk result (λ r. AnswerFits r) }
-    ensures failed { (forest : PlainForest) → IfErr result (λ e. FailsSo e (negation operand.now forest)) }
+    ensures failed { (forest later : PlainForest) → IfErr result (λ e. FailsSo e (negation (items_in later operand.now) forest)) }
 {
     match operand {
         [] => Ok(Answer::Nothing),
@@ -83,11 +87,11 @@ fn cast(
     schemas: &Schemas,
     kind: &TypeName,
     allows_empty: bool,
-    operand: &[ModelItem],
+    operand: &[Item],
 ) -> Result<Answer, Failure>
-    ensures value { (forest : PlainForest) → IfOk result (λ r. cast_items schemas.now kind.now allows_empty operand.now forest ≡ gives (answer_items r) forest) }
+    ensures value { (forest later : PlainForest) → IfOk result (λ r. cast_items schemas.now kind.now allows_empty (items_in later operand.now) forest ≡ gives (answer_items r) forest) }
     ensures fits { IfOk result (λ r. AnswerFits r) }
-    ensures failed { (forest : PlainForest) → IfErr result (λ e. FailsSo e (cast_items schemas.now kind.now allows_empty operand.now forest)) }
+    ensures failed { (forest later : PlainForest) → IfErr result (λ e. FailsSo e (cast_items schemas.now kind.now allows_empty (items_in later operand.now) forest)) }
 {
     match operand {
         [] if allows_empty => Ok(Answer::Nothing),
@@ -106,11 +110,11 @@ fn castable(
     schemas: &Schemas,
     kind: &TypeName,
     allows_empty: bool,
-    operand: &[ModelItem],
+    operand: &[Item],
 ) -> Result<Answer, Failure>
-    ensures value { (forest : PlainForest) → IfOk result (λ r. castable_items schemas.now kind.now allows_empty operand.now forest ≡ gives (answer_items r) forest) }
+    ensures value { (forest later : PlainForest) → IfOk result (λ r. castable_items schemas.now kind.now allows_empty (items_in later operand.now) forest ≡ gives (answer_items r) forest) }
     ensures fits { IfOk result (λ r. AnswerFits r) }
-    ensures failed { (forest : PlainForest) → IfErr result (λ e. FailsSo e (castable_items schemas.now kind.now allows_empty operand.now forest)) }
+    ensures failed { (forest later : PlainForest) → IfErr result (λ e. FailsSo e (castable_items schemas.now kind.now allows_empty (items_in later operand.now) forest)) }
 {
     match operand {
         [] => Ok(Answer::One(truth_atom(allows_empty))),
@@ -126,14 +130,14 @@ fn cast_of(
     alloc: Global,
     schemas: &Schemas,
     kind: &TypeName,
-    item: &ModelItem,
+    item: &Item,
 ) -> Result<Atomic, Failure>
-    ensures value { (optional : Bool) (forest : PlainForest) → IfOk result (λ r. cast_items schemas.now kind.now optional (item.now ∷ []) forest ≡ gives (atom r ∷ []) forest) }
-    ensures failed { (optional : Bool) (forest : PlainForest) → IfErr result (λ e. FailsSo e (cast_items schemas.now kind.now optional (item.now ∷ []) forest)) }
+    ensures value { (optional : Bool) (forest later : PlainForest) → IfOk result (λ r. cast_items schemas.now kind.now optional (item_in later item.now ∷ []) forest ≡ gives (atom r ∷ []) forest) }
+    ensures failed { (optional : Bool) (forest later : PlainForest) → IfErr result (λ e. FailsSo e (cast_items schemas.now kind.now optional (item_in later item.now ∷ []) forest)) }
 {
-    match &item.form {
-        ItemForm::Atom(value) => cast_of_atom(alloc, schemas, kind, value),
-        ItemForm::Node(_) => Err(Failure::Wrong),
+    match item {
+        Item::Atom(value) => cast_of_atom(alloc, schemas, kind, value),
+        Item::Node(_) => Err(Failure::Wrong),
     }
 }
 
@@ -156,17 +160,17 @@ fn castability(
     alloc: Global,
     schemas: &Schemas,
     kind: &TypeName,
-    item: &ModelItem,
+    item: &Item,
 ) -> Result<Atomic, Failure>
-    ensures value { (optional : Bool) (forest : PlainForest) → IfOk result (λ a. castable_items schemas.now kind.now optional (item.now ∷ []) forest ≡ gives (atom a ∷ []) forest) }
-    ensures failed { (optional : Bool) (forest : PlainForest) → IfErr result (λ e. FailsSo e (castable_items schemas.now kind.now optional (item.now ∷ []) forest)) }
+    ensures value { (optional : Bool) (forest later : PlainForest) → IfOk result (λ a. castable_items schemas.now kind.now optional (item_in later item.now ∷ []) forest ≡ gives (atom a ∷ []) forest) }
+    ensures failed { (optional : Bool) (forest later : PlainForest) → IfErr result (λ e. FailsSo e (castable_items schemas.now kind.now optional (item_in later item.now ∷ []) forest)) }
 {
-    match &item.form {
-        ItemForm::Atom(value) => match castability_of_atom(alloc, schemas, kind, value) {
+    match item {
+        Item::Atom(value) => match castability_of_atom(alloc, schemas, kind, value) {
             Ok(atomic) => Ok(atomic),
             Err(failure) => Err(failure),
         },
-        ItemForm::Node(_) => Err(Failure::Wrong),
+        Item::Node(_) => Err(Failure::Wrong),
     }
 }
 

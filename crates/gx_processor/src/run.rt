@@ -1,6 +1,6 @@
 // Runs of queries that have a type.
 
-ghost use Rattle.std.specs.Prelude.{◌≡◌, ℕ, List, IfOk, IfErr, length, map, option_map, MatchResult, None, true, string_bytes, ◌≤◌};
+ghost use Rattle.std.specs.Prelude.{◌≡◌, ◌<◌, ℕ, List, All, IfOk, IfErr, length, map, option_map, MatchResult, None, true, string_bytes, ◌≤◌};
 ghost use Rattle.gx_core.specs.Outcome.{gives};
 ghost use Rattle.gx_core.specs.QueryMeaning.{plain_declaration, plain_query, query_outcome, IsSoundQuery};
 ghost use Rattle.gx_core.specs.Refusal.{Fails};
@@ -10,6 +10,9 @@ ghost use Rattle.gx_documents.specs.Documents.{document_nodes};
 ghost use Rattle.gx_documents.specs.Requests.{all_asked, asked_by};
 ghost use Rattle.gx_include.specs.Decision.{is_included};
 ghost use Rattle.gx_io.specs.LibraryUse.{library_use};
+ghost use Rattle.gx_nodes.specs.Entries.{count_in};
+ghost use Rattle.gx_store.specs.Items.{items_in};
+ghost use Rattle.gx_store.specs.Places.{node_places};
 ghost use Rattle.gx_types.specs.SchemaInvariant.{IsSchemaSet};
 ghost use Rattle.gx_processor.specs.ExternalDocuments.{AreDocumentsOf, ExternalsAreDocuments, IsAskedOfEach};
 ghost use Rattle.gx_processor.specs.Answer.{writable_type, can_be_written, AnswersEvaluated};
@@ -36,9 +39,9 @@ use gx_documents::laws::{documents_are_as_asked, documents_are_honest};
 use gx_eval::evaluator::evaluate;
 use gx_include::decision::is_included;
 use gx_io::Library;
-use gx_model::forest::Forest;
-use gx_model::item::ModelItem;
-use gx_model::node::Node;
+use gx_store::item::Item;
+use gx_store::number::NodeId;
+use gx_store::store::Store;
 use gx_types::item_type::ItemType;
 use gx_types::schemas::Schemas;
 use gx_types::sequence_type::{Ty, TyNode};
@@ -154,7 +157,7 @@ fn over_documents<L: Library>(
     ensures read { ReadSo (library_use L.files L.faults L.was_loaded library.old library.new) (all_asked requests.now) schemas.now (plain_query core.now) result }
 {
     match read_documents(alloc, schemas, requests, library) {
-        Ok(forest) => written(alloc, schemas, core, forest),
+        Ok(store) => written(alloc, schemas, core, store),
         Err(error) => Err(unread(error)),
     }
 }
@@ -307,18 +310,18 @@ fn written(
     alloc: Global,
     schemas: &Schemas,
     core: &TypedCore,
-    forest: Forest,
+    store: Store,
 ) -> Result<String, Refusal>
     requires schemas { IsSchemaSet schemas.now }
     requires sound { IsSoundQuery schemas.now core.now }
     requires externals { ExternalsAreDocuments schemas.now (plain_query core.now).declarations }
-    requires documents { AreDocumentsOf schemas.now (plain_query core.now).declarations forest }
-    ensures answers { AnswersSo (AnswersEvaluated schemas.now (plain_query core.now) forest) result }
+    requires documents { AreDocumentsOf schemas.now (plain_query core.now).declarations store }
+    ensures answers { AnswersSo (AnswersEvaluated schemas.now (plain_query core.now) store) result }
     ensures own { IsEvaluated result }
 {
-    let mut forest = forest;
-    match value_of(alloc, schemas, core, &mut forest) {
-        Ok(items) => Ok(serialise(alloc, &forest, items.as_slice())?),
+    let mut store = store;
+    match value_of(alloc, schemas, core, &mut store) {
+        Ok(items) => Ok(serialise(alloc, &store, items.as_slice())?),
         Err(DynError::Raised(code)) => Err(Refusal::Dynamic(code)),
         Err(DynError::Memory) => Err(Refusal::Memory),
     }
@@ -329,17 +332,17 @@ fn value_of(
     alloc: Global,
     schemas: &Schemas,
     core: &TypedCore,
-    forest: &mut Forest,
-) -> Result<Vec<ModelItem>, DynError>
+    store: &mut Store,
+) -> Result<Vec<Item>, DynError>
     requires schemas { IsSchemaSet schemas.now }
     requires sound { IsSoundQuery schemas.now core.now }
     requires externals { ExternalsAreDocuments schemas.now (plain_query core.now).declarations }
-    requires documents { AreDocumentsOf schemas.now (plain_query core.now).declarations forest.now }
-    ensures value { IfOk result (λ v. query_outcome schemas.now (plain_query core.now) (document_nodes forest.old) forest.old ≡ gives v.items forest.new) }
-    ensures raised { IfErr result (λ e. Fails e (query_outcome schemas.now (plain_query core.now) (document_nodes forest.old) forest.old)) }
+    requires documents { AreDocumentsOf schemas.now (plain_query core.now).declarations store.now }
+    ensures value { IfOk result (λ v. query_outcome schemas.now (plain_query core.now) (document_nodes store.old) store.old ≡ gives (items_in store.new v.items) store.new) }
+    ensures raised { IfErr result (λ e. Fails e (query_outcome schemas.now (plain_query core.now) (document_nodes store.old) store.old)) }
 {
-    match document_nodes(alloc, forest) {
-        Ok(documents) => evaluated(alloc, schemas, core, forest, documents.as_slice()),
+    match document_nodes(alloc, store) {
+        Ok(documents) => evaluated(alloc, schemas, core, store, documents.as_slice()),
         Err(AllocError) => Err(DynError::Memory),
     }
 }
@@ -348,19 +351,20 @@ fn evaluated(
     alloc: Global,
     schemas: &Schemas,
     core: &TypedCore,
-    forest: &mut Forest,
-    documents: &[Node],
-) -> Result<Vec<ModelItem>, DynError>
+    store: &mut Store,
+    documents: &[NodeId],
+) -> Result<Vec<Item>, DynError>
     requires schemas { IsSchemaSet schemas.now }
     requires sound { IsSoundQuery schemas.now core.now }
     requires externals { ExternalsAreDocuments schemas.now (plain_query core.now).declarations }
-    requires documents { AreDocumentsOf schemas.now (plain_query core.now).declarations forest.now }
-    requires nodes { documents.now ≡ document_nodes forest.now }
-    ensures value { IfOk result (λ v. query_outcome schemas.now (plain_query core.now) (document_nodes forest.old) forest.old ≡ gives v.items forest.new) }
-    ensures raised { IfErr result (λ e. Fails e (query_outcome schemas.now (plain_query core.now) (document_nodes forest.old) forest.old)) }
+    requires documents { AreDocumentsOf schemas.now (plain_query core.now).declarations store.now }
+    requires there { All (λ m. m.number < count_in store.now) documents.now }
+    requires nodes { node_places store.now documents.now ≡ document_nodes store.now }
+    ensures value { IfOk result (λ v. query_outcome schemas.now (plain_query core.now) (document_nodes store.old) store.old ≡ gives (items_in store.new v.items) store.new) }
+    ensures raised { IfErr result (λ e. Fails e (query_outcome schemas.now (plain_query core.now) (document_nodes store.old) store.old)) }
 {
     sound_queries_keep_their_types();
     documents_are_honest();
     documents_are_as_asked();
-    evaluate(alloc, schemas, core, forest, documents)
+    evaluate(alloc, schemas, core, store, documents)
 }

@@ -1,13 +1,13 @@
-use Rattle.std.proofs.Common.{◌≡◌, ◌++◌, ◌+◌, length}
-use Rattle.gx_documents.specs.Documents.{document_nodes, document_nodes_from}
+use Rattle.std.proofs.Common.{◌≡◌, ◌<◌}
+use Rattle.std.specs.List.{All}
+use Rattle.gx_nodes.specs.Entries.{count_in}
+use Rattle.gx_store.specs.Places.{node_places}
+use Rattle.gx_documents.proofs.Roots.{roots_before}
 use Rattle.gx_documents.proofs.documents.document_nodes.Given as goal
 
--- the nodes of the trees that are left come next
-abbrev pub invariant-loop-others : goal.invariant-loop-others
-invariant-loop-others l = record {
-  nodes : l.nodes.items ++ document_nodes_from l.number l.left ≡ document_nodes l.fn.forest;
-  counted : l.number + length l.left ≡ length l.fn.forest;
+-- the roots so far
+abbrev pub invariant-loop-number : goal.invariant-loop-number
+invariant-loop-number l = record {
+  nodes : node_places l.store l.nodes.items ≡ roots_before l.store l.number;
+  there : All (λ m. m.number < count_in l.store) l.nodes.items;
 }
-
-abbrev pub decreases-loop-others : goal.decreases-loop-others
-decreases-loop-others l = length l.left

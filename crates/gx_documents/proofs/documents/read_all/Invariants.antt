@@ -11,7 +11,7 @@ invariant-loop-request g l = record {
   counted : g.L.Library.faults l.fn.library ≤ g.L.Library.faults l.library;
   can_ask : HoldsOfEach (g.K.Kept.can_ask l.form) l.left;
   reads : (result : Result (List _) DocumentsError) (after : g.row.L.Denot)
-      → ReadsFrom (g.L.Library.files l.fn.library) g.L.Library.was_loaded g.L.Library.faults (map (g.K.Kept.asks l.form) l.left) l.all.items result l.library after
+      → ReadsFrom (g.L.Library.files l.fn.library) g.L.Library.was_loaded g.L.Library.faults (map (g.K.Kept.asks l.form) l.left) (g.K.Kept.in_order l.all) result l.library after
       → ReadsFrom (g.L.Library.files l.fn.library) g.L.Library.was_loaded g.L.Library.faults (map (g.K.Kept.asks l.form) l.fn.requests) [] result l.fn.library after;
 }
 

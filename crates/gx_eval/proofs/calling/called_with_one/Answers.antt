@@ -1,20 +1,30 @@
 use Rattle.std.proofs.Common.{sym, ◌∙◌}
-use Rattle.gx_eval.proofs.Operands.{boolean_called, no_boolean, contrary_called, no_contrary}
+use Rattle.gx_store.specs.Items.{items_in}
+use Rattle.gx_eval.proofs.Operands.{boolean_called, no_boolean, contrary_called, no_contrary, string_called, no_string}
 use Rattle.gx_eval.proofs.calling.called_with_one.Goals as goal
 
 pub returns-in-Some-clause-value : goal.returns-in-Some-clause-value
-returns-in-Some-clause-value c =
-    rw c.in-Boolean.is (boolean_called c.args.forest.now c.args.argument.now c.in-Some.truth c.truth_atom.result (sym (c.effective_boolean.ensures c.args.forest.now) ∙ c.in-Some.is) c.truth_atom.ensures)
+returns-in-Some-clause-value c = λ later x.
+    rw c.in-Boolean.is (boolean_called c.args.store.now (items_in later c.args.argument.now) c.in-Some.truth c.truth_atom.result (sym (c.effective_boolean.ensures c.args.store.now later) ∙ c.in-Some.is) c.truth_atom.ensures)
 
 pub returns-in-None-clause-failed : goal.returns-in-None-clause-failed
-returns-in-None-clause-failed c = rw c.in-Boolean.is (no_boolean c.args.forest.now c.args.argument.now (sym (c.effective_boolean.ensures c.args.forest.now) ∙ c.in-None.is))
+returns-in-None-clause-failed c = λ later x. rw c.in-Boolean.is (no_boolean c.args.store.now (items_in later c.args.argument.now) (sym (c.effective_boolean.ensures c.args.store.now later) ∙ c.in-None.is))
 
 pub returns-in-Some-effective_boolean-clause-value : goal.returns-in-Some-effective_boolean-clause-value
-returns-in-Some-effective_boolean-clause-value c =
+returns-in-Some-effective_boolean-clause-value c = λ later x.
     rw c.in-Not.is
-    (contrary_called c.args.forest.now c.args.argument.now c.in-Some-effective_boolean.truth c.truth_atom-in-Some-effective_boolean.result
-    (sym (c.effective_boolean-in-Not.ensures c.args.forest.now) ∙ c.in-Some-effective_boolean.is) c.truth_atom-in-Some-effective_boolean.ensures)
+    (contrary_called c.args.store.now (items_in later c.args.argument.now) c.in-Some-effective_boolean.truth c.truth_atom-in-Some-effective_boolean.result
+    (sym (c.effective_boolean-in-Not.ensures c.args.store.now later) ∙ c.in-Some-effective_boolean.is) c.truth_atom-in-Some-effective_boolean.ensures)
 
 pub returns-in-None-effective_boolean-clause-failed : goal.returns-in-None-effective_boolean-clause-failed
-returns-in-None-effective_boolean-clause-failed c =
-    rw c.in-Not.is (no_contrary c.args.forest.now c.args.argument.now (sym (c.effective_boolean-in-Not.ensures c.args.forest.now) ∙ c.in-None-effective_boolean.is))
+returns-in-None-effective_boolean-clause-failed c = λ later x.
+    rw c.in-Not.is (no_contrary c.args.store.now (items_in later c.args.argument.now) (sym (c.effective_boolean-in-Not.ensures c.args.store.now later) ∙ c.in-None-effective_boolean.is))
+
+pub returns-in-Some-2-clause-value : goal.returns-in-Some-2-clause-value
+returns-in-Some-2-clause-value c = λ later x.
+    rw c.in-String.is
+    (string_called c.args.store.now (items_in later c.args.argument.now) c.in-Some-2.text c.string_atom.result (sym (c.in_ok-text-in-String.ensures later x) ∙ c.in-Some-2.is) c.string_atom.ensures)
+
+pub returns-in-None-2-clause-failed : goal.returns-in-None-2-clause-failed
+returns-in-None-2-clause-failed c = λ later x.
+    rw c.in-String.is (no_string c.args.store.now (items_in later c.args.argument.now) (sym (c.in_ok-text-in-String.ensures later x) ∙ c.in-None-2.is))

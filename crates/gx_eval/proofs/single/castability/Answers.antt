@@ -5,5 +5,5 @@ use Rattle.gx_core.specs.Outcome.{gives}
 use Rattle.gx_eval.proofs.single.castability.Goals as goal
 
 pub returns-in-Ok-clause-value : goal.returns-in-Ok-clause-value
-returns-in-Ok-clause-value c = λ optional forest.
-    rw (← c.item.view_is, c.in-Atom.is) (ap (λ (a : Atomic). gives (atom a ∷ []) forest) (sym c.in-Ok.ensures.value))
+returns-in-Ok-clause-value c = λ optional forest later.
+    rw c.in-Atom.is (ap (λ (a : Atomic). gives (atom a ∷ []) forest) (sym c.in-Ok.ensures.value))

@@ -8,4 +8,4 @@ read_documents-requires g c = each_is_global c.args.schemas.now (plain_query c.a
 
 pub written-requires-clause-documents : goal.written-requires-clause-documents
 written-requires-clause-documents g c =
-    documents_of_asked c.args.schemas.now (plain_query c.args.core.now).declarations (all_asked c.args.requests.now) c.in-Ok.forest c.requires.each c.in-Ok.ensures.reads.kept
+    documents_of_asked c.args.schemas.now (plain_query c.args.core.now).declarations (all_asked c.args.requests.now) c.in-Ok.store c.requires.each c.in-Ok.ensures.reads.kept

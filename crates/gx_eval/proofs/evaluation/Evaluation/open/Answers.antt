@@ -1,61 +1,109 @@
-use Rattle.std.proofs.Common.{◌≡◌, ◌∷◌, List, length, rules, sym, subst, ap, ◌∙◌}
-use Rattle.gx_model.specs.Item.{Items}
+use Rattle.std.proofs.Common.{◌≡◌, ◌∷◌, [], ◌++◌, List, length, sym, subst, ap, ◌∙◌}
+use Rattle.gx_facets.specs.declared.Atomic.{Atomic}
+use Rattle.gx_model.specs.Item.{Items, atom}
 use Rattle.std.specs.Prelude.{OnOk, IfErr}
 use Rattle.gx_core.specs.declared.operator.Operator.TheVariants as operators
 use Rattle.gx_core.specs.Meaning.{Context, Bindings, Denotation, denoted, meaning}
+use Rattle.gx_store.specs.Items.{items_in}
 use Rattle.gx_eval.specs.Failing.{FailsSo}
 use Rattle.gx_eval.specs.declared.evaluation.Pending.{Pending}
 use Rattle.gx_eval.specs.declared.evaluation.Pending.TheVariants.{Evaluate}
 use Rattle.gx_eval.specs.Resume.{Stacks, context_over, outcome_of, outcome_behind, items_of, stacks_of, resume}
-use Rattle.gx_eval.proofs.Resuming.{each_argument, for_opens_at}
+use Rattle.gx_eval.proofs.Resuming.{each_argument, binary_opens_at, conditional_opens_at, for_opens_at, let_opens_at}
 use Rattle.gx_eval.proofs.evaluation.Evaluation.open.Goals as goal
 
 pub returns-in-Var-clause-value : goal.returns-in-Var-clause-value
-returns-in-Var-clause-value c = rw (← c.expression.view_is, c.in-Var.is) (c.append_variable.ensures.value (context_over c.args.schemas.now) c.args.forest.now)
+returns-in-Var-clause-value c = λ later x. rw (← c.expression.view_is, c.in-Var.is) (c.append_variable.ensures.value (context_over c.args.schemas.now) c.args.store.now later)
 
 pub returns-in-Var-clause-failed : goal.returns-in-Var-clause-failed
-returns-in-Var-clause-failed c = rw (← c.expression.view_is, c.in-Var.is) (c.append_variable.ensures.failed (context_over c.args.schemas.now) c.args.forest.now)
+returns-in-Var-clause-failed c = λ later x. rw (← c.expression.view_is, c.in-Var.is) (c.append_variable.ensures.failed (context_over c.args.schemas.now) c.args.store.now later)
 
 pub returns-in-Cast-clause-value : goal.returns-in-Cast-clause-value
-returns-in-Cast-clause-value c = rw (← c.expression.view_is, c.in-Cast.is, ← c.deref-in-Cast.ensures) c.open_single.ensures.value
+returns-in-Cast-clause-value c = λ later x. rw (← c.expression.view_is, c.in-Cast.is, ← c.deref-in-Cast.ensures) (c.open_single.ensures.value later x)
 
 pub returns-in-Cast-clause-failed : goal.returns-in-Cast-clause-failed
-returns-in-Cast-clause-failed c = rw (← c.expression.view_is, c.in-Cast.is, ← c.deref-in-Cast.ensures) c.open_single.ensures.failed
+returns-in-Cast-clause-failed c = λ later x. rw (← c.expression.view_is, c.in-Cast.is, ← c.deref-in-Cast.ensures) (c.open_single.ensures.failed later x)
 
 pub returns-in-Castable-clause-value : goal.returns-in-Castable-clause-value
-returns-in-Castable-clause-value c = rw (← c.expression.view_is, c.in-Castable.is, ← c.deref-in-Castable.ensures) c.open_single-in-Castable.ensures.value
+returns-in-Castable-clause-value c = λ later x. rw (← c.expression.view_is, c.in-Castable.is, ← c.deref-in-Castable.ensures) (c.open_single-in-Castable.ensures.value later x)
 
 pub returns-in-Castable-clause-failed : goal.returns-in-Castable-clause-failed
-returns-in-Castable-clause-failed c = rw (← c.expression.view_is, c.in-Castable.is, ← c.deref-in-Castable.ensures) c.open_single-in-Castable.ensures.failed
+returns-in-Castable-clause-failed c = λ later x. rw (← c.expression.view_is, c.in-Castable.is, ← c.deref-in-Castable.ensures) (c.open_single-in-Castable.ensures.failed later x)
 
 pub returns-in-Neg-clause-value : goal.returns-in-Neg-clause-value
-returns-in-Neg-clause-value c = rw (← c.expression.view_is, c.in-Neg.is, ← c.deref-in-Neg.ensures) c.open_single-in-Neg.ensures.value
+returns-in-Neg-clause-value c = λ later x. rw (← c.expression.view_is, c.in-Neg.is, ← c.deref-in-Neg.ensures) (c.open_single-in-Neg.ensures.value later x)
 
 pub returns-in-Neg-clause-failed : goal.returns-in-Neg-clause-failed
-returns-in-Neg-clause-failed c = rw (← c.expression.view_is, c.in-Neg.is, ← c.deref-in-Neg.ensures) c.open_single-in-Neg.ensures.failed
+returns-in-Neg-clause-failed c = λ later x. rw (← c.expression.view_is, c.in-Neg.is, ← c.deref-in-Neg.ensures) (c.open_single-in-Neg.ensures.failed later x)
 
 pub returns-in-Call-clause-value : goal.returns-in-Call-clause-value
-returns-in-Call-clause-value c =
+returns-in-Call-clause-value c = λ later x.
     let k : Context = context_over c.args.schemas.now in
     rw (← c.expression.view_is, c.in-Call.is, ← c.as_slice.ensures.value)
-    (subst (λ (parts : List Denotation). OnOk c.open_call.result (outcome_of k c.args.forest.now c.open_call.new.self
-    ≡ outcome_behind k c.args.forest.now (denoted k (operators.Call c.in-Call.function) parts (items_of c.args.self.now.scope) c.args.forest.now) c.args.self.now)) (sym (each_argument k c.as_slice.result.now)) c.open_call.ensures.value)
+    (subst (λ (parts : List Denotation). OnOk c.open_call.result (outcome_of k c.args.store.now later c.open_call.new.self
+    ≡ outcome_behind k later (denoted k (operators.Call c.in-Call.function) parts (items_of later c.args.self.now.scope) c.args.store.now) c.args.self.now)) (sym (each_argument k c.as_slice.result.now)) (c.open_call.ensures.value later x))
 
 pub returns-in-Call-clause-failed : goal.returns-in-Call-clause-failed
-returns-in-Call-clause-failed c =
+returns-in-Call-clause-failed c = λ later x.
     let k : Context = context_over c.args.schemas.now in
     rw (← c.expression.view_is, c.in-Call.is, ← c.as_slice.ensures.value)
     (subst (λ (parts : List Denotation). IfErr c.open_call.result (λ e. FailsSo e
-    (outcome_behind k c.args.forest.now (denoted k (operators.Call c.in-Call.function) parts (items_of c.args.self.now.scope) c.args.forest.now) c.args.self.now))) (sym (each_argument k c.as_slice.result.now)) c.open_call.ensures.failed)
+    (outcome_behind k later (denoted k (operators.Call c.in-Call.function) parts (items_of later c.args.self.now.scope) c.args.store.now) c.args.self.now))) (sym (each_argument k c.as_slice.result.now)) (c.open_call.ensures.failed later x))
 
 pub returns-in_ok-open_part-in-For-clause-value : goal.returns-in_ok-open_part-in-For-clause-value
-returns-in_ok-open_part-in-For-clause-value c =
+returns-in_ok-open_part-in-For-clause-value c = λ later x.
     let k : Context = context_over c.args.schemas.now in
     let work : List Pending = c.args.self.now.work in
-    let values : Items = c.args.self.now.values.items in
-    let stacks : Stacks = stacks_of c.args.self.now in
-    let bindings : Bindings = items_of c.args.self.now.scope in
-    let there : c.len-first.result ≡ length values = search rules in
-    c.in_ok-open_part-in-For.ensures k c.args.forest.now
+    let values : Items = items_in later c.args.self.now.values.items in
+    let stacks : Stacks = stacks_of later c.args.self.now in
+    let bindings : Bindings = items_of later c.args.self.now.scope in
+    let there : c.count_of-first.result ≡ length values = c.count_of-first.ensures later in
+    c.in_ok-open_part-in-For.ensures k c.args.store.now later
     ∙ rw (← c.expression.view_is, c.in-For.is, ← c.deref-in-For.ensures, ← c.deref-in-For-2.ensures)
-    (for_opens_at k c.args.forest.now c.in-For.binder.variable (meaning k c.deref-in-For.result.now) (meaning k c.deref-in-For-2.result.now) work values c.len-first.result stacks bindings there)
+    (for_opens_at k c.args.store.now c.in-For.binder.variable (meaning k c.deref-in-For.result.now) (meaning k c.deref-in-For-2.result.now) work values c.count_of-first.result stacks bindings there)
+
+pub returns-in_ok-open_part-in-Let-clause-value : goal.returns-in_ok-open_part-in-Let-clause-value
+returns-in_ok-open_part-in-Let-clause-value c = λ later x.
+    let k : Context = context_over c.args.schemas.now in
+    let work : List Pending = c.args.self.now.work in
+    let values : Items = items_in later c.args.self.now.values.items in
+    let stacks : Stacks = stacks_of later c.args.self.now in
+    let bindings : Bindings = items_of later c.args.self.now.scope in
+    c.in_ok-open_part-in-Let.ensures k c.args.store.now later
+    ∙ rw (← c.expression.view_is, c.in-Let.is, ← c.deref-in-Let.ensures, ← c.deref-in-Let-2.ensures)
+    (let_opens_at k c.args.store.now c.in-Let.binder.variable (meaning k c.deref-in-Let.result.now) (meaning k c.deref-in-Let-2.result.now) work values c.count_of-first.result stacks bindings (c.count_of-first.ensures later))
+
+pub returns-in_ok-open_part-in-If-clause-value : goal.returns-in_ok-open_part-in-If-clause-value
+returns-in_ok-open_part-in-If-clause-value c = λ later x.
+    let k : Context = context_over c.args.schemas.now in
+    let work : List Pending = c.args.self.now.work in
+    let values : Items = items_in later c.args.self.now.values.items in
+    let stacks : Stacks = stacks_of later c.args.self.now in
+    let bindings : Bindings = items_of later c.args.self.now.scope in
+    c.in_ok-open_part-in-If.ensures k c.args.store.now later
+    ∙ rw (← c.expression.view_is, c.in-If.is, ← c.deref-in-If.ensures, ← c.deref-in-If-2.ensures, ← c.deref-in-If-3.ensures)
+    (conditional_opens_at k c.args.store.now (meaning k c.deref-in-If.result.now) (meaning k c.deref-in-If-2.result.now) (meaning k c.deref-in-If-3.result.now) work values c.count_of-first.result stacks bindings (c.count_of-first.ensures later))
+
+pub returns-in_ok-open_part-in-Binary-clause-value : goal.returns-in_ok-open_part-in-Binary-clause-value
+returns-in_ok-open_part-in-Binary-clause-value c = λ later x.
+    let k : Context = context_over c.args.schemas.now in
+    let work : List Pending = c.args.self.now.work in
+    let values : Items = items_in later c.args.self.now.values.items in
+    let stacks : Stacks = stacks_of later c.args.self.now in
+    let bindings : Bindings = items_of later c.args.self.now.scope in
+    c.in_ok-open_part-in-Binary.ensures k c.args.store.now later
+    ∙ rw (← c.expression.view_is, c.in-Binary.is, ← c.deref-in-Binary.ensures, ← c.deref-in-Binary-2.ensures)
+    (binary_opens_at k c.args.store.now c.in-Binary.operator (meaning k c.deref-in-Binary.result.now) (meaning k c.deref-in-Binary-2.result.now) work values c.count_of-first.result stacks bindings (c.count_of-first.ensures later))
+
+pub returns-in_ok-push_atom-in-Lit-clause-value : goal.returns-in_ok-push_atom-in-Lit-clause-value
+returns-in_ok-push_atom-in-Lit-clause-value c = λ later x.
+    let values : Items = items_in later c.args.self.now.values.items in
+    rw (← c.expression.view_is, c.in-Lit.is)
+    (ap (λ (v : Items). resume (context_over c.args.schemas.now) c.args.self.now.work v (stacks_of later c.args.self.now) (items_of later c.args.self.now.scope) c.args.store.now)
+    (c.in_ok-push_atom-in-Lit.ensures later ∙ ap (λ (a : Atomic). values ++ atom a ∷ []) c.in_ok-clone-in-Lit.ensures.cases))
+
+pub returns-in-Step-clause-value : goal.returns-in-Step-clause-value
+returns-in-Step-clause-value c = λ later x. rw (← c.expression.view_is, c.in-Step.is) (c.append_step.ensures.value later x)
+
+pub returns-in-Step-clause-failed : goal.returns-in-Step-clause-failed
+returns-in-Step-clause-failed c = λ later x. rw (← c.expression.view_is, c.in-Step.is) (c.append_step.ensures.failed later x)

@@ -3,6 +3,8 @@ use Rattle.std.proofs.lemmas.List.{map-append, nil_from_length, length-map}
 use Rattle.gx_model.specs.Item.{Items}
 use Rattle.gx_core.specs.Meaning.{Bindings, Denotation, meaning}
 use Rattle.gx_core.specs.Soundness.{TypedExpression}
+use Rattle.gx_store.specs.Items.{items_in}
+use Rattle.gx_store.specs.Places.{node_places}
 use Rattle.gx_eval.specs.declared.evaluation.Pending.{Pending}
 use Rattle.gx_eval.specs.declared.evaluation.Pending.TheVariants.{Mark}
 use Rattle.gx_eval.specs.Resume.{Stacks, items_of, stacks_of, in_order}
@@ -25,18 +27,18 @@ loop-argument-preserved c = record {
 }
 
 pub returns : goal.returns
-returns c = λ k forest.
+returns c = λ k forest later.
     let work : List Pending = c.loop-argument.self.work in
-    let values : Items = c.args.self.now.values.items in
-    let stacks : Stacks = stacks_of c.args.self.now in
-    let bindings : Bindings = items_of c.args.self.now.scope in
+    let values : Items = items_in later c.args.self.now.values.items in
+    let stacks : Stacks = stacks_of later c.args.self.now in
+    let bindings : Bindings = items_of later c.args.self.now.scope in
     let arguments : List TypedExpression = c.args.arguments.now in
     let all : (length arguments - 2) + 2 ≡ length (map (meaning k) arguments) = omega (arith, c.requires, length-map arguments (meaning k)) in
-    ap (λ v. resume_marked k work (stacks_of c.loop-argument.self) v.items c.loop-argument.self.marks (items_of c.loop-argument.self.scope) forest) c.loop-argument.invariant.same_values
-    ∙ ap (λ v. resume_marked k work (record { marks = c.loop-argument.self.marks; sources = v.items; documents = c.loop-argument.self.documents.now }) values c.loop-argument.self.marks (items_of c.loop-argument.self.scope) forest) c.loop-argument.invariant.same_sources
-    ∙ ap (λ v. resume_marked k work (record { marks = c.loop-argument.self.marks; sources = c.args.self.now.sources.items; documents = v.now }) values c.loop-argument.self.marks (items_of c.loop-argument.self.scope) forest) c.loop-argument.invariant.same_documents
-    ∙ ap (λ (ms : List ℕ). resume_marked k work (record { marks = ms; sources = c.args.self.now.sources.items; documents = c.args.self.now.documents.now }) values ms (items_of c.loop-argument.self.scope) forest) c.loop-argument.invariant.same_marks
-    ∙ ap (λ s. resume_marked k work stacks values stacks.marks (items_of s) forest) c.loop-argument.invariant.same_scope
+    ap (λ v. resume_marked k work (stacks_of later c.loop-argument.self) (items_in later v.items) c.loop-argument.self.marks (items_of later c.loop-argument.self.scope) forest) c.loop-argument.invariant.same_values
+    ∙ ap (λ v. resume_marked k work (record { marks = c.loop-argument.self.marks; sources = items_in later v.items; documents = node_places later c.loop-argument.self.documents.now }) values c.loop-argument.self.marks (items_of later c.loop-argument.self.scope) forest) c.loop-argument.invariant.same_sources
+    ∙ ap (λ v. resume_marked k work (record { marks = c.loop-argument.self.marks; sources = items_in later c.args.self.now.sources.items; documents = node_places later v.now }) values c.loop-argument.self.marks (items_of later c.loop-argument.self.scope) forest) c.loop-argument.invariant.same_documents
+    ∙ ap (λ (ms : List ℕ). resume_marked k work (record { marks = ms; sources = items_in later c.args.self.now.sources.items; documents = node_places later c.args.self.now.documents.now }) values ms (items_of later c.loop-argument.self.scope) forest) c.loop-argument.invariant.same_marks
+    ∙ ap (λ s. resume_marked k work stacks values stacks.marks (items_of later s) forest) c.loop-argument.invariant.same_scope
     ∙ ap (λ (es : List TypedExpression). in_order (map (meaning k) es) (resume_marked k work stacks) values stacks.marks bindings forest) (sym (nil_from_length c.loop-argument.rest.now c.in_default.ensures.cases))
     ∙ c.loop-argument.invariant.same k stacks values stacks.marks bindings forest
     ∙ call_opens k c.args.function (length arguments - 2) c.args.self.now.work values stacks bindings forest (map (meaning k) arguments) all

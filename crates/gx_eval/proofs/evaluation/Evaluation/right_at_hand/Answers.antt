@@ -4,32 +4,33 @@ use Rattle.gx_model.specs.Item.{Items}
 use Rattle.gx_core.specs.declared.expression.BinaryClass.{BinaryClass}
 use Rattle.gx_core.specs.Outcome.{gives}
 use Rattle.gx_core.specs.Meaning.{Bindings, binary_meaning, meaning}
+use Rattle.gx_store.specs.Items.{items_in}
 use Rattle.gx_eval.specs.BoundItems.{hand_items}
 use Rattle.gx_eval.specs.Resume.{items_of, right_meaning}
 use Rattle.gx_eval.proofs.Resuming.{right_is, fails_also}
 use Rattle.gx_eval.proofs.evaluation.Evaluation.right_at_hand.Goals as goal
 
 pub returns-in_err-of_two-in-Some-clause-failed : goal.returns-in_err-of_two-in-Some-clause-failed
-returns-in_err-of_two-in-Some-clause-failed c = λ k forest.
-    let ys : Items = c.as_slice-in-Some.result.now in
-    let values : Items = c.args.self.now.values.items in
-    let bindings : Bindings = items_of c.args.self.now.scope in
-    let e : meaning k c.args.right.now bindings forest ≡ gives (hand_items c.in-Some.hand) forest = rw c.in-Some.is at (c.in_ok-hand.ensures k forest) in
-    let o : right_meaning k c.args.operator c.args.first c.args.right.now values bindings forest ≡ binary_meaning c.class.result c.cut_at.result.1.now ys forest =
-    right_is k forest c.args.operator c.args.right.now values ys c.args.first bindings (e ∙ ap (λ (v : Items). gives v forest) (sym c.as_slice-in-Some.ensures))
+returns-in_err-of_two-in-Some-clause-failed c = λ k forest later.
+    let ys : Items = items_in later c.as_slice.result.now in
+    let values : Items = items_in later c.args.self.now.values.items in
+    let bindings : Bindings = items_of later c.args.self.now.scope in
+    let e : meaning k c.args.right.now bindings forest ≡ gives (hand_items later c.in-Some.hand) forest = rw c.in-Some.is at (c.in_ok-hand.ensures k forest later) in
+    let o : right_meaning k c.args.operator c.args.first c.args.right.now values bindings forest ≡ binary_meaning c.class.result (items_in later c.values_from-left.result.now) ys forest =
+    right_is k forest c.args.operator c.args.right.now values ys c.args.first bindings (e ∙ ap (λ (v : Items). gives v forest) (sym (c.as_slice.ensures later)))
     ∙ ap (λ (class : BinaryClass). binary_meaning class (drop c.args.first values) ys forest) (sym c.class.ensures)
-    ∙ ap (λ (xs : Items). binary_meaning c.class.result xs ys forest) (sym (c.cut_at.ensures.rest ∙ ap (drop c.args.first) c.as_slice.ensures.value)) in
+    ∙ ap (λ (xs : Items). binary_meaning c.class.result xs ys forest) (sym (c.values_from-left.ensures later)) in
     let p = err_from_is_err_and c.from_residual-in_err-of_two-in-Some.result c.from_residual-in_err-of_two-in-Some.ensures.1 in
-    rw (p.1, p.2) (fails_also _ _ _ o (c.in_err-of_two-in-Some.ensures.failed forest))
+    rw (p.1, p.2) (fails_also _ _ _ o (c.in_err-of_two-in-Some.ensures.failed forest later))
 
 pub returns-in_ok-of_two-in-Some-clause-value : goal.returns-in_ok-of_two-in-Some-clause-value
-returns-in_ok-of_two-in-Some-clause-value c = λ k forest.
-    let ys : Items = c.as_slice-in-Some.result.now in
-    let values : Items = c.args.self.now.values.items in
-    let bindings : Bindings = items_of c.args.self.now.scope in
-    let e : meaning k c.args.right.now bindings forest ≡ gives (hand_items c.in-Some.hand) forest = rw c.in-Some.is at (c.in_ok-hand.ensures k forest) in
-    let o : right_meaning k c.args.operator c.args.first c.args.right.now values bindings forest ≡ binary_meaning c.class.result c.cut_at.result.1.now ys forest =
-    right_is k forest c.args.operator c.args.right.now values ys c.args.first bindings (e ∙ ap (λ (v : Items). gives v forest) (sym c.as_slice-in-Some.ensures))
+returns-in_ok-of_two-in-Some-clause-value c = λ k forest later.
+    let ys : Items = items_in later c.as_slice.result.now in
+    let values : Items = items_in later c.args.self.now.values.items in
+    let bindings : Bindings = items_of later c.args.self.now.scope in
+    let e : meaning k c.args.right.now bindings forest ≡ gives (hand_items later c.in-Some.hand) forest = rw c.in-Some.is at (c.in_ok-hand.ensures k forest later) in
+    let o : right_meaning k c.args.operator c.args.first c.args.right.now values bindings forest ≡ binary_meaning c.class.result (items_in later c.values_from-left.result.now) ys forest =
+    right_is k forest c.args.operator c.args.right.now values ys c.args.first bindings (e ∙ ap (λ (v : Items). gives v forest) (sym (c.as_slice.ensures later)))
     ∙ ap (λ (class : BinaryClass). binary_meaning class (drop c.args.first values) ys forest) (sym c.class.ensures)
-    ∙ ap (λ (xs : Items). binary_meaning c.class.result xs ys forest) (sym (c.cut_at.ensures.rest ∙ ap (drop c.args.first) c.as_slice.ensures.value)) in
-    o ∙ c.in_ok-of_two-in-Some.ensures.value forest
+    ∙ ap (λ (xs : Items). binary_meaning c.class.result xs ys forest) (sym (c.values_from-left.ensures later)) in
+    o ∙ c.in_ok-of_two-in-Some.ensures.value forest later

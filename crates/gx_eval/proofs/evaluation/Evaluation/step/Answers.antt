@@ -1,33 +1,70 @@
-use Rattle.std.proofs.Common.{IfErr, sym, subst}
-use Rattle.gx_eval.specs.declared.evaluation.Pending.{Pending}
-use Rattle.gx_eval.specs.Failing.{FailsSo}
-use Rattle.gx_eval.specs.Resume.{context_over, outcome_with}
+use Rattle.std.proofs.Common.{◌∷◌, ℕ, List, ap, ◌∙◌}
+use Rattle.gx_store.specs.Items.{items_in}
+use Rattle.gx_eval.specs.Resume.{context_over, resume, with_marks, items_of, stacks_of}
 use Rattle.gx_eval.proofs.evaluation.Evaluation.step.Goals as goal
 
+pub returns-in-Evaluate-clause-value : goal.returns-in-Evaluate-clause-value
+returns-in-Evaluate-clause-value c = λ later x. rw c.in-Evaluate.is (c.open.ensures.value later x)
+
+pub returns-in-Evaluate-clause-failed : goal.returns-in-Evaluate-clause-failed
+returns-in-Evaluate-clause-failed c = λ later x. rw c.in-Evaluate.is (c.open.ensures.failed later x)
+
+pub returns-in-Change-clause-value : goal.returns-in-Change-clause-value
+returns-in-Change-clause-value c = λ later x. rw c.in-Change.is (c.apply_change.ensures.value later x)
+
 pub returns-in-Change-clause-failed : goal.returns-in-Change-clause-failed
-returns-in-Change-clause-failed c =
-    subst (λ (p : Pending). IfErr c.apply_change.result (λ e. FailsSo e (outcome_with (context_over c.args.schemas.now) c.args.forest.now p c.args.self.now))) (sym c.in-Change.is) c.apply_change.ensures.failed
+returns-in-Change-clause-failed c = λ later x. rw c.in-Change.is (c.apply_change.ensures.failed later x)
+
+pub returns-in-Single-clause-value : goal.returns-in-Single-clause-value
+returns-in-Single-clause-value c = λ later x. rw c.in-Single.is (c.apply_single.ensures.value later x)
 
 pub returns-in-Single-clause-failed : goal.returns-in-Single-clause-failed
-returns-in-Single-clause-failed c =
-    subst (λ (p : Pending). IfErr c.apply_single.result (λ e. FailsSo e (outcome_with (context_over c.args.schemas.now) c.args.forest.now p c.args.self.now))) (sym c.in-Single.is) c.apply_single.ensures.failed
+returns-in-Single-clause-failed c = λ later x. rw c.in-Single.is (c.apply_single.ensures.failed later x)
+
+pub returns-in-Right-clause-value : goal.returns-in-Right-clause-value
+returns-in-Right-clause-value c = λ later x. rw c.in-Right.is (c.open_right.ensures.value (context_over c.args.schemas.now) c.args.store.now later)
 
 pub returns-in-Right-clause-failed : goal.returns-in-Right-clause-failed
-returns-in-Right-clause-failed c =
-    subst (λ (p : Pending). IfErr c.open_right.result (λ e. FailsSo e (outcome_with (context_over c.args.schemas.now) c.args.forest.now p c.args.self.now))) (sym c.in-Right.is) (c.open_right.ensures.failed (context_over c.args.schemas.now) c.args.forest.now)
+returns-in-Right-clause-failed c = λ later x. rw c.in-Right.is (c.open_right.ensures.failed (context_over c.args.schemas.now) c.args.store.now later)
+
+pub returns-in-Binary-clause-value : goal.returns-in-Binary-clause-value
+returns-in-Binary-clause-value c = λ later x. rw c.in-Binary.is (c.apply_binary.ensures.value (context_over c.args.schemas.now) c.args.store.now later)
 
 pub returns-in-Binary-clause-failed : goal.returns-in-Binary-clause-failed
-returns-in-Binary-clause-failed c =
-    subst (λ (p : Pending). IfErr c.apply_binary.result (λ e. FailsSo e (outcome_with (context_over c.args.schemas.now) c.args.forest.now p c.args.self.now))) (sym c.in-Binary.is) (c.apply_binary.ensures.failed (context_over c.args.schemas.now) c.args.forest.now)
+returns-in-Binary-clause-failed c = λ later x. rw c.in-Binary.is (c.apply_binary.ensures.failed (context_over c.args.schemas.now) c.args.store.now later)
+
+pub returns-in-Choose-clause-value : goal.returns-in-Choose-clause-value
+returns-in-Choose-clause-value c = λ later x. rw c.in-Choose.is (c.choose.ensures.value (context_over c.args.schemas.now) c.args.store.now later)
 
 pub returns-in-Choose-clause-failed : goal.returns-in-Choose-clause-failed
-returns-in-Choose-clause-failed c =
-    subst (λ (p : Pending). IfErr c.choose.result (λ e. FailsSo e (outcome_with (context_over c.args.schemas.now) c.args.forest.now p c.args.self.now))) (sym c.in-Choose.is) (c.choose.ensures.failed (context_over c.args.schemas.now) c.args.forest.now)
+returns-in-Choose-clause-failed c = λ later x. rw c.in-Choose.is (c.choose.ensures.failed (context_over c.args.schemas.now) c.args.store.now later)
+
+pub returns-in-Call-clause-value : goal.returns-in-Call-clause-value
+returns-in-Call-clause-value c = λ later x. rw c.in-Call.is (c.apply_call.ensures.value (context_over c.args.schemas.now) c.args.store.now later)
 
 pub returns-in-Call-clause-failed : goal.returns-in-Call-clause-failed
-returns-in-Call-clause-failed c =
-    subst (λ (p : Pending). IfErr c.apply_call.result (λ e. FailsSo e (outcome_with (context_over c.args.schemas.now) c.args.forest.now p c.args.self.now))) (sym c.in-Call.is) (c.apply_call.ensures.failed (context_over c.args.schemas.now) c.args.forest.now)
+returns-in-Call-clause-failed c = λ later x. rw c.in-Call.is (c.apply_call.ensures.failed (context_over c.args.schemas.now) c.args.store.now later)
+
+pub returns-in-External-clause-value : goal.returns-in-External-clause-value
+returns-in-External-clause-value c = λ later x. rw c.in-External.is (c.bind_document.ensures.value (context_over c.args.schemas.now) c.args.store.now later)
 
 pub returns-in-External-clause-failed : goal.returns-in-External-clause-failed
-returns-in-External-clause-failed c =
-    subst (λ (p : Pending). IfErr c.bind_document.result (λ e. FailsSo e (outcome_with (context_over c.args.schemas.now) c.args.forest.now p c.args.self.now))) (sym c.in-External.is) (c.bind_document.ensures.failed (context_over c.args.schemas.now) c.args.forest.now)
+returns-in-External-clause-failed c = λ later x. rw c.in-External.is (c.bind_document.ensures.failed (context_over c.args.schemas.now) c.args.store.now later)
+
+pub returns-in_ok-gather-in-Gather-clause-value : goal.returns-in_ok-gather-in-Gather-clause-value
+returns-in_ok-gather-in-Gather-clause-value c = λ later x. rw c.in-Gather.is (c.in_ok-gather-in-Gather.ensures (context_over c.args.schemas.now) c.args.store.now later)
+
+pub returns-in_ok-turn-in-Each-clause-value : goal.returns-in_ok-turn-in-Each-clause-value
+returns-in_ok-turn-in-Each-clause-value c = λ later x. rw c.in-Each.is (c.in_ok-turn-in-Each.ensures (context_over c.args.schemas.now) c.args.store.now later)
+
+pub returns-in_ok-bind-in-Bind-clause-value : goal.returns-in_ok-bind-in-Bind-clause-value
+returns-in_ok-bind-in-Bind-clause-value c = λ later x. rw c.in-Bind.is (c.in_ok-bind-in-Bind.ensures (context_over c.args.schemas.now) c.args.store.now later)
+
+pub returns-in_ok-declare-in-Declare-clause-value : goal.returns-in_ok-declare-in-Declare-clause-value
+returns-in_ok-declare-in-Declare-clause-value c = λ later x. rw c.in-Declare.is (c.in_ok-declare-in-Declare.ensures (context_over c.args.schemas.now) c.args.store.now later)
+
+pub returns-in_ok-push-in-Mark-clause-value : goal.returns-in_ok-push-in-Mark-clause-value
+returns-in_ok-push-in-Mark-clause-value c = λ later x.
+    rw c.in-Mark.is
+    (ap (λ (marks : List ℕ). resume (context_over c.args.schemas.now) c.args.self.now.work (items_in later c.args.self.now.values.items) (with_marks (stacks_of later c.args.self.now) marks) (items_of later c.args.self.now.scope) c.args.store.now)
+    (c.in_ok-push-in-Mark.ensures.ok ∙ ap (λ (n : ℕ). n ∷ c.args.self.now.marks) (c.count_of.ensures later)))

@@ -1,0 +1,18 @@
+use Rattle.std.proofs.Common.{◌≡◌, ◌++◌, ℤ, rules, subst}
+use Rattle.std.specs.Prelude.{FitsSigned, OnOk}
+use Rattle.std.specs.Int.{w128}
+use Rattle.std.proofs.lemmas.Int.{to_z-of_z}
+use Rattle.gx_model.specs.Item.{atoms}
+use Rattle.gx_core.specs.Ranging.{integers_from}
+use Rattle.gx_store.specs.Items.{items_in}
+use Rattle.gx_eval.proofs.answer.put.Goals as goal
+
+pub returns-in-One : goal.returns-in-One
+returns-in-One c = λ later. rw c.in-One.is (c.push_atom.ensures later)
+
+pub returns-in-Integers : goal.returns-in-Integers
+returns-in-Integers c = λ later.
+    let fits : FitsSigned w128 c.in-Integers.first = search rules in
+    rw c.in-Integers.is
+    (subst (λ (z : ℤ). OnOk c.put_integers.result (items_in later c.put_integers.new.values.items ≡ items_in later c.args.values.now.items ++ atoms (integers_from z c.in-Integers.count)))
+    (to_z-of_z w128 c.in-Integers.first fits) (c.put_integers.ensures later))

@@ -1,0 +1,20 @@
+use Rattle.std.proofs.Common.{◌≡◌, ◌++◌, List, drop, ap, ◌∙◌}
+use Rattle.gx_model.specs.Item.{Items}
+use Rattle.gx_core.specs.Meaning.{Bindings, meaning}
+use Rattle.gx_store.specs.Items.{items_in}
+use Rattle.gx_eval.specs.declared.evaluation.Pending.{Pending}
+use Rattle.gx_eval.specs.Resume.{Stacks, with_sources, resume, items_of, stacks_of}
+use Rattle.gx_eval.proofs.Resuming.{gathered_at}
+use Rattle.gx_eval.proofs.evaluation.Evaluation.gather.Goals as goal
+
+pub returns : goal.returns
+returns c = λ k forest later.
+    let values : Items = items_in later c.args.self.now.values.items in
+    let front : Items = items_in later c.split_at.new.values.items in
+    let sources : Items = items_in later c.move_behind.new.values.items in
+    let stacks : Stacks = stacks_of later c.args.self.now in
+    let bindings : Bindings = items_of later c.args.self.now.scope in
+    let moved : sources ≡ stacks.sources ++ drop c.args.first values = c.in_ok-move_behind.ensures later ∙ ap (λ (v : Items). stacks.sources ++ v) (c.in_ok-source.ensures.rest later) in
+    ap (λ (w : List Pending). resume k w front (with_sources stacks sources) bindings forest) c.in_ok-push.ensures.ok
+    ∙ gathered_at k forest c.args.variable (meaning k c.args.body.now) c.args.self.now.work values front sources c.args.first c.count_of-start.result stacks bindings (c.in_ok-source.ensures.front later) moved
+    (c.count_of-start.ensures later)
