@@ -18,7 +18,7 @@ use gx_types::simple_type::{AtomicType, declared_atomic_type};
 use std::alloc::{AllocError, Global};
 
 /// Why a cast has no value: the code of the dynamic error (Functions and Operators, appendix C), or want of memory.
-#[derive(Clone, Copy, Debug, PartialEq, Eq)]
+#[derive(Clone, Copy, PartialEq, Eq)]
 pub enum CastError {
     /// The value has no counterpart in the target type: the text is not in its lexical space, the value is outside its
     /// range, or the type is no target.

@@ -8,7 +8,7 @@ use std::cmp::Ordering;
 
 /// A comparison operator (XQuery 1.0, section 3.5): `eq` and `=`, `ne` and `!=`, `lt` and `<`, `le` and `<=`, `gt` and `>`,
 /// `ge` and `>=`.
-#[derive(Clone, Copy, Debug, PartialEq, Eq)]
+#[derive(Clone, Copy, PartialEq, Eq)]
 pub enum Op {
     Eq,
     Ne,

@@ -3,7 +3,7 @@
 use std::alloc::AllocError;
 
 /// Why a tree was not made.
-#[derive(Debug, Drop)]
+#[derive(Drop)]
 pub enum BuildError {
     /// There is no memory.
     Memory,

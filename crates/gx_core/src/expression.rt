@@ -62,7 +62,7 @@ impl Drop for Binder {
 }
 
 /// The operators of two operands (XQuery 1.0, sections 3.3.1, 3.4 and 3.5).
-#[derive(Clone, Copy, Debug, PartialEq, Eq)]
+#[derive(Clone, Copy, PartialEq, Eq)]
 pub enum BinaryOp {
     Add,
     Sub,
@@ -90,7 +90,7 @@ pub enum BinaryOp {
 }
 
 /// The operators of arithmetic (XQuery 1.0, section 3.4).
-#[derive(Clone, Copy, Debug, PartialEq, Eq)]
+#[derive(Clone, Copy, PartialEq, Eq)]
 pub enum ArithmeticOp {
     Add,
     Sub,
@@ -101,7 +101,7 @@ pub enum ArithmeticOp {
 }
 
 /// What an operator of two operands does: arithmetic, a value comparison, a general comparison, or a range of integers.
-#[derive(Clone, Copy, Debug, PartialEq, Eq)]
+#[derive(Clone, Copy, PartialEq, Eq)]
 pub enum BinaryClass {
     Arithmetic(ArithmeticOp),
     Value(Op),

@@ -9,7 +9,7 @@ use std::alloc::{AllocError, Global};
 
 /// Why words do not bind each variable once: a word names no variable, or one that an earlier word names; or no word names
 /// this variable.
-#[derive(Debug, Drop)]
+#[derive(Drop)]
 pub enum BindingFault {
     Unknown(String),
     Doubled(String),
@@ -17,7 +17,7 @@ pub enum BindingFault {
 }
 
 /// Why there are no files: words do not bind each variable once, or memory is wanting.
-#[derive(Debug, Drop)]
+#[derive(Drop)]
 pub enum BindingError {
     Fault(BindingFault),
     Memory,

@@ -50,7 +50,7 @@ pub struct DocumentRequest<'a> {
 
 /// Why nothing is kept of a file: it cannot be read; it is longer than 16,777,216 bytes; a rule refuses it at a place; or its
 /// document breaks a rule of validity, at the element of a path.
-#[derive(Debug, Drop)]
+#[derive(Drop)]
 pub enum DocumentFault {
     Unread,
     TooLong,
@@ -59,7 +59,7 @@ pub enum DocumentFault {
 }
 
 /// Why there are no documents: nothing is kept of the file of this name, or memory is wanting.
-#[derive(Debug, Drop)]
+#[derive(Drop)]
 pub enum DocumentsError {
     Failed(String, DocumentFault),
     Memory,

@@ -4,7 +4,7 @@ use gx_base::code::Code;
 use std::alloc::{AllocError, AllocFailed};
 
 // A dynamic error, a type error, or want of memory.
-#[derive(Clone, Copy, Debug, PartialEq, Eq)]
+#[derive(Clone, Copy, PartialEq, Eq)]
 pub(crate) enum Failure {
     Raised(Code),
     Wrong,

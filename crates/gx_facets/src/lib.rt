@@ -20,7 +20,7 @@ use std::alloc::AllocError;
 pub use values::{compare_values, print_value};
 
 /// An atomic value without its type (XQuery 1.0 and XPath 2.0 Data Model, section 2.7).
-#[derive(Debug, PartialEq, Eq)]
+#[derive(PartialEq, Eq)]
 pub enum AtomValue {
     /// An xs:untypedAtomic.
     Untyped(Text),
@@ -57,7 +57,7 @@ impl Clone for AtomValue {
 }
 
 /// An atomic value with its type.
-#[derive(Debug, PartialEq, Eq)]
+#[derive(PartialEq, Eq)]
 pub struct Atomic {
     pub value: AtomValue,
     pub kind: TypeName,

@@ -5,7 +5,7 @@ use crate::AtomValue;
 use std::marker::Model;
 
 /// Values in their order, which contracts see as a list.
-#[derive(Debug, Drop)]
+#[derive(Drop)]
 pub struct AtomValues {
     items: Vec<AtomValue>,
 }
@@ -44,7 +44,7 @@ impl AtomValues {
 }
 
 /// The entries of an enumeration, which contracts see as a list of lists.
-#[derive(Debug, Drop)]
+#[derive(Drop)]
 pub struct Enumeration {
     entries: Vec<AtomValues>,
 }
@@ -84,7 +84,6 @@ impl Enumeration {
 
 /// The facets of a simple type (XML Schema Part 2, 4.3). An enumeration without entries is absent, and so is each of the
 /// others that is None. A length above the greatest u64 is given as that number.
-#[derive(Debug)]
 pub struct Facets {
     /// The enumeration, each entry the list of its values.
     pub values: Enumeration,

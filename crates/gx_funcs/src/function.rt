@@ -11,7 +11,7 @@ use gx_num::Number;
 
 /// A built-in function: one variant for each name and number of arguments (Functions and Operators, sections 2.3, 2.4, 9.1,
 /// 9.3, 15.1 and 15.4).
-#[derive(Clone, Copy, Debug, PartialEq, Eq)]
+#[derive(Clone, Copy, PartialEq, Eq)]
 pub enum Function {
     /// `fn:true()`.
     True,
@@ -34,7 +34,7 @@ pub enum Function {
 }
 
 /// What the values of a parameter are.
-#[derive(Clone, Copy, Debug, PartialEq, Eq)]
+#[derive(Clone, Copy, PartialEq, Eq)]
 pub enum ParameterType {
     /// `item()*`.
     Items,
@@ -45,7 +45,7 @@ pub enum ParameterType {
 }
 
 /// A parameter of a function: what its values are, and the code of an argument of another type.
-#[derive(Clone, Copy, Debug, PartialEq, Eq)]
+#[derive(Clone, Copy, PartialEq, Eq)]
 pub struct Parameter {
     pub takes: ParameterType,
     pub code: Code,

@@ -10,7 +10,7 @@ use std::alloc::{AllocError, Global};
 use std::str::from_utf8;
 
 /// Why bytes could not be decoded.
-#[derive(Clone, Copy, Debug, PartialEq, Eq)]
+#[derive(Clone, Copy, PartialEq, Eq)]
 pub enum DecodeError {
     /// The bytes are not UTF-8. The place is that of the first character that cannot be read.
     NotUtf8(Place),

@@ -4,14 +4,14 @@ use gx_types::shape::Shape;
 use std::alloc::AllocError;
 
 /// Whether a type is included in another one. `No` has a list of shapes that the left type takes and the right type does not.
-#[derive(Debug, Drop)]
+#[derive(Drop)]
 pub enum Verdict {
     Yes,
     No(Vec<Shape>),
 }
 
 /// Why an inclusion has no verdict: more pairs than the limit are reached, or memory did not suffice.
-#[derive(Clone, Copy, Debug, PartialEq, Eq)]
+#[derive(Clone, Copy, PartialEq, Eq)]
 pub enum IncludeError {
     TooManyPairs,
     Memory,

@@ -4,7 +4,7 @@ use gx_tree::tree::Tree;
 use std::marker::Model;
 
 /// Trees by their numbers, counted from 0.
-#[derive(Debug, Drop)]
+#[derive(Drop)]
 pub struct Forest {
     pub trees: Vec<Tree>,
 }

@@ -9,13 +9,13 @@ use std::alloc::AllocError;
 use std::marker::Model;
 
 /// An item (XQuery 1.0 and XPath 2.0 Data Model, section 2). Copying it takes no memory.
-#[derive(Debug, Drop)]
+#[derive(Drop)]
 pub struct ModelItem {
     pub form: ItemForm,
 }
 
 /// What an item is: an atomic value or a node.
-#[derive(Debug, Drop)]
+#[derive(Drop)]
 pub enum ItemForm {
     Atom(Atomic),
     Node(Node),

@@ -11,7 +11,7 @@ use std::marker::Model;
 
 /// A node of a forest: the number of its tree, the positions that lead to it from the root, and the position of the
 /// attribute where it is one, all counted from 0 (XQuery 1.0 and XPath 2.0 Data Model, section 2.4). Copying it takes no memory.
-#[derive(Debug, Drop)]
+#[derive(Drop)]
 pub struct Node {
     pub tree: usize,
     pub path: Path,

@@ -8,7 +8,7 @@ use std::rc::Rc;
 
 /// The positions that lead to a node from the root of its tree, counted from 0, which contracts see as a list. Copies share
 /// them, so copying a path takes no memory.
-#[derive(Debug, Drop)]
+#[derive(Drop)]
 pub struct Path {
     shared: Rc<Vec<usize>>,
 }

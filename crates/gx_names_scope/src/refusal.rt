@@ -8,14 +8,14 @@ use gx_base::place::Place;
 use std::alloc::{AllocError, AllocFailed};
 
 /// A refusal: its code, and its place.
-#[derive(Clone, Copy, Debug, PartialEq, Eq)]
+#[derive(Clone, Copy, PartialEq, Eq)]
 pub struct Refusal {
     pub code: Code,
     pub place: Place,
 }
 
 /// Why a query is not resolved: the first refusal, or want of memory.
-#[derive(Clone, Copy, Debug, PartialEq, Eq)]
+#[derive(Clone, Copy, PartialEq, Eq)]
 pub enum NameRefusal {
     Refused { code: Code, place: Place },
     Memory,

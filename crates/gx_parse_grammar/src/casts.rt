@@ -6,14 +6,14 @@ ghost use Rattle.gx_parse_grammar.specs.Casts.{cast_word, test_second, test_word
 use crate::word::Word;
 
 /// The operators with a sequence type (XQuery 1.0, sections 3.12.1 and 3.12.5).
-#[derive(Clone, Copy, Debug, PartialEq, Eq)]
+#[derive(Clone, Copy, PartialEq, Eq)]
 pub enum TypeTest {
     InstanceOf,
     TreatAs,
 }
 
 /// The operators with the type of a cast (XQuery 1.0, sections 3.12.3 and 3.12.4).
-#[derive(Clone, Copy, Debug, PartialEq, Eq)]
+#[derive(Clone, Copy, PartialEq, Eq)]
 pub enum CastTest {
     CastableAs,
     CastAs,

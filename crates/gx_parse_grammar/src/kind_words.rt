@@ -5,7 +5,7 @@ use gx_ast::sequence_type::{Indicator, TestedName};
 use gx_base::place::Place;
 
 /// The names of kind tests (XQuery 1.0, section 2.5.4).
-#[derive(Clone, Copy, Debug, PartialEq, Eq)]
+#[derive(Clone, Copy, PartialEq, Eq)]
 pub enum KindWord {
     Node,
     Text,
@@ -16,7 +16,7 @@ pub enum KindWord {
 }
 
 /// What a name at the front of a sequence type says (XQuery 1.0, section 2.5.3).
-#[derive(Clone, Copy, Debug, PartialEq, Eq)]
+#[derive(Clone, Copy, PartialEq, Eq)]
 pub enum TypeWord {
     EmptySequence,
     Item,
@@ -25,7 +25,7 @@ pub enum TypeWord {
 }
 
 /// What stands in the parentheses of a kind test.
-#[derive(Debug, Drop)]
+#[derive(Drop)]
 pub enum TestContent {
     /// A name or `*` and a type's name, or nothing.
     Tested(Option<TestedName>),
@@ -38,7 +38,7 @@ pub enum TestContent {
 }
 
 /// What stands behind the name of a sequence type.
-#[derive(Debug, Drop)]
+#[derive(Drop)]
 pub struct TypeTail {
     /// What stands in parentheses, if they stand there.
     pub content: Option<TestContent>,

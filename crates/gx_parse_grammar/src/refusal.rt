@@ -22,7 +22,7 @@ pub enum SyntaxRule {
 }
 
 /// Why bytes have no syntax tree.
-#[derive(Clone, Copy, Debug, PartialEq, Eq)]
+#[derive(Clone, Copy, PartialEq, Eq)]
 pub enum SyntaxRefusal {
     /// A rule refuses them.
     Refused {

@@ -7,7 +7,7 @@ ghost use Rattle.gx_parse_grammar.specs.Strings.{closing_of, doubled_of, opening
 use crate::word::Word;
 
 /// The quotes round a string literal or an attribute value.
-#[derive(Clone, Copy, Debug, PartialEq, Eq)]
+#[derive(Clone, Copy, PartialEq, Eq)]
 pub enum Quote {
     /// `"`.
     Double,
@@ -16,7 +16,7 @@ pub enum Quote {
 }
 
 /// Where literal text stands.
-#[derive(Clone, Copy, Debug, PartialEq, Eq)]
+#[derive(Clone, Copy, PartialEq, Eq)]
 pub enum Run {
     /// In a string literal with these quotes.
     String(Quote),
@@ -27,7 +27,7 @@ pub enum Run {
 }
 
 /// How the number of a character reference is written.
-#[derive(Clone, Copy, Debug, PartialEq, Eq)]
+#[derive(Clone, Copy, PartialEq, Eq)]
 pub enum Radix {
     Decimal,
     Hexadecimal,

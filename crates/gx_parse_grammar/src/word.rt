@@ -6,7 +6,7 @@ ghost use Rattle.gx_parse_grammar.specs.Words.{binder_in, binding_word, clause_w
 use std::slice;
 
 /// A keyword or a symbol (XQuery 1.0, appendix A.1).
-#[derive(Clone, Copy, Debug, PartialEq, Eq)]
+#[derive(Clone, Copy, PartialEq, Eq)]
 pub enum Word {
     Comma,
     Open,
@@ -323,7 +323,7 @@ impl Word {
 }
 
 /// The characters that may not stand right behind a word.
-#[derive(Clone, Copy, Debug, PartialEq, Eq)]
+#[derive(Clone, Copy, PartialEq, Eq)]
 pub enum Ending {
     /// Any character may stand there.
     Free,
@@ -350,7 +350,7 @@ pub enum Ending {
 }
 
 /// The levels of operators with two operands, from the loosest to the tightest (XQuery 1.0, appendix A.4).
-#[derive(Clone, Copy, Debug, PartialEq, Eq)]
+#[derive(Clone, Copy, PartialEq, Eq)]
 pub enum Level {
     Or,
     And,
@@ -363,7 +363,7 @@ pub enum Level {
 }
 
 /// Where a limit stands: what may not begin there.
-#[derive(Clone, Copy, Debug, PartialEq, Eq)]
+#[derive(Clone, Copy, PartialEq, Eq)]
 pub enum Barrier {
     /// An expression or an operand.
     Single,
@@ -376,7 +376,7 @@ pub enum Barrier {
 }
 
 /// Words of which one may stand at a place.
-#[derive(Clone, Copy, Debug, PartialEq, Eq)]
+#[derive(Clone, Copy, PartialEq, Eq)]
 pub enum WordSet {
     /// This word.
     Only(Word),
@@ -407,7 +407,7 @@ pub enum WordSet {
 }
 
 /// The word of a clause that binds variables (XQuery 1.0, section 3.8.1).
-#[derive(Clone, Copy, Debug, PartialEq, Eq)]
+#[derive(Clone, Copy, PartialEq, Eq)]
 pub enum ClauseWord {
     /// `for`.
     For,
@@ -438,7 +438,7 @@ impl ClauseWord {
 }
 
 /// What a name begins where a `$` stands behind it.
-#[derive(Clone, Copy, Debug, PartialEq, Eq)]
+#[derive(Clone, Copy, PartialEq, Eq)]
 pub enum Opening {
     /// A FLWOR (XQuery 1.0, section 3.8).
     Flwor(ClauseWord),
@@ -447,7 +447,7 @@ pub enum Opening {
 }
 
 /// What a name begins where a `(` stands behind it.
-#[derive(Clone, Copy, Debug, PartialEq, Eq)]
+#[derive(Clone, Copy, PartialEq, Eq)]
 pub enum Branching {
     /// `if` (XQuery 1.0, section 3.10).
     If,
@@ -456,7 +456,7 @@ pub enum Branching {
 }
 
 /// What binds a variable.
-#[derive(Clone, Copy, Debug, PartialEq, Eq)]
+#[derive(Clone, Copy, PartialEq, Eq)]
 pub enum Binder {
     /// `for`.
     For,
@@ -479,7 +479,7 @@ impl Binder {
 }
 
 /// What a declaration in the first part of a prolog is about, by the word behind `declare` (XQuery 1.0, section 4).
-#[derive(Clone, Copy, Debug, PartialEq, Eq)]
+#[derive(Clone, Copy, PartialEq, Eq)]
 pub enum Setter {
     /// `namespace`.
     Namespace,
@@ -512,7 +512,7 @@ impl Setter {
 }
 
 /// What a declaration in the second part of a prolog defines (XQuery 1.0, section 4).
-#[derive(Clone, Copy, Debug, PartialEq, Eq)]
+#[derive(Clone, Copy, PartialEq, Eq)]
 pub enum Definer {
     /// `variable`.
     Variable,
@@ -603,14 +603,14 @@ const SETTERS: [Word; 6] = [
 ];
 
 /// What a name begins where a `{` stands behind it (XQuery 1.0, section 3.7.3).
-#[derive(Clone, Copy, Debug, PartialEq, Eq)]
+#[derive(Clone, Copy, PartialEq, Eq)]
 pub enum ComputedNode {
     Document,
     Text,
 }
 
 /// What a name begins where a name and a `{` stand behind it (XQuery 1.0, section 3.7.3).
-#[derive(Clone, Copy, Debug, PartialEq, Eq)]
+#[derive(Clone, Copy, PartialEq, Eq)]
 pub enum NamedNode {
     Element,
     Attribute,

@@ -8,7 +8,7 @@ use gx_base::limits::CHAIN_MEMBERS;
 use gx_parse_grammar::word::{Barrier, Level, Word, WordSet};
 
 /// The members of a chain (XQuery 1.0, section 3).
-#[derive(Clone, Copy, Debug, PartialEq, Eq)]
+#[derive(Clone, Copy, PartialEq, Eq)]
 pub enum Members {
     /// Expressions with commas between.
     Singles,

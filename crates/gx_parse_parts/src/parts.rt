@@ -21,7 +21,7 @@ use gx_parse_tokens::source::Source;
 use std::alloc::AllocError;
 
 /// A sign at its place.
-#[derive(Clone, Copy, Debug)]
+#[derive(Clone, Copy)]
 pub struct Sign {
     pub place: Place,
     pub word: Word,

@@ -26,7 +26,7 @@ use gx_parse_grammar::word::{Branching, ClauseWord, ComputedNode, NamedNode, Ope
 use std::alloc::{AllocError, Global};
 
 /// A QName: its only part, or the prefix and the local part.
-#[derive(Debug, Drop)]
+#[derive(Drop)]
 pub struct ReadName {
     pub first: Text,
     pub second: Option<Text>,

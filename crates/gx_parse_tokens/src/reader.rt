@@ -46,7 +46,7 @@ use std::alloc::Global;
 use std::marker::Model;
 
 /// Why a reader gave up.
-#[derive(Clone, Copy, Debug, PartialEq, Eq)]
+#[derive(Clone, Copy, PartialEq, Eq)]
 pub enum Refused {
     /// Nothing fits behind the furthest character, of which so many are left.
     Unfit(usize),
@@ -59,7 +59,7 @@ pub enum Refused {
 }
 
 /// Why a reader reads nothing more.
-#[derive(Clone, Copy, Debug, PartialEq, Eq)]
+#[derive(Clone, Copy, PartialEq, Eq)]
 pub enum End {
     /// It gave up.
     GaveUp(Refused),

@@ -13,7 +13,7 @@ use std::marker::Model;
 const SPACING: usize = 64;
 
 /// The place of a character.
-#[derive(Clone, Copy, Debug)]
+#[derive(Clone, Copy)]
 pub struct Mark {
     /// How many characters stand before it.
     pub position: usize,

@@ -11,7 +11,7 @@ use std::alloc::AllocError;
 /// Why a command has no output: the query's file could not be read or is too long, the query is refused at a place, the schema file
 /// of this name holds no document, or breaks a rule by what is shown, the words bind the query's external variables wrongly,
 /// the file of this name holds no document or one that is not valid, its evaluation raises an error, or memory is wanting.
-#[derive(Debug, Drop)]
+#[derive(Drop)]
 pub enum Refusal {
     ReadFault,
     TooLong,

@@ -89,7 +89,7 @@ fn reference_to(uri: Option<Text>, none: Text, prefix: Text, local: Text) -> Ref
 }
 
 /// A row of the table of built-in types: a local name in the namespace of schema documents, and the type.
-#[derive(Clone, Copy, Debug)]
+#[derive(Clone, Copy)]
 struct BuiltinRow {
     name: &'static str,
     builtin: Builtin,

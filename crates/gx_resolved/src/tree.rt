@@ -14,7 +14,6 @@ use gx_types::step::{Axis, Test};
 use std::marker::Model;
 
 /// A variable that is bound, at its `$`, and the type that is written at it.
-#[derive(Debug)]
 pub struct BoundName {
     pub name: SharedName,
     pub place: Place,
@@ -32,7 +31,7 @@ impl Drop for BoundName {
 }
 
 /// The word of a clause that binds variables.
-#[derive(Clone, Copy, Debug, PartialEq, Eq)]
+#[derive(Clone, Copy, PartialEq, Eq)]
 pub enum BindingWord {
     For,
     Let,
@@ -42,7 +41,6 @@ pub enum BindingWord {
 
 /// What stands at the root of a part of a query, with what it has beside its parts: one variant for each construct (XQuery 1.0,
 /// section 3). A binding, a clause, a sort key, a branch of a typeswitch and an attribute of a direct element are parts of their own.
-#[derive(Debug)]
 pub enum Construct {
     /// A numeric literal.
     Number(Number),
@@ -165,7 +163,6 @@ impl Drop for Construct {
 }
 
 /// A part of a query in which each name is resolved: a construct over its parts, which are in the order of the text.
-#[derive(Debug)]
 pub struct ResolvedExpr {
     pub place: Place,
     pub construct: Construct,
@@ -246,7 +243,7 @@ pub struct FunctionDeclaration {
 }
 
 /// What the setters of a prolog say (XQuery 1.0, sections 4.3 and 4.8).
-#[derive(Clone, Copy, Debug, PartialEq, Eq)]
+#[derive(Clone, Copy, PartialEq, Eq)]
 pub struct Settings {
     pub preserves_boundary_space: bool,
     pub empty_order: EmptyOrder,

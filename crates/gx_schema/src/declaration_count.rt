@@ -22,7 +22,7 @@ use std::alloc::{AllocError, Global};
 const GREATEST_COUNT: usize = 4096;
 
 // The name of a declaration.
-#[derive(Debug, Drop)]
+#[derive(Drop)]
 enum CountedName {
     Type(TypeName),
     Other(Name),
@@ -30,7 +30,7 @@ enum CountedName {
 
 // A declaration of a type, an element or an attribute: the number of its file, counted from 0, the number of its element, and its
 // name.
-#[derive(Debug, Drop)]
+#[derive(Drop)]
 struct CountedDeclaration {
     file: u32,
     place: u64,

@@ -14,7 +14,7 @@ use std::alloc::{AllocError, Global};
 
 /// A declaration, or a fault in one: the number of its file, counted from 0, the number of the element where it is, and the name of
 /// the declaration.
-#[derive(Debug, Drop)]
+#[derive(Drop)]
 pub struct Found {
     pub file: u32,
     pub place: u64,

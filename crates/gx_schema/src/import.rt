@@ -143,7 +143,7 @@ fn judge_names(alloc: Global, documents: &[SchemaDocument]) -> Result<(), Schema
 
 // What is read of documents: the names and the forms of types, the components and what stands on circles among them, the global
 // elements, and the numbers of group definitions and of attribute groups.
-#[derive(Debug, Drop)]
+#[derive(Drop)]
 struct ReadComponents {
     names: Vec<TypeName>,
     forms: Vec<TypeForm>,

@@ -17,7 +17,7 @@ use std::alloc::{AllocError, Global};
 const OCCURRENCE_LIMIT: u32 = 64;
 
 // A rule on how often particles occur.
-#[derive(Clone, Copy, Debug, PartialEq, Eq)]
+#[derive(Clone, Copy, PartialEq, Eq)]
 enum OccurrenceRule {
     // minOccurs is not above maxOccurs.
     Order,

@@ -21,7 +21,7 @@ pub enum SchemaRule {
 /// Why schema files declare nothing: they break a rule, first in the file of this number, counted from 0, where the construct or the
 /// declaration has this name; or memory is wanting. The list is empty but for a restriction: it has shapes that the content of the
 /// type takes and that of its base does not, or the one attribute that is not allowed.
-#[derive(Debug, Drop)]
+#[derive(Drop)]
 pub enum SchemaRefusal {
     Refused {
         rule: SchemaRule,

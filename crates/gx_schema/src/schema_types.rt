@@ -20,7 +20,7 @@ use gx_types::sequence_type::Ty;
 use std::alloc::{AllocError, Global};
 
 /// What types mean beside their forms, by number: the varieties of their values, their contents and their attributes.
-#[derive(Debug, Drop)]
+#[derive(Drop)]
 pub struct TypeTables {
     pub varieties: Vec<Option<TypeVariety>>,
     pub contents: Vec<Effective>,
@@ -59,7 +59,7 @@ pub fn schema_types(
 }
 
 // The number of a type among all types.
-#[derive(Clone, Copy, Debug)]
+#[derive(Clone, Copy)]
 struct TypePlace<'a> {
     names: &'a [TypeName],
     forms: &'a [TypeForm],

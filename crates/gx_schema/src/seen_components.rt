@@ -22,7 +22,7 @@ use std::alloc::{AllocError, Global};
 use std::marker::Model;
 
 /// Marks at the types, the model groups and the attribute groups that stand on circles, by their numbers.
-#[derive(Debug, Drop)]
+#[derive(Drop)]
 pub struct CircleMarks {
     pub types: Vec<bool>,
     pub groups: Vec<bool>,
@@ -31,7 +31,7 @@ pub struct CircleMarks {
 
 /// Components, where what stands on circles is not looked through: model groups and attribute groups on circles hold nothing, and a
 /// type whose base stands on a circle names none. Contracts see a record of lists.
-#[derive(Debug, Drop)]
+#[derive(Drop)]
 pub struct SeenComponents {
     pub types: Vec<TypeComponent>,
     pub groups: Vec<ModelGroup>,

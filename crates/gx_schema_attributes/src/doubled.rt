@@ -19,7 +19,7 @@ use std::alloc::{AllocError, Global};
 
 /// A part of a type that gives an attribute which the type has already: the place of the part, the number of the type, and the name of
 /// the attribute.
-#[derive(Debug, Drop)]
+#[derive(Drop)]
 pub struct DoubledAttribute {
     pub place: u64,
     pub number: usize,

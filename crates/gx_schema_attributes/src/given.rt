@@ -12,7 +12,7 @@ use indexmap::IndexSet;
 use std::alloc::{AllocError, Global};
 
 /// Attributes in the order in which they are given, of each name the first, and the first name that was given again.
-#[derive(Debug, Drop)]
+#[derive(Drop)]
 pub struct GivenUses {
     pub uses: AttributeUses,
     pub doubled: Option<Name>,

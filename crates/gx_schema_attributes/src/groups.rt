@@ -15,7 +15,7 @@ use std::alloc::{AllocError, Global};
 use std::marker::Model;
 
 /// The parts of an attribute group, which contracts see as a list.
-#[derive(Debug, Drop)]
+#[derive(Drop)]
 pub struct GroupParts<'a> {
     parts: &'a [AttributePart],
 }

@@ -20,7 +20,7 @@ use std::marker::Model;
 
 /// What a type has of the attributes of its base (XML Schema 1.0 part 1, section 3.4.2): none, all of those of the declared type of a
 /// number, or those of them that it neither prohibits nor gives anew.
-#[derive(Clone, Copy, Debug)]
+#[derive(Clone, Copy)]
 pub enum Inherited {
     Nothing,
     All(usize),
@@ -28,7 +28,7 @@ pub enum Inherited {
 }
 
 /// Names in their order, which contracts see as a list.
-#[derive(Debug, Drop)]
+#[derive(Drop)]
 pub struct Names {
     items: Vec<Name>,
 }
@@ -61,7 +61,7 @@ impl Names {
 }
 
 /// What a type says of its attributes: what it has of those of its base, those that it gives, and the names that it prohibits.
-#[derive(Debug, Drop)]
+#[derive(Drop)]
 pub struct OwnUses {
     pub inherited: Inherited,
     pub given: AttributeUses,

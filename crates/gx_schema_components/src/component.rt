@@ -8,7 +8,7 @@ use gx_types::declaration::AttributeUse;
 use std::marker::Model;
 
 /// A type that another one is derived from or made of: built in, or the declared one of a number.
-#[derive(Debug, Clone, Copy)]
+#[derive(Clone, Copy)]
 pub enum Base {
     Builtin(Builtin),
     Declared(usize),
@@ -17,7 +17,7 @@ pub enum Base {
 /// How often a particle occurs: at least so often, and at most so often, or any number of times where nothing is said (XML Schema
 /// 1.0 part 1, section 3.9.1). A number past the greatest `u32` counts as that number. `are_ordered` says of the numbers as they
 /// are written that the first is not above the second.
-#[derive(Debug, Clone, Copy)]
+#[derive(Clone, Copy)]
 pub struct Bounds {
     pub least: u32,
     pub greatest: Option<u32>,
@@ -25,7 +25,6 @@ pub struct Bounds {
 }
 
 /// What a particle holds: an element with its type, or the model group of a number (XML Schema 1.0 part 1, section 3.9.1).
-#[derive(Debug)]
 pub enum Term {
     Element { name: Name, kind: TypeName },
     Group(usize),
@@ -45,7 +44,7 @@ impl Drop for Term {
 
 /// A part of a content (XML Schema 1.0 part 1, section 3.9). A `place` here and below is the number of the element that it was
 /// written as.
-#[derive(Debug, Drop)]
+#[derive(Drop)]
 pub struct Particle {
     pub place: u64,
     pub bounds: Bounds,
@@ -53,7 +52,7 @@ pub struct Particle {
 }
 
 /// Particles in their order, which contracts see as a list.
-#[derive(Debug, Drop)]
+#[derive(Drop)]
 pub struct Particles {
     items: Vec<Particle>,
 }
@@ -88,14 +87,14 @@ impl Particles {
 /// A model group (XML Schema 1.0 part 1, sections 3.7 and 3.8). Each has a number: first those of group definitions, in the order
 /// of the definitions, each a sequence of the particle that it is written with; then those that stand in definitions and types,
 /// each behind the groups that stand in it.
-#[derive(Debug, Drop)]
+#[derive(Drop)]
 pub struct ModelGroup {
     pub compositor: Compositor,
     pub particles: Particles,
 }
 
 /// A group definition (XML Schema 1.0 part 1, section 3.7). Its number is that of its model group.
-#[derive(Debug, Drop)]
+#[derive(Drop)]
 pub struct GroupDefinition {
     pub place: u64,
     pub name: Name,
@@ -103,7 +102,6 @@ pub struct GroupDefinition {
 
 /// An attribute that is allowed, one that is prohibited, or the attribute group of a number (XML Schema 1.0 part 1, sections 3.2.2
 /// and 3.6.2).
-#[derive(Debug)]
 pub enum AttributePart {
     Use { place: u64, attribute: AttributeUse },
     Prohibited { place: u64, name: Name },
@@ -130,7 +128,7 @@ impl Drop for AttributePart {
 }
 
 /// The parts of a list of attributes in their order, which contracts see as a list.
-#[derive(Debug, Drop)]
+#[derive(Drop)]
 pub struct AttributeParts {
     items: Vec<AttributePart>,
 }
@@ -163,7 +161,7 @@ impl AttributeParts {
 }
 
 /// An attribute group definition (XML Schema 1.0 part 1, section 3.6).
-#[derive(Debug, Drop)]
+#[derive(Drop)]
 pub struct AttributeGroup {
     pub place: u64,
     pub name: Name,
@@ -171,7 +169,7 @@ pub struct AttributeGroup {
 }
 
 /// A global element or attribute declaration (XML Schema 1.0 part 1, sections 3.2 and 3.3).
-#[derive(Debug, Drop)]
+#[derive(Drop)]
 pub struct Declaration {
     pub place: u64,
     pub name: Name,
@@ -179,7 +177,6 @@ pub struct Declaration {
 }
 
 /// A simple type: a restriction of its base by facets, or lists of items of a type (XML Schema 1.0 part 1, section 3.14).
-#[derive(Debug)]
 pub enum SimpleType {
     Restriction {
         place: u64,
@@ -209,7 +206,7 @@ impl Drop for SimpleType {
 }
 
 /// What a complex type is derived from, as simple or as complex content.
-#[derive(Debug, Clone, Copy)]
+#[derive(Clone, Copy)]
 pub struct DerivedFrom {
     pub place: u64,
     pub content: ContentKind,
@@ -217,7 +214,7 @@ pub struct DerivedFrom {
 }
 
 /// How a complex type is derived: it names no base, or it extends or restricts one (XML Schema 1.0 part 1, section 3.4.1).
-#[derive(Debug, Clone, Copy)]
+#[derive(Clone, Copy)]
 pub enum Derivation {
     Own,
     Extends(DerivedFrom),
@@ -226,7 +223,6 @@ pub enum Derivation {
 
 /// A complex type with what is written at it (XML Schema 1.0 part 1, section 3.4): whether it is mixed, the facets of simple
 /// content, its content and its attributes.
-#[derive(Debug)]
 pub struct ComplexType {
     pub mixed: bool,
     pub derivation: Derivation,
@@ -248,7 +244,6 @@ impl Drop for ComplexType {
 }
 
 /// What a type is.
-#[derive(Debug)]
 pub enum TypeForm {
     Simple(SimpleType),
     Complex(ComplexType),
@@ -264,7 +259,6 @@ impl Drop for TypeForm {
 }
 
 /// A type definition, global or anonymous. Its number is its place among the types of all documents.
-#[derive(Debug)]
 pub struct TypeComponent {
     pub place: u64,
     pub name: TypeName,
@@ -283,7 +277,7 @@ impl Drop for TypeComponent {
 
 /// The components of schema documents (XML Schema 1.0 part 1, section 2.2), each list in the order of the documents. A number is
 /// the index in the list of its kind.
-#[derive(Debug, Drop)]
+#[derive(Drop)]
 pub struct Components {
     pub types: Vec<TypeComponent>,
     pub elements: Vec<Declaration>,

@@ -3,7 +3,7 @@
 use gx_qnames::reference::Reference;
 
 /// The kinds of schema components that are referred to by name (XML Schema 1.0 part 1, section 2.2).
-#[derive(Clone, Copy, Debug, PartialEq, Eq)]
+#[derive(Clone, Copy, PartialEq, Eq)]
 pub enum ComponentKind {
     TypeDefinition,
     ElementDeclaration,
@@ -13,7 +13,7 @@ pub enum ComponentKind {
 }
 
 /// A reference to a component of a kind, at the element of a number (XML Schema 1.0 part 1, section 3.15.3).
-#[derive(Debug, Drop)]
+#[derive(Drop)]
 pub struct Mention {
     pub place: u64,
     pub kind: ComponentKind,

@@ -15,7 +15,7 @@ use gx_schema_syntax::written::{LocalDeclaration, TypeReference};
 use std::alloc::AllocError;
 
 /// The name of an element or an attribute with its type.
-#[derive(Debug, Drop)]
+#[derive(Drop)]
 pub struct TypedName {
     pub name: Name,
     pub kind: TypeName,

@@ -14,7 +14,7 @@ use gx_schema_syntax::written::SchemaDocument;
 use std::alloc::{AllocError, Global};
 
 /// A name that refers to nothing: the number of its file, counted from 0, and the name as refusals show it.
-#[derive(Debug, Drop)]
+#[derive(Drop)]
 pub struct UnknownName {
     pub file: u32,
     pub name: Text,

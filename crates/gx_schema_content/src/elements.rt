@@ -13,7 +13,7 @@ use std::rc::Rc;
 
 /// An element particle of a content (XML Schema 1.0 part 1, section 3.9): the number of the element that it was written as, and the
 /// name and the type of what it allows.
-#[derive(Debug, Drop)]
+#[derive(Drop)]
 pub struct ElementParticle {
     pub place: u64,
     pub name: Name,

@@ -15,14 +15,14 @@ use gx_schema_components::component::{
 use std::alloc::{AllocError, Global};
 
 /// An extension that differs from its base in being mixed: where it is, and the number of its type.
-#[derive(Clone, Copy, Debug)]
+#[derive(Clone, Copy)]
 pub struct DifferingExtension {
     pub place: u64,
     pub number: usize,
 }
 
 /// What is known of groups and types: their outlines.
-#[derive(Clone, Copy, Debug)]
+#[derive(Clone, Copy)]
 pub struct OutlineTables<'a> {
     pub groups: &'a [Option<Outline>],
     pub types: &'a [Option<TypeOutline>],

@@ -6,7 +6,7 @@ ghost use Rattle.gx_schema_content.specs.Outlines.{bounded_outline, chosen_outli
 use gx_schema_components::component::Bounds;
 
 /// What is seen of a content of any number of positions, which is not written out.
-#[derive(Clone, Copy, Debug)]
+#[derive(Clone, Copy)]
 pub enum Outline {
     /// It is none, as a choice without members is.
     Never,
@@ -61,7 +61,7 @@ impl Outline {
 }
 
 /// What is seen of the content that a type comes to, and whether texts are allowed in it.
-#[derive(Clone, Copy, Debug)]
+#[derive(Clone, Copy)]
 pub struct TypeOutline {
     pub content: Outline,
     pub mixed: bool,

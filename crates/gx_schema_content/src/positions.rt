@@ -15,7 +15,7 @@ use gx_schema_components::component::{ModelGroup, TypeComponent};
 use std::alloc::{AllocError, Global};
 
 /// The positions of all groups, and those of the contents of all types, by number.
-#[derive(Debug, Drop)]
+#[derive(Drop)]
 pub struct PositionTables {
     pub groups: Vec<Option<usize>>,
     pub types: Vec<Option<usize>>,

@@ -8,7 +8,7 @@ use gx_schema_syntax::written::ContentKind;
 use std::alloc::{AllocError, Global};
 
 /// Where the content of a complex type comes from (XML Schema 1.0 part 1, section 3.4.2).
-#[derive(Debug, Clone, Copy)]
+#[derive(Clone, Copy)]
 pub enum ContentSource {
     /// The content is simple, without elements.
     Simple,

@@ -13,7 +13,7 @@ use std::alloc::{AllocError, Global};
 
 /// Whether all restrictions among the types of schemas are sound; or the number of the first that is not, with a list of shapes that
 /// it allows and its base does not, or of the first that cannot be judged within the limit on pairs.
-#[derive(Debug, Drop)]
+#[derive(Drop)]
 pub enum Restrictions {
     Sound,
     Unsound { number: usize, list: Vec<Shape> },

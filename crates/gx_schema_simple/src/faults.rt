@@ -25,14 +25,14 @@ use gx_types::simple_type::SimpleType;
 use std::alloc::{AllocError, Global};
 
 /// A fault of a type: where it is, and the number of the type that holds it.
-#[derive(Clone, Copy, Debug)]
+#[derive(Clone, Copy)]
 pub struct Fault {
     pub place: u64,
     pub number: usize,
 }
 
 /// What is seen of types: their forms, marks at those on circles, their varieties, their bases, and the facets of their own.
-#[derive(Clone, Copy, Debug)]
+#[derive(Clone, Copy)]
 pub struct Look<'a> {
     pub forms: &'a [TypeForm],
     pub marks: &'a [bool],

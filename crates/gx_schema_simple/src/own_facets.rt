@@ -18,14 +18,14 @@ use std::alloc::{AllocError, Global};
 use std::cmp::Ordering;
 
 // A least and a greatest bound.
-#[derive(Debug, Drop)]
+#[derive(Drop)]
 struct Bounds {
     least: Option<AtomValue>,
     greatest: Option<AtomValue>,
 }
 
 // Bounds that are values themselves, and bounds that are none.
-#[derive(Debug, Drop)]
+#[derive(Drop)]
 struct BoundsOfBothKinds {
     inclusive: Bounds,
     exclusive: Bounds,

@@ -8,7 +8,7 @@ use gx_schema_syntax::written::WrittenFacets;
 use std::alloc::{AllocError, Global};
 
 /// A declared type (XML Schema 1.0 part 1, sections 3.4 and 3.14). A place is the number of an element in document order.
-#[derive(Debug, Drop)]
+#[derive(Drop)]
 pub enum TypeForm {
     /// A simple type that restricts its base by facets.
     Restriction {

@@ -14,7 +14,7 @@ use gx_schema_components::component::Base;
 use std::alloc::{AllocError, Global};
 
 /// What is seen of the values of a type (XML Schema 1.0 part 1, section 3.14.1).
-#[derive(Clone, Copy, Debug)]
+#[derive(Clone, Copy)]
 pub enum TypeVariety {
     /// A circle hides them: the type stands on one, or its bases lead to one.
     Hidden,
@@ -27,7 +27,7 @@ pub enum TypeVariety {
 }
 
 /// What a type says of its variety: it has its own, or that of its base.
-#[derive(Clone, Copy, Debug)]
+#[derive(Clone, Copy)]
 pub enum SaidVariety {
     Own(TypeVariety),
     OfBase(usize),

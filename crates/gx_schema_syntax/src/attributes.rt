@@ -7,7 +7,7 @@ ghost use Rattle.gx_schema_syntax.specs.AttributeView.{attribute_row, words_need
 use crate::role::{FacetKind, Role};
 
 /// The form of the values of an attribute.
-#[derive(Clone, Copy, Debug, PartialEq, Eq)]
+#[derive(Clone, Copy, PartialEq, Eq)]
 pub enum Form {
     /// A name without a prefix.
     Name,
@@ -32,7 +32,7 @@ pub enum Form {
 }
 
 /// A row of the table of attributes: a local name in no namespace, and the form of the values.
-#[derive(Clone, Copy, Debug)]
+#[derive(Clone, Copy)]
 struct AttributeRow {
     name: &'static str,
     form: Form,

@@ -11,7 +11,7 @@ use gx_xml::source::{SourceAttribute, SourceChild, SourceElement};
 use std::alloc::AllocError;
 
 /// The number of the next element, and that of the next anonymous type. Annotations and what stands in them are not counted.
-#[derive(Clone, Copy, Debug, PartialEq, Eq)]
+#[derive(Clone, Copy, PartialEq, Eq)]
 pub struct Numbers {
     pub element: u64,
     pub anonymous: u32,

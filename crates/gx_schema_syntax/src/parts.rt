@@ -7,7 +7,7 @@ ghost use Rattle.gx_schema_syntax.specs.PartView.{part_row};
 use crate::role::{Compositor, FacetKind, Role};
 
 /// How often a part may stand, and before which others.
-#[derive(Clone, Copy, Debug, PartialEq, Eq)]
+#[derive(Clone, Copy, PartialEq, Eq)]
 pub enum Slot {
     /// The one part.
     Alone(Role),
@@ -20,7 +20,7 @@ pub enum Slot {
 }
 
 /// What was seen of the parts of an element so far.
-#[derive(Clone, Copy, Debug, PartialEq, Eq)]
+#[derive(Clone, Copy, PartialEq, Eq)]
 pub enum Seen {
     Nothing,
     EarlyParts,
@@ -29,7 +29,7 @@ pub enum Seen {
 }
 
 /// A row of the table of parts: a local name in the namespace of schemas, and its slot.
-#[derive(Clone, Copy, Debug)]
+#[derive(Clone, Copy)]
 struct PartRow {
     name: &'static str,
     slot: Slot,

@@ -15,7 +15,7 @@ use std::alloc::{AllocError, Global};
 
 /// Why schema files have no schema documents: the first construct that is outside the profile, with the number of its file, counted
 /// from 0, and its name; or memory is wanting.
-#[derive(Debug, Drop)]
+#[derive(Drop)]
 pub enum ProfileRefusal {
     Outside { file: u32, name: Text },
     Memory,

@@ -21,7 +21,7 @@ pub enum Compositor {
 }
 
 /// What an element of a schema document is for, by its name and by where it stands (XML Schema 1.0 part 1, section 3).
-#[derive(Clone, Copy, Debug, PartialEq, Eq)]
+#[derive(Clone, Copy, PartialEq, Eq)]
 pub enum Role {
     Schema,
     GlobalElement,

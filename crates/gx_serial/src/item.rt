@@ -21,7 +21,7 @@ use std::alloc::{AllocError, Global};
 use std::marker::Model;
 
 /// An item of an answer: the text of an atomic value, or a node with all that it holds. A node is no attribute.
-#[derive(Debug, Drop)]
+#[derive(Drop)]
 pub enum SerialItem {
     Text(Text),
     Tree(Tree),

@@ -5,7 +5,7 @@ use gx_base::place::Place;
 use std::alloc::{AllocError, AllocFailed};
 
 /// Why a query has no type: an expression to which the static rules give none, or want of memory.
-#[derive(Clone, Copy, Debug, PartialEq, Eq)]
+#[derive(Clone, Copy, PartialEq, Eq)]
 pub enum InferError {
     NoType { place: Place, code: Code },
     Memory,

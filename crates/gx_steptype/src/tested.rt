@@ -22,7 +22,7 @@ use gx_types::type_rules::optional;
 use std::alloc::{AllocError, Global};
 
 /// Whether the nodes of an item type meet a test: none does, each does, or some may.
-#[derive(Clone, Copy, Debug, PartialEq, Eq)]
+#[derive(Clone, Copy, PartialEq, Eq)]
 pub enum Meeting {
     Never,
     Always,
@@ -30,7 +30,7 @@ pub enum Meeting {
 }
 
 /// What has a name and a type: an element, an attribute, or the one element of a document.
-#[derive(Clone, Copy, Debug, PartialEq, Eq)]
+#[derive(Clone, Copy, PartialEq, Eq)]
 pub enum Form {
     Element,
     Attribute,

@@ -7,7 +7,7 @@ use gx_facets::Atomic;
 use std::alloc::AllocError;
 
 /// An item: an atomic value, or a node of a store by its number (XQuery 1.0 and XPath 2.0 Data Model, section 2).
-#[derive(Debug, Drop)]
+#[derive(Drop)]
 pub enum Item {
     Atom(Atomic),
     Node(NodeId),

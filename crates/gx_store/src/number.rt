@@ -6,7 +6,7 @@ use std::alloc::AllocError;
 use std::cmp::Ordering;
 
 /// A node of a store: how many nodes of the store come before it in document order.
-#[derive(Clone, Copy, Debug)]
+#[derive(Clone, Copy)]
 pub struct NodeId {
     pub number: usize,
 }

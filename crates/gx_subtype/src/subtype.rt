@@ -19,14 +19,14 @@ use gx_typetext::shapes::print_shapes;
 use std::alloc::{AllocError, Global};
 
 /// One of two texts.
-#[derive(Clone, Copy, Debug, PartialEq, Eq)]
+#[derive(Clone, Copy, PartialEq, Eq)]
 pub enum Side {
     Left,
     Right,
 }
 
 /// Why two texts have no answer: one of them stands for no type, or memory did not suffice.
-#[derive(Clone, Copy, Debug, PartialEq, Eq)]
+#[derive(Clone, Copy, PartialEq, Eq)]
 pub enum SubtypeError {
     NoType(Side),
     Memory,

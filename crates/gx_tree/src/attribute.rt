@@ -8,7 +8,6 @@ use gx_base::type_name::{Builtin, TypeName};
 use std::alloc::AllocError;
 
 /// An attribute node (XQuery 1.0 and XPath 2.0 Data Model, section 6.3).
-#[derive(Debug)]
 pub struct Attribute {
     pub name: Name,
     pub kind: TypeName,

@@ -10,14 +10,14 @@ use std::marker::Model;
 
 /// A node with all that it holds (XQuery 1.0 and XPath 2.0 Data Model, section 2.2).
 #[cycle(tree)]
-#[derive(Debug, Drop)]
+#[derive(Drop)]
 pub struct Tree {
     pub node: TreeNode,
 }
 
 /// One level of a tree. The children of a document or an element are elements and texts.
 #[cycle(tree)]
-#[derive(Debug, Drop)]
+#[derive(Drop)]
 pub enum TreeNode {
     Document(Vec<Tree>),
     Element {

@@ -10,7 +10,6 @@ use std::marker::Model;
 
 /// An attribute that a complex type allows, with its type, and whether an element must have it (XML Schema 1.0 part 1,
 /// section 3.5).
-#[derive(Debug)]
 pub struct AttributeUse {
     pub name: Name,
     pub kind: TypeName,
@@ -28,7 +27,7 @@ impl Drop for AttributeUse {
 }
 
 /// The attributes of a type in their order, which contracts see as a list.
-#[derive(Debug, Drop)]
+#[derive(Drop)]
 pub struct AttributeUses {
     items: Vec<AttributeUse>,
 }
@@ -67,7 +66,6 @@ impl AttributeUses {
 }
 
 /// What a declared type holds (XML Schema 1.0 part 1, sections 3.4 and 3.14).
-#[derive(Debug)]
 pub enum Content {
     /// A simple type of one value, with the facets of its own.
     Atomic(Facets),
@@ -94,7 +92,6 @@ impl Drop for Content {
 }
 
 /// A declared type with the type that it is derived from (XML Schema 1.0 part 1, sections 3.4 and 3.14).
-#[derive(Debug)]
 pub struct Declared {
     pub name: TypeName,
     pub base: TypeName,
@@ -114,7 +111,6 @@ impl Drop for Declared {
 }
 
 /// A global element with its type (XML Schema 1.0 part 1, section 3.3).
-#[derive(Debug)]
 pub struct GlobalElement {
     pub name: Name,
     pub kind: TypeName,

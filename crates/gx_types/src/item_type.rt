@@ -14,7 +14,6 @@ use std::hash::{Hash, Hasher};
 /// The type of an item (XQuery 1.0, section 2.5.3). An element or an attribute without a name has any name, and a
 /// document node with an element has it as its only child element. The type of an atomic value is an atomic type. Equality
 /// and hash look at no prefix.
-#[derive(Debug)]
 pub enum ItemType {
     Element { name: Option<Name>, kind: TypeName },
     Attribute { name: Option<Name>, kind: TypeName },

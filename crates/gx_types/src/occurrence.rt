@@ -4,7 +4,7 @@ use std::marker::Model;
 
 /// The least and the greatest number of items, where a greatest number of 2 stands for any number (Formal Semantics,
 /// section 8.4.1).
-#[derive(Clone, Copy, Debug, PartialEq, Eq)]
+#[derive(Clone, Copy, PartialEq, Eq)]
 pub struct Occurrence {
     pub least: u8,
     pub greatest: u8,

@@ -14,14 +14,13 @@ use std::rc::Rc;
 /// A type of values, which contracts see as a plain tree (XQuery 1.0 and XPath 2.0 Formal Semantics, section 2.4.1). Types
 /// share their parts, so that a copy takes no more than one level. Equality and hash are part by part, and look at no prefix.
 #[cycle(type_tree)]
-#[derive(Debug)]
 pub struct Ty {
     pub node: TyNode,
 }
 
 /// One level of a type. `Never` is `none`, the type of no value, and `Empty` that of the empty sequence.
 #[cycle(type_tree)]
-#[derive(Debug, Drop)]
+#[derive(Drop)]
 pub enum TyNode {
     Never,
     Empty,

@@ -9,7 +9,6 @@ use std::alloc::AllocError;
 /// What a type sees of an item: the name and the type annotation of an element, the name and the type of an attribute, a
 /// text, a document with the name and the annotation of its one child where that is an element, or the type of an atomic
 /// value (XQuery 1.0, section 2.5.4).
-#[derive(Debug)]
 pub enum Shape {
     Elem(Name, TypeName),
     Attr(Name, TypeName),

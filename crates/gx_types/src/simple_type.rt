@@ -13,7 +13,7 @@ use gx_facets::Facets;
 use std::alloc::{AllocError, Global};
 
 /// Whether a value is one atomic value or a list of them (XML Schema 1.0 part 2, section 2.5.1).
-#[derive(Clone, Copy, Debug, PartialEq, Eq)]
+#[derive(Clone, Copy, PartialEq, Eq)]
 pub enum Variety {
     Atomic,
     List,

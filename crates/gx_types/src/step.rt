@@ -9,7 +9,7 @@ use gx_base::type_name::TypeName;
 use std::alloc::AllocError;
 
 /// An axis (XQuery 1.0, section 3.2.1.1).
-#[derive(Clone, Copy, Debug, PartialEq, Eq, PartialOrd, Ord, Hash)]
+#[derive(Clone, Copy, PartialEq, Eq, PartialOrd, Ord, Hash)]
 pub enum Axis {
     Child,
     Descendant,
@@ -22,7 +22,6 @@ pub enum Axis {
 }
 
 /// A test of a name: any, one name, the names of one URI, or the names with one local part (XQuery 1.0, section 3.2.1.2).
-#[derive(Debug)]
 pub enum NameTest {
     Any,
     Name(Name),
@@ -31,7 +30,6 @@ pub enum NameTest {
 }
 
 /// A node test (XQuery 1.0, sections 3.2.1.2 and 2.5.3). `Schema` and `DocumentSchema` name a declared element.
-#[derive(Debug)]
 pub enum Test {
     Node,
     Text,

@@ -6,7 +6,7 @@ ghost use Rattle.gx_typetext.specs.Letters.{goes, starts, stops};
 use gx_base::characters::{is_name_character, is_name_start};
 
 /// A run of characters: an NCName, or a URI in braces.
-#[derive(Clone, Copy, Debug, PartialEq, Eq)]
+#[derive(Clone, Copy, PartialEq, Eq)]
 pub enum Run {
     Local,
     Uri,

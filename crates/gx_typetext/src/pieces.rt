@@ -12,7 +12,7 @@ use std::alloc::{AllocError, Global};
 
 /// Why a text has no pieces of a type: nothing fits behind the furthest character, of which so many are left; or memory did
 /// not suffice.
-#[derive(Clone, Copy, Debug, PartialEq, Eq)]
+#[derive(Clone, Copy, PartialEq, Eq)]
 pub enum PiecesError {
     Unfit(usize),
     Memory,

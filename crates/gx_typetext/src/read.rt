@@ -18,7 +18,7 @@ use std::alloc::{AllocError, Global};
 
 /// Why a text stands for no type: it is no type text, and the place is the end of its longest front that begins one; or a name
 /// in it is unknown, of which the text has the first; or memory did not suffice.
-#[derive(Debug, Drop)]
+#[derive(Drop)]
 pub enum TypeRead {
     BadType(Place),
     UnknownName(Text),
@@ -51,7 +51,7 @@ pub fn read_type(alloc: Global, schemas: &Schemas, text: &Text) -> Result<Ty, Ty
 
 /// Why a text is no type text: nothing fits at the place, which is the end of the longest front of the text that opens a
 /// type text; or memory did not suffice.
-#[derive(Clone, Copy, Debug, PartialEq, Eq)]
+#[derive(Clone, Copy, PartialEq, Eq)]
 pub enum WrittenError {
     BadType(Place),
     Memory,

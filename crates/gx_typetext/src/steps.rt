@@ -12,7 +12,7 @@ use crate::written::{Indicator, Operand, Piece, WrittenItem, WrittenName};
 use std::alloc::Global;
 
 /// Whether an operand is due, how many parentheses are open, and how many positions are left.
-#[derive(Clone, Copy, Debug, PartialEq, Eq)]
+#[derive(Clone, Copy, PartialEq, Eq)]
 pub struct Stage {
     pub is_due: bool,
     pub depth: u32,

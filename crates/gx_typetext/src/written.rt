@@ -3,7 +3,7 @@
 use gx_base::text::Text;
 
 /// What stands before the local part of a name: nothing, `xs:`, or a URI in braces.
-#[derive(Debug, Drop)]
+#[derive(Drop)]
 pub enum Space {
     Nowhere,
     Schema,
@@ -11,21 +11,21 @@ pub enum Space {
 }
 
 /// A name as it is written.
-#[derive(Debug, Drop)]
+#[derive(Drop)]
 pub struct WrittenName {
     pub space: Space,
     pub local: Text,
 }
 
 /// What stands in the parentheses of an element or attribute test. Where no name is written, or `*`, there is none.
-#[derive(Debug, Drop)]
+#[derive(Drop)]
 pub struct WrittenTest {
     pub name: Option<WrittenName>,
     pub kind: Option<WrittenName>,
 }
 
 /// What stands in the parentheses of an item type: nothing, a test, or the test of a document's element.
-#[derive(Debug, Drop)]
+#[derive(Drop)]
 pub enum Inside {
     Nothing,
     Test(WrittenTest),
@@ -34,7 +34,7 @@ pub enum Inside {
 }
 
 /// What a name without a prefix at the front of an item type says.
-#[derive(Clone, Copy, Debug, PartialEq, Eq)]
+#[derive(Clone, Copy, PartialEq, Eq)]
 pub enum NameWord {
     Never,
     Empty,
@@ -49,7 +49,7 @@ pub enum NameWord {
 }
 
 /// An item type as it is written (XQuery 1.0, section 2.5.3).
-#[derive(Debug, Drop)]
+#[derive(Drop)]
 pub enum WrittenItem {
     AnyNode,
     AnyItem,
@@ -64,7 +64,7 @@ pub enum WrittenItem {
 }
 
 /// What stands between separators, without its indicator and its parentheses.
-#[derive(Debug, Drop)]
+#[derive(Drop)]
 pub enum Operand {
     Never,
     Empty,
@@ -72,7 +72,7 @@ pub enum Operand {
 }
 
 /// An occurrence indicator (XQuery 1.0, section 2.5.3).
-#[derive(Clone, Copy, Debug, PartialEq, Eq)]
+#[derive(Clone, Copy, PartialEq, Eq)]
 pub enum Indicator {
     Optional,
     Star,
@@ -80,7 +80,7 @@ pub enum Indicator {
 }
 
 /// A piece of a type text.
-#[derive(Debug, Drop)]
+#[derive(Drop)]
 pub enum Piece {
     Opening,
     Closing,

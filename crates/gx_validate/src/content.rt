@@ -17,7 +17,7 @@ use std::alloc::AllocError;
 
 /// What becomes of the texts among the children of an element (XML Schema 1.0 part 1, section 3.4.4): in simple and mixed content they
 /// are kept; in element-only content white space is ignored, and no other text may stand there; none may stand in empty content.
-#[derive(Clone, Copy, Debug, PartialEq, Eq)]
+#[derive(Clone, Copy, PartialEq, Eq)]
 pub enum Texts {
     Kept,
     Ignored,

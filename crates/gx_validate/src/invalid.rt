@@ -26,7 +26,7 @@ pub enum InvalidRule {
 
 /// The first rule that a document breaks, with the path of the element that breaks it; or memory is wanting. A path has for each
 /// element from the root a step `/name[k]`: its name as it is written, and its number among the siblings of that expanded name.
-#[derive(Debug, Drop)]
+#[derive(Drop)]
 pub enum Invalid {
     Refused { rule: InvalidRule, path: Text },
     Memory,

@@ -20,7 +20,7 @@ pub enum XmlRule {
 }
 
 /// Why bytes are no document, with the place of the rule; or memory did not suffice.
-#[derive(Clone, Copy, Debug, PartialEq, Eq)]
+#[derive(Clone, Copy, PartialEq, Eq)]
 pub enum XmlRefusal {
     Refused { place: Place, rule: XmlRule },
     Memory,

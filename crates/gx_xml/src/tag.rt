@@ -15,7 +15,7 @@ use gx_base::text::Text;
 use std::alloc::{AllocError, Global};
 
 /// An attribute as it is written, with its normalised value.
-#[derive(Debug, Drop)]
+#[derive(Drop)]
 pub struct TagAttribute {
     pub prefix: Text,
     pub local: Text,
@@ -23,7 +23,7 @@ pub struct TagAttribute {
 }
 
 /// The name, the declarations and the other attributes of a start tag.
-#[derive(Debug, Drop)]
+#[derive(Drop)]
 pub struct StartTag {
     pub prefix: Text,
     pub local: Text,
