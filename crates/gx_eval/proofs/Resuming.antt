@@ -1,6 +1,5 @@
 -- What is left to do after a piece of work comes to the same as before it.
-use Rattle.std.proofs.Common.{◌≡◌, ◌≤◌, ℕ, zero, suc, ◌+◌, arith, subst, map, Bool, true, false, nat_eq, if◌then◌else◌, append_assoc, append-nil, List, [], ◌∷◌, ◌++◌, length, take, drop, Option, None, Some, Result, refl, sym, ◌∙◌, ap}
-use Rattle.std.specs.Option.{option_map}
+use Rattle.std.proofs.Common.{◌≡◌, ◌≤◌, ℕ, zero, suc, ◌+◌, arith, subst, map, Bool, append_assoc, append-nil, List, [], ◌∷◌, ◌++◌, length, take, drop, Option, None, Some, Result, refl, sym, ◌∙◌, ap}
 use Rattle.std.proofs.Math.Seq.{take-append_seam, drop-append_seam}
 use Rattle.gx_base.specs.declared.code.Code.{Code}
 use Rattle.gx_facets.specs.declared.Atomic.{Atomic}

@@ -1,4 +1,4 @@
-use Rattle.std.proofs.Common.{drop, ap, sym, ◌∙◌}
+use Rattle.std.proofs.Common.{ap, sym, ◌∙◌}
 use Rattle.std.specs.List.{list_all}
 use Rattle.gx_core.specs.Paths.{is_node}
 use Rattle.gx_store.specs.Items.{items_in}

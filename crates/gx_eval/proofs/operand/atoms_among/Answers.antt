@@ -1,4 +1,4 @@
-use Rattle.std.proofs.Common.{◌≡◌, suc, ◌+◌, ◌++◌, ◌∷◌, [], List, get_or, take, drop, ap, sym, ◌∙◌}
+use Rattle.std.proofs.Common.{◌≡◌, suc, ◌++◌, ◌∷◌, [], List, get_or, take, drop, ap, sym, ◌∙◌}
 use Rattle.std.proofs.Math.Seq.{drop-cons}
 use Rattle.std.proofs.lemmas.List.{take_all, map_more, take-map, drop-map, map-append}
 use Rattle.gx_facets.specs.declared.Atomic.{Atomic}

@@ -1,4 +1,4 @@
-use Rattle.std.proofs.Common.{arith, drop, ap, sym, ◌≡◌, ◌∙◌}
+use Rattle.std.proofs.Common.{arith, ap, sym, ◌∙◌}
 use Rattle.std.proofs.lemmas.Grind.{common_steps}
 use Rattle.std.proofs.lemmas.List.{take-map, drop-map}
 use Rattle.std.proofs.lemmas.Result.{IfOk-weaker}

@@ -1,4 +1,4 @@
-use Rattle.std.proofs.Common.{◌≡◌, ◌∷◌, Bool, true, false, List, Option, Some, None, drop, ap, sym, ◌∙◌}
+use Rattle.std.proofs.Common.{◌≡◌, ◌∷◌, Bool, true, false, List, Some, drop, ap, sym, ◌∙◌}
 use Rattle.gx_model.specs.Item.{Items}
 use Rattle.gx_core.specs.Comparing.{condition_of}
 use Rattle.gx_core.specs.Meaning.{Bindings, meaning}

@@ -7,7 +7,6 @@ use Rattle.gx_core.specs.Meaning.{Context, Bindings, Denotation, denoted, meanin
 use Rattle.gx_store.specs.Items.{items_in}
 use Rattle.gx_eval.specs.Failing.{FailsSo}
 use Rattle.gx_eval.specs.declared.evaluation.Pending.{Pending}
-use Rattle.gx_eval.specs.declared.evaluation.Pending.TheVariants.{Evaluate}
 use Rattle.gx_eval.specs.Resume.{Stacks, context_over, outcome_of, outcome_behind, items_of, stacks_of, resume}
 use Rattle.gx_eval.proofs.Resuming.{each_argument, binary_opens_at, conditional_opens_at, for_opens_at, let_opens_at}
 use Rattle.gx_eval.proofs.evaluation.Evaluation.open.Goals as goal

@@ -1,4 +1,4 @@
-use Rattle.std.proofs.Common.{◌≡◌, ◌+◌, ◌∷◌, [], ℕ, suc, List, length, take, drop, get_or, arith, rules, add-one, ap, sym, ◌∙◌}
+use Rattle.std.proofs.Common.{◌≡◌, ◌+◌, ◌∷◌, [], List, length, take, drop, arith, rules, ap, sym, ◌∙◌}
 use Rattle.std.proofs.lemmas.List.{drop-map, drop_all}
 use Rattle.std.proofs.lemmas.Result.{IfOk-weaker}
 use Rattle.gx_model.specs.Item.{Items}
@@ -6,7 +6,6 @@ use Rattle.gx_core.specs.Meaning.{Bindings, for_each, meaning}
 use Rattle.gx_core.specs.Outcome.{after}
 use Rattle.gx_store.specs.declared.item.Item.{Item}
 use Rattle.gx_store.specs.Items.{item_in, items_in}
-use Rattle.gx_store.specs.Places.{node_places}
 use Rattle.gx_eval.specs.declared.evaluation.Pending.{Pending}
 use Rattle.gx_eval.specs.declared.evaluation.Pending.TheVariants.{Evaluate, Each, Unbind}
 use Rattle.gx_eval.specs.Resume.{Stacks, with_sources, resume, items_of, stacks_of, turn}
