@@ -1,9 +1,8 @@
 -- The trees of documents are honest.
-use Rattle.std.proofs.Common.{◌≡◌, ◌↔◌, ℕ, true, List, [], ◌∷◌, ◌++◌, None, Some, Ok, Err, inl, inr, refl, sym, ◌∙◌, ap, subst}
+use Rattle.std.proofs.Common.{◌≡◌, ◌↔◌, ℕ, true, List, [], ◌∷◌, ◌++◌, None, Some, Ok, inl, inr, refl, sym, ◌∙◌, ap, subst}
 use Rattle.gx_types.specs.SchemaSet.{SchemaSet}
 use Rattle.gx_types.specs.SchemaInvariant.{IsSchemaSet}
 use Rattle.gx_tree.specs.PlainTree.{PlainTree, document, no_trees, a_tree}
-use Rattle.gx_model.specs.Forest.{Forest}
 use Rattle.gx_model.specs.Honest.{IsHonestTree}
 use Rattle.gx_model.proofs.UntypedTrees.{untyped_is_typed}
 use Rattle.gx_xml.specs.Reading.{IsDocumentOf}

@@ -1,17 +1,16 @@
 -- What reading file by file comes to.
-use Rattle.std.proofs.Common.{◌≡◌, ℕ, suc, List, [], ◌∷◌, ◌++◌, length, map, Option, None, Some, Result, Ok, Err, IfSome, MatchResult, ◌⊎◌, inl, inr, refl, sym, ◌∙◌, ap, subst, arith, append_assoc, string_bytes, ◌≤◌, ◌+◌, ◌-◌, ◌^◌}
+use Rattle.std.proofs.Common.{◌≡◌, ℕ, List, [], ◌∷◌, ◌++◌, map, Option, None, Some, Result, Ok, Err, IfSome, MatchResult, inl, inr, refl, sym, ◌∙◌, ap, subst, arith, append_assoc, string_bytes, ◌≤◌, ◌+◌, ◌-◌, ◌^◌}
 use Rattle.std.proofs.Math.Nat.{le_trans, le-min, min-le_left, min-le_right}
 use Rattle.std.proofs.lemmas.List.{append-nil}
 use Rattle.gx_io.specs.Faults.{Rose}
 use Rattle.gx_io.specs.Calls.{Loads}
-use Rattle.gx_io.specs.LibraryUse.{LibraryUse, LastLoadFailed}
+use Rattle.gx_io.specs.LibraryUse.{LibraryUse}
 use Rattle.gx_types.specs.SchemaInvariant.{HoldsOfEach}
-use Rattle.gx_documents.specs.declared.documents.DocumentFault.{DocumentFault}
 use Rattle.gx_documents.specs.declared.documents.DocumentFault.TheVariants.{Unread, TooLong, Refused, Invalid}
 use Rattle.gx_documents.specs.declared.documents.DocumentsError.{DocumentsError}
 use Rattle.gx_documents.specs.declared.documents.DocumentsError.TheVariants.{Failed, Memory}
 use Rattle.gx_documents.specs.Documents.{Files, Request, HoldsKept, HoldKept, AreKept, files_asked}
-use Rattle.gx_documents.specs.Reading.{Lacks, StopsAt, StopsWith, EndsWith, EndedAt, WasRead, ReadsFrom, ReadsFiles, CannotRead, HasReadFault, LoadsUpTo, AreKeptOf, IsAskedFor}
+use Rattle.gx_documents.specs.Reading.{Lacks, StopsAt, EndsWith, EndedAt, WasRead, ReadsFrom, ReadsFiles, HasReadFault, LoadsUpTo, AreKeptOf, IsAskedFor}
 
 both_told : {Told : Type 0} (told : Option Told) (P Q R : Told → Type 0) → ((x : Told) → P x → Q x → R x) → IfSome told P → IfSome told Q → IfSome told R
 both_told None P Q R f p q = tt

@@ -1,5 +1,5 @@
 -- The document nodes of a forest are those of its nodes that have no parent.
-use Rattle.std.proofs.Common.{◌≡◌, ℕ, zero, suc, arith, ◌+◌, ◌<◌, ◌≤◌, Bool, true, false, if◌then◌else◌, List, [], ◌∷◌, ◌++◌, map, filter, take, length, get_or, Option, None, Some, refl, sym, ap, ◌∙◌, subst}
+use Rattle.std.proofs.Common.{◌≡◌, ℕ, zero, suc, arith, ◌+◌, ◌<◌, ◌≤◌, Bool, true, false, if◌then◌else◌, List, [], ◌∷◌, ◌++◌, map, filter, take, Option, None, Some, refl, sym, ap, ◌∙◌}
 use Rattle.std.specs.Prelude.{All, is_some, not}
 use Rattle.std.specs.Option.{option_map}
 use Rattle.std.proofs.lemmas.List.{map_more, map-append, take_all}
@@ -7,12 +7,12 @@ use Rattle.std.proofs.lemmas.List.Elements.{All-append, filter-append}
 use Rattle.gx_tree.specs.declared.attribute.Attribute.{Attribute}
 use Rattle.gx_tree.specs.PlainTree.{PlainTree, PlainTrees, document, element, attribute, text, no_trees, a_tree}
 use Rattle.gx_model.specs.DocumentOrder.{nodes_from}
-use Rattle.gx_model.specs.Forest.{Forest, PlainNode, node_in, then_found}
+use Rattle.gx_model.specs.Forest.{Forest, PlainNode, then_found}
 use Rattle.gx_model.specs.Growth.{Extends}
-use Rattle.gx_model.specs.Location.{Location, along, root_attribute, in_child, attribute_locations, all_locations, child_locations, node_of_tree}
+use Rattle.gx_model.specs.Location.{Location, along, in_child, attribute_locations, all_locations, child_locations, node_of_tree}
 use Rattle.gx_model.specs.Stepping.{behind_step, path_up}
 use Rattle.gx_model.proofs.ListLemmas.{append_none, nothing_passes, filter_mapped, map_after}
-use Rattle.gx_nodes.specs.Entries.{node_entries, count_in, beyond, entry_in, place_of_number}
+use Rattle.gx_nodes.specs.Entries.{node_entries, count_in, beyond, place_of_number}
 use Rattle.gx_nodes.specs.Near.{parent_in, place_up}
 use Rattle.gx_nodes.proofs.FoundLemmas.{node_found}
 use Rattle.gx_nodes.proofs.PlaceLemmas.{place_of, places_in_order}

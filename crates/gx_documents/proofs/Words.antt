@@ -1,9 +1,9 @@
 -- Words that are split at their first `=`.
-use Rattle.std.proofs.Common.{◌≡◌, ◌≢◌, ℕ, zero, suc, ◌+◌, ◌<◌, Bool, true, false, List, [], ◌∷◌, ◌++◌, Option, Some, None, MatchOption, Bor, String, string_bytes, length, take, map, get_or, refl, sym, ◌∙◌, ap, subst, arith, append_assoc, nat_eq, if◌then◌else◌}
+use Rattle.std.proofs.Common.{◌≡◌, ◌≢◌, ℕ, zero, suc, ◌+◌, ◌<◌, Bool, true, false, List, [], ◌∷◌, ◌++◌, Option, Some, None, MatchOption, Bor, String, string_bytes, length, take, map, get_or, refl, sym, ◌∙◌, ap, arith, append_assoc, if◌then◌else◌}
 use Rattle.std.proofs.lemmas.Str.Pattern.{split_parts, IsSplitOnceResult}
 use Rattle.gx_documents.specs.BindingView.{word_bytes}
 use Rattle.std.proofs.lemmas.Bool.{ne_eqb}
-use Rattle.gx_documents.specs.Bindings.{bound_name, bound_file, is_one_of, first_wrong, Misbound, unknown, doubled}
+use Rattle.gx_documents.specs.Bindings.{bound_name, bound_file, is_one_of, first_wrong, unknown, doubled}
 
 -- no character in front of the cut is a `=`
 pub name_in_front : (front rest : List ℕ) → ((i : ℕ) → i < length front → get_or front i 0 ≢ 61) → bound_name (front ++ (61 ∷ rest)) ≡ front

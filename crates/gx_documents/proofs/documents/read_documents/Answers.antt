@@ -1,4 +1,4 @@
-use Rattle.std.proofs.Common.{Result, Ok, Err, List, [], subst}
+use Rattle.std.proofs.Common.{Ok, Err, List, [], subst}
 use Rattle.std.specs.Prelude.{MatchResult}
 use Rattle.gx_tree.specs.PlainTree.{PlainTree}
 use Rattle.gx_io.specs.LibraryUse.{library_use}
