@@ -8,7 +8,7 @@ use Rattle.gx_types.specs.TypeRules.{positions_of}
 use Rattle.gx_include_positions.specs.Positions.{is_nullable, may_end, next_of}
 use Rattle.gx_include_positions.specs.Step.{has_start, all_next, is_end}
 use Rattle.gx_include_positions.proofs.SetReads.{next_length}
-use Rattle.gx_include_followers.specs.Behind.{firsts_from, behind_each, ends_of, behind_place, ends_at_place}
+use Rattle.gx_include_followers.specs.Behind.{firsts_from, behind_each, ends_of}
 use Rattle.gx_include_followers.specs.NumberSet.{flagged_from, flagged}
 use Rattle.gx_include_followers.proofs.Booleans.{always, same_tests}
 use Rattle.gx_include_followers.proofs.NumberSetLemmas.{flag_is, same_flags}

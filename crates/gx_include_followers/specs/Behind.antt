@@ -1,5 +1,5 @@
 -- The positions that may come first in a type, and those that may come next behind each of its positions.
-use Rattle.std.specs.Prelude.{ℕ, zero, suc, ◌+◌, Bool, true, false, ◌&&◌, List, [], ◌∷◌, ◌++◌, if◌then◌else◌, slice_index_or}
+use Rattle.std.specs.Prelude.{ℕ, ◌+◌, Bool, true, false, ◌&&◌, List, [], ◌∷◌, ◌++◌, if◌then◌else◌}
 use Rattle.gx_types.specs.SequenceType.{SequenceType, never, nothing, item, both, either, optional, star, plus}
 use Rattle.gx_types.specs.TypeRules.{positions_of}
 use Rattle.gx_include_positions.specs.Positions.{is_nullable}
@@ -38,13 +38,3 @@ ends_of (either one other) end = ends_of one end ++ ends_of other end
 ends_of (optional part) end = ends_of part end
 ends_of (star part) end = ends_of part end
 ends_of (plus part) end = ends_of part end
-
--- the positions that may come next behind the start or a position
-abbrev pub behind_place : SequenceType → ℕ → List ℕ
-behind_place t zero = firsts_from 1 t
-behind_place t (suc position) = slice_index_or (behind_each 1 t []) position []
-
--- a list may end at the start or a position
-abbrev pub ends_at_place : SequenceType → ℕ → Bool
-ends_at_place t zero = is_nullable t
-ends_at_place t (suc position) = slice_index_or (ends_of t true) position false
