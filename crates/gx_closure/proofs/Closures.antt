@@ -1,4 +1,4 @@
--- Closures are least closed lists, and a list that has grown is the closure.
+-- Closures are least closed lists, and a list that has after_turns is the closure.
 use Rattle.std.proofs.Common.{◌≡◌, ℕ, zero, suc, ◌+◌, ◌-◌, ◌<◌, ◌≤◌, Bool, true, List, [], ◌∷◌, length, get_or, Option, None, Some, ◌⊎◌, inl, inr, refl, sym, ◌∙◌, ap, subst, arith}
 use Rattle.std.specs.List.{slice_get, AllByRecursion, IsDistinct}
 use Rattle.std.specs.Set.{is_member}
@@ -6,7 +6,7 @@ use Rattle.std.specs.Cmp.{IsEquivalence}
 use Rattle.std.proofs.lemmas.Option.{slice_get_past, slice_get_within, slice_get-get_or}
 use Rattle.std.proofs.lemmas.Map.Made.{length-le_from_is_member}
 use Rattle.indexmap.specs.IndexSet.{insert_all}
-use Rattle.gx_closure.specs.Closure.{next_of, grown, closure_from, IsGrown, AreAmong, AllPass, IsLeastClosed}
+use Rattle.gx_closure.specs.Closure.{successors_of, after_turns, closure_from, IsGrown, AreAmong, AllPass, IsLeastClosed}
 use Rattle.gx_closure.specs.Laws.{ClosuresAreLeast}
 use Rattle.gx_closure.proofs.Growing.{no_shorter, among_stay, places_stay, all_are_put, all_more_hold, more_are_distinct, member_of_all}
 
@@ -23,38 +23,38 @@ module _ {A : Type 0} (same : A → A → Bool) (next : A → List A) where
   -- turns
 
   -- turns at places past the end change nothing
-  pub nothing_more : (turns at : ℕ) (found : List A) → length found ≤ at → grown same next turns at found ≡ found
+  pub nothing_more : (turns at : ℕ) (found : List A) → length found ≤ at → after_turns same next turns at found ≡ found
   nothing_more zero at found h = refl
   nothing_more (suc turns) at found h =
-      ap (λ (o : Option A). grown same next turns (suc at) (insert_all same found (next_of next o))) (slice_get_past found at h) ∙ nothing_more turns (suc at) found (omega arith)
+      ap (λ (o : Option A). after_turns same next turns (suc at) (insert_all same found (successors_of next o))) (slice_get_past found at h) ∙ nothing_more turns (suc at) found (omega arith)
 
-  pub more_turns : (first more all at end : ℕ) (found : List A) → all ≡ first + more → end ≡ at + first → grown same next all at found ≡ grown same next more end (grown same next first at found)
+  pub more_turns : (first more all at end : ℕ) (found : List A) → all ≡ first + more → end ≡ at + first → after_turns same next all at found ≡ after_turns same next more end (after_turns same next first at found)
   more_turns zero more all at end found e f =
       let p : all ≡ more = omega arith in
       let q : at ≡ end = omega arith in
-      ap (λ (n : ℕ). grown same next n at found) p ∙ ap (λ (n : ℕ). grown same next more n found) q
+      ap (λ (n : ℕ). after_turns same next n at found) p ∙ ap (λ (n : ℕ). after_turns same next more n found) q
   more_turns (suc first) more all at end found e f =
       let p : all ≡ suc (first + more) = omega arith in
-      ap (λ (n : ℕ). grown same next n at found) p ∙ more_turns first more (first + more) (suc at) end (insert_all same found (next_of next (slice_get found at))) refl (omega arith)
+      ap (λ (n : ℕ). after_turns same next n at found) p ∙ more_turns first more (first + more) (suc at) end (insert_all same found (successors_of next (slice_get found at))) refl (omega arith)
 
   -- a loop over the places
   pub one_more_turn : (at more : ℕ) (start found grows : List A) (now : A → List A) → now ≡ next
-      → ((n : ℕ) → grown same next (at + n) 0 start ≡ grown same next n at found) → grows ≡ insert_all same found (next_of now (slice_get found at))
-      → grown same next (at + 1 + more) 0 start ≡ grown same next more (at + 1) grows
+      → ((n : ℕ) → after_turns same next (at + n) 0 start ≡ after_turns same next n at found) → grows ≡ insert_all same found (successors_of now (slice_get found at))
+      → after_turns same next (at + 1 + more) 0 start ≡ after_turns same next more (at + 1) grows
   one_more_turn at more start found grows now e turns added =
       let p : at + 1 + more ≡ at + suc more = omega arith in
       let q : suc at ≡ at + 1 = omega arith in
-      ap (λ (n : ℕ). grown same next n 0 start) p ∙ turns (suc more)
-      ∙ ap (λ (n : ℕ). grown same next more n (insert_all same found (next_of next (slice_get found at)))) q
-      ∙ ap (grown same next more (at + 1)) (sym (added ∙ ap (λ (f : A → List A). insert_all same found (next_of f (slice_get found at))) e))
+      ap (λ (n : ℕ). after_turns same next n 0 start) p ∙ turns (suc more)
+      ∙ ap (λ (n : ℕ). after_turns same next more n (insert_all same found (successors_of next (slice_get found at)))) q
+      ∙ ap (after_turns same next more (at + 1)) (sym (added ∙ ap (λ (f : A → List A). insert_all same found (successors_of f (slice_get found at))) e))
 
   pub still_within : (at : ℕ) (found grows xs : List A) → at < length found → grows ≡ insert_all same found xs → at + 1 ≤ length grows
   still_within at found grows xs h added = let longer = no_shorter same xs found in let same_length = ap length added in omega arith
 
-  pub all_had_turns : (at : ℕ) (start found : List A) → at ≤ length found → length found ≤ at → ((n : ℕ) → grown same next (at + n) 0 start ≡ grown same next n at found) → IsGrown same next start found
+  pub all_had_turns : (at : ℕ) (start found : List A) → at ≤ length found → length found ≤ at → ((n : ℕ) → after_turns same next (at + n) 0 start ≡ after_turns same next n at found) → IsGrown same next start found
   all_had_turns at start found within ended turns more h =
       let p : more ≡ at + (more - at) = omega arith in
-      ap (λ (n : ℕ). grown same next n 0 start) p ∙ turns (more - at) ∙ nothing_more (more - at) at found ended
+      ap (λ (n : ℕ). after_turns same next n 0 start) p ∙ turns (more - at) ∙ nothing_more (more - at) at found ended
 
   -- what holds of a list whose values before a place had their turns
   record Closing (all start : List A) (at : ℕ) (found : List A) : Type 0 where
@@ -67,7 +67,7 @@ module _ {A : Type 0} (same : A → A → Bool) (next : A → List A) where
   this_or_below at i h = grind arith
 
   one_turn : IsEquivalence same → (all start : List A) → ((x : A) → AreAmong same all (next x)) → (at : ℕ) (found : List A) → Closing all start at found
-      → (o : Option A) → slice_get found at ≡ o → Closing all start (suc at) (insert_all same found (next_of next o))
+      → (o : Option A) → slice_get found at ≡ o → Closing all start (suc at) (insert_all same found (successors_of next o))
   one_turn laws all start bounded at found c None e = record {
     below = λ i x l k. elim (this_or_below at i l) [
       | inl s ↦ (let gone : slice_get found at ≡ Some x = subst (λ (n : ℕ). slice_get found n ≡ Some x) s k in absurd (cc))
@@ -102,10 +102,10 @@ module _ {A : Type 0} (same : A → A → Bool) (next : A → List A) where
           subst (λ (z : A). AreAmong same (insert_all same found (next y)) (next z)) one (among_stay same (next y) found (next (get_or found i y)) (c.below i (get_or found i y) s stood))
 
   turned : IsEquivalence same → (all start : List A) → ((x : A) → AreAmong same all (next x)) → (turns at end : ℕ) (found : List A) → end ≡ turns + at → Closing all start at found
-      → Closing all start end (grown same next turns at found)
+      → Closing all start end (after_turns same next turns at found)
   turned laws all start bounded zero at end found e c = let p : at ≡ end = omega arith in subst (λ (n : ℕ). Closing all start n found) p c
   turned laws all start bounded (suc turns) at end found e c =
-      turned laws all start bounded turns (suc at) end (insert_all same found (next_of next (slice_get found at))) (omega arith) (one_turn laws all start bounded at found c (slice_get found at) refl)
+      turned laws all start bounded turns (suc at) end (insert_all same found (successors_of next (slice_get found at))) (omega arith) (one_turn laws all start bounded at found c (slice_get found at) refl)
 
   begun : IsEquivalence same → (all start : List A) → AreAmong same all start → Closing all start 0 (insert_all same [] start)
   unfolding IsDistinct
@@ -126,15 +126,15 @@ module _ {A : Type 0} (same : A → A → Bool) (next : A → List A) where
 
   -- nothing else is found
 
-  next_pass : (test : A → Bool) → ((x : A) → test x ≡ true → AllPass test (next x)) → (found : List A) → AllPass test found → (at : ℕ) → (o : Option A) → slice_get found at ≡ o → AllPass test (next_of next o)
+  next_pass : (test : A → Bool) → ((x : A) → test x ≡ true → AllPass test (next x)) → (found : List A) → AllPass test found → (at : ℕ) → (o : Option A) → slice_get found at ≡ o → AllPass test (successors_of next o)
   next_pass test step found h at None e = tt
   next_pass test step found h at (Some x) e = step x (holds_at (λ y. test y ≡ true) found at x h e)
 
-  all_pass : (test : A → Bool) → ((x : A) → test x ≡ true → AllPass test (next x)) → (turns at : ℕ) (found : List A) → AllPass test found → AllPass test (grown same next turns at found)
+  all_pass : (test : A → Bool) → ((x : A) → test x ≡ true → AllPass test (next x)) → (turns at : ℕ) (found : List A) → AllPass test found → AllPass test (after_turns same next turns at found)
   all_pass test step zero at found h = h
   all_pass test step (suc turns) at found h =
-      all_pass test step turns (suc at) (insert_all same found (next_of next (slice_get found at)))
-      (all_more_hold same (λ x. test x ≡ true) (next_of next (slice_get found at)) found h (next_pass test step found h at (slice_get found at) refl))
+      all_pass test step turns (suc at) (insert_all same found (successors_of next (slice_get found at)))
+      (all_more_hold same (λ x. test x ≡ true) (successors_of next (slice_get found at)) found h (next_pass test step found h at (slice_get found at) refl))
 
   pub is_least_closed : IsEquivalence same → (all start : List A) → AreAmong same all start → ((x : A) → AreAmong same all (next x)) → IsLeastClosed same next start (closure_from same next all start)
   is_least_closed laws all start within bounded =
@@ -149,7 +149,7 @@ module _ {A : Type 0} (same : A → A → Bool) (next : A → List A) where
         least = λ test begins step. all_pass test step (length all) 0 (insert_all same [] start) (all_more_hold same (λ x. test x ≡ true) start [] tt begins);
       }
 
-  -- a list that has grown from given values is their closure
+  -- a list that has after_turns from given values is their closure
   pub is_closure : IsEquivalence same → (all start found : List A) → AreAmong same all start → ((x : A) → AreAmong same all (next x)) → IsGrown same next (insert_all same [] start) found
       → found ≡ closure_from same next all start
   is_closure laws all start found within bounded grows =

@@ -5,22 +5,22 @@ use Rattle.std.specs.Set.{is_member}
 use Rattle.indexmap.specs.IndexSet.{insert_all}
 
 -- what a value leads to, if there is one
-abbrev pub next_of : {A : Type 0} → (A → List A) → Option A → List A
-next_of next None = []
-next_of next (Some x) = next x
+abbrev pub successors_of : {A : Type 0} → (A → List A) → Option A → List A
+successors_of next None = []
+successors_of next (Some x) = next x
 
 -- a list is its own queue: in each turn, all that the value at a place leads to is put behind it, unless an equal value is there
-abbrev pub grown : {A : Type 0} → (A → A → Bool) → (A → List A) → (turns at : ℕ) → List A → List A
-grown same next zero at found = found
-grown same next (suc turns) at found = grown same next turns (suc at) (insert_all same found (next_of next (slice_get found at)))
+abbrev pub after_turns : {A : Type 0} → (A → A → Bool) → (A → List A) → (turns at : ℕ) → List A → List A
+after_turns same next zero at found = found
+after_turns same next (suc turns) at found = after_turns same next turns (suc at) (insert_all same found (successors_of next (slice_get found at)))
 
 -- the values that given ones lead to, and they, where all that any value leads to is among a list: a turn for each of it is enough
 abbrev pub closure_from : {A : Type 0} → (A → A → Bool) → (A → List A) → (all start : List A) → List A
-closure_from same next all start = grown same next (length all) 0 (insert_all same [] start)
+closure_from same next all start = after_turns same next (length all) 0 (insert_all same [] start)
 
--- a list stays as it is when it has grown by as many turns as it has values
+-- a list stays as it is when it has after_turns by as many turns as it has values
 abbrev pub IsGrown : {A : Type 0} → (A → A → Bool) → (A → List A) → (start found : List A) → Type 0
-IsGrown same next start found = (turns : ℕ) → length found ≤ turns → grown same next turns 0 start ≡ found
+IsGrown same next start found = (turns : ℕ) → length found ≤ turns → after_turns same next turns 0 start ≡ found
 
 -- a list has values that are equal to these
 abbrev pub AreAmong : {A : Type 0} → (A → A → Bool) → (found values : List A) → Type 0

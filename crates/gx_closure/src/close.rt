@@ -3,7 +3,7 @@
 ghost use Rattle.std.specs.Prelude.{◌≡◌, ◌<◌, List, OnOk, length};
 ghost use Rattle.std.specs.List.{slice_get};
 ghost use Rattle.indexmap.specs.IndexSet.{insert_all};
-ghost use Rattle.gx_closure.specs.Closure.{next_of, IsGrown};
+ghost use Rattle.gx_closure.specs.Closure.{successors_of, IsGrown};
 
 use indexmap::IndexSet;
 use std::alloc::{AllocError, Global};
@@ -26,7 +26,7 @@ pub trait Step<T: Eq + Hash + Drop> {
     ) -> Result<(), AllocError>
         requires within { at < length found.old.keys }
         requires fits { fits self.old found.old.keys }
-        ensures added { OnOk result (found.new.keys ≡ insert_all T.eq found.old.keys (next_of (next self.old) (slice_get found.old.keys at))) }
+        ensures added { OnOk result (found.new.keys ≡ insert_all T.eq found.old.keys (successors_of (next self.old) (slice_get found.old.keys at))) }
         ensures same { OnOk result (next self.new ≡ next self.old) }
         ensures fits { OnOk result (fits self.new found.new.keys) };
 }
