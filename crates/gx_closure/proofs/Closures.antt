@@ -1,4 +1,4 @@
--- Closures are least closed lists, and a list that has after_turns is the closure.
+-- Closures are least closed lists, and a list that has grown is the closure.
 use Rattle.std.proofs.Common.{◌≡◌, ℕ, zero, suc, ◌+◌, ◌-◌, ◌<◌, ◌≤◌, Bool, true, List, [], ◌∷◌, length, get_or, Option, None, Some, ◌⊎◌, inl, inr, refl, sym, ◌∙◌, ap, subst, arith}
 use Rattle.std.specs.List.{slice_get, AllByRecursion, IsDistinct}
 use Rattle.std.specs.Set.{is_member}
@@ -6,7 +6,7 @@ use Rattle.std.specs.Cmp.{IsEquivalence}
 use Rattle.std.proofs.lemmas.Option.{slice_get_past, slice_get_within, slice_get-get_or}
 use Rattle.std.proofs.lemmas.Map.Made.{length-le_from_is_member}
 use Rattle.indexmap.specs.IndexSet.{insert_all}
-use Rattle.gx_closure.specs.Closure.{successors_of, after_turns, closure_from, IsGrown, AreAmong, AllPass, IsLeastClosed}
+use Rattle.gx_closure.specs.Closure.{successors_of, after_turns, closure_from, IsGrown, AreAmong, IsLeastClosed}
 use Rattle.gx_closure.specs.Laws.{ClosuresAreLeast}
 use Rattle.gx_closure.proofs.Growing.{no_shorter, among_stay, places_stay, all_are_put, all_more_hold, more_are_distinct, member_of_all}
 
@@ -126,15 +126,19 @@ module _ {A : Type 0} (same : A → A → Bool) (next : A → List A) where
 
   -- nothing else is found
 
-  next_pass : (test : A → Bool) → ((x : A) → test x ≡ true → AllPass test (next x)) → (found : List A) → AllPass test found → (at : ℕ) → (o : Option A) → slice_get found at ≡ o → AllPass test (successors_of next o)
-  next_pass test step found h at None e = tt
-  next_pass test step found h at (Some x) e = step x (holds_at (λ y. test y ≡ true) found at x h e)
+  next_hold : (P : A → Type 0) → ((x : A) → P x → AllByRecursion P (next x)) → (found : List A) → AllByRecursion P found → (at : ℕ) → (o : Option A) → slice_get found at ≡ o → AllByRecursion P (successors_of next o)
+  next_hold P step found h at None e = tt
+  next_hold P step found h at (Some x) e = step x (holds_at P found at x h e)
 
-  all_pass : (test : A → Bool) → ((x : A) → test x ≡ true → AllPass test (next x)) → (turns at : ℕ) (found : List A) → AllPass test found → AllPass test (after_turns same next turns at found)
-  all_pass test step zero at found h = h
-  all_pass test step (suc turns) at found h =
-      all_pass test step turns (suc at) (insert_all same found (successors_of next (slice_get found at)))
-      (all_more_hold same (λ x. test x ≡ true) (successors_of next (slice_get found at)) found h (next_pass test step found h at (slice_get found at) refl))
+  turns_keep : (P : A → Type 0) → ((x : A) → P x → AllByRecursion P (next x)) → (turns at : ℕ) (found : List A) → AllByRecursion P found → AllByRecursion P (after_turns same next turns at found)
+  turns_keep P step zero at found h = h
+  turns_keep P step (suc turns) at found h =
+      turns_keep P step turns (suc at) (insert_all same found (successors_of next (slice_get found at)))
+      (all_more_hold same P (successors_of next (slice_get found at)) found h (next_hold P step found h at (slice_get found at) refl))
+
+  -- what holds of given values, and of all that a value leads to where it holds of the value, holds of the closure
+  pub closure_keeps : (P : A → Type 0) (all start : List A) → AllByRecursion P start → ((x : A) → P x → AllByRecursion P (next x)) → AllByRecursion P (closure_from same next all start)
+  closure_keeps P all start begins step = turns_keep P step (length all) 0 (insert_all same [] start) (all_more_hold same P start [] tt begins)
 
   pub is_least_closed : IsEquivalence same → (all start : List A) → AreAmong same all start → ((x : A) → AreAmong same all (next x)) → IsLeastClosed same next start (closure_from same next all start)
   is_least_closed laws all start within bounded =
@@ -146,10 +150,10 @@ module _ {A : Type 0} (same : A → A → Bool) (next : A → List A) where
             by_places (λ x. AreAmong same (closure_from same next all start) (next x)) (closure_from same next all start)
             (λ i x e. let inside = slice_get_within (closure_from same next all start) i x e in c.below i x (omega arith) e);
         distinct = c.distinct;
-        least = λ test begins step. all_pass test step (length all) 0 (insert_all same [] start) (all_more_hold same (λ x. test x ≡ true) start [] tt begins);
+        least = λ test begins step. closure_keeps (λ x. test x ≡ true) all start begins step;
       }
 
-  -- a list that has after_turns from given values is their closure
+  -- a list that has grown from given values is their closure
   pub is_closure : IsEquivalence same → (all start found : List A) → AreAmong same all start → ((x : A) → AreAmong same all (next x)) → IsGrown same next (insert_all same [] start) found
       → found ≡ closure_from same next all start
   is_closure laws all start found within bounded grows =

@@ -18,7 +18,7 @@ after_turns same next (suc turns) at found = after_turns same next turns (suc at
 abbrev pub closure_from : {A : Type 0} → (A → A → Bool) → (A → List A) → (all start : List A) → List A
 closure_from same next all start = after_turns same next (length all) 0 (insert_all same [] start)
 
--- a list stays as it is when it has after_turns by as many turns as it has values
+-- a list stays as it is when it has grown by as many turns as it has values
 abbrev pub IsGrown : {A : Type 0} → (A → A → Bool) → (A → List A) → (start found : List A) → Type 0
 IsGrown same next start found = (turns : ℕ) → length found ≤ turns → after_turns same next turns 0 start ≡ found
 
