@@ -1,6 +1,6 @@
 -- An evaluation raises the codes of dynamic errors alone.
 use Rattle.std.proofs.Common.{◌≡◌, Bool, true, false, not, List, [], ◌∷◌, ◌++◌, map, Option, None, Some, Result, Ok, Err, refl, subst, if◌then◌else◌}
-use Rattle.std.specs.Prelude.{nat_le, option_map}
+use Rattle.std.specs.Prelude.{ℕ, suc, nat_le, option_map}
 use Rattle.std.specs.List.{list_all, list_any}
 use Rattle.gx_base.specs.declared.code.Code.{Code}
 use Rattle.gx_base.specs.declared.code.Code.TheVariants.{GLXD0002}
@@ -45,7 +45,7 @@ use Rattle.gx_core.specs.Ranging.{integer_of_item, range_length, integers_from, 
 use Rattle.gx_core.specs.Casting.{cast_outcome, cast_items, castable_items}
 use Rattle.gx_core.specs.Calling.{views_of, answered}
 use Rattle.gx_core.specs.Paths.{is_node, places_of, stepped, put_in_order}
-use Rattle.gx_core.specs.Meaning.{Context, Bindings, Denotation, binary_meaning, acts, all_of, for_each, branch, denoted, meaning, meanings}
+use Rattle.gx_core.specs.Meaning.{Context, Bindings, Denotation, binary_meaning, acts, all_of, for_each, item_bound, decides, any_decides, branch, denoted, meaning, meanings}
 use Rattle.gx_core.specs.QueryMeaning.{globals_bound, query_outcome, QueriesRaiseDynamicCodes}
 use Rattle.gx_core.specs.Laws.{RaisesDynamicCodes, ExpressionsRaiseDynamicCodes}
 
@@ -214,10 +214,17 @@ dynamic_all (part ∷ parts) bindings forest h =
     dynamic_after (part bindings forest) (λ value left. after (all_of parts bindings left) (λ values last. gives (value ∷ values) last)) (h.0 bindings forest)
     (λ value left. dynamic_after (all_of parts bindings left) (λ values last. gives (value ∷ values) last) (dynamic_all parts bindings left h.1) (λ values last. tt))
 
-dynamic_each : (next : Item → Forest → Outcome Items) (done xs : Items) (forest : Forest) → ((x : Item) (now : Forest) → IsDynamic (next x now)) → IsDynamic (for_each next done xs forest)
-dynamic_each next done [] forest k = tt
-dynamic_each next done (x ∷ xs) forest k =
-    dynamic_after (next x forest) (λ more left. for_each next (done ++ more) xs left) (k x forest) (λ more left. dynamic_each next (done ++ more) xs left k)
+dynamic_each : (next : ℕ → Item → Forest → Outcome Items) (number : ℕ) (done xs : Items) (forest : Forest) → ((n : ℕ) (x : Item) (now : Forest) → IsDynamic (next n x now)) → IsDynamic (for_each next number done xs forest)
+dynamic_each next number done [] forest k = tt
+dynamic_each next number done (x ∷ xs) forest k =
+    dynamic_after (next number x forest) (λ more left. for_each next (suc number) (done ++ more) xs left) (k number x forest) (λ more left. dynamic_each next (suc number) (done ++ more) xs left k)
+
+dynamic_search : (decisive : Bool) (test : Item → Forest → Outcome Items) (xs : Items) (forest : Forest) → ((x : Item) (now : Forest) → IsDynamic (test x now)) → IsDynamic (any_decides decisive test xs forest)
+dynamic_search decisive test [] forest k = tt
+dynamic_search decisive test (x ∷ xs) forest k =
+    dynamic_after (test x forest) (λ ys left. given (condition_of ys) (λ truth. if decides decisive truth then gives (truth_value decisive) left else any_decides decisive test xs left)) (k x forest)
+    (λ ys left. dynamic_given (condition_of ys) (λ truth. if decides decisive truth then gives (truth_value decisive) left else any_decides decisive test xs left)
+    (λ truth. dynamic_choice (decides decisive truth) (gives (truth_value decisive) left) (any_decides decisive test xs left) tt (dynamic_search decisive test xs left k)))
 
 dynamic_branch : (b : Bool) (chosen otherwise : Denotation) (bindings : Bindings) (forest : Forest)
     → IsDynamic (chosen bindings forest) → IsDynamic (otherwise bindings forest) → IsDynamic (branch b chosen otherwise bindings forest)
@@ -226,9 +233,15 @@ dynamic_branch false chosen otherwise bindings forest h k = k
 
 dynamic_operator : (context : Context) (operator : Operator) (parts : List Denotation) (bindings : Bindings) (forest : Forest) → AreDynamic parts → IsDynamic (denoted context operator parts bindings forest)
 dynamic_operator context (operators.Var number) [] bindings forest h = dynamic_given (look_up bindings number) (λ value. gives value forest) (λ value. tt)
-dynamic_operator context (operators.For binder) (source ∷ body ∷ []) bindings forest h =
-    dynamic_after (source bindings forest) (λ xs left. for_each (λ x now. body ((binder.variable, x ∷ []) ∷ bindings) now) [] xs left) (h.0 bindings forest)
-    (λ xs left. dynamic_each (λ x now. body ((binder.variable, x ∷ []) ∷ bindings) now) [] xs left (λ x now. h.1.0 ((binder.variable, x ∷ []) ∷ bindings) now))
+dynamic_operator context (operators.For binder position) (source ∷ body ∷ []) bindings forest h =
+    dynamic_after (source bindings forest) (λ xs left. for_each (λ number x now. body (item_bound binder.variable position number x ++ bindings) now) 1 [] xs left) (h.0 bindings forest)
+    (λ xs left. dynamic_each (λ number x now. body (item_bound binder.variable position number x ++ bindings) now) 1 [] xs left (λ number x now. h.1.0 (item_bound binder.variable position number x ++ bindings) now))
+dynamic_operator context (operators.SomeIn binder) (source ∷ test ∷ []) bindings forest h =
+    dynamic_after (source bindings forest) (λ xs left. any_decides true (λ x now. test ((binder.variable, x ∷ []) ∷ bindings) now) xs left) (h.0 bindings forest)
+    (λ xs left. dynamic_search true (λ x now. test ((binder.variable, x ∷ []) ∷ bindings) now) xs left (λ x now. h.1.0 ((binder.variable, x ∷ []) ∷ bindings) now))
+dynamic_operator context (operators.EveryIn binder) (source ∷ test ∷ []) bindings forest h =
+    dynamic_after (source bindings forest) (λ xs left. any_decides false (λ x now. test ((binder.variable, x ∷ []) ∷ bindings) now) xs left) (h.0 bindings forest)
+    (λ xs left. dynamic_search false (λ x now. test ((binder.variable, x ∷ []) ∷ bindings) now) xs left (λ x now. h.1.0 ((binder.variable, x ∷ []) ∷ bindings) now))
 dynamic_operator context (operators.Step axis asks number) [] bindings forest h =
     dynamic_given (look_up bindings number) (λ value. stepped context.schemas axis asks value forest) (λ value. dynamic_step context.schemas axis asks value forest)
 dynamic_operator context (operators.Let binder) (value ∷ body ∷ []) bindings forest h =

@@ -4,3 +4,4 @@ pub mod KeptFacts
 pub mod SoundQueries
 pub mod SlotLemmas
 pub mod DynamicCodes
+pub mod LoopBindings

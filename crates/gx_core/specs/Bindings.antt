@@ -1,6 +1,9 @@
 -- Variables, by their numbers, and which operators bind them.
-use Rattle.std.specs.Prelude.{ℕ, List, [], ◌∷◌, Option, Some, None, nat_eq, if◌then◌else◌}
-use Rattle.gx_types.specs.SequenceType.{SequenceType}
+use Rattle.std.specs.Prelude.{ℕ, zero, suc, List, [], ◌∷◌, Option, Some, None, nat_eq, if◌then◌else◌}
+use Rattle.gx_base.specs.declared.type_name.Builtin.TheVariants.{Integer}
+use Rattle.gx_base.specs.declared.type_name.TypeName.TheVariants.{Builtin}
+use Rattle.gx_types.specs.declared.item_type.ItemType.TheVariants.{Atom}
+use Rattle.gx_types.specs.SequenceType.{SequenceType, item}
 use Rattle.gx_types.specs.Prime.{prime_of}
 use Rattle.gx_core.specs.declared.operator.Operator.{Operator}
 use Rattle.gx_core.specs.declared.operator.Operator.TheVariants as operators
@@ -14,14 +17,28 @@ look_up (binding ∷ bindings) number = if nat_eq binding.0 number then Some bin
 abbrev pub Types : Type 0
 Types = List (ℕ × SequenceType)
 
--- what an operator binds for its next part, from the types of the parts before that one: `for` an item of its operand at a time
+-- what is bound to the variable of a position, whose number is 0 where there is none
+abbrev pub position_bound : {A : Type 0} → (position : ℕ) → A → List (ℕ × A)
+position_bound zero bound = []
+position_bound (suc number) bound = (suc number, bound) ∷ []
+
+abbrev pub position_numbers : (position : ℕ) → List ℕ
+position_numbers zero = []
+position_numbers (suc number) = suc number ∷ []
+
+-- what an operator binds for its next part, from the types of the parts before that one: `for` and a quantifier an item of the operand
+-- at a time, and `for` its position
 abbrev pub types_bound : Operator → (before : List SequenceType) → Types
-types_bound (operators.For binder) (source ∷ []) = (binder.variable, prime_of source) ∷ []
+types_bound (operators.For binder position) (source ∷ []) = (binder.variable, prime_of source) ∷ position_bound position (item (Atom (Builtin Integer)))
+types_bound (operators.SomeIn binder) (source ∷ []) = (binder.variable, prime_of source) ∷ []
+types_bound (operators.EveryIn binder) (source ∷ []) = (binder.variable, prime_of source) ∷ []
 types_bound (operators.Let binder) (value ∷ []) = (binder.variable, value) ∷ []
 types_bound _ _ = []
 
 -- the numbers that an operator binds for its next part; of the parts before that one, only how many there are counts
 abbrev pub numbers_bound_by : Operator → (before : List (Unit {0})) → List ℕ
-numbers_bound_by (operators.For binder) (source ∷ []) = binder.variable ∷ []
+numbers_bound_by (operators.For binder position) (source ∷ []) = binder.variable ∷ position_numbers position
+numbers_bound_by (operators.SomeIn binder) (source ∷ []) = binder.variable ∷ []
+numbers_bound_by (operators.EveryIn binder) (source ∷ []) = binder.variable ∷ []
 numbers_bound_by (operators.Let binder) (value ∷ []) = binder.variable ∷ []
 numbers_bound_by _ _ = []

@@ -3,7 +3,7 @@ use Rattle.std.specs.Prelude.{◌+◌, ◌≤◌, max, List, [], ◌∷◌}
 use Rattle.std.proofs.Common.{arith}
 use denote.Param.Weighed.{most}
 use Rattle.gx_core.specs.declared.expression.Form.{Form}
-use Rattle.gx_core.specs.declared.expression.Form.TheVariants.{Lit, Var, Empty, Seq, For, Let, If, Cast, Castable, Step, Nodes, Order, DataOf, NoContext, Call, Neg, Binary}
+use Rattle.gx_core.specs.declared.expression.Form.TheVariants.{Lit, Var, Empty, Seq, For, Let, If, Cast, Castable, Step, Nodes, Order, SomeIn, EveryIn, DataOf, NoContext, Call, Neg, Binary}
 use Rattle.gx_core.specs.declared.expression.Expr.TheDeep.{deep-Form}
 use Rattle.gx_core.specs.Expression.{Expression, expression_size, parts_size, all_parts}
 use Rattle.gx_core.specs.ExpressionView.{parts_of}
@@ -18,7 +18,7 @@ parts_are_smaller (Lit a) = omega arith
 parts_are_smaller (Var n) = omega arith
 parts_are_smaller Empty = omega arith
 parts_are_smaller (Seq a b) = omega arith
-parts_are_smaller (For v a b) = omega arith
+parts_are_smaller (For v p a b) = omega arith
 parts_are_smaller (Let v a b) = omega arith
 parts_are_smaller (If a b c) = omega arith
 parts_are_smaller (Cast a kind optional) = omega arith
@@ -26,6 +26,8 @@ parts_are_smaller (Castable a kind optional) = omega arith
 parts_are_smaller (Step axis t n) = omega arith
 parts_are_smaller (Nodes a) = omega arith
 parts_are_smaller (Order a) = omega arith
+parts_are_smaller (SomeIn v a b) = omega arith
+parts_are_smaller (EveryIn v a b) = omega arith
 parts_are_smaller (DataOf a) = omega arith
 parts_are_smaller NoContext = omega arith
 parts_are_smaller (Call function es) = omega (arith, most_parts es.items)

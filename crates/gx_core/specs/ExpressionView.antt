@@ -2,7 +2,7 @@
 use Rattle.gx_core.specs.declared.operator.Operator.{Operator}
 use Rattle.gx_core.specs.declared.operator.Operator.TheVariants as operators
 use Rattle.gx_core.specs.declared.expression.Form.{Form}
-use Rattle.gx_core.specs.declared.expression.Form.TheVariants.{Lit, Var, Empty, Seq, For, Let, If, Cast, Castable, Step, Nodes, Order, DataOf, NoContext, Call, Neg, Binary}
+use Rattle.gx_core.specs.declared.expression.Form.TheVariants.{Lit, Var, Empty, Seq, For, Let, If, Cast, Castable, Step, Nodes, Order, SomeIn, EveryIn, DataOf, NoContext, Call, Neg, Binary}
 use Rattle.gx_core.specs.declared.expression.Expr.TheInside.{Inside}
 use Rattle.gx_core.specs.Expression.{Expression, At, Parts, no_parts, one_part, two_parts, three_parts, all_parts}
 
@@ -11,7 +11,7 @@ operator_of (Lit a) = operators.Lit a
 operator_of (Var n) = operators.Var n
 operator_of Empty = operators.Empty
 operator_of (Seq a b) = operators.Seq
-operator_of (For v a b) = operators.For v
+operator_of (For v p a b) = operators.For v p
 operator_of (Let v a b) = operators.Let v
 operator_of (If a b c) = operators.If
 operator_of (Cast a kind optional) = operators.Cast kind optional
@@ -19,6 +19,8 @@ operator_of (Castable a kind optional) = operators.Castable kind optional
 operator_of (Step axis t n) = operators.Step axis t n
 operator_of (Nodes a) = operators.Nodes
 operator_of (Order a) = operators.Order
+operator_of (SomeIn v a b) = operators.SomeIn v
+operator_of (EveryIn v a b) = operators.EveryIn v
 operator_of (DataOf a) = operators.DataOf
 operator_of NoContext = operators.NoContext
 operator_of (Call function es) = operators.Call function
@@ -30,7 +32,7 @@ parts_of (Lit a) = no_parts
 parts_of (Var n) = no_parts
 parts_of Empty = no_parts
 parts_of (Seq a b) = two_parts a.value b.value
-parts_of (For v a b) = two_parts a.value b.value
+parts_of (For v p a b) = two_parts a.value b.value
 parts_of (Let v a b) = two_parts a.value b.value
 parts_of (If a b c) = three_parts a.value b.value c.value
 parts_of (Cast a kind optional) = one_part a.value
@@ -38,6 +40,8 @@ parts_of (Castable a kind optional) = one_part a.value
 parts_of (Step axis t n) = no_parts
 parts_of (Nodes a) = one_part a.value
 parts_of (Order a) = one_part a.value
+parts_of (SomeIn v a b) = two_parts a.value b.value
+parts_of (EveryIn v a b) = two_parts a.value b.value
 parts_of (DataOf a) = one_part a.value
 parts_of NoContext = no_parts
 parts_of (Call function es) = all_parts es.items

@@ -1,19 +1,20 @@
 -- What a Core expression means (XQuery 1.0 and XPath 2.0 Formal Semantics, section 4; XQuery 1.0, section 3).
-use Rattle.std.specs.Prelude.{ℕ, Bool, true, false, List, [], ◌∷◌, ◌++◌}
+use Rattle.std.specs.Prelude.{ℕ, suc, Bool, true, false, not, pos, List, [], ◌∷◌, ◌++◌, if◌then◌else◌}
 use Rattle.gx_types.specs.SchemaSet.{SchemaSet}
+use Rattle.gx_funcs.specs.Function.{integer_atom}
 use Rattle.gx_model.specs.Forest.{Forest}
 use Rattle.gx_model.specs.Item.{Item, atom, Items}
 use Rattle.gx_model.specs.Atomization.{atomized}
 use Rattle.gx_core.specs.declared.operator.Operator.{Operator}
 use Rattle.gx_core.specs.declared.operator.Operator.TheVariants as operators
 use Rattle.gx_core.specs.Expression.{Expression, At, Parts, no_parts, a_part}
-use Rattle.gx_core.specs.Bindings.{look_up}
+use Rattle.gx_core.specs.Bindings.{look_up, position_bound}
 use Rattle.gx_core.specs.Outcome.{Outcome, gives, wrong, after, given}
 use Rattle.gx_core.specs.declared.expression.BinaryClass.{BinaryClass}
 use Rattle.gx_core.specs.declared.expression.BinaryClass.TheVariants.{Arithmetic, Value, General, Range}
 use Rattle.gx_core.specs.BinaryOperators.{class_of}
 use Rattle.gx_core.specs.Arithmetic.{arithmetic, negation}
-use Rattle.gx_core.specs.Comparing.{condition_of, value_compared, generally_compared}
+use Rattle.gx_core.specs.Comparing.{truth_value, condition_of, value_compared, generally_compared}
 use Rattle.gx_core.specs.Ranging.{range}
 use Rattle.gx_core.specs.Casting.{cast_items, castable_items}
 use Rattle.gx_core.specs.Calling.{called}
@@ -58,10 +59,25 @@ all_of [] bindings forest = gives [] forest
 all_of (part ∷ parts) bindings forest =
     after (part bindings forest) (λ value left. after (all_of parts bindings left) (λ values last. gives (value ∷ values) last))
 
--- a part for each item, in order, each in the forest that the one before it leaves; `done` is what there is so far
-abbrev pub for_each : (Item → Forest → Outcome Items) → (done : Items) → Items → Forest → Outcome Items
-for_each next done [] forest = gives done forest
-for_each next done (x ∷ xs) forest = after (next x forest) (λ more left. for_each next (done ++ more) xs left)
+-- a part for each item, in order and by its number, each in the forest that the one before it leaves; `done` is what there is so far
+abbrev pub for_each : (ℕ → Item → Forest → Outcome Items) → (number : ℕ) → (done : Items) → Items → Forest → Outcome Items
+for_each next number done [] forest = gives done forest
+for_each next number done (x ∷ xs) forest = after (next number x forest) (λ more left. for_each next (suc number) (done ++ more) xs left)
+
+-- what a loop binds in a turn: an item, and the number of the item where its position has a variable
+abbrev pub item_bound : (variable position number : ℕ) → Item → Bindings
+item_bound variable position number x = (variable, x ∷ []) ∷ position_bound position (atom (integer_atom (pos number)) ∷ [])
+
+-- a truth ends a search for one that decides: `some` ends at a true one, `every` at a false one
+abbrev pub decides : (decisive truth : Bool) → Bool
+decides true truth = truth
+decides false truth = not truth
+
+-- whether an item decides, which ends the search
+abbrev pub any_decides : (decisive : Bool) → (test : Item → Forest → Outcome Items) → Items → Forest → Outcome Items
+any_decides decisive test [] forest = gives (truth_value (not decisive)) forest
+any_decides decisive test (x ∷ xs) forest =
+    after (test x forest) (λ ys left. given (condition_of ys) (λ truth. if decides decisive truth then gives (truth_value decisive) left else any_decides decisive test xs left))
 
 -- the branch of a conditional
 abbrev pub branch : Bool → (chosen otherwise : Denotation) → Denotation
@@ -71,8 +87,12 @@ branch false chosen otherwise = otherwise
 -- an operator over its parts: those that choose, bind or repeat have a line each, and all others are strict
 abbrev pub denoted : Context → Operator → List Denotation → Bindings → Forest → Outcome Items
 denoted context (operators.Var number) [] bindings forest = given (look_up bindings number) (λ value. gives value forest)
-denoted context (operators.For binder) (source ∷ body ∷ []) bindings forest =
-    after (source bindings forest) (λ xs left. for_each (λ x now. body ((binder.variable, x ∷ []) ∷ bindings) now) [] xs left)
+denoted context (operators.For binder position) (source ∷ body ∷ []) bindings forest =
+    after (source bindings forest) (λ xs left. for_each (λ number x now. body (item_bound binder.variable position number x ++ bindings) now) 1 [] xs left)
+denoted context (operators.SomeIn binder) (source ∷ test ∷ []) bindings forest =
+    after (source bindings forest) (λ xs left. any_decides true (λ x now. test ((binder.variable, x ∷ []) ∷ bindings) now) xs left)
+denoted context (operators.EveryIn binder) (source ∷ test ∷ []) bindings forest =
+    after (source bindings forest) (λ xs left. any_decides false (λ x now. test ((binder.variable, x ∷ []) ∷ bindings) now) xs left)
 denoted context (operators.Step axis asks number) [] bindings forest = given (look_up bindings number) (λ value. stepped context.schemas axis asks value forest)
 denoted context (operators.Let binder) (value ∷ body ∷ []) bindings forest =
     after (value bindings forest) (λ xs left. body ((binder.variable, xs) ∷ bindings) left)

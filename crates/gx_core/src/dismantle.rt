@@ -58,7 +58,10 @@ fn set_aside<K: Drop>(alloc: Global, form: Form<K>, parts: &mut Vec<Part<K>>) {
             let _first_kept = parts.push(first);
             let _second_kept = parts.push(second);
         }
-        Form::For(_binder, value, body) | Form::Let(_binder, value, body) => {
+        Form::For(_binder, _, value, body)
+        | Form::Let(_binder, value, body)
+        | Form::SomeIn(_binder, value, body)
+        | Form::EveryIn(_binder, value, body) => {
             let _value_kept = parts.push(value);
             let _body_kept = parts.push(body);
         }

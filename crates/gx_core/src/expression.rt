@@ -157,10 +157,10 @@ pub type TypedExpr = Expr<Ty>;
 /// An expression inside another one.
 pub type Part<K> = Box<Expr<K>>;
 
-/// What an expression is: a literal, a variable by its number, the empty sequence, a sequence of two parts, a `for`, a
-/// `let`, a conditional, a cast or a test whether there is one, to a type and of an empty operand where that is true, a step along
-/// an axis with a test from the node of a variable, an operand of nodes alone, an operand in document order, the atomization of
-/// its operand, what looks at a context where there is none, a call of a built-in function, the negation of a number, or an operator of two operands.
+/// What an expression is: a literal, a variable by its number, the empty sequence, a sequence of two parts, a `for` with the number
+/// of the variable that has the position of the item, or 0 where there is none, a `let`, a conditional, a cast or a test whether there is one, to a type and of an empty operand where that is true, a step along
+/// an axis with a test from the node of a variable, an operand of nodes alone, an operand in document order, whether a test holds
+/// of some item or of every item of an operand, the atomization of its operand, what looks at a context where there is none, a call of a built-in function, the negation of a number, or an operator of two operands.
 #[cycle(core_tree)]
 #[derive(Drop)]
 pub enum Form<K> {
@@ -168,7 +168,7 @@ pub enum Form<K> {
     Var(u32),
     Empty,
     Seq(Part<K>, Part<K>),
-    For(Binder, Part<K>, Part<K>),
+    For(Binder, u32, Part<K>, Part<K>),
     Let(Binder, Part<K>, Part<K>),
     If(Part<K>, Part<K>, Part<K>),
     Cast(Part<K>, TypeName, bool),
@@ -176,6 +176,8 @@ pub enum Form<K> {
     Step(Axis, Test, u32),
     Nodes(Part<K>),
     Order(Part<K>),
+    SomeIn(Binder, Part<K>, Part<K>),
+    EveryIn(Binder, Part<K>, Part<K>),
     DataOf(Part<K>),
     NoContext,
     Call(Function, Vec<Expr<K>>),

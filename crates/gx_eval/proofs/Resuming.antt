@@ -1,5 +1,5 @@
 -- What is left to do after a piece of work comes to the same as before it.
-use Rattle.std.proofs.Common.{◌≡◌, ◌≤◌, ℕ, zero, suc, ◌+◌, arith, subst, map, Bool, append_assoc, append-nil, List, [], ◌∷◌, ◌++◌, length, take, drop, Option, None, Some, Result, refl, sym, ◌∙◌, ap}
+use Rattle.std.proofs.Common.{◌≡◌, ◌≤◌, ℕ, zero, suc, ◌+◌, arith, subst, map, Bool, true, false, not, if◌then◌else◌, append_assoc, append-nil, List, [], ◌∷◌, ◌++◌, length, take, drop, Option, None, Some, Result, refl, sym, ◌∙◌, ap}
 use Rattle.std.proofs.Math.Seq.{take-append_seam, drop-append_seam}
 use Rattle.gx_base.specs.declared.code.Code.{Code}
 use Rattle.gx_facets.specs.declared.Atomic.{Atomic}
@@ -13,11 +13,11 @@ use Rattle.gx_core.specs.declared.operator.Operator.{Operator}
 use Rattle.gx_core.specs.declared.operator.Operator.TheVariants as operators
 use Rattle.gx_core.specs.Outcome.{Outcome, gives, raises, wrong, after, given}
 use Rattle.gx_core.specs.BinaryOperators.{class_of}
-use Rattle.gx_core.specs.Comparing.{condition_of}
+use Rattle.gx_core.specs.Comparing.{truth_value, condition_of}
 use Rattle.gx_core.specs.Calling.{views_of, answered, called}
 use Rattle.gx_core.specs.Soundness.{TypedExpression}
 use Rattle.gx_core.specs.Expression.{all_parts}
-use Rattle.gx_core.specs.Meaning.{Context, Bindings, Denotation, binary_meaning, acts, all_of, branch, denoted, for_each, meaning, meanings}
+use Rattle.gx_core.specs.Meaning.{Context, Bindings, Denotation, binary_meaning, acts, all_of, branch, denoted, for_each, decides, any_decides, meaning, meanings}
 use Rattle.gx_eval.specs.declared.failure.Failure.{Failure}
 use Rattle.gx_eval.specs.declared.failure.Failure.TheVariants.{Raised, Wrong, Memory}
 use Rattle.gx_eval.specs.declared.change.Change.{Change}
@@ -28,7 +28,9 @@ use Rattle.gx_eval.specs.declared.evaluation.Pending.{Pending}
 use Rattle.gx_eval.specs.declared.evaluation.Pending.TheVariants.{Change as Altering, Single as Operate, Binary, Call}
 use Rattle.gx_eval.specs.Failing.{FailsSo}
 use Rattle.gx_eval.specs.Operators.{single_operator, changing_operator}
-use Rattle.gx_eval.specs.Resume.{Stacks, with_marks, with_sources, operated, changed, right_meaning, between_marks, in_order, turn, resume}
+use Rattle.gx_eval.specs.declared.looping.Loop.{Loop}
+use Rattle.gx_eval.specs.declared.looping.Loop.TheVariants.{For, Search}
+use Rattle.gx_eval.specs.Resume.{Stacks, with_marks, with_sources, operated, changed, right_meaning, between_marks, in_order, turn, item_tested, looped, resume}
 
 -- what is left to do behind these values
 abbrev pub Rest : Type 0
@@ -296,7 +298,7 @@ parts_in_order k operator work stacks values marks bindings (part ∷ parts) n t
     (λ operands next. ap (λ (v : Items). between_marks n marked v (drop (length there) (there ++ x) ∷ operands) next) (take-append_seam there x)
     ∙ ap (λ (v : Items). between_marks n marked there (v ∷ operands) next) (drop-append_seam there x) ∙ h (x ∷ operands) next))
 
-also_behind : (o : Outcome Items) (f g : Items → Forest → Outcome Items) → ((x : Items) (left : Forest) → f x left ≡ g x left) → after o f ≡ after o g
+pub also_behind : (o : Outcome Items) (f g : Items → Forest → Outcome Items) → ((x : Items) (left : Forest) → f x left ≡ g x left) → after o f ≡ after o g
 also_behind (gives x left) f g h = h x left
 also_behind (raises code) f g h = refl
 also_behind wrong f g h = refl
@@ -416,76 +418,162 @@ let_opens_at k forest variable value body work values first stacks bindings h =
     ap (λ (n : ℕ). after (value bindings forest) (λ xs f. after (body ((variable, drop n (values ++ xs)) ∷ bindings) f) (λ more left. resume k work (take n (values ++ xs) ++ more) stacks bindings left))) h
     ∙ let_opens k forest variable value body work values stacks bindings
 
--- ---- a `for`
+-- ---- loops
 
 -- the values that are there stand before those of the turns
-turns_behind : (step : Item → Forest → Outcome Items) (done front xs : Items) (forest : Forest) → for_each step (done ++ front) xs forest ≡ after (for_each step front xs forest) (λ more left. gives (done ++ more) left)
-turns_behind step done front [] forest = refl
-turns_behind step done front (x ∷ xs) forest = one_turn (step x forest) (λ more f. turns_behind step done (front ++ more) xs f)
+turns_behind : (step : ℕ → Item → Forest → Outcome Items) (number : ℕ) (done front xs : Items) (forest : Forest)
+    → for_each step number (done ++ front) xs forest ≡ after (for_each step number front xs forest) (λ more left. gives (done ++ more) left)
+turns_behind step number done front [] forest = refl
+turns_behind step number done front (x ∷ xs) forest = one_turn (step number x forest) (λ more f. turns_behind step (suc number) done (front ++ more) xs f)
   where
-    one_turn : (o : Outcome Items) → ((more : Items) (f : Forest) → for_each step (done ++ (front ++ more)) xs f ≡ after (for_each step (front ++ more) xs f) (λ more left. gives (done ++ more) left))
-        → after o (λ more left. for_each step ((done ++ front) ++ more) xs left) ≡ after (after o (λ more left. for_each step (front ++ more) xs left)) (λ more left. gives (done ++ more) left)
-    one_turn (gives more f) h = ap (λ (v : Items). for_each step v xs f) (append_assoc done front more) ∙ h more f
+    one_turn : (o : Outcome Items) → ((more : Items) (f : Forest) → for_each step (suc number) (done ++ (front ++ more)) xs f ≡ after (for_each step (suc number) (front ++ more) xs f) (λ more left. gives (done ++ more) left))
+        → after o (λ more left. for_each step (suc number) ((done ++ front) ++ more) xs left) ≡ after (after o (λ more left. for_each step (suc number) (front ++ more) xs left)) (λ more left. gives (done ++ more) left)
+    one_turn (gives more f) h = ap (λ (v : Items). for_each step (suc number) v xs f) (append_assoc done front more) ∙ h more f
     one_turn (raises code) h = refl
     one_turn wrong h = refl
 
-all_turns : (step : Item → Forest → Outcome Items) (done xs : Items) (forest : Forest) (next : Rest)
-    → after (for_each step done xs forest) next ≡ after (for_each step [] xs forest) (λ more left. next (done ++ more) left)
-all_turns step done xs forest next =
-    ap (λ (v : Items). after (for_each step v xs forest) next) (sym (append-nil done))
-    ∙ ap (λ (o : Outcome Items). after o next) (turns_behind step done [] xs forest)
-    ∙ sym (after_after (for_each step [] xs forest) (λ more left. gives (done ++ more) left) next)
+loop_behind : (body : Denotation) (repeated : Loop) (bindings : Bindings) (done xs : Items) (forest : Forest)
+    → looped body repeated bindings done xs forest ≡ after (looped body repeated bindings [] xs forest) (λ more left. gives (done ++ more) left)
+loop_behind body (For variable position number) bindings done xs forest =
+    ap (λ (v : Items). for_each (turn body variable position bindings) number v xs forest) (sym (append-nil done)) ∙ turns_behind (turn body variable position bindings) number done [] xs forest
+loop_behind body (Search variable decisive) bindings done xs forest =
+    after_after (any_decides decisive (item_tested body variable bindings) xs forest) (λ more left. gives more left) (λ more left. gives (done ++ more) left)
 
-pub for_opens : (k : Context) (forest : Forest) (variable : ℕ) (source body : Denotation) (work : List Pending) (values : Items) (stacks : Stacks) (bindings : Bindings)
+all_turns : (body : Denotation) (repeated : Loop) (bindings : Bindings) (done xs : Items) (forest : Forest) (next : Rest)
+    → after (looped body repeated bindings done xs forest) next ≡ after (looped body repeated bindings [] xs forest) (λ more left. next (done ++ more) left)
+all_turns body repeated bindings done xs forest next =
+    ap (λ (o : Outcome Items). after o next) (loop_behind body repeated bindings done xs forest)
+    ∙ sym (after_after (looped body repeated bindings [] xs forest) (λ more left. gives (done ++ more) left) next)
+
+loop_opens : (k : Context) (forest : Forest) (repeated : Loop) (source body : Denotation) (work : List Pending) (values : Items) (stacks : Stacks) (bindings : Bindings)
     → after (source bindings forest)
-    (λ xs f. after (for_each (turn body variable bindings) (take (length values) (values ++ xs)) (drop (length values) (values ++ xs)) f) (λ vs left. resume k work vs stacks bindings left))
-    ≡ after (after (source bindings forest) (λ xs f. for_each (turn body variable bindings) [] xs f)) (λ more left. resume k work (values ++ more) stacks bindings left)
-for_opens k forest variable source body work values stacks bindings = opened (source bindings forest)
+    (λ xs f. after (looped body repeated bindings (take (length values) (values ++ xs)) (drop (length values) (values ++ xs)) f) (λ vs left. resume k work vs stacks bindings left))
+    ≡ after (after (source bindings forest) (λ xs f. looped body repeated bindings [] xs f)) (λ more left. resume k work (values ++ more) stacks bindings left)
+loop_opens k forest repeated source body work values stacks bindings = opened (source bindings forest)
   where
     opened : (o : Outcome Items)
-        → after o (λ xs f. after (for_each (turn body variable bindings) (take (length values) (values ++ xs)) (drop (length values) (values ++ xs)) f) (λ vs left. resume k work vs stacks bindings left))
-        ≡ after (after o (λ xs f. for_each (turn body variable bindings) [] xs f)) (λ more left. resume k work (values ++ more) stacks bindings left)
+        → after o (λ xs f. after (looped body repeated bindings (take (length values) (values ++ xs)) (drop (length values) (values ++ xs)) f) (λ vs left. resume k work vs stacks bindings left))
+        ≡ after (after o (λ xs f. looped body repeated bindings [] xs f)) (λ more left. resume k work (values ++ more) stacks bindings left)
     opened (gives xs f) =
-        ap (λ (v : Items). after (for_each (turn body variable bindings) v (drop (length values) (values ++ xs)) f) (λ vs left. resume k work vs stacks bindings left)) (take-append_seam values xs)
-        ∙ ap (λ (v : Items). after (for_each (turn body variable bindings) values v f) (λ vs left. resume k work vs stacks bindings left)) (drop-append_seam values xs)
-        ∙ all_turns (turn body variable bindings) values xs f (λ vs left. resume k work vs stacks bindings left)
+        ap (λ (v : Items). after (looped body repeated bindings v (drop (length values) (values ++ xs)) f) (λ vs left. resume k work vs stacks bindings left)) (take-append_seam values xs)
+        ∙ ap (λ (v : Items). after (looped body repeated bindings values v f) (λ vs left. resume k work vs stacks bindings left)) (drop-append_seam values xs)
+        ∙ all_turns body repeated bindings values xs f (λ vs left. resume k work vs stacks bindings left)
     opened (raises code) = refl
     opened wrong = refl
 
-pub for_opens_at : (k : Context) (forest : Forest) (variable : ℕ) (source body : Denotation) (work : List Pending) (values : Items) (first : ℕ) (stacks : Stacks) (bindings : Bindings) → first ≡ length values
-    → after (source bindings forest) (λ xs f. after (for_each (turn body variable bindings) (take first (values ++ xs)) (drop first (values ++ xs)) f) (λ vs left. resume k work vs stacks bindings left))
-    ≡ after (after (source bindings forest) (λ xs f. for_each (turn body variable bindings) [] xs f)) (λ more left. resume k work (values ++ more) stacks bindings left)
-for_opens_at k forest variable source body work values first stacks bindings h =
-    ap (λ (n : ℕ). after (source bindings forest) (λ xs f. after (for_each (turn body variable bindings) (take n (values ++ xs)) (drop n (values ++ xs)) f) (λ vs left. resume k work vs stacks bindings left))) h
-    ∙ for_opens k forest variable source body work values stacks bindings
+pub loop_opens_at : (k : Context) (forest : Forest) (repeated : Loop) (source body : Denotation) (work : List Pending) (values : Items) (first : ℕ) (stacks : Stacks) (bindings : Bindings) → first ≡ length values
+    → after (source bindings forest) (λ xs f. after (looped body repeated bindings (take first (values ++ xs)) (drop first (values ++ xs)) f) (λ vs left. resume k work vs stacks bindings left))
+    ≡ after (after (source bindings forest) (λ xs f. looped body repeated bindings [] xs f)) (λ more left. resume k work (values ++ more) stacks bindings left)
+loop_opens_at k forest repeated source body work values first stacks bindings h =
+    ap (λ (n : ℕ). after (source bindings forest) (λ xs f. after (looped body repeated bindings (take n (values ++ xs)) (drop n (values ++ xs)) f) (λ vs left. resume k work vs stacks bindings left))) h
+    ∙ loop_opens k forest repeated source body work values stacks bindings
+
+-- a search puts what it comes to behind no value
+searched : (o : Outcome Items) → after o (λ more left. gives more left) ≡ o
+searched (gives xs f) = refl
+searched (raises code) = refl
+searched wrong = refl
+
+pub search_opens_at : (k : Context) (forest : Forest) (variable : ℕ) (decisive : Bool) (source test : Denotation) (work : List Pending) (values : Items) (first : ℕ) (stacks : Stacks) (bindings : Bindings) → first ≡ length values
+    → after (source bindings forest) (λ xs f. after (looped test (Search variable decisive) bindings (take first (values ++ xs)) (drop first (values ++ xs)) f) (λ vs left. resume k work vs stacks bindings left))
+    ≡ after (after (source bindings forest) (λ xs f. any_decides decisive (item_tested test variable bindings) xs f)) (λ more left. resume k work (values ++ more) stacks bindings left)
+search_opens_at k forest variable decisive source test work values first stacks bindings h =
+    loop_opens_at k forest (Search variable decisive) source test work values first stacks bindings h
+    ∙ ap (λ (o : Outcome Items). after o (λ more left. resume k work (values ++ more) stacks bindings left))
+    (also_behind (source bindings forest) (λ xs f. looped test (Search variable decisive) bindings [] xs f) (λ xs f. any_decides decisive (item_tested test variable bindings) xs f)
+    (λ xs f. searched (any_decides decisive (item_tested test variable bindings) xs f)))
 
 -- the items of a loop go aside
-pub gathered : (k : Context) (forest : Forest) (variable : ℕ) (body : Denotation) (work : List Pending) (values : Items) (first : ℕ) (stacks : Stacks) (bindings : Bindings)
-    → after (for_each (turn body variable bindings) (take first values) (drop (length stacks.sources) (stacks.sources ++ drop first values)) forest)
+gathered : (k : Context) (forest : Forest) (repeated : Loop) (body : Denotation) (work : List Pending) (values : Items) (first : ℕ) (stacks : Stacks) (bindings : Bindings)
+    → after (looped body repeated bindings (take first values) (drop (length stacks.sources) (stacks.sources ++ drop first values)) forest)
     (λ vs left. resume k work vs (with_sources stacks (take (length stacks.sources) (stacks.sources ++ drop first values))) bindings left)
-    ≡ after (for_each (turn body variable bindings) (take first values) (drop first values) forest) (λ vs left. resume k work vs stacks bindings left)
-gathered k forest variable body work values first stacks bindings =
-    ap (λ (v : Items). after (for_each (turn body variable bindings) (take first values) v forest) (λ vs left. resume k work vs (with_sources stacks (take (length stacks.sources) (stacks.sources ++ drop first values))) bindings left))
+    ≡ after (looped body repeated bindings (take first values) (drop first values) forest) (λ vs left. resume k work vs stacks bindings left)
+gathered k forest repeated body work values first stacks bindings =
+    ap (λ (v : Items). after (looped body repeated bindings (take first values) v forest) (λ vs left. resume k work vs (with_sources stacks (take (length stacks.sources) (stacks.sources ++ drop first values))) bindings left))
     (drop-append_seam stacks.sources (drop first values))
-    ∙ ap (λ (v : Items). after (for_each (turn body variable bindings) (take first values) (drop first values) forest) (λ vs left. resume k work vs (with_sources stacks v) bindings left)) (take-append_seam stacks.sources (drop first values))
+    ∙ ap (λ (v : Items). after (looped body repeated bindings (take first values) (drop first values) forest) (λ vs left. resume k work vs (with_sources stacks v) bindings left)) (take-append_seam stacks.sources (drop first values))
 
-pub gathered_at : (k : Context) (forest : Forest) (variable : ℕ) (body : Denotation) (work : List Pending) (values front sources : Items) (first start : ℕ) (stacks : Stacks) (bindings : Bindings)
+pub gathered_at : (k : Context) (forest : Forest) (repeated : Loop) (body : Denotation) (work : List Pending) (values front sources : Items) (first start : ℕ) (stacks : Stacks) (bindings : Bindings)
     → front ≡ take first values → sources ≡ stacks.sources ++ drop first values → start ≡ length stacks.sources
-    → after (for_each (turn body variable bindings) front (drop start sources) forest) (λ vs left. resume k work vs (with_sources stacks (take start sources)) bindings left)
-    ≡ after (for_each (turn body variable bindings) (take first values) (drop first values) forest) (λ vs left. resume k work vs stacks bindings left)
-gathered_at k forest variable body work values front sources first start stacks bindings e f h =
-    ap (λ (v : Items). after (for_each (turn body variable bindings) v (drop start sources) forest) (λ vs left. resume k work vs (with_sources stacks (take start sources)) bindings left)) e
-    ∙ ap (λ (s : Items). after (for_each (turn body variable bindings) (take first values) (drop start s) forest) (λ vs left. resume k work vs (with_sources stacks (take start s)) bindings left)) f
-    ∙ ap (λ (n : ℕ). after (for_each (turn body variable bindings) (take first values) (drop n (stacks.sources ++ drop first values)) forest) (λ vs left. resume k work vs (with_sources stacks (take n (stacks.sources ++ drop first values))) bindings left)) h
-    ∙ gathered k forest variable body work values first stacks bindings
+    → after (looped body repeated bindings front (drop start sources) forest) (λ vs left. resume k work vs (with_sources stacks (take start sources)) bindings left)
+    ≡ after (looped body repeated bindings (take first values) (drop first values) forest) (λ vs left. resume k work vs stacks bindings left)
+gathered_at k forest repeated body work values front sources first start stacks bindings e f h =
+    ap (λ (v : Items). after (looped body repeated bindings v (drop start sources) forest) (λ vs left. resume k work vs (with_sources stacks (take start sources)) bindings left)) e
+    ∙ ap (λ (s : Items). after (looped body repeated bindings (take first values) (drop start s) forest) (λ vs left. resume k work vs (with_sources stacks (take start s)) bindings left)) f
+    ∙ ap (λ (n : ℕ). after (looped body repeated bindings (take first values) (drop n (stacks.sources ++ drop first values)) forest) (λ vs left. resume k work vs (with_sources stacks (take n (stacks.sources ++ drop first values))) bindings left)) h
+    ∙ gathered k forest repeated body work values first stacks bindings
 
 -- a turn, and what is left of the loop
-pub next_turn : (forest : Forest) (variable : ℕ) (body : Denotation) (values : Items) (x : Item) (rest all : Items) (bindings : Bindings) (next : Rest) → all ≡ x ∷ rest
-    → after (body ((variable, x ∷ []) ∷ bindings) forest) (λ more left. after (for_each (turn body variable bindings) (values ++ more) rest left) next)
-    ≡ after (for_each (turn body variable bindings) values all forest) next
-next_turn forest variable body values x rest all bindings next e =
-    after_after (body ((variable, x ∷ []) ∷ bindings) forest) (λ more left. for_each (turn body variable bindings) (values ++ more) rest left) next
-    ∙ ap (λ (v : Items). after (for_each (turn body variable bindings) values v forest) next) (sym e)
+pub next_turn : (forest : Forest) (variable position number : ℕ) (body : Denotation) (values : Items) (x : Item) (rest all : Items) (bindings : Bindings) (next : Rest) → all ≡ x ∷ rest
+    → after (turn body variable position bindings number x forest) (λ more left. after (for_each (turn body variable position bindings) (suc number) (values ++ more) rest left) next)
+    ≡ after (for_each (turn body variable position bindings) number values all forest) next
+next_turn forest variable position number body values x rest all bindings next e =
+    after_after (turn body variable position bindings number x forest) (λ more left. for_each (turn body variable position bindings) (suc number) (values ++ more) rest left) next
+    ∙ ap (λ (v : Items). after (for_each (turn body variable position bindings) number values v forest) next) (sym e)
+
+pub turn_goes_on : (forest : Forest) (variable position number following : ℕ) (body : Denotation) (values : Items) (x : Item) (rest all : Items) (bindings : Bindings) (next : Rest) (others : Rest)
+    → following ≡ suc number → all ≡ x ∷ rest → ((vs : Items) (left : Forest) → others vs left ≡ after (for_each (turn body variable position bindings) following vs rest left) next)
+    → after (turn body variable position bindings number x forest) (λ more left. others (values ++ more) left) ≡ after (for_each (turn body variable position bindings) number values all forest) next
+turn_goes_on forest variable position number following body values x rest all bindings next others n e h =
+    also_behind (turn body variable position bindings number x forest) (λ more left. others (values ++ more) left) (λ more left. after (for_each (turn body variable position bindings) following (values ++ more) rest left) next)
+    (λ more left. h (values ++ more) left)
+    ∙ ap (λ (m : ℕ). after (turn body variable position bindings number x forest) (λ more left. after (for_each (turn body variable position bindings) m (values ++ more) rest left) next)) n
+    ∙ next_turn forest variable position number body values x rest all bindings next e
+
+-- a search that no item has ended
+pub search_ends : (forest : Forest) (variable : ℕ) (decisive : Bool) (test : Denotation) (values all : Items) (bindings : Bindings) (next : Rest) → all ≡ []
+    → next (values ++ truth_value (not decisive)) forest ≡ after (looped test (Search variable decisive) bindings values all forest) next
+search_ends forest variable decisive test values all bindings next e = ap (λ (v : Items). after (looped test (Search variable decisive) bindings values v forest) next) (sym e)
+
+-- a test, and what is left of the search
+decided_behind : (decisive : Bool) (values : Items) (found : Option Bool) (others : Outcome Items) (left : Forest) (next : Rest)
+    → given found (λ truth. after (if decides decisive truth then gives (truth_value decisive) left else others) (λ more last. next (values ++ more) last))
+    ≡ after (after (given found (λ truth. if decides decisive truth then gives (truth_value decisive) left else others)) (λ more last. gives (values ++ more) last)) next
+decided_behind decisive values None others left next = refl
+decided_behind decisive values (Some truth) others left next =
+    after_after (if decides decisive truth then gives (truth_value decisive) left else others) (λ more last. gives (values ++ more) last) next
+
+pub next_test : (forest : Forest) (variable : ℕ) (decisive : Bool) (test : Denotation) (values : Items) (first : ℕ) (x : Item) (rest all : Items) (bindings : Bindings) (next : Rest) → all ≡ x ∷ rest → first ≡ length values
+    → after (item_tested test variable bindings x forest)
+    (λ ys left. given (condition_of (drop first (values ++ ys)))
+    (λ truth. after (if decides decisive truth then gives (truth_value decisive) left else any_decides decisive (item_tested test variable bindings) rest left) (λ more last. next (take first (values ++ ys) ++ more) last)))
+    ≡ after (looped test (Search variable decisive) bindings values all forest) next
+next_test forest variable decisive test values first x rest all bindings next e h =
+    ap (λ (n : ℕ). after (item_tested test variable bindings x forest)
+    (λ ys left. given (condition_of (drop n (values ++ ys)))
+    (λ truth. after (if decides decisive truth then gives (truth_value decisive) left else any_decides decisive (item_tested test variable bindings) rest left) (λ more last. next (take n (values ++ ys) ++ more) last)))) h
+    ∙ opened (item_tested test variable bindings x forest)
+    ∙ ap (λ (v : Items). after (looped test (Search variable decisive) bindings values v forest) next) (sym e)
+  where
+    opened : (o : Outcome Items)
+        → after o (λ ys left. given (condition_of (drop (length values) (values ++ ys)))
+        (λ truth. after (if decides decisive truth then gives (truth_value decisive) left else any_decides decisive (item_tested test variable bindings) rest left) (λ more last. next (take (length values) (values ++ ys) ++ more) last)))
+        ≡ after (after (after o (λ ys left. given (condition_of ys) (λ truth. if decides decisive truth then gives (truth_value decisive) left else any_decides decisive (item_tested test variable bindings) rest left)))
+        (λ more last. gives (values ++ more) last)) next
+    opened (gives ys left) =
+        ap (λ (v : Items). given (condition_of v) (λ truth. after (if decides decisive truth then gives (truth_value decisive) left else any_decides decisive (item_tested test variable bindings) rest left)
+        (λ more last. next (take (length values) (values ++ ys) ++ more) last))) (drop-append_seam values ys)
+        ∙ ap (λ (v : Items). given (condition_of ys) (λ truth. after (if decides decisive truth then gives (truth_value decisive) left else any_decides decisive (item_tested test variable bindings) rest left)
+        (λ more last. next (v ++ more) last))) (take-append_seam values ys)
+        ∙ decided_behind decisive values (condition_of ys) (any_decides decisive (item_tested test variable bindings) rest left) left next
+    opened (raises code) = refl
+    opened wrong = refl
+
+-- where a value decides, or does not
+pub decided_is : (values : Items) (first : ℕ) (decisive truth : Bool) (others : Outcome Items) (forest : Forest) (next : Rest) → condition_of (drop first values) ≡ Some truth → decides decisive truth ≡ true
+    → next (take first values ++ truth_value decisive) forest
+    ≡ given (condition_of (drop first values)) (λ truth. after (if decides decisive truth then gives (truth_value decisive) forest else others) (λ more left. next (take first values ++ more) left))
+decided_is values first decisive truth others forest next e d =
+    sym (ap (λ (o : Option Bool). given o (λ truth. after (if decides decisive truth then gives (truth_value decisive) forest else others) (λ more left. next (take first values ++ more) left))) e
+    ∙ ap (λ (b : Bool). after (if b then gives (truth_value decisive) forest else others) (λ more left. next (take first values ++ more) left)) d)
+
+pub undecided_is : (values : Items) (first : ℕ) (decisive truth : Bool) (others : Outcome Items) (forest : Forest) (next : Rest) → condition_of (drop first values) ≡ Some truth → decides decisive truth ≡ false
+    → after (after others (λ more left. gives (take first values ++ more) left)) next
+    ≡ given (condition_of (drop first values)) (λ truth. after (if decides decisive truth then gives (truth_value decisive) forest else others) (λ more left. next (take first values ++ more) left))
+undecided_is values first decisive truth others forest next e d =
+    sym (after_after others (λ more left. gives (take first values ++ more) left) next)
+    ∙ sym (ap (λ (o : Option Bool). given o (λ truth. after (if decides decisive truth then gives (truth_value decisive) forest else others) (λ more left. next (take first values ++ more) left))) e
+    ∙ ap (λ (b : Bool). after (if b then gives (truth_value decisive) forest else others) (λ more left. next (take first values ++ more) left)) d)
 
 -- ---- variables
 

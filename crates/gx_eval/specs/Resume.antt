@@ -1,5 +1,5 @@
 -- What an evaluation in its midst comes to.
-use Rattle.std.specs.Prelude.{ℕ, zero, suc, ◌+◌, List, [], ◌∷◌, ◌++◌, length, take, drop, map, None, Some}
+use Rattle.std.specs.Prelude.{ℕ, zero, suc, ◌+◌, List, [], ◌∷◌, ◌++◌, length, take, drop, map, None, Some, if◌then◌else◌}
 use Rattle.gx_types.specs.SchemaSet.{SchemaSet}
 use Rattle.gx_model.specs.Forest.{Forest, PlainNode}
 use Rattle.gx_model.specs.Item.{Item, node, Items}
@@ -8,9 +8,9 @@ use Rattle.gx_core.specs.declared.operator.Operator.{Operator}
 use Rattle.gx_core.specs.declared.operator.Operator.TheVariants as operators
 use Rattle.gx_core.specs.Queries.{TypedCore, TypedDeclaration}
 use Rattle.gx_core.specs.declared.expression.Declaration.TheVariants.{Global}
-use Rattle.gx_core.specs.Comparing.{condition_of}
+use Rattle.gx_core.specs.Comparing.{truth_value, condition_of}
 use Rattle.gx_core.specs.Outcome.{Outcome, gives, wrong, after, given}
-use Rattle.gx_core.specs.Meaning.{Context, Bindings, Denotation, acts, branch, for_each, meaning}
+use Rattle.gx_core.specs.Meaning.{Context, Bindings, Denotation, acts, branch, for_each, item_bound, decides, any_decides, meaning}
 use Rattle.gx_core.specs.Soundness.{TypedExpression}
 use Rattle.gx_store.specs.Items.{items_in}
 use Rattle.gx_store.specs.Places.{node_places}
@@ -18,8 +18,10 @@ use Rattle.gx_eval.specs.BoundItems.{bound_items}
 use Rattle.gx_eval.specs.Operators.{single_operator, changing_operator}
 use Rattle.gx_eval.specs.declared.bound.Bound.{Bound}
 use Rattle.gx_eval.specs.declared.evaluation.Pending.{Pending}
-use Rattle.gx_eval.specs.declared.evaluation.Pending.TheVariants.{Evaluate, Change, Single as Operate, Right, Binary, Choose, Mark, Call, Gather, Each, Bind, Unbind, Declare, External}
+use Rattle.gx_eval.specs.declared.evaluation.Pending.TheVariants.{Evaluate, Change, Single as Operate, Right, Binary, Choose, Mark, Call, Gather, Each, Decide, Bind, Unbind, Declare, External}
 use Rattle.gx_eval.specs.declared.evaluation.Evaluation.{Evaluation}
+use Rattle.gx_eval.specs.declared.looping.Loop.{Loop}
+use Rattle.gx_eval.specs.declared.looping.Loop.TheVariants.{For, Search}
 
 -- what an expression of a query under these schemas stands in
 abbrev pub context_over : SchemaSet → Context
@@ -92,9 +94,18 @@ declared_then k (Global name binder None ∷ others) next documents bindings for
 abbrev pub typed_outcome : Context → TypedCore → List PlainNode → Forest → Outcome Items
 typed_outcome k core documents forest = declared_then k core.declarations (λ rest bindings left. meaning k core.body bindings left) documents [] forest
 
--- a turn of a loop
-abbrev pub turn : Denotation → (variable : ℕ) → Bindings → Item → Forest → Outcome Items
-turn body variable bindings item forest = body ((variable, item ∷ []) ∷ bindings) forest
+-- a turn of a loop, and a test of an item
+abbrev pub turn : Denotation → (variable position : ℕ) → Bindings → (number : ℕ) → Item → Forest → Outcome Items
+turn body variable position bindings number item forest = body (item_bound variable position number item ++ bindings) forest
+
+abbrev pub item_tested : Denotation → (variable : ℕ) → Bindings → Item → Forest → Outcome Items
+item_tested test variable bindings item forest = test ((variable, item ∷ []) ∷ bindings) forest
+
+-- what a loop over items puts behind the values that are there
+abbrev pub looped : Denotation → Loop → Bindings → (values items : Items) → Forest → Outcome Items
+looped body (For variable position number) bindings values items forest = for_each (turn body variable position bindings) number values items forest
+looped body (Search variable decisive) bindings values items forest =
+    after (any_decides decisive (item_tested body variable bindings) items forest) (λ more left. gives (values ++ more) left)
 
 -- what is left to do, over the values and the stacks that are there
 abbrev pub resume : Context → List Pending → (values : Items) → Stacks → Bindings → Forest → Outcome Items
@@ -118,11 +129,15 @@ resume k (Mark ∷ work) values stacks bindings forest = resume k work values (w
 resume k (Call function more ∷ work) values stacks bindings forest =
     between_marks (more + 2) stacks.marks values []
     (λ operands below rest. operated k (operators.Call function) operands rest forest (λ vs left. resume k work vs (with_marks stacks below) bindings left))
-resume k (Gather variable first body ∷ work) values stacks bindings forest =
-    after (for_each (turn (meaning k body.now) variable bindings) (take first values) (drop first values) forest) (λ vs left. resume k work vs stacks bindings left)
-resume k (Each variable next start body ∷ work) values stacks bindings forest =
-    after (for_each (turn (meaning k body.now) variable bindings) values (drop next stacks.sources) forest)
+resume k (Gather repeated first body ∷ work) values stacks bindings forest =
+    after (looped (meaning k body.now) repeated bindings (take first values) (drop first values) forest) (λ vs left. resume k work vs stacks bindings left)
+resume k (Each repeated next start body ∷ work) values stacks bindings forest =
+    after (looped (meaning k body.now) repeated bindings values (drop next stacks.sources) forest)
     (λ vs left. resume k work vs (with_sources stacks (take start stacks.sources)) bindings left)
+resume k (Decide variable decisive first next start test ∷ work) values stacks bindings forest =
+    given (condition_of (drop first values))
+    (λ truth. after (if decides decisive truth then gives (truth_value decisive) forest else any_decides decisive (item_tested (meaning k test.now) variable bindings) (drop next stacks.sources) forest)
+    (λ more left. resume k work (take first values ++ more) (with_sources stacks (take start stacks.sources)) bindings left))
 resume k (Bind variable first body ∷ work) values stacks bindings forest =
     after (meaning k body.now ((variable, drop first values) ∷ bindings) forest) (λ more left. resume k work (take first values ++ more) stacks bindings left)
 resume k (Unbind ∷ work) values stacks bindings forest = resume k work values stacks (drop 1 bindings) forest

@@ -15,6 +15,7 @@ ghost use Rattle.gx_eval.specs.Failing.{FailsSo};
 ghost use Rattle.gx_eval.specs.Operators.{single_operator, changing_operator};
 ghost use Rattle.gx_eval.specs.Resume.{resume, context_over, declared_then, only_documents, typed_outcome, in_order, outcome_of, outcome_with, outcome_behind, outcome_then, items_of, right_meaning};
 ghost use Rattle.gx_eval.specs.declared.evaluation.Pending.TheVariants as work;
+ghost use Rattle.gx_eval.specs.declared.looping.Loop.TheVariants as loops;
 
 use crate::answer::{Answer, of_two, put};
 use crate::bound::Bound;
@@ -22,6 +23,7 @@ use crate::calling::called_with_none;
 use crate::change::{Change, change_values};
 use crate::failure::Failure;
 use crate::hand::at_hand;
+use crate::looping::{Loop, bind_item, decides, unbind_item};
 use crate::nodes::{append_nodes, stepped};
 use crate::operand::{
     append_all, condition_of, count_of, cut_at, cut_off, move_behind, push_atom, split_at,
@@ -31,7 +33,7 @@ use crate::single::{Single, of_one};
 use gx_base::stack::Stack;
 use gx_core::expression::{BinaryOp, Form, TypedCore, TypedDeclaration, TypedExpr};
 use gx_core::scope::Scope;
-use gx_funcs::function::Function;
+use gx_funcs::function::{Function, truth_atom};
 use gx_store::item::Item;
 use gx_store::number::NodeId;
 use gx_store::store::Store;
@@ -44,8 +46,9 @@ use std::mem;
 // there; to change an operand where it stands; to apply an operator of one operand; to evaluate the right operand of an operator,
 // whose left one is there; to apply an operator of two operands; to choose the first of two branches where the operand is true,
 // and else the second; to mark where an argument begins; to call a function of two arguments and so many more, behind the last
-// marks; to put the items of an operand aside for a loop; to evaluate the body of a loop for each item that was put aside from the
-// first number on, where the items of this loop begin at the second; to bind a variable to an operand in the body of a `let`; to take
+// marks; to put the items of an operand aside for a loop; to repeat the body of a loop for each item that was put aside from the
+// first number on, where the items of this loop begin at the second; to end a search where the value of its test decides, and else to
+// go on; to bind a variable to an operand in the body of a `let`; to take
 // the innermost binding away; to bind a global variable to all values that are there; or to bind an external variable to the next
 // document.
 #[derive(Drop)]
@@ -58,8 +61,16 @@ pub(crate) enum Pending<'a> {
     Choose(usize, &'a TypedExpr, &'a TypedExpr),
     Mark,
     Call(Function, usize),
-    Gather(u32, usize, &'a TypedExpr),
-    Each(u32, usize, usize, &'a TypedExpr),
+    Gather(Loop, usize, &'a TypedExpr),
+    Each(Loop, usize, usize, &'a TypedExpr),
+    Decide {
+        variable: u32,
+        decisive: bool,
+        first: usize,
+        next: usize,
+        start: usize,
+        test: &'a TypedExpr,
+    },
     Bind(u32, usize, &'a TypedExpr),
     Unbind,
     Declare(u32),
@@ -124,12 +135,20 @@ impl<'a> Evaluation<'a> {
             Pending::Choose(first, chosen, otherwise) => self.choose(first, chosen, otherwise),
             Pending::Mark => Ok(self.marks.push(count_of(&self.values))?),
             Pending::Call(function, more) => self.apply_call(function, more),
-            Pending::Gather(variable, first, body) => {
-                Ok(self.gather(alloc, variable, first, body)?)
+            Pending::Gather(repeated, first, body) => {
+                Ok(self.gather(alloc, repeated, first, body)?)
             }
-            Pending::Each(variable, next, start, body) => {
-                Ok(self.turn(variable, next, start, body)?)
+            Pending::Each(repeated, next, start, body) => {
+                Ok(self.repeat(repeated, next, start, body)?)
             }
+            Pending::Decide {
+                variable,
+                decisive,
+                first,
+                next,
+                start,
+                test,
+            } => self.decide(variable, decisive, first, next, start, test),
             Pending::Bind(variable, first, body) => Ok(self.bind(alloc, variable, first, body)?),
             Pending::Unbind => {
                 self.scope.unbind();
@@ -157,8 +176,27 @@ impl<'a> Evaluation<'a> {
             Form::Var(number) => self.append_variable(*number),
             Form::Empty => Ok(()),
             Form::Seq(left, right) => Ok(self.open_part(left, Pending::Evaluate(right))?),
-            Form::For(binder, source, body) => {
-                Ok(self.open_part(source, Pending::Gather(binder.variable, first, body))?)
+            Form::For(binder, position, source, body) => {
+                let repeated = Loop::For {
+                    variable: binder.variable,
+                    position: *position,
+                    number: 1,
+                };
+                Ok(self.open_part(source, Pending::Gather(repeated, first, body))?)
+            }
+            Form::SomeIn(binder, source, test) => {
+                let repeated = Loop::Search {
+                    variable: binder.variable,
+                    decisive: true,
+                };
+                Ok(self.open_part(source, Pending::Gather(repeated, first, test))?)
+            }
+            Form::EveryIn(binder, source, test) => {
+                let repeated = Loop::Search {
+                    variable: binder.variable,
+                    decisive: false,
+                };
+                Ok(self.open_part(source, Pending::Gather(repeated, first, test))?)
             }
             Form::Let(binder, value, body) => {
                 Ok(self.open_part(value, Pending::Bind(binder.variable, first, body))?)
@@ -389,39 +427,130 @@ impl<'a> Evaluation<'a> {
     fn gather(
         &mut self,
         alloc: Global,
-        variable: u32,
+        repeated: Loop,
         first: usize,
         body: &'a TypedExpr,
     ) -> Result<(), AllocError>
-        ensures { (k : Context) (forest later : PlainForest) → OnOk result (outcome_of k forest later self.new ≡ outcome_with k forest later (work.Gather variable first body.entry) self.old) }
+        ensures { (k : Context) (forest later : PlainForest) → OnOk result (outcome_of k forest later self.new ≡ outcome_with k forest later (work.Gather repeated first body.entry) self.old) }
     {
         let start = count_of(&self.sources);
         let source = split_at(alloc, &mut self.values, first)?;
         move_behind(source, &mut self.sources)?;
-        self.work.push(Pending::Each(variable, start, start, body))?;
+        self.work.push(Pending::Each(repeated, start, start, body))?;
         Ok(())
     }
 
-    // Evaluates the body of a loop for the next item, or ends the loop.
-    fn turn(
+    // The next turn of a loop, or its end.
+    fn repeat(
         &mut self,
-        variable: u32,
+        repeated: Loop,
         next: usize,
         start: usize,
         body: &'a TypedExpr,
     ) -> Result<(), AllocError>
-        ensures { (k : Context) (forest later : PlainForest) → OnOk result (outcome_of k forest later self.new ≡ outcome_with k forest later (work.Each variable next start body.entry) self.old) }
+        ensures { (k : Context) (forest later : PlainForest) → OnOk result (outcome_of k forest later self.new ≡ outcome_with k forest later (work.Each repeated next start body.entry) self.old) }
+    {
+        match repeated {
+            Loop::For {
+                variable,
+                position,
+                number,
+            } => self.turn(variable, position, number, next, start, body),
+            Loop::Search { variable, decisive } => {
+                self.search(variable, decisive, next, start, body)
+            }
+        }
+    }
+
+    // Evaluates the body of a `for` for the next item, or ends the loop.
+    fn turn(
+        &mut self,
+        variable: u32,
+        position: u32,
+        number: usize,
+        next: usize,
+        start: usize,
+        body: &'a TypedExpr,
+    ) -> Result<(), AllocError>
+        ensures { (k : Context) (forest later : PlainForest) → OnOk result (outcome_of k forest later self.new ≡ outcome_with k forest later (work.Each (loops.For variable position number) next start body.entry) self.old) }
     {
         if next >= self.sources.len() {
             cut_off(&mut self.sources, start);
             return Ok(());
         }
+        let Some(following) = number.checked_add(1) else {
+            return Err(AllocError);
+        };
+        let item = self.sources[next].clone()?;
+        bind_item(&mut self.scope, variable, position, number, item)?;
+        let repeated = Loop::For {
+            variable,
+            position,
+            number: following,
+        };
+        self.work
+            .push(Pending::Each(repeated, next + 1, start, body))?;
+        unbind_item(&mut self.work, position)?;
+        self.work.push(Pending::Evaluate(body))?;
+        Ok(())
+    }
+
+    // Evaluates a test for the next item, or ends the search, which no item decided.
+    fn search(
+        &mut self,
+        variable: u32,
+        decisive: bool,
+        next: usize,
+        start: usize,
+        test: &'a TypedExpr,
+    ) -> Result<(), AllocError>
+        ensures { (k : Context) (forest later : PlainForest) → OnOk result (outcome_of k forest later self.new ≡ outcome_with k forest later (work.Each (loops.Search variable decisive) next start test.entry) self.old) }
+    {
+        if next >= self.sources.len() {
+            cut_off(&mut self.sources, start);
+            push_atom(truth_atom(!decisive), &mut self.values)?;
+            return Ok(());
+        }
+        let first = count_of(&self.values);
         let item = self.sources[next].clone()?;
         self.scope.bind(variable, Bound::One(item))?;
-        self.work
-            .push(Pending::Each(variable, next + 1, start, body))?;
+        self.work.push(Pending::Decide {
+            variable,
+            decisive,
+            first,
+            next: next + 1,
+            start,
+            test,
+        })?;
         self.work.push(Pending::Unbind)?;
-        self.work.push(Pending::Evaluate(body))
+        self.work.push(Pending::Evaluate(test))?;
+        Ok(())
+    }
+
+    // Ends a search where the values from the number on decide, and else goes on.
+    fn decide(
+        &mut self,
+        variable: u32,
+        decisive: bool,
+        first: usize,
+        next: usize,
+        start: usize,
+        test: &'a TypedExpr,
+    ) -> Result<(), Failure>
+        ensures value { (k : Context) (forest later : PlainForest) → OnOk result (outcome_of k forest later self.new ≡ outcome_with k forest later (work.Decide variable decisive first next start test.entry) self.old) }
+        ensures failed { (k : Context) (forest later : PlainForest) → IfErr result (λ e. FailsSo e (outcome_with k forest later (work.Decide variable decisive first next start test.entry) self.old)) }
+    {
+        let tested = values_from(&self.values, first);
+        let Some(truth) = condition_of(tested) else {
+            return Err(Failure::Wrong);
+        };
+        cut_off(&mut self.values, first);
+        if decides(decisive, truth) {
+            cut_off(&mut self.sources, start);
+            return Ok(push_atom(truth_atom(decisive), &mut self.values)?);
+        }
+        let repeated = Loop::Search { variable, decisive };
+        Ok(self.work.push(Pending::Each(repeated, next, start, test))?)
     }
 
     // Binds an external variable to the next document.

@@ -11,6 +11,7 @@ mod evaluation;
 pub mod evaluator;
 mod failure;
 mod hand;
+mod looping;
 mod nodes;
 mod operand;
 mod range;

@@ -1,17 +1,18 @@
 -- Parts that are added one by one, the last first.
-use Rattle.std.proofs.Common.{◌≡◌, ◌≢◌, ℕ, List, [], ◌∷◌, length, reverse, Result, Ok, Err, OnOk, refl, sym, ap, ◌∙◌, ◌+◌}
+use Rattle.std.proofs.Common.{◌≡◌, ◌≢◌, ℕ, Option, None, Some, List, [], ◌∷◌, ◌++◌, length, reverse, Result, Ok, Err, OnOk, refl, sym, ap, subst, ◌∙◌, ◌+◌}
 use Rattle.std.proofs.lemmas.List.{reverse-reverse}
 use mathlib.Core.List.{reverse_aux}
 use Rattle.gx_base.specs.declared.place.Place.{Place}
-use Rattle.gx_resolved.specs.declared.tree.BoundName.{BoundName}
 use Rattle.gx_resolved.specs.declared.tree.Construct.{Construct}
 use Rattle.gx_resolved.specs.declared.tree.Construct.TheVariants as written
 use Rattle.gx_resolved.specs.ResolvedTree.{ResolvedTree, ResolvedTrees, resolved_at, no_resolved, a_resolved}
 use Rattle.gx_resolved.specs.ResolvedView.{resolved_parts}
 use Rattle.gx_core.specs.Expression.{CoreExpression}
-use Rattle.gx_normal.specs.Normalisation.{Numbers, Focus, numbered_binder, constructed, of_three, core_of, flwor_core, path_core}
-use Rattle.gx_normal.specs.Constructs.{empty_at, let_at}
-use Rattle.gx_normal.specs.Normalising.{Made, added, all_added, construct_finished}
+use Rattle.gx_normal.specs.declared.clauses.Ending.{Ending}
+use Rattle.gx_normal.specs.Clauses.{Numbers, clause_part, clause_numbers, behind_clause, clause_at, ended}
+use Rattle.gx_normal.specs.Normalisation.{Focus, constructed, of_three, core_of, clauses_core, path_core}
+use Rattle.gx_normal.specs.Constructs.{empty_at}
+use Rattle.gx_normal.specs.Normalising.{Made, added, all_added, last_ended, construct_finished}
 
 added_in_turn : (cores parts : List CoreExpression) (outer : Made) → all_added cores (parts ∷ outer) ≡ reverse_aux cores parts ∷ outer
 added_in_turn [] parts outer = refl
@@ -34,44 +35,65 @@ not_of_three place make (a ∷ b ∷ []) h = refl
 not_of_three place make (a ∷ b ∷ c ∷ []) h = absurd (h refl)
 not_of_three place make (a ∷ b ∷ c ∷ d ∷ es) h = refl
 
--- ---- the first part of a FLWOR
+-- ---- the first of several clauses
 
-flwor_of_other : (place there : Place) (construct : Construct) (parts others : ResolvedTrees) (numbers : Numbers) (focus : Focus) (free : ℕ)
-    → ((bound : BoundName) → construct ≡ written.Let bound → ⊥)
-    → core_of (resolved_at there construct parts) numbers focus free ≡ flwor_core place (a_resolved (resolved_at there construct parts) others) numbers focus free
-flwor_of_other place there (written.Let bound) parts others numbers focus free h = absurd (h bound refl)
-flwor_of_other place there _ parts others numbers focus free h = refl
+-- what clauses end in is the last part of what is made
+pub ended_last : (ending : Ending) (e : CoreExpression) (made : Made) → last_ended ending (added e made) ≡ added (ended ending e) made
+ended_last ending e [] = refl
+ended_last ending e (parts ∷ outer) = refl
 
-module _ (place there : Place) (construct : Construct) (items others all : List ResolvedTree) (clause : ResolvedTree) (numbers : Numbers) (focus : Focus) (free : ℕ)
-    (here : all ≡ clause ∷ others) (clause_is : resolved_at there construct (resolved_parts items) ≡ clause) where
-  whole_is : all ≡ resolved_at there construct (resolved_parts items) ∷ others
-  whole_is = here ∙ ap (λ (t : ResolvedTree). t ∷ others) (sym clause_is)
+-- what a clause over this part opens to
+abbrev OpensTo : Ending → (place there : Place) → Construct → (parts others : ResolvedTrees) → (part : ResolvedTree) → Numbers → Focus → ℕ → Type 0
+OpensTo ending place there construct parts others part numbers focus free =
+    (let p = core_of part numbers focus free in
+    let rest = clauses_core ending place others (clause_numbers construct p.1 ++ numbers) focus (behind_clause construct p.1) in
+    let made : CoreExpression × ℕ = (clause_at ending place construct p.1 p.0 rest.0, rest.1) in made)
+    ≡ clauses_core ending place (a_resolved (resolved_at there construct parts) others) numbers focus free
 
-  -- it is no clause
-  pub first_returned : ((bound : BoundName) → construct ≡ written.Let bound → ⊥) → core_of clause numbers focus free ≡ flwor_core place (resolved_parts all) numbers focus free
-  first_returned h =
-      ap (λ (t : ResolvedTree). core_of t numbers focus free) (sym clause_is)
-      ∙ (flwor_of_other place there construct (resolved_parts items) (resolved_parts others) numbers focus free h
-      ∙ ap (λ (l : List ResolvedTree). flwor_core place (resolved_parts l) numbers focus free) (sym whole_is))
+clause_opens : (ending : Ending) (place there : Place) (construct : Construct) (parts others : ResolvedTrees) (part : ResolvedTree) (numbers : Numbers) (focus : Focus) (free : ℕ)
+    → clause_part (resolved_at there construct parts) ≡ Some part → OpensTo ending place there construct parts others part numbers focus free
+clause_opens ending place there (written.For bound position) (a_resolved first more) others part numbers focus free h = let same : first ≡ part = cc in subst (λ (t : ResolvedTree). OpensTo ending place there (written.For bound position) (a_resolved first more) others t numbers focus free) same refl
+clause_opens ending place there (written.For bound position) no_resolved others part numbers focus free h = absurd (cc)
+clause_opens ending place there (written.Let bound) (a_resolved first more) others part numbers focus free h = let same : first ≡ part = cc in subst (λ (t : ResolvedTree). OpensTo ending place there (written.Let bound) (a_resolved first more) others t numbers focus free) same refl
+clause_opens ending place there (written.Let bound) no_resolved others part numbers focus free h = absurd (cc)
+clause_opens ending place there written.Where (a_resolved first more) others part numbers focus free h = let same : first ≡ part = cc in subst (λ (t : ResolvedTree). OpensTo ending place there written.Where (a_resolved first more) others t numbers focus free) same refl
+clause_opens ending place there written.Where no_resolved others part numbers focus free h = absurd (cc)
+clause_opens ending place there (written.In bound) (a_resolved first more) others part numbers focus free h = let same : first ≡ part = cc in subst (λ (t : ResolvedTree). OpensTo ending place there (written.In bound) (a_resolved first more) others t numbers focus free) same refl
+clause_opens ending place there (written.In bound) no_resolved others part numbers focus free h = absurd (cc)
+clause_opens ending place there _ parts others part numbers focus free h = absurd (cc)
 
-  -- it is a `let` without a value
-  pub first_without_value : (bound : BoundName) → construct ≡ written.Let bound → items ≡ [] → core_of clause numbers focus free ≡ flwor_core place (resolved_parts all) numbers focus free
-  first_without_value bound let_is none =
-      let same : resolved_at there construct (resolved_parts items) ≡ resolved_at there (written.Let bound) no_resolved =
-      λ i. resolved_at there (let_is i) (resolved_parts (none i)) in
-      ap (λ (t : ResolvedTree). core_of t numbers focus free) (sym clause_is ∙ same)
-      ∙ ap (λ (l : List ResolvedTree). flwor_core place (resolved_parts l) numbers focus free) (sym (whole_is ∙ ap (λ (t : ResolvedTree). t ∷ others) same))
+-- what is no clause ends the clauses
+last_ends : (ending : Ending) (place there : Place) (construct : Construct) (parts others : ResolvedTrees) (numbers : Numbers) (focus : Focus) (free : ℕ) → clause_part (resolved_at there construct parts) ≡ None
+    → (let e = core_of (resolved_at there construct parts) numbers focus free in
+    let made : CoreExpression × ℕ = (ended ending e.0, e.1) in made)
+    ≡ clauses_core ending place (a_resolved (resolved_at there construct parts) others) numbers focus free
+last_ends ending place there (written.For bound position) (a_resolved first more) others numbers focus free h = absurd (cc)
+last_ends ending place there (written.For bound position) no_resolved others numbers focus free h = refl
+last_ends ending place there (written.Let bound) (a_resolved first more) others numbers focus free h = absurd (cc)
+last_ends ending place there (written.Let bound) no_resolved others numbers focus free h = refl
+last_ends ending place there written.Where (a_resolved first more) others numbers focus free h = absurd (cc)
+last_ends ending place there written.Where no_resolved others numbers focus free h = refl
+last_ends ending place there (written.In bound) (a_resolved first more) others numbers focus free h = absurd (cc)
+last_ends ending place there (written.In bound) no_resolved others numbers focus free h = refl
+last_ends ending place there _ parts others numbers focus free h = refl
 
-  -- it is a `let`
-  pub first_let : (bound : BoundName) (value : ResolvedTree) (more : List ResolvedTree) → construct ≡ written.Let bound → items ≡ value ∷ more
-      → (let v = core_of value numbers focus free in
-      let body = flwor_core place (resolved_parts others) ((bound.place, v.1) ∷ numbers) focus (v.1 + 1) in
-      let made : CoreExpression × ℕ = (let_at place (numbered_binder bound v.1) v.0 body.0, body.1) in made)
-      ≡ flwor_core place (resolved_parts all) numbers focus free
-  first_let bound value more let_is items_are =
-      let same : resolved_at there construct (resolved_parts items) ≡ resolved_at there (written.Let bound) (a_resolved value (resolved_parts more)) =
-      λ i. resolved_at there (let_is i) (resolved_parts (items_are i)) in
-      ap (λ (l : List ResolvedTree). flwor_core place (resolved_parts l) numbers focus free) (sym (whole_is ∙ ap (λ (t : ResolvedTree). t ∷ others) same))
+pub first_ends : (ending : Ending) (place : Place) (clause : ResolvedTree) (others all : List ResolvedTree) (numbers : Numbers) (focus : Focus) (free : ℕ) → all ≡ clause ∷ others → clause_part clause ≡ None
+    → (let e = core_of clause numbers focus free in
+    let made : CoreExpression × ℕ = (ended ending e.0, e.1) in made)
+    ≡ clauses_core ending place (resolved_parts all) numbers focus free
+first_ends ending place (resolved_at there construct parts) others all numbers focus free here h =
+    last_ends ending place there construct parts (resolved_parts others) numbers focus free h
+    ∙ ap (λ (l : List ResolvedTree). clauses_core ending place (resolved_parts l) numbers focus free) (sym here)
+
+pub first_opens : (ending : Ending) (place there : Place) (construct : Construct) (items others all : List ResolvedTree) (clause part : ResolvedTree) (numbers : Numbers) (focus : Focus) (free : ℕ)
+    → all ≡ clause ∷ others → resolved_at there construct (resolved_parts items) ≡ clause → clause_part clause ≡ Some part
+    → (let p = core_of part numbers focus free in
+    let rest = clauses_core ending place (resolved_parts others) (clause_numbers construct p.1 ++ numbers) focus (behind_clause construct p.1) in
+    let made : CoreExpression × ℕ = (clause_at ending place construct p.1 p.0 rest.0, rest.1) in made)
+    ≡ clauses_core ending place (resolved_parts all) numbers focus free
+first_opens ending place there construct items others all clause part numbers focus free here clause_is h =
+    clause_opens ending place there construct (resolved_parts items) (resolved_parts others) part numbers focus free (ap clause_part clause_is ∙ h)
+    ∙ ap (λ (l : List ResolvedTree). clauses_core ending place (resolved_parts l) numbers focus free) (sym (here ∙ ap (λ (t : ResolvedTree). t ∷ others) (sym clause_is)))
 
 -- what follows from a fact of an answer
 pub on_ok_then : {T E : Type 0} (r : Result T E) (A B : Type 0) → OnOk r A → (A → B) → OnOk r B

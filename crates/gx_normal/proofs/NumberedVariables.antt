@@ -1,5 +1,5 @@
 -- Variables stand in the scopes of their binders, and are numbered once each.
-use Rattle.std.proofs.Common.{◌≡◌, ℕ, ◌+◌, ◌<◌, ◌≤◌, ◌==◌, length, Bool, true, false, ◌||◌, List, [], ◌∷◌, ◌++◌, map, Option, Some, None, Result, Ok, Err, IfOk, All, refl, sym, ◌∙◌, ap, subst, rules, arith, nat_eq, if◌then◌else◌}
+use Rattle.std.proofs.Common.{◌≡◌, ℕ, suc, add-one, ◌+◌, ◌<◌, ◌≤◌, ◌==◌, length, Bool, true, false, ◌||◌, List, [], ◌∷◌, ◌++◌, map, Option, Some, None, Result, Ok, Err, IfOk, All, refl, sym, ◌∙◌, ap, subst, rules, arith, nat_eq, if◌then◌else◌}
 use Rattle.std.proofs.lemmas.Bool.{ne_eqb, eq-eqb}
 use Rattle.std.proofs.lemmas.List.Elements.{All-nil, All-cons}
 use Rattle.gx_base.specs.declared.place.Place.{Place}
@@ -25,8 +25,11 @@ use Rattle.gx_core.specs.declared.expression.Declaration.TheVariants.{Global}
 use Rattle.gx_core.specs.declared.operator.Operator.TheVariants as operators
 use Rattle.gx_core.specs.Expression.{CoreExpression, At, no_parts, all_parts}
 use Rattle.gx_core.specs.Invariant.{is_among, IsScoped, ArePartsScoped, numbers_bound, numbers_bound_in, AreDistinct, scope_behind, AreValuesScoped, declared_numbers, HasValueOrType, HasQueryVariablesInOrder}
-use Rattle.gx_normal.specs.Constructs.{within, data_around, boolean_around, core_sequence, operator_at, call_at, call_of, empty_at, of_one, data_at, conditional_at, counted_call, and_at, or_at, signed_at, cast_at, castable_at, let_at, operator_in_core, joined_by, joining, context_item_at, step_at, path_at}
-use Rattle.gx_normal.specs.Normalisation.{Numbers, Focus, same_place, number_at, variable_at, numbered_binder, of_two, of_three, joined_at, constructed, core_of, construct_core, cores_of, flwor_core, path_core, external_binder, declarations_of, behind_declarations, main_core}
+use Rattle.gx_normal.specs.Constructs.{within, data_around, boolean_around, core_sequence, operator_at, call_at, call_of, empty_at, of_one, data_at, conditional_at, counted_call, and_at, or_at, signed_at, cast_at, castable_at, for_at, let_at, quantifier_at, operator_in_core, joined_by, joining, context_item_at, step_at, path_at}
+use Rattle.gx_normal.specs.declared.clauses.Ending.{Ending}
+use Rattle.gx_normal.specs.declared.clauses.Ending.TheVariants.{Returned, Condition}
+use Rattle.gx_normal.specs.Clauses.{Numbers, numbered_binder, ending_of_clauses}
+use Rattle.gx_normal.specs.Normalisation.{Focus, same_place, number_at, variable_at, of_two, of_three, joined_at, constructed, core_of, construct_core, cores_of, clauses_core, path_core, external_binder, declarations_of, behind_declarations, main_core}
 
 -- numbers that rise from one on, below another
 abbrev Rise : ℕ → ℕ → List ℕ → Type 0
@@ -238,12 +241,55 @@ constructed_numbered place (written.CastAs kind optional) scope free next es h =
 constructed_numbered place (written.Signed minus) scope free next es h = one_numbered place (signed_at place minus) (signed_numbered place minus) scope free next es h
 constructed_numbered place _ scope free next es h = empty_numbered place scope free next (least scope free next es h)
 
+-- an operator that binds variables for its second part, to which the numbers from one on are given
 let_numbered : (place : Place) (bound : BoundName) (scope : List ℕ) (free middle next : ℕ) (value body : CoreExpression)
     → IsNumbered scope free middle value → IsNumbered (middle ∷ scope) (middle + 1) next body → IsNumbered scope free next (let_at place (numbered_binder bound middle) value body)
 let_numbered place bound scope free middle next value body h k =
     record {
       scoped = (tt, (h.scoped, (k.scoped, tt)));
       rising = rise_joined free middle next (numbers_bound value) (middle ∷ (numbers_bound body ++ [])) h.rising (omega arith, rise_alone (middle + 1) next (numbers_bound body) k.rising);
+    }
+
+for_numbered : (place : Place) (bound : BoundName) (scope : List ℕ) (free middle next : ℕ) (source body : CoreExpression)
+    → IsNumbered scope free middle source → IsNumbered (middle ∷ scope) (middle + 1) next body → IsNumbered scope free next (for_at place (numbered_binder bound middle) 0 source body)
+for_numbered place bound scope free middle next source body h k =
+    record {
+      scoped = (tt, (h.scoped, (k.scoped, tt)));
+      rising = rise_joined free middle next (numbers_bound source) (middle ∷ (numbers_bound body ++ [])) h.rising (omega arith, rise_alone (middle + 1) next (numbers_bound body) k.rising);
+    }
+
+-- with the variable of the position
+scope_turned : (m n : ℕ) (scope : List ℕ) (number : ℕ) → is_among (m ∷ n ∷ scope) number ≡ true → is_among (n ∷ m ∷ scope) number ≡ true
+scope_turned m n scope number h = by (nat_eq m number) (nat_eq n number) (is_among scope number) h
+  where
+    by : (a b c : Bool) → (a || (b || c)) ≡ true → (b || (a || c)) ≡ true
+    by true true c e = refl
+    by true false c e = refl
+    by false true c e = refl
+    by false false c e = e
+
+for_position_numbered : (place : Place) (bound : BoundName) (scope : List ℕ) (free middle next : ℕ) (source body : CoreExpression)
+    → IsNumbered scope free middle source → IsNumbered (middle ∷ (middle + 1) ∷ scope) (middle + 2) next body
+    → IsNumbered scope free next (for_at place (numbered_binder bound middle) (middle + 1) source body)
+for_position_numbered place bound scope free middle next source body h k =
+    subst (λ (position : ℕ). IsNumbered scope free next (for_at place (numbered_binder bound middle) position source body)) (sym (add-one middle))
+    (record {
+      scoped = (tt, (h.scoped, (subst (λ (position : ℕ). IsScoped (middle ∷ position ∷ scope) body) (add-one middle) k.scoped, tt)));
+      rising = rise_joined free middle next (numbers_bound source) (middle ∷ suc middle ∷ (numbers_bound body ++ [])) h.rising
+          (omega arith, (omega arith, rise_weaker (middle + 2) (suc middle + 1) next (numbers_bound body ++ []) (omega arith) (rise_alone (middle + 2) next (numbers_bound body) k.rising)));
+    })
+
+quantifier_numbered : (every : Bool) (place : Place) (bound : BoundName) (scope : List ℕ) (free middle next : ℕ) (source test : CoreExpression)
+    → IsNumbered scope free middle source → IsNumbered (middle ∷ scope) (middle + 1) next test → IsNumbered scope free next (quantifier_at every place (numbered_binder bound middle) source test)
+quantifier_numbered true place bound scope free middle next source test h k =
+    record {
+      scoped = (tt, (h.scoped, (k.scoped, tt)));
+      rising = rise_joined free middle next (numbers_bound source) (middle ∷ (numbers_bound test ++ [])) h.rising (omega arith, rise_alone (middle + 1) next (numbers_bound test) k.rising);
+    }
+quantifier_numbered false place bound scope free middle next source test h k =
+    record {
+      scoped = (tt, (h.scoped, (k.scoped, tt)));
+      rising = rise_joined free middle next (numbers_bound source) (middle ∷ (numbers_bound test ++ [])) h.rising (omega arith, rise_alone (middle + 1) next (numbers_bound test) k.rising);
     }
 
 -- the variables of a scope, and that of the context item, are among these numbers
@@ -267,6 +313,13 @@ bound_more scope numbers focus place n h binder k e =
 
 covered_more : (scope : List ℕ) (numbers : Numbers) (focus : Focus) (place : Place) (n : ℕ) → IsCovered scope numbers focus → IsCovered (n ∷ scope) ((place, n) ∷ numbers) focus
 covered_more scope numbers focus place n h = record { bound = bound_more scope numbers focus place n h; focused = λ k e. among_more n k scope (h.focused k e) }
+
+-- with two variables the other way round
+covered_turned : (m n : ℕ) (scope : List ℕ) (numbers : Numbers) (focus : Focus) → IsCovered (n ∷ m ∷ scope) numbers focus → IsCovered (m ∷ n ∷ scope) numbers focus
+covered_turned m n scope numbers focus h = record {
+  bound = λ binder k e. scope_turned n m scope k (h.bound binder k e);
+  focused = λ k e. scope_turned n m scope k (h.focused k e);
+}
 
 -- with another context item
 covered_within : (scope : List ℕ) (numbers : Numbers) (focus : Focus) (n : ℕ) → IsCovered scope numbers focus → IsCovered (n ∷ scope) numbers (Some n)
@@ -314,14 +367,15 @@ construct_numbered place written.Context scope numbers focus free parts clauses 
 construct_numbered place (written.Step axis asks) scope numbers focus free parts clauses path c h k l = step_numbered place scope free focus axis asks c.focused
 construct_numbered place written.ParentStep scope numbers focus free parts clauses path c h k l = step_numbered place scope free focus axes.Parent tests.Node c.focused
 construct_numbered place written.Flwor scope numbers focus free parts clauses path c h k l = k
+construct_numbered place (written.Quantified every) scope numbers focus free parts clauses path c h k l = k
 construct_numbered place (written.Path false) scope numbers focus free parts clauses path c h k l = l
 construct_numbered place construct scope numbers focus free parts clauses path c h k l = constructed_numbered place construct scope free parts.1 parts.0 h
 
 mutual
   core_numbered : (tree : ResolvedTree) (scope : List ℕ) (numbers : Numbers) (focus : Focus) (free : ℕ) → IsCovered scope numbers focus → IsNumberedCore scope free (core_of tree numbers focus free)
   core_numbered (resolved_at place construct parts) scope numbers focus free c =
-      construct_numbered place construct scope numbers focus free (cores_of parts numbers focus free) (flwor_core place parts numbers focus free) (path_core place parts numbers focus free) c
-      (cores_numbered parts scope numbers focus free c) (flwor_numbered place parts scope numbers focus free c) (path_parts_numbered place parts scope numbers focus free c)
+      construct_numbered place construct scope numbers focus free (cores_of parts numbers focus free) (clauses_core (ending_of_clauses construct) place parts numbers focus free) (path_core place parts numbers focus free) c
+      (cores_numbered parts scope numbers focus free c) (clauses_numbered (ending_of_clauses construct) place parts scope numbers focus free c) (path_parts_numbered place parts scope numbers focus free c)
 
   cores_numbered : (parts : ResolvedTrees) (scope : List ℕ) (numbers : Numbers) (focus : Focus) (free : ℕ) → IsCovered scope numbers focus
       → AreNumbered scope free (cores_of parts numbers focus free).1 (cores_of parts numbers focus free).0
@@ -329,14 +383,48 @@ mutual
   cores_numbered (a_resolved first others) scope numbers focus free c =
       ((core_of first numbers focus free).1, core_numbered first scope numbers focus free c, cores_numbered others scope numbers focus (core_of first numbers focus free).1 c)
 
-  flwor_numbered : (place : Place) (parts : ResolvedTrees) (scope : List ℕ) (numbers : Numbers) (focus : Focus) (free : ℕ) → IsCovered scope numbers focus → IsNumberedCore scope free (flwor_core place parts numbers focus free)
-  flwor_numbered place no_resolved scope numbers focus free c = empty_numbered place scope free free (omega arith)
-  flwor_numbered place (a_resolved (resolved_at there (written.Let bound) (a_resolved value more)) others) scope numbers focus free c =
+  clauses_numbered : (ending : Ending) (place : Place) (parts : ResolvedTrees) (scope : List ℕ) (numbers : Numbers) (focus : Focus) (free : ℕ) → IsCovered scope numbers focus
+      → IsNumberedCore scope free (clauses_core ending place parts numbers focus free)
+  clauses_numbered ending place no_resolved scope numbers focus free c = empty_numbered place scope free free (omega arith)
+  clauses_numbered ending place (a_resolved (resolved_at there (written.For bound None) (a_resolved source more)) others) scope numbers focus free c =
+      let middle = (core_of source numbers focus free).1 in
+      let rest = clauses_core ending place others ((bound.place, middle) ∷ numbers) focus (middle + 1) in
+      for_numbered place bound scope free middle rest.1 (core_of source numbers focus free).0 rest.0 (core_numbered source scope numbers focus free c)
+      (clauses_numbered ending place others (middle ∷ scope) ((bound.place, middle) ∷ numbers) focus (middle + 1) (covered_more scope numbers focus bound.place middle c))
+  clauses_numbered ending place (a_resolved (resolved_at there (written.For bound (Some position)) (a_resolved source more)) others) scope numbers focus free c =
+      let middle = (core_of source numbers focus free).1 in
+      let inner : Numbers = (position.place, middle + 1) ∷ (bound.place, middle) ∷ numbers in
+      let rest = clauses_core ending place others inner focus (middle + 2) in
+      for_position_numbered place bound scope free middle rest.1 (core_of source numbers focus free).0 rest.0 (core_numbered source scope numbers focus free c)
+      (clauses_numbered ending place others (middle ∷ (middle + 1) ∷ scope) inner focus (middle + 2)
+      (covered_turned middle (middle + 1) scope inner focus
+      (covered_more (middle ∷ scope) ((bound.place, middle) ∷ numbers) focus position.place (middle + 1) (covered_more scope numbers focus bound.place middle c))))
+  clauses_numbered ending place (a_resolved (resolved_at there (written.Let bound) (a_resolved value more)) others) scope numbers focus free c =
       let middle = (core_of value numbers focus free).1 in
-      let body = flwor_core place others ((bound.place, middle) ∷ numbers) focus (middle + 1) in
-      let_numbered place bound scope free middle body.1 (core_of value numbers focus free).0 body.0 (core_numbered value scope numbers focus free c)
-      (flwor_numbered place others (middle ∷ scope) ((bound.place, middle) ∷ numbers) focus (middle + 1) (covered_more scope numbers focus bound.place middle c))
-  flwor_numbered place (a_resolved returned others) scope numbers focus free c = core_numbered returned scope numbers focus free c
+      let rest = clauses_core ending place others ((bound.place, middle) ∷ numbers) focus (middle + 1) in
+      let_numbered place bound scope free middle rest.1 (core_of value numbers focus free).0 rest.0 (core_numbered value scope numbers focus free c)
+      (clauses_numbered ending place others (middle ∷ scope) ((bound.place, middle) ∷ numbers) focus (middle + 1) (covered_more scope numbers focus bound.place middle c))
+  clauses_numbered ending place (a_resolved (resolved_at there written.Where (a_resolved condition more)) others) scope numbers focus free c =
+      let middle = (core_of condition numbers focus free).1 in
+      let rest = clauses_core ending place others numbers focus middle in
+      let r = clauses_numbered ending place others scope numbers focus middle c in
+      conditional_numbered place scope free middle rest.1 rest.1 (core_of condition numbers focus free).0 rest.0 (empty_at place) (core_numbered condition scope numbers focus free c) r
+      (empty_numbered place scope rest.1 rest.1 (omega arith))
+  clauses_numbered Returned place (a_resolved (resolved_at there (written.In bound) (a_resolved source more)) others) scope numbers focus free c =
+      let middle = (core_of source numbers focus free).1 in
+      let rest = clauses_numbered Returned place others (middle ∷ scope) ((bound.place, middle) ∷ numbers) focus (middle + 1) (covered_more scope numbers focus bound.place middle c) in
+      let s = core_numbered source scope numbers focus free c in
+      let l = rising_order free middle (numbers_bound (core_of source numbers focus free).0) s.rising in
+      let m = rising_order (middle + 1) (clauses_core Returned place others ((bound.place, middle) ∷ numbers) focus (middle + 1)).1 (numbers_bound (clauses_core Returned place others ((bound.place, middle) ∷ numbers) focus (middle + 1)).0) rest.rising in
+      empty_numbered place scope free (clauses_core Returned place others ((bound.place, middle) ∷ numbers) focus (middle + 1)).1 (omega (arith, l, m))
+  clauses_numbered (Condition every) place (a_resolved (resolved_at there (written.In bound) (a_resolved source more)) others) scope numbers focus free c =
+      let middle = (core_of source numbers focus free).1 in
+      let rest = clauses_core (Condition every) place others ((bound.place, middle) ∷ numbers) focus (middle + 1) in
+      quantifier_numbered every place bound scope free middle rest.1 (core_of source numbers focus free).0 rest.0 (core_numbered source scope numbers focus free c)
+      (clauses_numbered (Condition every) place others (middle ∷ scope) ((bound.place, middle) ∷ numbers) focus (middle + 1) (covered_more scope numbers focus bound.place middle c))
+  clauses_numbered Returned place (a_resolved last others) scope numbers focus free c = core_numbered last scope numbers focus free c
+  clauses_numbered (Condition every) place (a_resolved last others) scope numbers focus free c =
+      boolean_numbered scope free (core_of last numbers focus free).1 (core_of last numbers focus free).0 (core_numbered last scope numbers focus free c)
 
   path_parts_numbered : (place : Place) (parts : ResolvedTrees) (scope : List ℕ) (numbers : Numbers) (focus : Focus) (free : ℕ) → IsCovered scope numbers focus → IsNumberedCore scope free (path_core place parts numbers focus free)
   path_parts_numbered place (a_resolved first (a_resolved second no_resolved)) scope numbers focus free c =

@@ -24,7 +24,10 @@ use Rattle.gx_core.specs.Queries.{Core}
 use Rattle.gx_core.specs.Expression.{CoreExpression, At, all_parts}
 use Rattle.gx_core.specs.Invariant.{IsCoreLiteral, number_of_parts, IsWellFormedExpression, ArePartsWellFormed, AreValuesWellFormed, IsWellFormedQuery}
 use Rattle.gx_normal.specs.Constructs.{within, boolean_around, core_sequence, operator_at, call_at, counted_call, call_of, empty_at, of_one, data_at, conditional_at, and_at, or_at, signed_at, cast_at, castable_at, operator_in_core, joined_by, joining, context_item_at, step_at}
-use Rattle.gx_normal.specs.Normalisation.{Numbers, Focus, number_at, variable_at, of_two, of_three, joined_at, constructed, core_of, construct_core, cores_of, flwor_core, path_core, declarations_of, behind_declarations, main_core}
+use Rattle.gx_normal.specs.declared.clauses.Ending.{Ending}
+use Rattle.gx_normal.specs.declared.clauses.Ending.TheVariants.{Returned, Condition}
+use Rattle.gx_normal.specs.Clauses.{Numbers, ending_of_clauses}
+use Rattle.gx_normal.specs.Normalisation.{Focus, number_at, variable_at, of_two, of_three, joined_at, constructed, core_of, construct_core, cores_of, clauses_core, path_core, declarations_of, behind_declarations, main_core}
 
 -- ---- constructs over well-formed parts
 
@@ -146,25 +149,44 @@ construct_formed place written.Context numbers focus free parts clauses path h k
 construct_formed place (written.Step axis asks) numbers focus free parts clauses path h k l = step_formed place focus axis asks
 construct_formed place written.ParentStep numbers focus free parts clauses path h k l = step_formed place focus axes.Parent tests.Node
 construct_formed place written.Flwor numbers focus free parts clauses path h k l = k
+construct_formed place (written.Quantified every) numbers focus free parts clauses path h k l = k
 construct_formed place (written.Path false) numbers focus free parts clauses path h k l = l
 construct_formed place construct numbers focus free parts clauses path h k l = constructed_formed place construct parts.0 h
 
 mutual
   core_formed : (tree : ResolvedTree) (numbers : Numbers) (focus : Focus) (free : ℕ) → IsFormed (core_of tree numbers focus free)
   core_formed (resolved_at place construct parts) numbers focus free =
-      construct_formed place construct numbers focus free (cores_of parts numbers focus free) (flwor_core place parts numbers focus free) (path_core place parts numbers focus free)
-      (cores_formed parts numbers focus free) (flwor_formed place parts numbers focus free) (path_formed place parts numbers focus free)
+      construct_formed place construct numbers focus free (cores_of parts numbers focus free) (clauses_core (ending_of_clauses construct) place parts numbers focus free) (path_core place parts numbers focus free)
+      (cores_formed parts numbers focus free) (clauses_formed (ending_of_clauses construct) place parts numbers focus free) (path_formed place parts numbers focus free)
 
   cores_formed : (parts : ResolvedTrees) (numbers : Numbers) (focus : Focus) (free : ℕ) → AreWellFormed (cores_of parts numbers focus free).0
   cores_formed no_resolved numbers focus free = tt
   cores_formed (a_resolved first others) numbers focus free = (core_formed first numbers focus free, cores_formed others numbers focus (core_of first numbers focus free).1)
 
-  flwor_formed : (place : Place) (parts : ResolvedTrees) (numbers : Numbers) (focus : Focus) (free : ℕ) → IsFormed (flwor_core place parts numbers focus free)
-  flwor_formed place no_resolved numbers focus free = (tt, tt)
-  flwor_formed place (a_resolved (resolved_at there (written.Let bound) (a_resolved value more)) others) numbers focus free =
+  clauses_formed : (ending : Ending) (place : Place) (parts : ResolvedTrees) (numbers : Numbers) (focus : Focus) (free : ℕ) → IsFormed (clauses_core ending place parts numbers focus free)
+  clauses_formed ending place no_resolved numbers focus free = (tt, tt)
+  clauses_formed ending place (a_resolved (resolved_at there (written.For bound None) (a_resolved source more)) others) numbers focus free =
+      let middle = (core_of source numbers focus free).1 in
+      (tt, (core_formed source numbers focus free, (clauses_formed ending place others ((bound.place, middle) ∷ numbers) focus (middle + 1), tt)))
+  clauses_formed ending place (a_resolved (resolved_at there (written.For bound (Some position)) (a_resolved source more)) others) numbers focus free =
+      let middle = (core_of source numbers focus free).1 in
+      (tt, (core_formed source numbers focus free, (clauses_formed ending place others ((position.place, middle + 1) ∷ (bound.place, middle) ∷ numbers) focus (middle + 2), tt)))
+  clauses_formed ending place (a_resolved (resolved_at there (written.Let bound) (a_resolved value more)) others) numbers focus free =
       let middle = (core_of value numbers focus free).1 in
-      (tt, (core_formed value numbers focus free, (flwor_formed place others ((bound.place, middle) ∷ numbers) focus (middle + 1), tt)))
-  flwor_formed place (a_resolved returned others) numbers focus free = core_formed returned numbers focus free
+      (tt, (core_formed value numbers focus free, (clauses_formed ending place others ((bound.place, middle) ∷ numbers) focus (middle + 1), tt)))
+  clauses_formed ending place (a_resolved (resolved_at there written.Where (a_resolved condition more)) others) numbers focus free =
+      let middle = (core_of condition numbers focus free).1 in
+      conditional_formed place (core_of condition numbers focus free).0 (clauses_core ending place others numbers focus middle).0 (empty_at place) (core_formed condition numbers focus free)
+      (clauses_formed ending place others numbers focus middle) (tt, tt)
+  clauses_formed Returned place (a_resolved (resolved_at there (written.In bound) (a_resolved source more)) others) numbers focus free = (tt, tt)
+  clauses_formed (Condition true) place (a_resolved (resolved_at there (written.In bound) (a_resolved source more)) others) numbers focus free =
+      let middle = (core_of source numbers focus free).1 in
+      (tt, (core_formed source numbers focus free, (clauses_formed (Condition true) place others ((bound.place, middle) ∷ numbers) focus (middle + 1), tt)))
+  clauses_formed (Condition false) place (a_resolved (resolved_at there (written.In bound) (a_resolved source more)) others) numbers focus free =
+      let middle = (core_of source numbers focus free).1 in
+      (tt, (core_formed source numbers focus free, (clauses_formed (Condition false) place others ((bound.place, middle) ∷ numbers) focus (middle + 1), tt)))
+  clauses_formed Returned place (a_resolved last others) numbers focus free = core_formed last numbers focus free
+  clauses_formed (Condition every) place (a_resolved last others) numbers focus free = boolean_formed (core_of last numbers focus free).0 (core_formed last numbers focus free)
 
   path_formed : (place : Place) (parts : ResolvedTrees) (numbers : Numbers) (focus : Focus) (free : ℕ) → IsFormed (path_core place parts numbers focus free)
   path_formed place (a_resolved first (a_resolved second no_resolved)) numbers focus free =

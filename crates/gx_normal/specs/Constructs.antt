@@ -93,6 +93,13 @@ castable_at place kind optional e = core_at place place (operators.Castable kind
 abbrev pub let_at : Place → Binder → CoreExpression → CoreExpression → CoreExpression
 let_at place binder value body = core_at place place (operators.Let binder) (two_parts value body)
 
+abbrev pub for_at : Place → Binder → (position : ℕ) → CoreExpression → CoreExpression → CoreExpression
+for_at place binder position source body = core_at place place (operators.For binder position) (two_parts source body)
+
+abbrev pub quantifier_at : (every : Bool) → Place → Binder → CoreExpression → CoreExpression → CoreExpression
+quantifier_at true place binder source test = core_at place place (operators.EveryIn binder) (two_parts source test)
+quantifier_at false place binder source test = core_at place place (operators.SomeIn binder) (two_parts source test)
+
 -- ---- paths
 
 -- what looks at a context item where there is none
@@ -119,7 +126,7 @@ hidden_binder place number = record { variable = number; place = place; kind = N
 -- the right part for each node that the left one gives, which is the context item there; what all of them give is put in document order
 abbrev pub path_at : Place → (number : ℕ) → CoreExpression → CoreExpression → CoreExpression
 path_at place number first second =
-    core_at place place operators.Order (one_part (core_at place place (operators.For (hidden_binder place number)) (two_parts (nodes_at place first) second)))
+    core_at place place operators.Order (one_part (for_at place (hidden_binder place number) 0 (nodes_at place first) second))
 
 -- the operator of Core for one that is written, if it is one
 abbrev pub operator_in_core : BinaryOperator → Option BinaryOp

@@ -1,4 +1,5 @@
 pub mod Constructs
+pub mod Clauses
 pub mod Normalisation
 pub mod Normalising
 pub mod Unbuilt

@@ -1,5 +1,5 @@
 -- From resolved trees to Core: the numbers of variables, and what each construct stands for (XQuery 1.0 and XPath 2.0 Formal Semantics, section 4).
-use Rattle.std.specs.Prelude.{ℕ, ◌+◌, Bool, false, ◌==◌, ◌&&◌, List, [], ◌∷◌, Option, None, Some}
+use Rattle.std.specs.Prelude.{ℕ, ◌+◌, Bool, false, ◌==◌, ◌&&◌, List, [], ◌∷◌, ◌++◌, Option, None, Some}
 use Rattle.gx_base.specs.declared.place.Place.{Place}
 use Rattle.gx_types.specs.SequenceType.{SequenceType, item}
 use Rattle.gx_types.specs.declared.item_type.ItemType.TheVariants as items
@@ -20,13 +20,11 @@ use Rattle.gx_core.specs.declared.expression.Declaration.TheVariants.{Global}
 use Rattle.gx_core.specs.declared.operator.Operator.TheVariants as operators
 use Rattle.gx_core.specs.Arithmetic.{number_atom}
 use Rattle.gx_core.specs.Expression.{CoreExpression, no_parts, core_at}
-use Rattle.gx_normal.specs.Constructs.{within, literal_at, core_sequence, call_of, empty_at, of_one, conditional_at, signed_at, cast_at, castable_at, let_at, joining, context_item_at, step_at, path_at}
+use Rattle.gx_normal.specs.Constructs.{within, literal_at, core_sequence, call_of, empty_at, of_one, conditional_at, signed_at, cast_at, castable_at, joining, context_item_at, step_at, path_at}
+use Rattle.gx_normal.specs.Clauses.{Numbers, numbered_binder, clause_numbers, behind_clause, clause_at, ended, ending_of_clauses}
+use Rattle.gx_normal.specs.declared.clauses.Ending.{Ending}
 
 -- ---- variables
-
--- the numbers of the variables in scope, by the places of their binders, the innermost first
-abbrev pub Numbers : Type 0
-Numbers = List (Place × ℕ)
 
 abbrev pub same_place : Place → Place → Bool
 same_place a b = a.line == b.line && a.column == b.column
@@ -39,11 +37,7 @@ abbrev pub variable_at : Place → Option ℕ → CoreExpression
 variable_at place None = empty_at place
 variable_at place (Some number) = core_at place place (operators.Var number) no_parts
 
--- the binder of a variable with its number, and the type that is written at it
-abbrev pub numbered_binder : BoundName → ℕ → Binder
-numbered_binder bound number = record { variable = number; place = bound.place; kind = bound.kind }
-
--- that of an external variable, whose type is written: a document
+-- the binder of an external variable, whose type is written: a document
 abbrev pub declared_type : Option SequenceType → SequenceType
 declared_type None = item (items.Document None)
 declared_type (Some kind) = kind
@@ -84,7 +78,7 @@ constructed place _ parts = empty_at place
 abbrev pub Focus : Type 0
 Focus = Option ℕ
 
--- a construct, over the Core of its parts, or of its clauses where it is a FLWOR, or of its two parts where it is a path; with the number
+-- a construct, over the Core of its parts, or of its clauses where it has clauses, or of its two parts where it is a path; with the number
 -- that is free behind it
 abbrev pub construct_core : Place → Construct → Numbers → Focus → (free : ℕ) → (parts : List CoreExpression × ℕ) → (clauses path : CoreExpression × ℕ) → CoreExpression × ℕ
 construct_core place (written.Variable name binder) numbers focus free parts clauses path = (variable_at place (number_at numbers binder), free)
@@ -92,6 +86,7 @@ construct_core place written.Context numbers focus free parts clauses path = (co
 construct_core place (written.Step axis asks) numbers focus free parts clauses path = (step_at place focus axis asks, free)
 construct_core place written.ParentStep numbers focus free parts clauses path = (step_at place focus axes.Parent tests.Node, free)
 construct_core place written.Flwor numbers focus free parts clauses path = clauses
+construct_core place (written.Quantified every) numbers focus free parts clauses path = clauses
 construct_core place (written.Path false) numbers focus free parts clauses path = path
 construct_core place construct numbers focus free parts clauses path = (constructed place construct parts.0, parts.1)
 
@@ -99,7 +94,7 @@ construct_core place construct numbers focus free parts clauses path = (construc
 abbrev mutual
   pub core_of : ResolvedTree → Numbers → Focus → (free : ℕ) → CoreExpression × ℕ
   core_of (resolved_at place construct parts) numbers focus free =
-      construct_core place construct numbers focus free (cores_of parts numbers focus free) (flwor_core place parts numbers focus free) (path_core place parts numbers focus free)
+      construct_core place construct numbers focus free (cores_of parts numbers focus free) (clauses_core (ending_of_clauses construct) place parts numbers focus free) (path_core place parts numbers focus free)
 
   pub cores_of : ResolvedTrees → Numbers → Focus → (free : ℕ) → List CoreExpression × ℕ
   cores_of no_resolved numbers focus free = ([], free)
@@ -108,14 +103,26 @@ abbrev mutual
       let es = cores_of others numbers focus e.1 in
       (e.0 ∷ es.0, es.1)
 
-  -- the clauses of a FLWOR, one inside another, and what is returned
-  pub flwor_core : Place → ResolvedTrees → Numbers → Focus → (free : ℕ) → CoreExpression × ℕ
-  flwor_core place no_resolved numbers focus free = (empty_at place, free)
-  flwor_core place (a_resolved (resolved_at there (written.Let bound) (a_resolved value more)) others) numbers focus free =
-      let v = core_of value numbers focus free in
-      let body = flwor_core place others ((bound.place, v.1) ∷ numbers) focus (v.1 + 1) in
-      (let_at place (numbered_binder bound v.1) v.0 body.0, body.1)
-  flwor_core place (a_resolved returned others) numbers focus free = core_of returned numbers focus free
+  -- clauses, one inside another, and what they end in
+  pub clauses_core : Ending → Place → ResolvedTrees → Numbers → Focus → (free : ℕ) → CoreExpression × ℕ
+  clauses_core ending place no_resolved numbers focus free = (empty_at place, free)
+  clauses_core ending place (a_resolved (resolved_at there (written.For bound position) (a_resolved part more)) others) numbers focus free =
+      let p = core_of part numbers focus free in
+      let rest = clauses_core ending place others (clause_numbers (written.For bound position) p.1 ++ numbers) focus (behind_clause (written.For bound position) p.1) in
+      (clause_at ending place (written.For bound position) p.1 p.0 rest.0, rest.1)
+  clauses_core ending place (a_resolved (resolved_at there (written.Let bound) (a_resolved part more)) others) numbers focus free =
+      let p = core_of part numbers focus free in
+      let rest = clauses_core ending place others (clause_numbers (written.Let bound) p.1 ++ numbers) focus (behind_clause (written.Let bound) p.1) in
+      (clause_at ending place (written.Let bound) p.1 p.0 rest.0, rest.1)
+  clauses_core ending place (a_resolved (resolved_at there written.Where (a_resolved part more)) others) numbers focus free =
+      let p = core_of part numbers focus free in
+      let rest = clauses_core ending place others numbers focus p.1 in
+      (clause_at ending place written.Where p.1 p.0 rest.0, rest.1)
+  clauses_core ending place (a_resolved (resolved_at there (written.In bound) (a_resolved part more)) others) numbers focus free =
+      let p = core_of part numbers focus free in
+      let rest = clauses_core ending place others (clause_numbers (written.In bound) p.1 ++ numbers) focus (behind_clause (written.In bound) p.1) in
+      (clause_at ending place (written.In bound) p.1 p.0 rest.0, rest.1)
+  clauses_core ending place (a_resolved last others) numbers focus free = let e = core_of last numbers focus free in (ended ending e.0, e.1)
 
   -- the two parts of a path; the context item of the right one is a variable whose scope begins behind the left one
   pub path_core : Place → ResolvedTrees → Numbers → Focus → (free : ℕ) → CoreExpression × ℕ

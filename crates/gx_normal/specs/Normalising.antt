@@ -1,15 +1,16 @@
 -- What a normalisation in its midst comes to.
-use Rattle.std.specs.Prelude.{ℕ, ◌+◌, List, [], ◌∷◌, Some, reverse, drop}
+use Rattle.std.specs.Prelude.{ℕ, ◌+◌, List, [], ◌∷◌, ◌++◌, Some, reverse, drop}
 use Rattle.gx_base.specs.declared.place.Place.{Place}
 use Rattle.gx_resolved.specs.declared.tree.Construct.{Construct}
 use Rattle.gx_resolved.specs.ResolvedView.{resolved_parts}
-use Rattle.gx_core.specs.declared.expression.Binder.{Binder}
 use Rattle.gx_core.specs.Expression.{CoreExpression}
 use Rattle.gx_normal.specs.declared.normalising.Task.{Task}
-use Rattle.gx_normal.specs.declared.normalising.Task.TheVariants.{Normalise, Parts, Flwor, Bind, Unbind, FinishLet, Enter, Leave, FinishPath, Finish}
+use Rattle.gx_normal.specs.declared.normalising.Task.TheVariants.{Normalise, Parts, Clauses, Bind, Unbind, FinishClause, End, Enter, Leave, FinishPath, Finish}
 use Rattle.gx_normal.specs.declared.normalising.Normalising.{Normalising}
-use Rattle.gx_normal.specs.Constructs.{let_at, path_at}
-use Rattle.gx_normal.specs.Normalisation.{Numbers, Focus, constructed, numbered_binder, core_of, cores_of, flwor_core}
+use Rattle.gx_normal.specs.declared.clauses.Ending.{Ending}
+use Rattle.gx_normal.specs.Clauses.{Numbers, clause_numbers, behind_clause, clause_at, ended}
+use Rattle.gx_normal.specs.Constructs.{path_at}
+use Rattle.gx_normal.specs.Normalisation.{Focus, constructed, core_of, cores_of, clauses_core}
 
 -- ---- the parts that are there, the last first, of each construct in the making, the innermost first
 
@@ -28,9 +29,14 @@ abbrev pub construct_finished : Place → Construct → Made → Made
 construct_finished place construct [] = []
 construct_finished place construct (parts ∷ outer) = added (constructed place construct (reverse parts)) outer
 
-abbrev pub let_finished : Place → Binder → Made → Made
-let_finished place binder ((body ∷ value ∷ more) ∷ outer) = added (let_at place binder value body) outer
-let_finished place binder _ = []
+abbrev pub clause_finished : Ending → Place → Construct → (free : ℕ) → Made → Made
+clause_finished ending place construct free ((rest ∷ part ∷ more) ∷ outer) = added (clause_at ending place construct free part rest) outer
+clause_finished ending place construct free _ = []
+
+-- the last part is what clauses end in
+abbrev pub last_ended : Ending → Made → Made
+last_ended ending ((last ∷ parts) ∷ outer) = (ended ending last ∷ parts) ∷ outer
+last_ended ending _ = []
 
 abbrev pub path_finished : Place → (number : ℕ) → Made → Made
 path_finished place number ((second ∷ first ∷ more) ∷ outer) = added (path_at place number first second) outer
@@ -49,13 +55,14 @@ core_left [] made numbers focus free = record { made = made; numbers = numbers; 
 core_left (Normalise tree ∷ tasks) made numbers focus free = let e = core_of tree.now numbers focus free in core_left tasks (added e.0 made) numbers focus e.1
 core_left (Parts trees ∷ tasks) made numbers focus free =
     let es = cores_of (resolved_parts trees.now) numbers focus free in core_left tasks (all_added es.0 made) numbers focus es.1
-core_left (Flwor place parts ∷ tasks) made numbers focus free =
-    let e = flwor_core place (resolved_parts parts.now) numbers focus free in core_left tasks (added e.0 made) numbers focus e.1
-core_left (Bind place bound others ∷ tasks) made numbers focus free =
-    let body = flwor_core place (resolved_parts others.now) ((bound.now.place, free) ∷ numbers) focus (free + 1) in
-    core_left tasks (let_finished place (numbered_binder bound.now free) (added body.0 made)) numbers focus body.1
+core_left (Clauses ending place parts ∷ tasks) made numbers focus free =
+    let e = clauses_core ending place (resolved_parts parts.now) numbers focus free in core_left tasks (added e.0 made) numbers focus e.1
+core_left (Bind ending place clause others ∷ tasks) made numbers focus free =
+    let rest = clauses_core ending place (resolved_parts others.now) (clause_numbers clause.now free ++ numbers) focus (behind_clause clause.now free) in
+    core_left tasks (clause_finished ending place clause.now free (added rest.0 made)) numbers focus rest.1
 core_left (Unbind ∷ tasks) made numbers focus free = core_left tasks made (drop 1 numbers) focus free
-core_left (FinishLet place binder ∷ tasks) made numbers focus free = core_left tasks (let_finished place binder made) numbers focus free
+core_left (FinishClause ending place clause number ∷ tasks) made numbers focus free = core_left tasks (clause_finished ending place clause.now number made) numbers focus free
+core_left (End ending ∷ tasks) made numbers focus free = core_left tasks (last_ended ending made) numbers focus free
 core_left (Enter place second ∷ tasks) made numbers focus free =
     let e = core_of second.now numbers (Some free) (free + 1) in core_left tasks (path_finished place free (added e.0 made)) numbers focus e.1
 core_left (Leave outer ∷ tasks) made numbers focus free = core_left tasks made numbers outer free

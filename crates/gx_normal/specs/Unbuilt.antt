@@ -10,7 +10,7 @@ use Rattle.gx_ast.specs.declared.query.DefinitionNode.{DefinitionNode}
 use Rattle.gx_ast.specs.declared.query.DefinitionNode.TheVariants as definitions
 use Rattle.gx_ast.specs.declared.query.Initialiser.TheVariants as initial
 use Rattle.gx_ast.specs.declared.query.Query.{Query}
-use Rattle.gx_ast.specs.SyntaxTree.{SyntaxTree, SyntaxForm, SyntaxTrees, Bindings, Clauses, Keys, at, number, string, variable, parenthesised, empty_sequence, call, comma, flwor, conditional, binary, instance_of, treat_as, castable_as, cast_as, signed, context_item, path, axis_step, parent_step, filtered, no_tree, a_tree, no_binding, a_binding, no_clause, for_clause, let_clause, where_clause, no_key, a_key}
+use Rattle.gx_ast.specs.SyntaxTree.{SyntaxTree, SyntaxForm, SyntaxTrees, Bindings, Clauses, Keys, at, number, string, variable, parenthesised, empty_sequence, call, comma, flwor, quantified, conditional, binary, instance_of, treat_as, castable_as, cast_as, signed, context_item, path, axis_step, parent_step, filtered, no_tree, a_tree, no_binding, a_binding, no_clause, for_clause, let_clause, where_clause, no_key, a_key}
 
 -- the first of two places in the order of the text, where there is one
 abbrev pub earlier_place : Option Place → Option Place → Option Place
@@ -57,6 +57,7 @@ abbrev mutual
   unbuilt_form place (call name arguments) = unbuilt_trees arguments
   unbuilt_form place (comma first second) = earlier_place (first_unbuilt first) (first_unbuilt second)
   unbuilt_form place (flwor clauses order stable keys returned) = earlier_place (unbuilt_clauses clauses) (earlier_place (unbuilt_keys keys order) (first_unbuilt returned))
+  unbuilt_form place (quantified every bindings condition) = earlier_place (unbuilt_bindings bindings) (first_unbuilt condition)
   unbuilt_form place (conditional test chosen otherwise) = earlier_place (first_unbuilt test) (earlier_place (first_unbuilt chosen) (first_unbuilt otherwise))
   unbuilt_form place (binary operator left right) = earlier_place (first_unbuilt left) (earlier_place (unbuilt_operator operator place) (first_unbuilt right))
   unbuilt_form place (castable_as operand kind) = first_unbuilt operand
@@ -81,9 +82,9 @@ abbrev mutual
 
   pub unbuilt_clauses : Clauses → Option Place
   unbuilt_clauses no_clause = None
-  unbuilt_clauses (for_clause place bindings others) = Some place
+  unbuilt_clauses (for_clause place bindings others) = earlier_place (unbuilt_bindings bindings) (unbuilt_clauses others)
   unbuilt_clauses (let_clause place bindings others) = earlier_place (unbuilt_bindings bindings) (unbuilt_clauses others)
-  unbuilt_clauses (where_clause place condition others) = Some place
+  unbuilt_clauses (where_clause place condition others) = earlier_place (first_unbuilt condition) (unbuilt_clauses others)
 
 -- a function, at `declare`; a variable with a value is built where the value is
 abbrev pub unbuilt_definition : Place → DefinitionNode → Option Place

@@ -5,7 +5,7 @@ ghost use Rattle.gx_core.specs.Arithmetic.{number_atom};
 ghost use Rattle.gx_funcs.specs.Function.{string_atom};
 ghost use Rattle.gx_core.specs.Expression.{CoreExpression, core_at, no_parts, one_part};
 ghost use Rattle.gx_core.specs.ExpressionView.{operator_of, parts_of};
-ghost use Rattle.gx_normal.specs.Constructs.{boolean_around, call_at, call_of, cast_at, castable_at, conditional_at, counted_call, data_at, empty_at, joining, of_one, let_at, operator_in_core, data_around, literal_at, signed_at, within, context_item_at, step_at, path_at};
+ghost use Rattle.gx_normal.specs.Constructs.{boolean_around, call_at, call_of, cast_at, castable_at, conditional_at, counted_call, data_at, empty_at, joining, of_one, operator_in_core, data_around, literal_at, signed_at, within, context_item_at, step_at, path_at};
 ghost use Rattle.gx_normal.specs.Normalisation.{constructed, of_two, of_three};
 ghost use Rattle.gx_normal.specs.Making.{made_of_one, made_of_two, operation_at};
 
@@ -205,18 +205,6 @@ fn boxed(
     Ok((first, Box::new(alloc, second)?))
 }
 
-/// A `let`.
-pub(crate) fn let_in(
-    place: Place,
-    binder: Binder,
-    value: Box<CoreExpr>,
-    body: Box<CoreExpr>,
-) -> CoreExpr
-    ensures { result ≡ let_at place binder value.value body.value }
-{
-    at(place, Form::Let(binder, value, body))
-}
-
 /// The context item, which is the value of the variable with this number.
 pub(crate) fn context_item(place: Place, focus: Option<u32>) -> CoreExpr
     ensures { result ≡ context_item_at place focus }
@@ -260,7 +248,7 @@ pub(crate) fn path(
         place,
         kind: None,
     };
-    let each = Box::new(alloc, at(place, Form::For(binder, nodes, second)))?;
+    let each = Box::new(alloc, at(place, Form::For(binder, 0, nodes, second)))?;
     Ok(at(place, Form::Order(each)))
 }
 
@@ -454,7 +442,10 @@ fn call(
     Ok(at(place, Form::Call(function, arguments)))
 }
 
-fn boolean_around(alloc: Global, operand: Box<CoreExpr>) -> Result<Box<CoreExpr>, AllocError>
+pub(crate) fn boolean_around(
+    alloc: Global,
+    operand: Box<CoreExpr>,
+) -> Result<Box<CoreExpr>, AllocError>
     ensures { IfOk result (λ e. e.value ≡ boolean_around operand.value) }
 {
     let place = operand.outer;

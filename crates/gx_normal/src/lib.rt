@@ -1,6 +1,7 @@
 //! Normalisation: from the syntax trees of queries to Core.
 #![tactic(auto)]
 
+pub mod clauses;
 mod construct;
 pub mod normalise;
 mod normalising;

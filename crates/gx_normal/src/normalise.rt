@@ -5,7 +5,8 @@ ghost use Rattle.gx_core.specs.Invariant.{HasQueryVariablesInOrder, IsWellFormed
 ghost use Rattle.gx_core.specs.declared.expression.Declaration.TheVariants as declarations;
 ghost use Rattle.gx_normal.specs.Normalisation.{behind_declarations, core_of, declarations_of, external_binder, main_core, query_core};
 
-use crate::normalising::{Normalising, Numbers, numbered_binder};
+use crate::clauses::numbered_binder;
+use crate::normalising::{Normalising, Numbers};
 use gx_core::declarations::Declarations;
 use gx_core::expression::{Binder, Core, CoreDeclaration, CoreExpr};
 use gx_resolved::dismantle::dismantle;

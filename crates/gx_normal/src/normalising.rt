@@ -2,35 +2,38 @@
 
 ghost use Rattle.std.specs.Prelude.{◌≡◌, ◌≢◌, [], ◌∷◌, length, None, IfOk, IfSome, IsNone, OnOk};
 ghost use Rattle.gx_resolved.specs.ResolvedView.{resolved_parts};
-ghost use Rattle.gx_normal.specs.Normalisation.{constructed, core_of, cores_of, number_at, numbered_binder, path_core, variable_at};
+ghost use Rattle.gx_normal.specs.Clauses.{ended};
+ghost use Rattle.gx_normal.specs.Normalisation.{constructed, core_of, cores_of, number_at, path_core, variable_at};
 ghost use Rattle.gx_normal.specs.Normalising.{added, core_left, IsOnePart, left_behind, core_to_make, left_with};
 ghost use Rattle.gx_normal.specs.declared.normalising.Task.TheVariants as tasks;
 
-use crate::construct::{at, construct, context_item, empty, let_in, path, step};
+use crate::clauses::{Ending, bind_clause, clause, clause_part, unbind_clause};
+use crate::construct::{at, boolean_around, construct, context_item, empty, path, step};
 use gx_base::place::Place;
 use gx_base::stack::Stack;
 use gx_core::dismantle::dismantle;
-use gx_core::expression::{Binder, CoreExpr, Form};
+use gx_core::expression::{CoreExpr, Form};
 use gx_resolved::nested_map::NestedMap;
-use gx_resolved::tree::{BoundName, Construct, ResolvedExpr};
+use gx_resolved::tree::{Construct, ResolvedExpr};
 use gx_types::step::{Axis, Test};
 use std::alloc::{AllocError, Global};
 
 /// The numbers of the variables in scope, by the places of their binders.
 pub(crate) type Numbers = NestedMap<Place, u32>;
 
-// A task: to normalise a tree, or trees, or the clauses and the body of a FLWOR at its place; to bind the variable of a `let` in the
-// others behind its value; to take the innermost number away; to put the parts of a `let` together; to normalise the right part of a
-// path, whose left part is there; to go back to the focus outside of it; to put the parts of a path together; or those of another
-// construct.
+// A task: to normalise a tree, or trees, or clauses, and what they end in, at the place of their expression; to bind the variables of a
+// clause, whose part is there, in the clauses behind it; to take the innermost number away; to put the parts of a clause together, whose
+// variables have the numbers from one on; to make the last part what clauses end in; to normalise the right part of a path, whose left
+// part is there; to go back to the focus outside of it; to put the parts of a path together; or those of another construct.
 #[derive(Drop)]
 pub(crate) enum Task<'a> {
     Normalise(&'a ResolvedExpr),
     Parts(&'a [ResolvedExpr]),
-    Flwor(Place, &'a [ResolvedExpr]),
-    Bind(Place, &'a BoundName, &'a [ResolvedExpr]),
+    Clauses(Ending, Place, &'a [ResolvedExpr]),
+    Bind(Ending, Place, &'a Construct, &'a [ResolvedExpr]),
     Unbind,
-    FinishLet(Place, Binder),
+    FinishClause(Ending, Place, &'a Construct, u32),
+    End(Ending),
     Enter(Place, &'a ResolvedExpr),
     Leave(Option<u32>),
     FinishPath(Place, u32),
@@ -104,10 +107,13 @@ impl<'a> Normalising<'a> {
         match task {
             Task::Normalise(tree) => self.open(alloc, tree),
             Task::Parts(trees) => self.open_parts(trees),
-            Task::Flwor(place, parts) => self.open_flwor(alloc, place, parts),
-            Task::Bind(place, bound, others) => self.bind(place, bound, others),
+            Task::Clauses(ending, place, parts) => self.open_clauses(alloc, ending, place, parts),
+            Task::Bind(ending, place, clause, others) => self.bind(ending, place, clause, others),
             Task::Unbind => self.numbers.unbind(),
-            Task::FinishLet(place, binder) => self.finish_let(alloc, place, binder),
+            Task::FinishClause(ending, place, clause, number) => {
+                self.finish_clause(alloc, ending, place, clause, number)
+            }
+            Task::End(ending) => self.end(alloc, ending),
             Task::Enter(place, second) => self.enter(place, second),
             Task::Leave(outer) => {
                 self.focus = outer;
@@ -151,7 +157,14 @@ impl<'a> Normalising<'a> {
                 let step = step(tree.place, self.focus, Axis::Parent, &Test::Node)?;
                 self.add(alloc, step)
             }
-            Construct::Flwor => self.open_flwor(alloc, tree.place, tree.parts.as_slice()),
+            Construct::Flwor => {
+                let parts = tree.parts.as_slice();
+                self.open_clauses(alloc, Ending::Returned, tree.place, parts)
+            }
+            Construct::Quantified(every) => {
+                let parts = tree.parts.as_slice();
+                self.open_clauses(alloc, Ending::Condition(*every), tree.place, parts)
+            }
             Construct::Path(false) => self.open_path(alloc, tree.place, tree.parts.as_slice()),
             construct => self.open_construct(alloc, tree.place, construct, tree.parts.as_slice()),
         }
@@ -194,64 +207,84 @@ impl<'a> Normalising<'a> {
         self.tasks.push(Task::Normalise(first))
     }
 
-    // The first clause, or what is returned.
-    fn open_flwor(
+    // The first clause, or what the clauses end in.
+    fn open_clauses(
         &mut self,
         alloc: Global,
+        ending: Ending,
         place: Place,
         parts: &'a [ResolvedExpr],
     ) -> Result<(), AllocError>
-        ensures { OnOk result (core_to_make self.new ≡ left_with (tasks.Flwor place parts.entry) self.old) }
+        ensures { OnOk result (core_to_make self.new ≡ left_with (tasks.Clauses ending place parts.entry) self.old) }
     {
-        let Some((clause, others)) = parts.split_first() else {
+        let Some((first, others)) = parts.split_first() else {
             return self.add(alloc, empty(place));
         };
-        let Construct::Let(bound) = &clause.construct else {
-            return self.tasks.push(Task::Normalise(clause));
-        };
-        let Some((value, _)) = clause.parts.as_slice().split_first() else {
-            return self.tasks.push(Task::Normalise(clause));
+        let Some(part) = clause_part(first) else {
+            self.tasks.push(Task::End(ending))?;
+            return self.tasks.push(Task::Normalise(first));
         };
         self.made.push(Stack::new(alloc))?;
-        self.tasks.push(Task::Bind(place, bound, others))?;
-        self.tasks.push(Task::Normalise(value))
+        self.tasks
+            .push(Task::Bind(ending, place, &first.construct, others))?;
+        self.tasks.push(Task::Normalise(part))
     }
 
-    // Gives the variable of a `let` the free number, and puts the rest to the tasks.
+    // Gives the variables of a clause the free numbers, and puts the rest to the tasks.
     fn bind(
         &mut self,
+        ending: Ending,
         place: Place,
-        bound: &BoundName,
+        clause: &'a Construct,
         others: &'a [ResolvedExpr],
     ) -> Result<(), AllocError>
-        ensures { OnOk result (core_to_make self.new ≡ left_with (tasks.Bind place bound.entry others.entry) self.old) }
+        ensures { OnOk result (core_to_make self.new ≡ left_with (tasks.Bind ending place clause.entry others.entry) self.old) }
     {
-        let Some(next) = self.free.checked_add(1) else {
-            return Err(AllocError);
-        };
-        let binder = numbered_binder(bound, self.free)?;
-        self.numbers.bind(bound.place, self.free)?;
-        self.free = next;
-        self.tasks.push(Task::FinishLet(place, binder))?;
-        self.tasks.push(Task::Unbind)?;
-        self.tasks.push(Task::Flwor(place, others))
+        let number = self.free;
+        self.free = bind_clause(&mut self.numbers, clause, number)?;
+        self.tasks
+            .push(Task::FinishClause(ending, place, clause, number))?;
+        unbind_clause(&mut self.tasks, clause)?;
+        self.tasks.push(Task::Clauses(ending, place, others))
     }
 
-    fn finish_let(&mut self, alloc: Global, place: Place, binder: Binder) -> Result<(), AllocError>
-        ensures { OnOk result (core_to_make self.new ≡ left_with (tasks.FinishLet place binder) self.old) }
+    fn finish_clause(
+        &mut self,
+        alloc: Global,
+        ending: Ending,
+        place: Place,
+        of: &Construct,
+        number: u32,
+    ) -> Result<(), AllocError>
+        ensures { OnOk result (core_to_make self.new ≡ left_with (tasks.FinishClause ending place of.entry number) self.old) }
     {
         let Some(mut parts) = self.made.pop() else {
             return Ok(());
         };
-        let Some(body) = parts.pop() else {
+        let Some(rest) = parts.pop() else {
             return self.lose(alloc);
         };
-        let Some(value) = parts.pop() else {
+        let Some(part) = parts.pop() else {
             return self.lose(alloc);
         };
-        let value = Box::new(alloc, value)?;
-        let body = Box::new(alloc, body)?;
-        self.add(alloc, let_in(place, binder, value, body))
+        let part = Box::new(alloc, part)?;
+        let rest = Box::new(alloc, rest)?;
+        let e = clause(alloc, ending, place, of, number, part, rest)?;
+        self.add(alloc, e)
+    }
+
+    // Makes the last part what clauses end in.
+    fn end(&mut self, alloc: Global, ending: Ending) -> Result<(), AllocError>
+        ensures { OnOk result (core_to_make self.new ≡ left_with (tasks.End ending) self.old) }
+    {
+        let Some(mut parts) = self.made.pop() else {
+            return Ok(());
+        };
+        let Some(last) = parts.pop() else {
+            return self.lose(alloc);
+        };
+        parts.push(ended(alloc, ending, last)?)?;
+        self.made.push(parts)
     }
 
     // The left part of a path, and then the right one.
@@ -336,18 +369,15 @@ impl<'a> Normalising<'a> {
     }
 }
 
-/// The binder of a variable with its number, and the type that is written at it.
-pub(crate) fn numbered_binder(bound: &BoundName, variable: u32) -> Result<Binder, AllocError>
-    ensures { IfOk result (λ binder. binder ≡ numbered_binder bound.now variable) }
+// What clauses end in.
+fn ended(alloc: Global, ending: Ending, last: CoreExpr) -> Result<CoreExpr, AllocError>
+    ensures { IfOk result (λ e. e ≡ ended ending last) }
 {
-    let kind = match &bound.kind {
-        Some(kind) => Some(kind.clone()?),
-        None => None,
-    };
-    let place = bound.place;
-    Ok(Binder {
-        variable,
-        place,
-        kind,
-    })
+    match ending {
+        Ending::Returned => Ok(last),
+        Ending::Condition(_) => {
+            let last = Box::new(alloc, last)?;
+            Ok(Box::into_inner(boolean_around(alloc, last)?))
+        }
+    }
 }

@@ -147,12 +147,14 @@ fn open_clauses<'a>(
 {
     match clauses.split_first() {
         None => Ok(()),
-        Some((Clause::Let(_, bindings), others)) => {
+        Some((Clause::For(_, bindings) | Clause::Let(_, bindings), others)) => {
             pending.push(Pending::Clauses(others))?;
             pending.push(Pending::Bindings(bindings.as_slice()))
         }
-        Some((Clause::For(place, _), _)) => pending.push(Pending::Found(Some(*place))),
-        Some((Clause::Where(place, _), _)) => pending.push(Pending::Found(Some(*place))),
+        Some((Clause::Where(_, condition), others)) => {
+            pending.push(Pending::Clauses(others))?;
+            pending.push(Pending::Tree(condition))
+        }
     }
 }
 
@@ -193,6 +195,10 @@ fn open_tree<'a>(tree: &'a Expr, pending: &mut Stack<Pending<'a>>) -> Result<(),
             pending.push(Pending::Tree(&flwor.returned))?;
             pending.push(Pending::Found(unbuilt_keys(&flwor.keys, flwor.order)))?;
             pending.push(Pending::Clauses(flwor.clauses.as_slice()))
+        }
+        ExprNode::Quantified(quantified) => {
+            pending.push(Pending::Tree(&quantified.condition))?;
+            pending.push(Pending::Bindings(quantified.bindings.as_slice()))
         }
         ExprNode::InstanceOf(operand, _) | ExprNode::TreatAs(operand, _) => {
             open_front(operand, tree.place, pending)

@@ -53,7 +53,10 @@ use Rattle.gx_core.specs.declared.expression.BinaryOp.{BinaryOp}
 use Rattle.gx_core.specs.Queries.{Core}
 use Rattle.gx_core.specs.Expression.{CoreExpression, At, all_parts}
 use Rattle.gx_normal.specs.Constructs.{within, core_sequence, operator_at, call_at, counted_call, call_of, empty_at, of_one, data_at, conditional_at, and_at, or_at, signed_at, cast_at, castable_at, operator_in_core, joined_by, joining, context_item_at, step_at}
-use Rattle.gx_normal.specs.Normalisation.{Numbers, Focus, number_at, variable_at, of_two, of_three, joined_at, constructed, construct_core, core_of, cores_of, flwor_core, path_core, declared_type, declarations_of, behind_declarations, query_core}
+use Rattle.gx_normal.specs.declared.clauses.Ending.{Ending}
+use Rattle.gx_normal.specs.declared.clauses.Ending.TheVariants.{Returned, Condition}
+use Rattle.gx_normal.specs.Clauses.{Numbers, ending_of_clauses}
+use Rattle.gx_normal.specs.Normalisation.{Focus, number_at, variable_at, of_two, of_three, joined_at, constructed, construct_core, core_of, cores_of, clauses_core, path_core, declared_type, declarations_of, behind_declarations, query_core}
 use Rattle.gx_static.specs.NormalTypes.{CastsToAtomicTypes, PartsCastToAtomicTypes}
 use Rattle.gx_static.specs.ByInclusion.{IsNormalIfWritten, NameKnownTypes, NamesKnownTypes}
 use Rattle.gx_static.proofs.AtomicTypes.{IsAtomic, top}
@@ -342,25 +345,43 @@ module _ (s : SchemaSet) (is : IsSchemaSet s) where
   construct_casts place (constructs.Step axis asks) numbers focus free parts clauses steps c h k l = step_casts place focus axis asks
   construct_casts place constructs.ParentStep numbers focus free parts clauses steps c h k l = step_casts place focus axes.Parent tests.Node
   construct_casts place constructs.Flwor numbers focus free parts clauses steps c h k l = k
+  construct_casts place (constructs.Quantified every) numbers focus free parts clauses steps c h k l = k
   construct_casts place (constructs.Path false) numbers focus free parts clauses steps c h k l = l
   construct_casts place construct numbers focus free parts clauses steps c h k l = constructed_casts place construct parts.0 c h
 
   mutual
     core_casts : (tree : ResolvedTree) (numbers : Numbers) (focus : Focus) (free : ℕ) → AreCastsAtomic s tree → Casts (core_of tree numbers focus free).0
     core_casts (resolved_at place construct parts) numbers focus free c =
-        construct_casts place construct numbers focus free (cores_of parts numbers focus free) (flwor_core place parts numbers focus free) (path_core place parts numbers focus free) c.0
-        (cores_cast parts numbers focus free c.1) (flwor_casts place parts numbers focus free c.1) (path_casts place parts numbers focus free c.1)
+        construct_casts place construct numbers focus free (cores_of parts numbers focus free) (clauses_core (ending_of_clauses construct) place parts numbers focus free) (path_core place parts numbers focus free) c.0
+        (cores_cast parts numbers focus free c.1) (clauses_cast (ending_of_clauses construct) place parts numbers focus free c.1) (path_casts place parts numbers focus free c.1)
 
     cores_cast : (parts : ResolvedTrees) (numbers : Numbers) (focus : Focus) (free : ℕ) → AreAllCastsAtomic s parts → AllCast (cores_of parts numbers focus free).0
     cores_cast no_resolved numbers focus free c = tt
     cores_cast (a_resolved first others) numbers focus free c = (core_casts first numbers focus free c.0, cores_cast others numbers focus (core_of first numbers focus free).1 c.1)
 
-    flwor_casts : (place : Place) (parts : ResolvedTrees) (numbers : Numbers) (focus : Focus) (free : ℕ) → AreAllCastsAtomic s parts → Casts (flwor_core place parts numbers focus free).0
-    flwor_casts place no_resolved numbers focus free c = (tt, tt)
-    flwor_casts place (a_resolved (resolved_at there (constructs.Let bound) (a_resolved value more)) others) numbers focus free c =
+    clauses_cast : (ending : Ending) (place : Place) (parts : ResolvedTrees) (numbers : Numbers) (focus : Focus) (free : ℕ) → AreAllCastsAtomic s parts → Casts (clauses_core ending place parts numbers focus free).0
+    clauses_cast ending place no_resolved numbers focus free c = (tt, tt)
+    clauses_cast ending place (a_resolved (resolved_at there (constructs.For bound None) (a_resolved source more)) others) numbers focus free c =
+        let middle = (core_of source numbers focus free).1 in
+        (tt, (core_casts source numbers focus free c.0.1.0, (clauses_cast ending place others ((bound.place, middle) ∷ numbers) focus (middle + 1) c.1, tt)))
+    clauses_cast ending place (a_resolved (resolved_at there (constructs.For bound (Some position)) (a_resolved source more)) others) numbers focus free c =
+        let middle = (core_of source numbers focus free).1 in
+        (tt, (core_casts source numbers focus free c.0.1.0, (clauses_cast ending place others ((position.place, middle + 1) ∷ (bound.place, middle) ∷ numbers) focus (middle + 2) c.1, tt)))
+    clauses_cast ending place (a_resolved (resolved_at there (constructs.Let bound) (a_resolved value more)) others) numbers focus free c =
         let middle = (core_of value numbers focus free).1 in
-        (tt, (core_casts value numbers focus free c.0.1.0, (flwor_casts place others ((bound.place, middle) ∷ numbers) focus (middle + 1) c.1, tt)))
-    flwor_casts place (a_resolved returned others) numbers focus free c = core_casts returned numbers focus free c.0
+        (tt, (core_casts value numbers focus free c.0.1.0, (clauses_cast ending place others ((bound.place, middle) ∷ numbers) focus (middle + 1) c.1, tt)))
+    clauses_cast ending place (a_resolved (resolved_at there constructs.Where (a_resolved condition more)) others) numbers focus free c =
+        let middle = (core_of condition numbers focus free).1 in
+        (tt, ((tt, (core_casts condition numbers focus free c.0.1.0, tt)), (clauses_cast ending place others numbers focus middle c.1, ((tt, tt), tt))))
+    clauses_cast Returned place (a_resolved (resolved_at there (constructs.In bound) (a_resolved source more)) others) numbers focus free c = (tt, tt)
+    clauses_cast (Condition true) place (a_resolved (resolved_at there (constructs.In bound) (a_resolved source more)) others) numbers focus free c =
+        let middle = (core_of source numbers focus free).1 in
+        (tt, (core_casts source numbers focus free c.0.1.0, (clauses_cast (Condition true) place others ((bound.place, middle) ∷ numbers) focus (middle + 1) c.1, tt)))
+    clauses_cast (Condition false) place (a_resolved (resolved_at there (constructs.In bound) (a_resolved source more)) others) numbers focus free c =
+        let middle = (core_of source numbers focus free).1 in
+        (tt, (core_casts source numbers focus free c.0.1.0, (clauses_cast (Condition false) place others ((bound.place, middle) ∷ numbers) focus (middle + 1) c.1, tt)))
+    clauses_cast Returned place (a_resolved last others) numbers focus free c = core_casts last numbers focus free c.0
+    clauses_cast (Condition every) place (a_resolved last others) numbers focus free c = (tt, (core_casts last numbers focus free c.0, tt))
 
     path_casts : (place : Place) (parts : ResolvedTrees) (numbers : Numbers) (focus : Focus) (free : ℕ) → AreAllCastsAtomic s parts → Casts (path_core place parts numbers focus free).0
     path_casts place (a_resolved first (a_resolved second no_resolved)) numbers focus free c =

@@ -35,7 +35,8 @@ use Rattle.gx_names.specs.SettingRefusals.{prolog_environment, settings_refusals
 use Rattle.gx_names_scope.specs.Refusing.{refused_if, where_named, unless_found, prefix_refusals}
 use Rattle.gx_names_types.specs.TypeNames.{declared_refusals, test_refusals, written_type_refusals, element_tested, element_declared, type_written, document_item}
 use Rattle.gx_processor.specs.ExternalDocuments.{IsDocumentType, ExternalsAreDocuments, NamedQueriesHaveDocuments}
-use Rattle.gx_normal.specs.Normalisation.{Numbers, declared_type, declarations_of, query_core}
+use Rattle.gx_normal.specs.Clauses.{Numbers}
+use Rattle.gx_normal.specs.Normalisation.{declared_type, declarations_of, query_core}
 use Rattle.gx_processor.specs.NamedQuery.{named_query, unless_refused}
 
 -- ---- lists of which nothing is there

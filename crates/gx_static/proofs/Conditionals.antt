@@ -41,7 +41,7 @@ condition_is s x a =
     (v.0, subst (λ (y : Item). condition_of (y ∷ []) ≡ Some v.0) (sym a.is) (subst (λ (w : AtomValue). truth_of_value w ≡ Some v.0) (sym v.1) refl))
 
 -- a value of one boolean
-one_condition : (s : SchemaSet) (forest : Forest) (t : SequenceType) (xs : Items) → (is_at_least_one t && is_optional_in s Boolean t) ≡ true → Belongs s forest xs t → (truth : Bool) × (condition_of xs ≡ Some truth)
+pub one_condition : (s : SchemaSet) (forest : Forest) (t : SequenceType) (xs : Items) → (is_at_least_one t && is_optional_in s Boolean t) ≡ true → Belongs s forest xs t → (truth : Bool) × (condition_of xs ≡ Some truth)
 one_condition s forest t xs e b =
     let p = and_parts (is_at_least_one t) (is_optional_in s Boolean t) e in
     let q = and_parts (is_at_most_one t) (is_all_in s Boolean t) p.1 in

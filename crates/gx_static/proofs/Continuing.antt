@@ -1,23 +1,22 @@
 -- Typing the parts of an expression and then making it comes to the judgement of the expression.
-use Rattle.std.proofs.Common.{◌≡◌, ◌≢◌, ◌≤◌, ◌+◌, ℕ, zero, suc, List, [], ◌∷◌, ◌++◌, length, map, reverse, None, Some, refl, sym, ◌∙◌, ap, subst, append_assoc, arith}
+use Rattle.std.proofs.Common.{◌≡◌, ◌≢◌, ◌≤◌, ◌+◌, ℕ, zero, suc, List, [], ◌∷◌, ◌++◌, length, map, reverse, drop, None, Some, refl, sym, ◌∙◌, ap, subst, append_assoc, arith}
 use Rattle.std.proofs.lemmas.List.{append-nil, reverse-append}
 use Rattle.gx_base.specs.declared.place.Place.{Place}
 use Rattle.gx_types.specs.SchemaSet.{SchemaSet}
 use Rattle.gx_types.specs.SequenceType.{SequenceType}
-use Rattle.gx_types.specs.Prime.{prime_of}
 use Rattle.gx_funcs.specs.declared.function.Function.{Function}
 use Rattle.gx_core.specs.declared.expression.Binder.{Binder}
 use Rattle.gx_core.specs.declared.operator.Operator.{Operator}
 use Rattle.gx_core.specs.declared.operator.Operator.TheVariants as operators
 use Rattle.gx_core.specs.Expression.{CoreExpression, core_at, Parts, no_parts, a_part, one_part, two_parts, three_parts, all_parts, each_of, annotation_of}
-use Rattle.gx_core.specs.Bindings.{Types, types_bound}
+use Rattle.gx_core.specs.Bindings.{Types, types_bound, position_bound}
 use Rattle.gx_core.specs.Soundness.{TypedExpression}
 use Rattle.gx_core.specs.Queries.{TypedCore, TypedDeclaration}
 use Rattle.gx_static.specs.Rule.{ruling}
 use Rattle.gx_static.specs.Judgement.{Judged, Judgement, typed, rejected, with_typed, judged, parts_judged, concluded}
 use Rattle.gx_static.specs.declared.typing.Task.{Task}
 use Rattle.gx_static.specs.declared.typing.Task.TheVariants.{Finish, FinishCall}
-use Rattle.gx_static.specs.Typing.{Awaited, part_count, then_typed, finished, typed_in_order, last_parts, continued}
+use Rattle.gx_static.specs.Typing.{Awaited, part_count, then_typed, item_type_bound, finished, typed_in_order, last_parts, continued}
 
 -- what is made of all parts, made of each
 made_typed : {R : Type 0} (j : Judged R) (make : R → Judgement) (next : TypedExpression → Awaited) → then_typed j (λ x. then_typed (make x) next) ≡ then_typed (with_typed j make) next
@@ -155,12 +154,31 @@ let_opens schemas tasks parts types declared place outer binder value body =
     both_typed (judged schemas value types) (λ t. judged schemas body ((binder.variable, annotation_of t) ∷ types))
     (λ ts. concluded place outer (operators.Let binder) ts (ruling schemas (operators.Let binder) (each_of annotation_of ts) types)) (λ t. continued schemas tasks (t ∷ parts) types declared)
 
-pub for_opens : (schemas : SchemaSet) (tasks : List Task) (parts : List TypedExpression) (types : Types) (declared : List TypedDeclaration) (place outer : Place) (binder : Binder) (source body : CoreExpression)
-    → then_typed (judged schemas source types) (λ t. then_typed (judged schemas body ((binder.variable, prime_of (annotation_of t)) ∷ types)) (λ u. continued schemas (Finish place outer (operators.For binder) ∷ tasks) (u ∷ t ∷ parts) types declared))
-    ≡ then_typed (judged schemas (core_at place outer (operators.For binder) (two_parts source body)) types) (λ t. continued schemas tasks (t ∷ parts) types declared)
-for_opens schemas tasks parts types declared place outer binder source body =
-    both_typed (judged schemas source types) (λ t. judged schemas body ((binder.variable, prime_of (annotation_of t)) ∷ types))
-    (λ ts. concluded place outer (operators.For binder) ts (ruling schemas (operators.For binder) (each_of annotation_of ts) types)) (λ t. continued schemas tasks (t ∷ parts) types declared)
+pub for_opens : (schemas : SchemaSet) (tasks : List Task) (parts : List TypedExpression) (types : Types) (declared : List TypedDeclaration) (place outer : Place) (binder : Binder) (position : ℕ) (source body : CoreExpression)
+    → then_typed (judged schemas source types) (λ t. then_typed (judged schemas body (item_type_bound binder.variable position t ++ types)) (λ u. continued schemas (Finish place outer (operators.For binder position) ∷ tasks) (u ∷ t ∷ parts) types declared))
+    ≡ then_typed (judged schemas (core_at place outer (operators.For binder position) (two_parts source body)) types) (λ t. continued schemas tasks (t ∷ parts) types declared)
+for_opens schemas tasks parts types declared place outer binder position source body =
+    both_typed (judged schemas source types) (λ t. judged schemas body (item_type_bound binder.variable position t ++ types))
+    (λ ts. concluded place outer (operators.For binder position) ts (ruling schemas (operators.For binder position) (each_of annotation_of ts) types)) (λ t. continued schemas tasks (t ∷ parts) types declared)
+
+pub some_opens : (schemas : SchemaSet) (tasks : List Task) (parts : List TypedExpression) (types : Types) (declared : List TypedDeclaration) (place outer : Place) (binder : Binder) (source test : CoreExpression)
+    → then_typed (judged schemas source types) (λ t. then_typed (judged schemas test (item_type_bound binder.variable 0 t ++ types)) (λ u. continued schemas (Finish place outer (operators.SomeIn binder) ∷ tasks) (u ∷ t ∷ parts) types declared))
+    ≡ then_typed (judged schemas (core_at place outer (operators.SomeIn binder) (two_parts source test)) types) (λ t. continued schemas tasks (t ∷ parts) types declared)
+some_opens schemas tasks parts types declared place outer binder source test =
+    both_typed (judged schemas source types) (λ t. judged schemas test (item_type_bound binder.variable 0 t ++ types))
+    (λ ts. concluded place outer (operators.SomeIn binder) ts (ruling schemas (operators.SomeIn binder) (each_of annotation_of ts) types)) (λ t. continued schemas tasks (t ∷ parts) types declared)
+
+pub every_opens : (schemas : SchemaSet) (tasks : List Task) (parts : List TypedExpression) (types : Types) (declared : List TypedDeclaration) (place outer : Place) (binder : Binder) (source test : CoreExpression)
+    → then_typed (judged schemas source types) (λ t. then_typed (judged schemas test (item_type_bound binder.variable 0 t ++ types)) (λ u. continued schemas (Finish place outer (operators.EveryIn binder) ∷ tasks) (u ∷ t ∷ parts) types declared))
+    ≡ then_typed (judged schemas (core_at place outer (operators.EveryIn binder) (two_parts source test)) types) (λ t. continued schemas tasks (t ∷ parts) types declared)
+every_opens schemas tasks parts types declared place outer binder source test =
+    both_typed (judged schemas source types) (λ t. judged schemas test (item_type_bound binder.variable 0 t ++ types))
+    (λ ts. concluded place outer (operators.EveryIn binder) ts (ruling schemas (operators.EveryIn binder) (each_of annotation_of ts) types)) (λ t. continued schemas tasks (t ∷ parts) types declared)
+
+-- a turn ends where its variable is unbound, and that of the position
+pub two_are_unbound : (position variable : ℕ) (i t : SequenceType) (types : Types) → position ≢ 0 → drop 1 (drop 1 (((variable, t) ∷ position_bound position i) ++ types)) ≡ types
+two_are_unbound zero variable i t types h = absurd (h refl)
+two_are_unbound (suc number) variable i t types h = refl
 
 -- so many parts are there as the operator has, where what is left to do comes to a judgement
 pub parts_are_there : (n : ℕ) (below : List TypedExpression) (parts : Parts SequenceType) (next : Parts SequenceType → List TypedExpression → Awaited)

@@ -40,12 +40,12 @@ use Rattle.gx_core.specs.QueryMeaning.{external_types, global_types, types_decla
 use Rattle.gx_core.specs.Soundness.{TypedExpression}
 use Rattle.gx_static.specs.declared.comparison.Family.{Family}
 use Rattle.gx_static.specs.declared.comparison.Family.TheVariants as families
-use Rattle.gx_static.specs.Rule.{Ruling, has_type, has_none, type_if, atomic, all_items, is_atomic_in, is_of_family, is_at_most_one, is_at_least_one, is_all_in, is_optional_in, are_of_one_family, are_comparable_items, integer_if, both_occur, number_type, arithmetic_rule, negation_rule, range_rule, value_comparison_type, value_comparison_rule, general_comparison_rule, binary_rule, conditional_rule, order_rule, cast_rule, castable_rule, nodes_type, is_as_written, takes_argument, arguments_rule, answer_rule, call_rule, rule, ruling}
+use Rattle.gx_static.specs.Rule.{Ruling, has_type, has_none, type_if, atomic, all_items, is_atomic_in, is_of_family, is_at_most_one, is_at_least_one, is_all_in, is_optional_in, are_of_one_family, are_comparable_items, integer_if, both_occur, number_type, arithmetic_rule, negation_rule, range_rule, value_comparison_type, value_comparison_rule, general_comparison_rule, binary_rule, conditional_rule, quantifier_rule, order_rule, cast_rule, castable_rule, nodes_type, is_as_written, takes_argument, arguments_rule, answer_rule, call_rule, rule, ruling}
 use Rattle.gx_static.specs.Judgement.{typed, rejected, with_typed, judged}
 use Rattle.gx_static.specs.QueryJudgement.{declared_as, declaration_judged, declarations_judged}
 use Rattle.gx_static.specs.NormalTypes.{IsOfKnownType, IsMadeOfItems, IsNormalType, HaveNormalTypes, CastsToAtomicTypes, PartsCastToAtomicTypes, IsNormalThroughout, AreNormalThroughout}
 use Rattle.gx_static.specs.Demands.{Demand, of_type, of_family, of_atomic, of_any, meets_demand, demanded_type, family_type, AreOfOneFamily}
-use Rattle.gx_static.specs.ByInclusion.{is_optional_value, are_values, number_included, arithmetic_included, negation_included, range_included, are_optional_in, value_comparison_included, is_item_of, are_comparable_kinds, general_comparison_included, binary_included, conditional_included, order_included, cast_included, castable_included, parameter_type, arguments_included, call_included, rule_included, ruling_included, IsJudgedByInclusion, PartsAreJudgedByInclusion, ValuesAreJudgedByInclusion, IsNormalIfWritten, NameKnownTypes, QueriesAreJudgedByInclusion}
+use Rattle.gx_static.specs.ByInclusion.{is_optional_value, are_values, number_included, arithmetic_included, negation_included, range_included, are_optional_in, value_comparison_included, is_item_of, are_comparable_kinds, general_comparison_included, binary_included, conditional_included, quantifier_included, order_included, cast_included, castable_included, parameter_type, arguments_included, call_included, rule_included, ruling_included, IsJudgedByInclusion, PartsAreJudgedByInclusion, ValuesAreJudgedByInclusion, IsNormalIfWritten, NameKnownTypes, QueriesAreJudgedByInclusion}
 use Rattle.gx_static.proofs.DemandLaws.{demands_are_inclusion}
 use Rattle.gx_static.proofs.DemandRules.{gives_if, all_pass, all_rules_demand_inclusion}
 use Rattle.gx_type_laws.proofs.Items.{both_hold}
@@ -215,6 +215,15 @@ module _ (s : SchemaSet) (g : Grounded (bases_of s)) where
   conditional_same condition chosen otherwise n =
       ap (λ (b : Bool). type_if b (choice_of chosen otherwise)) (regrouped (is_at_least_one condition) (is_at_most_one condition) (is_all_in s Boolean condition) ∙ one_same (of_type Boolean) condition n)
 
+  quantifier_same : (binder : Binder) (source test : SequenceType) → IsNormalType s test → quantifier_rule s binder source test ≡ quantifier_included s binder source test
+  quantifier_same binder source test n =
+      ap (λ (b : Bool). type_if b (atomic Boolean)) (grouped (is_as_written s binder.kind (prime_of source)) (is_at_least_one test) (is_optional_in s Boolean test)
+      ∙ ap (λ (b : Bool). is_as_written s binder.kind (prime_of source) && b) (regrouped (is_at_least_one test) (is_at_most_one test) (is_all_in s Boolean test) ∙ one_same (of_type Boolean) test n))
+    where
+      grouped : (a b c : Bool) → (a && b && c) ≡ (a && (b && c))
+      grouped true b c = refl
+      grouped false b c = refl
+
   order_same : (t : SequenceType) → IsNormalType s t → order_rule s t ≡ order_included s t
   order_same t n =
       ap (λ (b : Bool). if is_included s t nodes_type then has_type (times_of (prime_of t) (occurrence_of t)) else (if b then has_type t else has_none XPTY0018 None)) (any_same of_atomic t n)
@@ -253,6 +262,8 @@ module _ (s : SchemaSet) (g : Grounded (bases_of s)) where
 
   rule_same : (operator : Operator) (ts : List SequenceType) → HoldsOfEach (IsNormalType s) ts → rule s operator ts ≡ rule_included s operator ts
   rule_same operators.Order (t ∷ []) n = order_same t n.0
+  rule_same (operators.SomeIn binder) (source ∷ test ∷ []) n = quantifier_same binder source test n.1.0
+  rule_same (operators.EveryIn binder) (source ∷ test ∷ []) n = quantifier_same binder source test n.1.0
   rule_same operators.If (condition ∷ chosen ∷ otherwise ∷ []) n = conditional_same condition chosen otherwise n.0
   rule_same (operators.Cast kind allows_empty) (t ∷ []) n = cast_same kind allows_empty t n.0
   rule_same (operators.Castable kind allows_empty) (t ∷ []) n = castable_same t n.0

@@ -2,15 +2,16 @@ pub mod LiteralLemmas
 pub mod ItemLemmas
 pub mod HonestValues
 pub mod Keeping
-pub mod Loops
 pub mod Paths
 pub mod Orders
 pub mod Singles
+pub mod Loops
 pub mod Arithmetic
 pub mod Families
 pub mod Comparisons
 pub mod Ranges
 pub mod Conditionals
+pub mod Quantifiers
 pub mod Casts
 pub mod CallLemmas
 pub mod BooleanTypes

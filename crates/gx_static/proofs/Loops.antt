@@ -1,6 +1,8 @@
 -- Loops keep their types.
-use Rattle.std.proofs.Common.{◌≡◌, ◌+◌, ℕ, zero, suc, List, [], ◌∷◌, ◌++◌, length, refl, sym, ◌∙◌, ap, subst, append_assoc, arith}
+use Rattle.std.proofs.Common.{◌≡◌, ◌+◌, ℕ, zero, suc, pos, None, List, [], ◌∷◌, ◌++◌, length, refl, sym, ◌∙◌, ap, subst, append_assoc, arith}
 use Rattle.std.proofs.lemmas.List.{append-nil}
+use Rattle.gx_base.specs.declared.type_name.Builtin.TheVariants.{Integer}
+use Rattle.gx_base.specs.declared.type_name.TypeName.TheVariants as names
 use Rattle.gx_types.specs.declared.shape.Shape.{Shape}
 use Rattle.gx_types.specs.SchemaSet.{SchemaSet}
 use Rattle.gx_types.specs.Occurs.{Occurs}
@@ -11,20 +13,24 @@ use Rattle.gx_types.specs.TypeRules.{times_of}
 use Rattle.gx_types.specs.Takes.{Takes, Each, EachShape, SomeItemTakes, all_joined}
 use Rattle.gx_types.specs.Laws.{Allows}
 use Rattle.gx_types.proofs.PublicLaws.{items_take_each_shape, prime_is_a_choice_of_items, times_takes_joined}
+use Rattle.gx_funcs.specs.Function.{integer_atom}
 use Rattle.gx_model.specs.Forest.{Forest}
 use Rattle.gx_model.specs.Honest.{IsHonest}
-use Rattle.gx_model.specs.Item.{Item, Items}
+use Rattle.gx_model.specs.Item.{Item, atom, Items}
 use Rattle.gx_model.specs.Belongs.{HaveShapes, Belongs}
 use Rattle.gx_model.specs.Growth.{Extends}
 use Rattle.gx_model.proofs.PublicLaws.{growth_is_an_order, values_stay}
+use Rattle.gx_core.specs.declared.expression.Binder.{Binder}
+use Rattle.gx_core.specs.Bindings.{Types, position_bound}
 use Rattle.gx_core.specs.Expression.{no_parts, a_part, annotation_of}
 use Rattle.gx_core.specs.Outcome.{Outcome, gives, raises, wrong, after}
-use Rattle.gx_core.specs.Meaning.{for_each, meaning}
-use Rattle.gx_core.specs.Soundness.{Setting, typed_setting, context_of, IsOfType, KeepsFact, Keeps}
+use Rattle.gx_core.specs.Meaning.{Bindings, for_each, item_bound, meaning}
+use Rattle.gx_core.specs.Soundness.{Setting, typed_setting, context_of, IsOfType, KeepsFact, Keeps, Fits}
 use Rattle.gx_core.proofs.KeptFacts.{fact_after, fact_at_once, binding_fits, bindings_fit_still}
-use Rattle.gx_static.specs.Rule.{is_as_written}
+use Rattle.gx_static.specs.Rule.{atomic, is_as_written}
 use Rattle.gx_static.specs.Laws.{ForKeepsType}
 use Rattle.gx_static.proofs.ItemLemmas.{belongs_within}
+use Rattle.gx_static.proofs.Singles.{one_atom_belongs}
 use Rattle.gx_static.proofs.Keeping.{type_so, have_joined}
 
 -- ---- values made of several
@@ -78,7 +84,7 @@ abbrev pub EachBelongs : SchemaSet → Forest → SequenceType → Items → Typ
 EachBelongs s forest t [] = Unit {0}
 EachBelongs s forest t (x ∷ xs) = Belongs s forest (x ∷ []) t × EachBelongs s forest t xs
 
-each_still : (s : SchemaSet) (before now : Forest) (t : SequenceType) (xs : Items) → Extends before now → EachBelongs s before t xs → EachBelongs s now t xs
+pub each_still : (s : SchemaSet) (before now : Forest) (t : SequenceType) (xs : Items) → Extends before now → EachBelongs s before t xs → EachBelongs s now t xs
 each_still s before now t [] e h = tt
 each_still s before now t (x ∷ xs) e h = (values_stay s before now (x ∷ []) t e h.0, each_still s before now t xs e h.1)
 
@@ -112,20 +118,20 @@ one_more_made s forest t n xs ys b c = record {
   taken = (b.seen, c.seen, refl, b.taken, c.taken);
 }
 
--- the body keeps its type for an item, in each forest that has grown from the first
-abbrev BodyKeeps : Setting → Forest → (p t : SequenceType) → (Item → Forest → Outcome Items) → Type 0
+-- the body keeps its type for an item of any number, in each forest that has grown from the first
+abbrev BodyKeeps : Setting → Forest → (p t : SequenceType) → (ℕ → Item → Forest → Outcome Items) → Type 0
 BodyKeeps setting first p t next =
-    (x : Item) (now : Forest) → Extends first now → IsHonest setting.schemas now → Belongs setting.schemas now (x ∷ []) p → Keeps setting now t (next x now)
+    (number : ℕ) (x : Item) (now : Forest) → Extends first now → IsHonest setting.schemas now → Belongs setting.schemas now (x ∷ []) p → Keeps setting now t (next number x now)
 
-loop_keeps : (setting : Setting) (first : Forest) (p t : SequenceType) (next : Item → Forest → Outcome Items) → BodyKeeps setting first p t next
-    → (xs : Items) (n m : ℕ) (done : Items) (forest : Forest) → m ≡ n + length xs → Extends first forest → IsHonest setting.schemas forest → EachBelongs setting.schemas forest p xs
-    → Made setting.schemas t n forest done → KeepsFact setting forest (Made setting.schemas t m) (for_each next done xs forest)
-loop_keeps setting first p t next body [] n m done forest e grown honest all made =
+loop_keeps : (setting : Setting) (first : Forest) (p t : SequenceType) (next : ℕ → Item → Forest → Outcome Items) → BodyKeeps setting first p t next
+    → (xs : Items) (number n m : ℕ) (done : Items) (forest : Forest) → m ≡ n + length xs → Extends first forest → IsHonest setting.schemas forest → EachBelongs setting.schemas forest p xs
+    → Made setting.schemas t n forest done → KeepsFact setting forest (Made setting.schemas t m) (for_each next number done xs forest)
+loop_keeps setting first p t next body [] number n m done forest e grown honest all made =
     let same : n ≡ m = omega (arith, e) in
     fact_at_once setting forest (Made setting.schemas t m) done honest (subst (λ (k : ℕ). Made setting.schemas t k forest done) same made)
-loop_keeps setting first p t next body (x ∷ xs) n m done forest e grown honest all made =
-    fact_after setting forest (IsOfType setting.schemas t) (Made setting.schemas t m) (next x forest) (λ more left. for_each next (done ++ more) xs left) (body x forest grown honest all.0)
-    (λ more now more_grown still b. loop_keeps setting first p t next body xs (suc n) m (done ++ more) now (omega (arith, e)) (growth_is_an_order.transitive first forest now grown more_grown) still
+loop_keeps setting first p t next body (x ∷ xs) number n m done forest e grown honest all made =
+    fact_after setting forest (IsOfType setting.schemas t) (Made setting.schemas t m) (next number x forest) (λ more left. for_each next (suc number) (done ++ more) xs left) (body number x forest grown honest all.0)
+    (λ more now more_grown still b. loop_keeps setting first p t next body xs (suc number) (suc n) m (done ++ more) now (omega (arith, e)) (growth_is_an_order.transitive first forest now grown more_grown) still
     (each_still setting.schemas forest now p xs more_grown all.1)
     (one_more_made setting.schemas now t n done more (values_stay setting.schemas forest now done (copies n t) more_grown made) b))
 
@@ -136,32 +142,45 @@ fact_so setting before P Q (raises code) h k = tt
 fact_so setting before P Q wrong h k = absurd k
 
 -- a loop over all items of a value
-all_loop : (setting : Setting) (a t : SequenceType) (next : Item → Forest → Outcome Items) (xs : Items) (forest : Forest) → IsHonest setting.schemas forest → Belongs setting.schemas forest xs a
-    → BodyKeeps setting forest (prime_of a) t next → Keeps setting forest (times_of t (occurrence_of a)) (for_each next [] xs forest)
+all_loop : (setting : Setting) (a t : SequenceType) (next : ℕ → Item → Forest → Outcome Items) (xs : Items) (forest : Forest) → IsHonest setting.schemas forest → Belongs setting.schemas forest xs a
+    → BodyKeeps setting forest (prime_of a) t next → Keeps setting forest (times_of t (occurrence_of a)) (for_each next 1 [] xs forest)
 all_loop setting a t next xs forest honest b body =
     let none : Made setting.schemas t 0 forest [] = record { seen = []; shaped = tt; taken = refl } in
-    fact_so setting forest (Made setting.schemas t (length xs)) (IsOfType setting.schemas (times_of t (occurrence_of a))) (for_each next [] xs forest)
+    fact_so setting forest (Made setting.schemas t (length xs)) (IsOfType setting.schemas (times_of t (occurrence_of a))) (for_each next 1 [] xs forest)
     (λ now ys made. joined_belongs_times setting.schemas now t (occurrence_of a) (length xs) ys made.seen (belongs_within setting.schemas forest a xs b) made.shaped (copies_joined setting.schemas t (length xs) made.seen made.taken))
-    (loop_keeps setting forest (prime_of a) t next body xs 0 (length xs) [] forest (omega arith) (growth_is_an_order.reflexive forest) honest (items_belong setting.schemas forest a xs b) none)
+    (loop_keeps setting forest (prime_of a) t next body xs 1 0 (length xs) [] forest (omega arith) (growth_is_an_order.reflexive forest) honest (items_belong setting.schemas forest a xs b) none)
+
+-- an item and its position are of the types that a loop binds
+item_fits : (setting : Setting) (binder : Binder) (position number : ℕ) (p : SequenceType) (x : Item) (types : Types) (bindings : Bindings) (forest : Forest)
+    → Fits setting.schemas forest types bindings → Belongs setting.schemas forest (x ∷ []) p
+    → Fits setting.schemas forest (((binder.variable, p) ∷ position_bound position (atomic Integer)) ++ types) (item_bound binder.variable position number x ++ bindings)
+item_fits setting binder zero number p x types bindings forest fits one = binding_fits setting binder p (x ∷ []) types bindings forest fits one
+item_fits setting binder (suc position) number p x types bindings forest fits one =
+    let counted : Belongs setting.schemas forest (atom (integer_atom (pos number)) ∷ []) (atomic Integer) =
+    one_atom_belongs setting.schemas forest (names.Builtin Integer) (integer_atom (pos number)) (0, refl) (0, refl) in
+    let of_position : Binder = record { variable = suc position; place = binder.place; kind = None } in
+    binding_fits setting binder p (x ∷ []) ((suc position, atomic Integer) ∷ types) ((suc position, atom (integer_atom (pos number)) ∷ []) ∷ bindings) forest
+    (binding_fits setting of_position (atomic Integer) (atom (integer_atom (pos number)) ∷ []) types bindings forest fits counted) one
 
 pub for_keeps : ForKeepsType
-for_keeps s binder (a_part a (a_part b no_parts)) types place outer t e h situation =
+for_keeps s binder position (a_part a (a_part b no_parts)) types place outer t e h situation =
     let setting : Setting = typed_setting s in
     let k = context_of setting in
     let p : SequenceType = prime_of (annotation_of a) in
+    let turn : ℕ → Item → Forest → Outcome Items = λ number x now. meaning k b (item_bound binder.variable position number x ++ situation.bindings) now in
     let r = type_so (is_as_written s binder.kind p) (times_of (annotation_of b) (occurrence_of (annotation_of a))) t e in
-    subst (λ (u : SequenceType). Keeps setting situation.forest u (after (meaning k a situation.bindings situation.forest) (λ xs left. for_each (λ x now. meaning k b ((binder.variable, x ∷ []) ∷ situation.bindings) now) [] xs left))) r.1
+    subst (λ (u : SequenceType). Keeps setting situation.forest u (after (meaning k a situation.bindings situation.forest) (λ xs left. for_each turn 1 [] xs left))) r.1
     (fact_after setting situation.forest (IsOfType s (annotation_of a)) (IsOfType s (times_of (annotation_of b) (occurrence_of (annotation_of a)))) (meaning k a situation.bindings situation.forest)
-    (λ xs left. for_each (λ x now. meaning k b ((binder.variable, x ∷ []) ∷ situation.bindings) now) [] xs left) (h.0 situation)
-    (λ xs left grown honest belongs. all_loop setting (annotation_of a) (annotation_of b) (λ x now. meaning k b ((binder.variable, x ∷ []) ∷ situation.bindings) now) xs left honest belongs
-    (λ x now more_grown still one. h.1.0 (record {
-      bindings = (binder.variable, x ∷ []) ∷ situation.bindings;
+    (λ xs left. for_each turn 1 [] xs left) (h.0 situation)
+    (λ xs left grown honest belongs. all_loop setting (annotation_of a) (annotation_of b) turn xs left honest belongs
+    (λ number x now more_grown still one. h.1.0 (record {
+      bindings = item_bound binder.variable position number x ++ situation.bindings;
       forest = now;
       honest = still;
       fits =
-          binding_fits setting binder p (x ∷ []) types situation.bindings now
+          item_fits setting binder position number p x types situation.bindings now
           (bindings_fit_still setting types situation.bindings situation.forest now (growth_is_an_order.transitive situation.forest left now grown more_grown) situation.fits) one;
     }))))
-for_keeps s binder no_parts types place outer t e h situation = absurd (cc)
-for_keeps s binder (a_part a no_parts) types place outer t e h situation = absurd (cc)
-for_keeps s binder (a_part a (a_part b (a_part c others))) types place outer t e h situation = absurd (cc)
+for_keeps s binder position no_parts types place outer t e h situation = absurd (cc)
+for_keeps s binder position (a_part a no_parts) types place outer t e h situation = absurd (cc)
+for_keeps s binder position (a_part a (a_part b (a_part c others))) types place outer t e h situation = absurd (cc)

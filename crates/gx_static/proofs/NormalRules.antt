@@ -136,7 +136,11 @@ rules_give_normal_types s (operators.Lit value) [] is c n = literal_is_normal s 
 rules_give_normal_types s (operators.Var number) (bound ∷ []) is c n = n.0
 rules_give_normal_types s operators.Empty [] is c n = tt
 rules_give_normal_types s operators.Seq (first ∷ second ∷ []) is c n = sequence_is_normal s first second n.0 n.1.0
-rules_give_normal_types s (operators.For binder) (source ∷ body ∷ []) is c n =
+rules_give_normal_types s (operators.SomeIn binder) (source ∷ test ∷ []) is c n =
+    type_if_normal s (is_as_written s binder.kind (prime_of source) && is_at_least_one test && is_optional_in s Boolean test) (atomic Boolean) (boolean_is_atomic s)
+rules_give_normal_types s (operators.EveryIn binder) (source ∷ test ∷ []) is c n =
+    type_if_normal s (is_as_written s binder.kind (prime_of source) && is_at_least_one test && is_optional_in s Boolean test) (atomic Boolean) (boolean_is_atomic s)
+rules_give_normal_types s (operators.For binder position) (source ∷ body ∷ []) is c n =
     type_if_normal s (is_as_written s binder.kind (prime_of source)) (times_of body (occurrence_of source)) (times_is_normal s body (occurrence_of source) n.1.0)
 rules_give_normal_types s (operators.Step axis asks number) (context ∷ []) is c n =
     near_step s (is_near axis) (is_included s context node_type) (step_type s axis asks context) XPST0003 XPTY0020 (step_is_normal s axis asks context is n.0)

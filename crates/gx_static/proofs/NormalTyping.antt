@@ -1,5 +1,5 @@
 -- Typing gives each expression a normal type.
-use Rattle.std.proofs.Common.{ℕ, Bool, true, false, ◌&&◌, not, List, [], ◌∷◌, ◌++◌, Option, None, Some, nat_eq, subst, if◌then◌else◌}
+use Rattle.std.proofs.Common.{ℕ, zero, suc, Bool, true, false, ◌&&◌, not, List, [], ◌∷◌, ◌++◌, Option, None, Some, nat_eq, subst, if◌then◌else◌}
 use Rattle.gx_base.specs.declared.place.Place.{Place}
 use Rattle.gx_base.specs.declared.code.Code.TheVariants.{XPST0005}
 use Rattle.gx_types.specs.SchemaSet.{SchemaSet}
@@ -16,6 +16,7 @@ use Rattle.gx_core.specs.Soundness.{TypedExpression}
 use Rattle.gx_static.specs.Rule.{Ruling, has_type, has_none, rule, variable_ruling, reaching, step_ruling, ruling}
 use Rattle.gx_static.specs.Judgement.{Judged, typed, rejected, with_typed, judged, parts_judged, concluded}
 use Rattle.gx_static.specs.NormalTypes.{IsNormalType, GivesNormalType, CastsToAtomicType, HaveNormalTypes, CastsToAtomicTypes, PartsCastToAtomicTypes, IsNormalThroughout, AreNormalThroughout, TypingGivesNormalTypes}
+use Rattle.gx_static.proofs.AtomicTypes.{integer_is_atomic}
 use Rattle.gx_static.proofs.NormalTypes.{prime_is_normal}
 use Rattle.gx_type_laws.proofs.Items.{both_hold}
 use Rattle.gx_static.proofs.NormalRules.{rules_give_normal_types}
@@ -36,7 +37,10 @@ found_is_normal s [] number n = tt
 found_is_normal s (binding ∷ types) number n = found_or s (nat_eq binding.0 number) binding.1 (look_up types number) n.0 (found_is_normal s types number n.1)
 
 pub bound_are_normal : (s : SchemaSet) (operator : Operator) (before : List SequenceType) → HoldsOfEach (IsNormalType s) before → HaveNormalTypes s (types_bound operator before)
-bound_are_normal s (operators.For binder) (source ∷ []) n = (prime_is_normal s source n.0, tt)
+bound_are_normal s (operators.For binder zero) (source ∷ []) n = (prime_is_normal s source n.0, tt)
+bound_are_normal s (operators.For binder (suc position)) (source ∷ []) n = (prime_is_normal s source n.0, (integer_is_atomic s, tt))
+bound_are_normal s (operators.SomeIn binder) (source ∷ []) n = (prime_is_normal s source n.0, tt)
+bound_are_normal s (operators.EveryIn binder) (source ∷ []) n = (prime_is_normal s source n.0, tt)
 bound_are_normal s (operators.Let binder) (value ∷ []) n = (n.0, tt)
 bound_are_normal s _ _ n = tt
 

@@ -1,5 +1,5 @@
 -- Where each variable stands in the scope of its binder, no variable is rejected.
-use Rattle.std.proofs.Common.{◌≡◌, ◌≢◌, ℕ, ◌+◌, Bool, true, false, ◌||◌, ◌&&◌, List, [], ◌∷◌, ◌++◌, map, Option, Some, None, refl, sym, ◌∙◌, ap, subst, nat_eq, if◌then◌else◌}
+use Rattle.std.proofs.Common.{◌≡◌, ◌≢◌, ℕ, zero, suc, ◌+◌, Bool, true, false, ◌||◌, ◌&&◌, List, [], ◌∷◌, ◌++◌, map, Option, Some, None, refl, sym, ◌∙◌, ap, subst, nat_eq, if◌then◌else◌}
 use Rattle.std.specs.Prelude.{not}
 use Rattle.gx_base.specs.declared.place.Place.{Place}
 use Rattle.gx_base.specs.declared.code.Code.{Code}
@@ -146,8 +146,12 @@ ruling_code s operators.Empty [] types code part h e = absurd (cc)
 ruling_code s operators.Empty (t ∷ ts) types code part h e = other_code code part e
 ruling_code s operators.Seq (t ∷ u ∷ []) types code part h e = absurd (cc)
 ruling_code s operators.Seq _ types code part h e = other_code code part e
-ruling_code s (operators.For binder) (t ∷ u ∷ []) types code part h e = tested_code _ _ XPTY0004 code part (λ x. cc) e
-ruling_code s (operators.For binder) _ types code part h e = other_code code part e
+ruling_code s (operators.For binder position) (t ∷ u ∷ []) types code part h e = tested_code _ _ XPTY0004 code part (λ x. cc) e
+ruling_code s (operators.For binder position) _ types code part h e = other_code code part e
+ruling_code s (operators.SomeIn binder) (t ∷ u ∷ []) types code part h e = tested_code _ _ XPTY0004 code part (λ x. cc) e
+ruling_code s (operators.SomeIn binder) _ types code part h e = other_code code part e
+ruling_code s (operators.EveryIn binder) (t ∷ u ∷ []) types code part h e = tested_code _ _ XPTY0004 code part (λ x. cc) e
+ruling_code s (operators.EveryIn binder) _ types code part h e = other_code code part e
 ruling_code s (operators.Step axis asks number) [] types code part h e = step_code s axis asks number types (look_up types number) code part refl h e
 ruling_code s (operators.Step axis asks number) (t ∷ ts) types code part h e = other_code code part e
 ruling_code s operators.Nodes (t ∷ []) types code part h e = tested_code _ _ XPTY0019 code part (λ x. cc) e
@@ -177,9 +181,18 @@ abbrev pub places_of : List SequenceType → List (Unit {0})
 places_of ts = map (λ t. tt) ts
 
 pub numbers_agree : (operator : Operator) (before : List SequenceType) → in_scope (types_bound operator before) ≡ numbers_bound_by operator (places_of before)
-numbers_agree (operators.For binder) [] = refl
-numbers_agree (operators.For binder) (t ∷ []) = refl
-numbers_agree (operators.For binder) (t ∷ u ∷ ts) = refl
+numbers_agree (operators.For binder zero) [] = refl
+numbers_agree (operators.For binder zero) (t ∷ []) = refl
+numbers_agree (operators.For binder zero) (t ∷ u ∷ ts) = refl
+numbers_agree (operators.For binder (suc number)) [] = refl
+numbers_agree (operators.For binder (suc number)) (t ∷ []) = refl
+numbers_agree (operators.For binder (suc number)) (t ∷ u ∷ ts) = refl
+numbers_agree (operators.SomeIn binder) [] = refl
+numbers_agree (operators.SomeIn binder) (t ∷ []) = refl
+numbers_agree (operators.SomeIn binder) (t ∷ u ∷ ts) = refl
+numbers_agree (operators.EveryIn binder) [] = refl
+numbers_agree (operators.EveryIn binder) (t ∷ []) = refl
+numbers_agree (operators.EveryIn binder) (t ∷ u ∷ ts) = refl
 numbers_agree (operators.Let binder) [] = refl
 numbers_agree (operators.Let binder) (t ∷ []) = refl
 numbers_agree (operators.Let binder) (t ∷ u ∷ ts) = refl

@@ -19,6 +19,7 @@ use Rattle.gx_static.specs.Judgement.{Judged, typed, rejected, with_typed, concl
 use Rattle.gx_static.specs.Laws.{ActsKeepType, PartsKeepTypes, OperatorKeepsType, IsTypedSoundly, TypingIsSound}
 use Rattle.gx_static.proofs.Keeping.{literal_keeps, variable_keeps, empty_keeps, sequence_keeps, let_keeps, data_keeps, strict_keeps}
 use Rattle.gx_static.proofs.Loops.{for_keeps}
+use Rattle.gx_static.proofs.Quantifiers.{some_keeps, every_keeps}
 use Rattle.gx_static.proofs.Paths.{step_keeps, nodes_keep, no_context_keeps}
 use Rattle.gx_static.proofs.Orders.{order_keeps}
 use Rattle.gx_static.proofs.Arithmetic.{arithmetic_keeps, negation_keeps}
@@ -37,7 +38,9 @@ binary_keeps s operator classes.Range e = range_keeps s operator e
 -- the laws of all operators
 operator_keeps : (s : SchemaSet) → IsSchemaSet s → (operator : Operator) → OperatorKeepsType s operator
 operator_keeps s is (operators.Var number) = variable_keeps s number
-operator_keeps s is (operators.For binder) = for_keeps s binder
+operator_keeps s is (operators.For binder position) = for_keeps s binder position
+operator_keeps s is (operators.SomeIn binder) = some_keeps s binder
+operator_keeps s is (operators.EveryIn binder) = every_keeps s binder
 operator_keeps s is (operators.Let binder) = let_keeps s binder
 operator_keeps s is (operators.Step axis asks number) = step_keeps s axis asks number is
 operator_keeps s is operators.Nodes =

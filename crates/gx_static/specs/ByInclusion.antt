@@ -24,6 +24,7 @@ use Rattle.gx_core.specs.declared.expression.ArithmeticOp.{ArithmeticOp}
 use Rattle.gx_core.specs.declared.expression.ArithmeticOp.TheVariants.{Div, IDiv}
 use Rattle.gx_core.specs.declared.expression.BinaryClass.{BinaryClass}
 use Rattle.gx_core.specs.declared.expression.BinaryClass.TheVariants.{Arithmetic, Value, General, Range}
+use Rattle.gx_core.specs.declared.expression.Binder.{Binder}
 use Rattle.gx_core.specs.declared.expression.Declaration.TheVariants.{Global}
 use Rattle.gx_core.specs.declared.operator.Operator.{Operator}
 use Rattle.gx_core.specs.declared.operator.Operator.TheVariants as operators
@@ -35,7 +36,7 @@ use Rattle.gx_core.specs.QueryMeaning.{global_types, types_declared}
 use Rattle.gx_core.specs.Soundness.{TypedExpression}
 use Rattle.gx_static.specs.declared.comparison.Family.{Family}
 use Rattle.gx_static.specs.declared.comparison.Family.TheVariants as families
-use Rattle.gx_static.specs.Rule.{Ruling, has_type, has_none, type_if, atomic, all_items, integer_if, both_occur, value_comparison_type, boolean_types, nodes_type, answer_rule, rule, ruling}
+use Rattle.gx_static.specs.Rule.{Ruling, has_type, has_none, type_if, atomic, all_items, integer_if, both_occur, value_comparison_type, boolean_types, nodes_type, answer_rule, rule, ruling, is_as_written}
 use Rattle.gx_static.specs.Demands.{family_type}
 use Rattle.gx_static.specs.Judgement.{typed, judged, parts_judged}
 use Rattle.gx_static.specs.NormalTypes.{IsNormalType, CastsToAtomicTypes}
@@ -110,6 +111,10 @@ binary_included schemas Range left right = range_included schemas left right
 abbrev pub conditional_included : SchemaSet → (condition chosen otherwise : SequenceType) → Ruling
 conditional_included schemas condition chosen otherwise = type_if (is_included schemas condition (atomic Boolean)) (choice_of chosen otherwise)
 
+abbrev pub quantifier_included : SchemaSet → Binder → (source test : SequenceType) → Ruling
+quantifier_included schemas binder source test =
+    type_if (is_as_written schemas binder.kind (prime_of source) && is_included schemas test (atomic Boolean)) (atomic Boolean)
+
 abbrev pub order_included : SchemaSet → SequenceType → Ruling
 order_included schemas operand =
     if is_included schemas operand nodes_type then has_type (times_of (prime_of operand) (occurrence_of operand)) else (if are_values schemas AnyAtomic operand then has_type operand else has_none XPTY0018 None)
@@ -146,6 +151,8 @@ call_included schemas function arguments = arguments_included schemas (parameter
 
 abbrev pub rule_included : SchemaSet → Operator → List SequenceType → Ruling
 rule_included schemas operators.Order (operand ∷ []) = order_included schemas operand
+rule_included schemas (operators.SomeIn binder) (source ∷ test ∷ []) = quantifier_included schemas binder source test
+rule_included schemas (operators.EveryIn binder) (source ∷ test ∷ []) = quantifier_included schemas binder source test
 rule_included schemas operators.If (condition ∷ chosen ∷ otherwise ∷ []) = conditional_included schemas condition chosen otherwise
 rule_included schemas (operators.Cast kind allows_empty) (operand ∷ []) = cast_included schemas kind allows_empty operand
 rule_included schemas (operators.Castable kind allows_empty) (operand ∷ []) = castable_included schemas operand

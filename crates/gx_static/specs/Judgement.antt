@@ -29,9 +29,11 @@ abbrev pub code_place : Place → List Place → Option ℕ → Place
 code_place place parts None = place
 code_place place parts (Some number) = get_or parts number place
 
--- a code of a `for` and of a `let` stands at its variable, and one of another operator at the operator
+-- a code of an operator that binds a variable stands at the variable, and one of another operator at the operator
 abbrev pub own_place : Operator → Place → Place
-own_place (operators.For binder) place = binder.place
+own_place (operators.For binder position) place = binder.place
+own_place (operators.SomeIn binder) place = binder.place
+own_place (operators.EveryIn binder) place = binder.place
 own_place (operators.Let binder) place = binder.place
 own_place _ place = place
 

@@ -73,7 +73,13 @@ abbrev pub LetKeepsType : Type 0
 LetKeepsType = (schemas : SchemaSet) (binder : Binder) → OperatorKeepsType schemas (operators.Let binder)
 
 abbrev pub ForKeepsType : Type 0
-ForKeepsType = (schemas : SchemaSet) (binder : Binder) → OperatorKeepsType schemas (operators.For binder)
+ForKeepsType = (schemas : SchemaSet) (binder : Binder) (position : ℕ) → OperatorKeepsType schemas (operators.For binder position)
+
+abbrev pub SomeKeepsType : Type 0
+SomeKeepsType = (schemas : SchemaSet) (binder : Binder) → OperatorKeepsType schemas (operators.SomeIn binder)
+
+abbrev pub EveryKeepsType : Type 0
+EveryKeepsType = (schemas : SchemaSet) (binder : Binder) → OperatorKeepsType schemas (operators.EveryIn binder)
 
 abbrev pub StepKeepsType : Type 0
 StepKeepsType = (schemas : SchemaSet) (axis : Axis) (asks : Test) (number : ℕ) → IsSchemaSet schemas → OperatorKeepsType schemas (operators.Step axis asks number)

@@ -217,6 +217,11 @@ data_rule schemas operand = if has_data schemas operand then has_type (type_of_d
 abbrev pub for_rule : SchemaSet → Binder → (source body : SequenceType) → Ruling
 for_rule schemas binder source body = type_if (is_as_written schemas binder.kind (prime_of source)) (times_of body (occurrence_of source))
 
+-- whether a test holds of some item, or of every one: it is a boolean, and the variable has an item of the operand
+abbrev pub quantifier_rule : SchemaSet → Binder → (source test : SequenceType) → Ruling
+quantifier_rule schemas binder source test =
+    type_if (is_as_written schemas binder.kind (prime_of source) && is_at_least_one test && is_optional_in schemas Boolean test) (atomic Boolean)
+
 -- a step from one node; steps to the four far axes have no types as yet, and are refused as if they were not in the language
 abbrev pub step_rule : SchemaSet → Axis → Test → (context : SequenceType) → Ruling
 step_rule schemas axis asks context =
@@ -291,7 +296,9 @@ arity (operators.Lit value) = 0
 arity (operators.Var number) = 1
 arity operators.Empty = 0
 arity operators.Seq = 2
-arity (operators.For binder) = 2
+arity (operators.For binder position) = 2
+arity (operators.SomeIn binder) = 2
+arity (operators.EveryIn binder) = 2
 arity (operators.Let binder) = 2
 arity operators.If = 3
 arity (operators.Cast kind allows_empty) = 1
@@ -311,7 +318,9 @@ rule schemas (operators.Lit value) [] = literal_rule value
 rule schemas (operators.Var number) (bound ∷ []) = has_type bound
 rule schemas operators.Empty [] = has_type nothing
 rule schemas operators.Seq (first ∷ second ∷ []) = has_type (sequence_of first second)
-rule schemas (operators.For binder) (source ∷ body ∷ []) = for_rule schemas binder source body
+rule schemas (operators.For binder position) (source ∷ body ∷ []) = for_rule schemas binder source body
+rule schemas (operators.SomeIn binder) (source ∷ test ∷ []) = quantifier_rule schemas binder source test
+rule schemas (operators.EveryIn binder) (source ∷ test ∷ []) = quantifier_rule schemas binder source test
 rule schemas (operators.Step axis asks number) (context ∷ []) = step_rule schemas axis asks context
 rule schemas operators.Nodes (operand ∷ []) = nodes_rule schemas operand
 rule schemas operators.Order (operand ∷ []) = order_rule schemas operand

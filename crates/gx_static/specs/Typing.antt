@@ -3,17 +3,18 @@ use Rattle.std.specs.Prelude.{◌≡◌, ℕ, zero, suc, List, [], ◌∷◌, �
 use Rattle.gx_base.specs.declared.place.Place.{Place}
 use Rattle.gx_types.specs.SchemaSet.{SchemaSet}
 use Rattle.gx_types.specs.SequenceType.{SequenceType}
+use Rattle.gx_base.specs.declared.type_name.Builtin.TheVariants.{Integer}
 use Rattle.gx_types.specs.Prime.{prime_of}
 use Rattle.gx_funcs.specs.Function.{arity_of}
 use Rattle.gx_core.specs.declared.operator.Operator.{Operator}
 use Rattle.gx_core.specs.declared.operator.Operator.TheVariants as operators
 use Rattle.gx_core.specs.Expression.{CoreExpression, Parts, no_parts, a_part, each_of, annotation_of}
-use Rattle.gx_core.specs.Bindings.{Types}
+use Rattle.gx_core.specs.Bindings.{Types, position_bound}
 use Rattle.gx_core.specs.Soundness.{TypedExpression}
 use Rattle.gx_core.specs.Queries.{TypedCore, CoreDeclaration, TypedDeclaration}
 use Rattle.gx_core.specs.declared.expression.Declaration.TheVariants.{Global}
 use Rattle.gx_core.specs.QueryMeaning.{global_types, external_types}
-use Rattle.gx_static.specs.Rule.{ruling}
+use Rattle.gx_static.specs.Rule.{atomic, ruling}
 use Rattle.gx_static.specs.Judgement.{Judged, typed, rejected, judged, concluded}
 use Rattle.gx_static.specs.QueryJudgement.{declared_as}
 use Rattle.gx_static.specs.declared.error.InferError.{InferError}
@@ -37,7 +38,9 @@ part_count (operators.Lit value) = 0
 part_count (operators.Var number) = 0
 part_count operators.Empty = 0
 part_count operators.Seq = 2
-part_count (operators.For binder) = 2
+part_count (operators.For binder position) = 2
+part_count (operators.SomeIn binder) = 2
+part_count (operators.EveryIn binder) = 2
 part_count (operators.Let binder) = 2
 part_count operators.If = 3
 part_count (operators.Cast kind allows_empty) = 1
@@ -50,6 +53,10 @@ part_count operators.NoContext = 0
 part_count (operators.Call function) = arity_of function
 part_count operators.Neg = 1
 part_count (operators.Binary operator) = 2
+
+-- what is bound to an item of a typed part, and to the position of the item
+abbrev pub item_type_bound : (variable position : ℕ) → TypedExpression → Types
+item_type_bound variable position t = (variable, prime_of (annotation_of t)) ∷ position_bound position (atomic Integer)
 
 -- so many last parts, in order, and those below them; none where a part is missing
 abbrev pub last_parts : ℕ → (below : List TypedExpression) → (parts : Parts SequenceType) → (Parts SequenceType → List TypedExpression → Awaited) → Awaited
@@ -80,8 +87,8 @@ continued schemas [] (t ∷ parts) types declared = Some (typed (record { declar
 continued schemas (Infer e ∷ tasks) parts types declared = then_typed (judged schemas e types) (λ t. continued schemas tasks (t ∷ parts) types declared)
 continued schemas (Bind variable ∷ tasks) [] types declared = None
 continued schemas (Bind variable ∷ tasks) (t ∷ parts) types declared = continued schemas tasks (t ∷ parts) ((variable, annotation_of t) ∷ types) declared
-continued schemas (BindItem variable ∷ tasks) [] types declared = None
-continued schemas (BindItem variable ∷ tasks) (t ∷ parts) types declared = continued schemas tasks (t ∷ parts) ((variable, prime_of (annotation_of t)) ∷ types) declared
+continued schemas (BindItem variable position ∷ tasks) [] types declared = None
+continued schemas (BindItem variable position ∷ tasks) (t ∷ parts) types declared = continued schemas tasks (t ∷ parts) (item_type_bound variable position t ++ types) declared
 continued schemas (Unbind ∷ tasks) parts types declared = continued schemas tasks parts (drop 1 types) declared
 continued schemas (Finish place outer operator ∷ tasks) parts types declared =
     last_parts (part_count operator) parts no_parts (finished schemas place outer operator types (λ t below. continued schemas tasks (t ∷ below) types declared))

@@ -1,6 +1,6 @@
 // Laws of typing: one for each operator, and the one that is joined of them.
 
-ghost use Rattle.gx_static.specs.Laws.{LiteralKeepsType, VariableKeepsType, EmptyKeepsType, SequenceKeepsType, ForKeepsType, LetKeepsType, StepKeepsType, NodesKeepType, OrderKeepsType, NoContextKeepsType, DataKeepsType, ArithmeticKeepsType, NegationKeepsType, ValueComparisonKeepsType, GeneralComparisonKeepsType, RangeKeepsType, ConditionalKeepsType, CastKeepsType, CastableKeepsType, CallKeepsType, TypingIsSound, TypingIsSoundOnFreeVariables, RejectionNamesFailure, ScopedVariablesHaveTypes, ExpressionsAreRejectedWithStaticCodes};
+ghost use Rattle.gx_static.specs.Laws.{LiteralKeepsType, VariableKeepsType, EmptyKeepsType, SequenceKeepsType, ForKeepsType, SomeKeepsType, EveryKeepsType, LetKeepsType, StepKeepsType, NodesKeepType, OrderKeepsType, NoContextKeepsType, DataKeepsType, ArithmeticKeepsType, NegationKeepsType, ValueComparisonKeepsType, GeneralComparisonKeepsType, RangeKeepsType, ConditionalKeepsType, CastKeepsType, CastableKeepsType, CallKeepsType, TypingIsSound, TypingIsSoundOnFreeVariables, RejectionNamesFailure, ScopedVariablesHaveTypes, ExpressionsAreRejectedWithStaticCodes};
 ghost use Rattle.gx_static.specs.NormalTypes.{RulesGiveNormalTypes, TypingGivesNormalTypes};
 ghost use Rattle.gx_static.specs.Demands.{MetDemandsAreInclusion, DemandsAreInclusion, AllRulesDemandInclusion};
 ghost use Rattle.gx_static.specs.ByInclusion.{QueriesAreJudgedByInclusion};
@@ -27,9 +27,16 @@ pub fn sequence_keeps_its_type()
 {}
 
 /// The value of a `for` belongs to its type where that of its body does, under the bindings of the variable to each item of its
-/// operand.
+/// operand, and of the position to the number of the item.
 pub fn for_keeps_its_type()
     ensures { ForKeepsType }
+{}
+
+/// Whether a test holds of some item, or of every one, is a boolean where the test is one, under the bindings of the variable to each
+/// item of the operand.
+pub fn quantifiers_keep_their_type()
+    ensures some { SomeKeepsType }
+    ensures every { EveryKeepsType }
 {}
 
 /// The value of a `let` belongs to its type where that of its body does, under the bindings of the variable to the values of

@@ -5,7 +5,7 @@ ghost use Rattle.gx_types.specs.SchemaSet.{SchemaSet};
 ghost use Rattle.gx_types.specs.Prime.{prime_of};
 ghost use Rattle.gx_types.specs.TypeRules.{sequence_of};
 ghost use Rattle.gx_core.specs.BinaryOperators.{class_of};
-ghost use Rattle.gx_static.specs.Rule.{rule, arity, has_type, binary_rule, literal_rule, shown_type, data_rule, conditional_rule, cast_rule, castable_rule, is_as_written, for_rule, let_rule};
+ghost use Rattle.gx_static.specs.Rule.{rule, arity, has_type, binary_rule, literal_rule, shown_type, data_rule, conditional_rule, cast_rule, castable_rule, is_as_written, for_rule, let_rule, quantifier_rule};
 ghost use Rattle.gx_static.specs.Refusal.{RefusesType};
 
 use crate::call::call_type;
@@ -51,7 +51,12 @@ pub fn operator_type(
             node: TyNode::Empty,
         }),
         (Operator::Seq, [first, second]) => Ok(sequence_type(alloc, first, second)?),
-        (Operator::For(binder), [source, body]) => for_type(alloc, schemas, binder, source, body),
+        (Operator::For(binder, _), [source, body]) => {
+            for_type(alloc, schemas, binder, source, body)
+        }
+        (Operator::SomeIn(binder) | Operator::EveryIn(binder), [source, test]) => {
+            quantifier_type(alloc, schemas, binder, source, test)
+        }
         (Operator::Let(binder), [value, body]) => let_type(alloc, schemas, binder, value, body),
         (Operator::If, [condition, chosen, otherwise]) => {
             conditional_type(alloc, schemas, condition, chosen, otherwise)
@@ -132,6 +137,27 @@ pub(crate) fn for_type(
     if is_item_as_written(alloc, schemas, binder, source)? {
         let body = body.clone()?;
         Ok(times(alloc, body, occurrence(source))?)
+    } else {
+        Err(no_type(Code::XPTY0004))
+    }
+}
+
+// The type of a test of some item, or of every one.
+pub(crate) fn quantifier_type(
+    alloc: Global,
+    schemas: &Schemas,
+    binder: &Binder,
+    source: &Ty,
+    test: &Ty,
+) -> Result<Ty, RuleError>
+    ensures typed { IfOk result (λ t. quantifier_rule schemas.now binder.now source.now test.now ≡ has_type t) }
+    ensures refused { IfErr result (λ e. RefusesType e (quantifier_rule schemas.now binder.now source.now test.now)) }
+{
+    if is_item_as_written(alloc, schemas, binder, source)?
+        && is_at_least_one(test)
+        && is_optional_in(schemas, Builtin::Boolean, test)
+    {
+        Ok(atomic(alloc, Builtin::Boolean)?)
     } else {
         Err(no_type(Code::XPTY0004))
     }

@@ -2,7 +2,6 @@
 
 ghost use Rattle.std.specs.Prelude.{◌≡◌, ◌≢◌, ◌≤◌, ◌++◌, List, [], ◌∷◌, length, map, None, Some, IfOk, IfErr, OnOk};
 ghost use Rattle.gx_types.specs.SchemaSet.{SchemaSet};
-ghost use Rattle.gx_types.specs.Prime.{prime_of};
 ghost use Rattle.gx_types.specs.SequenceType.{SequenceType};
 ghost use Rattle.gx_core.specs.declared.operator.Operator.TheVariants as operators;
 ghost use Rattle.gx_core.specs.Expression.{Parts, no_parts, all_parts, each_of, annotation_of, outer_of};
@@ -14,22 +13,23 @@ ghost use Rattle.gx_static.specs.Refusal.{RefusesType, refusal_at};
 ghost use Rattle.gx_static.specs.Rule.{has_type, ruling, variable_ruling};
 ghost use Rattle.gx_core.specs.declared.expression.Declaration.TheVariants as globals;
 ghost use Rattle.gx_static.specs.QueryJudgement.{core_judged};
-ghost use Rattle.gx_static.specs.Typing.{Awaited, continued, tasks_of, then_typed, typed_in_order, finished, part_count, last_parts, judgement_of, judgement_with, EndsRejected};
+ghost use Rattle.gx_static.specs.Typing.{Awaited, continued, tasks_of, then_typed, typed_in_order, finished, part_count, last_parts, judgement_of, judgement_with, EndsRejected, item_type_bound};
 ghost use Rattle.gx_static.specs.declared.typing.Task.TheVariants as tasks;
 
 use crate::call::call_type;
 use crate::error::{InferError, RuleError};
-use crate::item_tests::no_type;
+use crate::item_tests::{atomic, no_type};
 use crate::numeric::negation_type;
 use crate::path::{nodes_type, order_type, step_in_scope};
 use crate::rules::{
     binary_type, cast_type, castable_type, conditional_type, data_type, for_type, is_as_written,
-    let_type, literal_type, sequence_type,
+    let_type, literal_type, quantifier_type, sequence_type,
 };
 use gx_base::code::Code;
 use gx_base::name::Name;
 use gx_base::place::Place;
 use gx_base::stack::Stack;
+use gx_base::type_name::Builtin;
 use gx_core::declarations::Declarations;
 use gx_core::dismantle::{dismantle, dismantle_declarations, dismantle_form};
 use gx_core::expression::{
@@ -44,14 +44,14 @@ use gx_types::type_rules::prime;
 use std::alloc::{AllocError, Global};
 
 // A task: to infer the type of an expression, whose typed form goes on top of the parts; to bind a variable to the type of the
-// part on top, or to that of an item of it; to take the innermost binding away; or to make the expression of an operator, or of a call with so many
+// part on top, or to that of an item of it, and another one to that of the position of the item; to take the innermost binding away; or to make the expression of an operator, or of a call with so many
 // arguments, at its place and that of its outermost parentheses, of the parts on top; to declare a global variable, whose value is
 // the part on top; or to declare an external variable.
 #[derive(Drop)]
 pub(crate) enum Task {
     Infer(CoreExpr),
     Bind(u32),
-    BindItem(u32),
+    BindItem(u32, u32),
     Unbind,
     Finish(Place, Place, Operator),
     FinishCall(Place, Place, Function, usize),
@@ -123,7 +123,7 @@ impl Typing {
         match task {
             Task::Infer(expression) => Ok(self.open(expression)?),
             Task::Bind(variable) => Ok(self.bind(variable)?),
-            Task::BindItem(variable) => Ok(self.bind_item(alloc, variable)?),
+            Task::BindItem(variable, position) => Ok(self.bind_item(alloc, variable, position)?),
             Task::Unbind => {
                 self.scope.unbind();
                 Ok(())
@@ -149,7 +149,35 @@ impl Typing {
             Form::Var(number) => self.open_leaf(place, outer, Operator::Var(number)),
             Form::Empty => self.open_leaf(place, outer, Operator::Empty),
             Form::Seq(first, second) => self.open_pair(place, outer, Operator::Seq, first, second),
-            Form::For(binder, source, body) => { self.open_for(place, outer, binder, source, body) }
+            Form::For(binder, position, source, body) => {
+                let variable = binder.variable;
+                let operator = Operator::For(binder, position);
+                self.open_loop(place, outer, operator, variable, position, source, body)
+            }
+            Form::SomeIn(binder, source, test) => {
+                let variable = binder.variable;
+                self.open_loop(
+                    place,
+                    outer,
+                    Operator::SomeIn(binder),
+                    variable,
+                    0,
+                    source,
+                    test,
+                )
+            }
+            Form::EveryIn(binder, source, test) => {
+                let variable = binder.variable;
+                self.open_loop(
+                    place,
+                    outer,
+                    Operator::EveryIn(binder),
+                    variable,
+                    0,
+                    source,
+                    test,
+                )
+            }
             Form::Let(binder, value, body) => self.open_let(place, outer, binder, value, body),
             Form::If(condition, chosen, otherwise) => {
                 self.open_conditional(place, outer, condition, chosen, otherwise)
@@ -259,25 +287,29 @@ impl Typing {
         Ok(())
     }
 
-    // The body is typed with the variable in scope, which has an item of the operand.
-    fn open_for(
+    // The body is typed with the variable in scope, which has an item of the operand, and with that of the position.
+    #[tactic(auto, using(crate::proofs::Continuing::two_are_unbound))]
+    fn open_loop(
         &mut self,
         place: Place,
         outer: Place,
-        binder: Binder,
+        operator: Operator,
+        variable: u32,
+        position: u32,
         source: Box<CoreExpr>,
         body: Box<CoreExpr>,
     ) -> Result<(), AllocError>
         ensures { (schemas : SchemaSet) → OnOk result (judgement_of schemas self.new
-            ≡ then_typed (judged schemas source.value self.old.scope) (λ t. then_typed (judged schemas body.value ((binder.variable, prime_of (annotation_of t)) ∷ self.old.scope))
-            (λ u. continued schemas (tasks.Finish place outer (operators.For binder) ∷ self.old.tasks) (u ∷ t ∷ self.old.parts) self.old.scope self.old.declared.items))) }
+            ≡ then_typed (judged schemas source.value self.old.scope) (λ t. then_typed (judged schemas body.value (item_type_bound variable position t ++ self.old.scope))
+            (λ u. continued schemas (tasks.Finish place outer operator ∷ self.old.tasks) (u ∷ t ∷ self.old.parts) self.old.scope self.old.declared.items))) }
     {
-        let variable = binder.variable;
-        self.tasks
-            .push(Task::Finish(place, outer, Operator::For(binder)))?;
+        self.tasks.push(Task::Finish(place, outer, operator))?;
         self.tasks.push(Task::Unbind)?;
+        if position != 0 {
+            self.tasks.push(Task::Unbind)?;
+        }
         self.tasks.push(Task::Infer(Box::into_inner(body)))?;
-        self.tasks.push(Task::BindItem(variable))?;
+        self.tasks.push(Task::BindItem(variable, position))?;
         self.tasks.push(Task::Infer(Box::into_inner(source)))
     }
 
@@ -315,14 +347,18 @@ impl Typing {
         self.parts.push(value)
     }
 
-    // Binds a variable to the type of an item of the part on top.
-    fn bind_item(&mut self, alloc: Global, variable: u32) -> Result<(), AllocError>
+    // Binds a variable to the type of an item of the part on top, and another one to that of the position of the item.
+    #[tactic(auto, using(gx_core::proofs::LoopBindings::position_is_bound))]
+    fn bind_item(&mut self, alloc: Global, variable: u32, position: u32) -> Result<(), AllocError>
         requires { self.now.parts ≢ [] }
-        ensures { (schemas : SchemaSet) → OnOk result (judgement_of schemas self.new ≡ judgement_with schemas (tasks.BindItem variable) self.old) }
+        ensures { (schemas : SchemaSet) → OnOk result (judgement_of schemas self.new ≡ judgement_with schemas (tasks.BindItem variable position) self.old) }
     {
         let Some(source) = self.parts.pop() else {
             unreachable!();
         };
+        if position != 0 {
+            self.scope.bind(position, atomic(alloc, Builtin::Integer)?)?;
+        }
         self.scope.bind(variable, prime(alloc, &source.kind)?)?;
         self.parts.push(source)
     }
@@ -480,9 +516,17 @@ fn form(
             let second = part(alloc, parts)?;
             Ok(Form::Seq(part(alloc, parts)?, second))
         }
-        Operator::For(binder) => {
+        Operator::For(binder, position) => {
             let body = part(alloc, parts)?;
-            Ok(Form::For(binder, part(alloc, parts)?, body))
+            Ok(Form::For(binder, position, part(alloc, parts)?, body))
+        }
+        Operator::SomeIn(binder) => {
+            let test = part(alloc, parts)?;
+            Ok(Form::SomeIn(binder, part(alloc, parts)?, test))
+        }
+        Operator::EveryIn(binder) => {
+            let test = part(alloc, parts)?;
+            Ok(Form::EveryIn(binder, part(alloc, parts)?, test))
         }
         Operator::Let(binder) => {
             let body = part(alloc, parts)?;
@@ -608,8 +652,11 @@ fn form_type(
             node: TyNode::Empty,
         }),
         Form::Seq(first, second) => Ok(sequence_type(alloc, &first.kind, &second.kind)?),
-        Form::For(binder, source, body) => {
+        Form::For(binder, _, source, body) => {
             for_type(alloc, schemas, binder, &source.kind, &body.kind)
+        }
+        Form::SomeIn(binder, source, test) | Form::EveryIn(binder, source, test) => {
+            quantifier_type(alloc, schemas, binder, &source.kind, &test.kind)
         }
         Form::Let(binder, value, body) => {
             let_type(alloc, schemas, binder, &value.kind, &body.kind)
@@ -665,7 +712,7 @@ fn refusal(place: Place, form: &Form<Ty>, error: RuleError) -> InferError
     }
 }
 
-// Where the code of an operator stands: at a part, at the variable of a `for` or a `let`, or at the operator itself.
+// Where the code of an operator stands: at a part, at the variable that it binds, or at the operator itself.
 #[tactic(auto, using(crate::proofs::Continuing::each_of_arguments))]
 fn form_place(place: Place, form: &Form<Ty>, part: Option<u32>) -> Place
     ensures { result ≡ code_place (own_place (operator_of form.now) place) (each_of outer_of (parts_of form.now)) part }
@@ -682,7 +729,10 @@ fn form_place(place: Place, form: &Form<Ty>, part: Option<u32>) -> Place
         Form::Seq(first, second) | Form::Binary(_, first, second) => {
             code_place(place, &[first.outer, second.outer], part)
         }
-        Form::For(binder, first, body) | Form::Let(binder, first, body) => {
+        Form::For(binder, _, first, body)
+        | Form::Let(binder, first, body)
+        | Form::SomeIn(binder, first, body)
+        | Form::EveryIn(binder, first, body) => {
             code_place(binder.place, &[first.outer, body.outer], part)
         }
         Form::If(condition, chosen, otherwise) => code_place(

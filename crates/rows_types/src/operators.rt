@@ -72,7 +72,7 @@ fn for_row(alloc: Global, kind: Option<Ty>, parts: &[Ty]) -> Result<String, Allo
         place: Place { line: 1, column: 1 },
         kind,
     };
-    ruled(alloc, &Operator::For(binder), parts)
+    ruled(alloc, &Operator::For(binder, 0), parts)
 }
 
 fn step_row(alloc: Global, word: &str, parts: &[Ty]) -> Result<String, AllocError>

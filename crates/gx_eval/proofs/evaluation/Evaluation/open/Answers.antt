@@ -1,4 +1,4 @@
-use Rattle.std.proofs.Common.{◌≡◌, ◌∷◌, [], ◌++◌, List, length, sym, subst, ap, ◌∙◌}
+use Rattle.std.proofs.Common.{◌≡◌, ◌∷◌, [], ◌++◌, true, false, List, length, sym, subst, ap, ◌∙◌}
 use Rattle.gx_facets.specs.declared.Atomic.{Atomic}
 use Rattle.gx_model.specs.Item.{Items, atom}
 use Rattle.std.specs.Prelude.{OnOk, IfErr}
@@ -8,7 +8,8 @@ use Rattle.gx_store.specs.Items.{items_in}
 use Rattle.gx_eval.specs.Failing.{FailsSo}
 use Rattle.gx_eval.specs.declared.evaluation.Pending.{Pending}
 use Rattle.gx_eval.specs.Resume.{Stacks, context_over, outcome_of, outcome_behind, items_of, stacks_of, resume}
-use Rattle.gx_eval.proofs.Resuming.{each_argument, binary_opens_at, conditional_opens_at, for_opens_at, let_opens_at}
+use Rattle.gx_eval.specs.declared.looping.Loop.TheVariants as loops
+use Rattle.gx_eval.proofs.Resuming.{each_argument, binary_opens_at, conditional_opens_at, loop_opens_at, search_opens_at, let_opens_at}
 use Rattle.gx_eval.proofs.evaluation.Evaluation.open.Goals as goal
 
 pub returns-in-Var-clause-value : goal.returns-in-Var-clause-value
@@ -59,7 +60,7 @@ returns-in_ok-open_part-in-For-clause-value c = λ later x.
     let there : c.count_of-first.result ≡ length values = c.count_of-first.ensures later in
     c.in_ok-open_part-in-For.ensures k c.args.store.now later
     ∙ rw (← c.expression.view_is, c.in-For.is, ← c.deref-in-For.ensures, ← c.deref-in-For-2.ensures)
-    (for_opens_at k c.args.store.now c.in-For.binder.variable (meaning k c.deref-in-For.result.now) (meaning k c.deref-in-For-2.result.now) work values c.count_of-first.result stacks bindings there)
+    (loop_opens_at k c.args.store.now (loops.For c.in-For.binder.variable c.in-For.position 1) (meaning k c.deref-in-For.result.now) (meaning k c.deref-in-For-2.result.now) work values c.count_of-first.result stacks bindings there)
 
 pub returns-in_ok-open_part-in-Let-clause-value : goal.returns-in_ok-open_part-in-Let-clause-value
 returns-in_ok-open_part-in-Let-clause-value c = λ later x.
@@ -106,3 +107,25 @@ returns-in-Step-clause-value c = λ later x. rw (← c.expression.view_is, c.in-
 
 pub returns-in-Step-clause-failed : goal.returns-in-Step-clause-failed
 returns-in-Step-clause-failed c = λ later x. rw (← c.expression.view_is, c.in-Step.is) (c.append_step.ensures.failed later x)
+
+pub returns-in_ok-open_part-in-SomeIn-clause-value : goal.returns-in_ok-open_part-in-SomeIn-clause-value
+returns-in_ok-open_part-in-SomeIn-clause-value c = λ later x.
+    let k : Context = context_over c.args.schemas.now in
+    let work : List Pending = c.args.self.now.work in
+    let values : Items = items_in later c.args.self.now.values.items in
+    let stacks : Stacks = stacks_of later c.args.self.now in
+    let bindings : Bindings = items_of later c.args.self.now.scope in
+    c.in_ok-open_part-in-SomeIn.ensures k c.args.store.now later
+    ∙ rw (← c.expression.view_is, c.in-SomeIn.is, ← c.deref-in-SomeIn.ensures, ← c.deref-in-SomeIn-2.ensures)
+    (search_opens_at k c.args.store.now c.in-SomeIn.binder.variable true (meaning k c.deref-in-SomeIn.result.now) (meaning k c.deref-in-SomeIn-2.result.now) work values c.count_of-first.result stacks bindings (c.count_of-first.ensures later))
+
+pub returns-in_ok-open_part-in-EveryIn-clause-value : goal.returns-in_ok-open_part-in-EveryIn-clause-value
+returns-in_ok-open_part-in-EveryIn-clause-value c = λ later x.
+    let k : Context = context_over c.args.schemas.now in
+    let work : List Pending = c.args.self.now.work in
+    let values : Items = items_in later c.args.self.now.values.items in
+    let stacks : Stacks = stacks_of later c.args.self.now in
+    let bindings : Bindings = items_of later c.args.self.now.scope in
+    c.in_ok-open_part-in-EveryIn.ensures k c.args.store.now later
+    ∙ rw (← c.expression.view_is, c.in-EveryIn.is, ← c.deref-in-EveryIn.ensures, ← c.deref-in-EveryIn-2.ensures)
+    (search_opens_at k c.args.store.now c.in-EveryIn.binder.variable false (meaning k c.deref-in-EveryIn.result.now) (meaning k c.deref-in-EveryIn-2.result.now) work values c.count_of-first.result stacks bindings (c.count_of-first.ensures later))

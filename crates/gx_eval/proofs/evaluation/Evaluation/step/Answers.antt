@@ -54,8 +54,8 @@ returns-in-External-clause-failed c = λ later x. rw c.in-External.is (c.bind_do
 pub returns-in_ok-gather-in-Gather-clause-value : goal.returns-in_ok-gather-in-Gather-clause-value
 returns-in_ok-gather-in-Gather-clause-value c = λ later x. rw c.in-Gather.is (c.in_ok-gather-in-Gather.ensures (context_over c.args.schemas.now) c.args.store.now later)
 
-pub returns-in_ok-turn-in-Each-clause-value : goal.returns-in_ok-turn-in-Each-clause-value
-returns-in_ok-turn-in-Each-clause-value c = λ later x. rw c.in-Each.is (c.in_ok-turn-in-Each.ensures (context_over c.args.schemas.now) c.args.store.now later)
+pub returns-in_ok-repeat-in-Each-clause-value : goal.returns-in_ok-repeat-in-Each-clause-value
+returns-in_ok-repeat-in-Each-clause-value c = λ later x. rw c.in-Each.is (c.in_ok-repeat-in-Each.ensures (context_over c.args.schemas.now) c.args.store.now later)
 
 pub returns-in_ok-bind-in-Bind-clause-value : goal.returns-in_ok-bind-in-Bind-clause-value
 returns-in_ok-bind-in-Bind-clause-value c = λ later x. rw c.in-Bind.is (c.in_ok-bind-in-Bind.ensures (context_over c.args.schemas.now) c.args.store.now later)
@@ -68,3 +68,9 @@ returns-in_ok-push-in-Mark-clause-value c = λ later x.
     rw c.in-Mark.is
     (ap (λ (marks : List ℕ). resume (context_over c.args.schemas.now) c.args.self.now.work (items_in later c.args.self.now.values.items) (with_marks (stacks_of later c.args.self.now) marks) (items_of later c.args.self.now.scope) c.args.store.now)
     (c.in_ok-push-in-Mark.ensures.ok ∙ ap (λ (n : ℕ). n ∷ c.args.self.now.marks) (c.count_of.ensures later)))
+
+pub returns-in-Decide-clause-value : goal.returns-in-Decide-clause-value
+returns-in-Decide-clause-value c = λ later x. rw c.in-Decide.is (c.decide.ensures.value (context_over c.args.schemas.now) c.args.store.now later)
+
+pub returns-in-Decide-clause-failed : goal.returns-in-Decide-clause-failed
+returns-in-Decide-clause-failed c = λ later x. rw c.in-Decide.is (c.decide.ensures.failed (context_over c.args.schemas.now) c.args.store.now later)

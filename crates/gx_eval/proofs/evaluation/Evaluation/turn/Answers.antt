@@ -1,16 +1,16 @@
-use Rattle.std.proofs.Common.{◌≡◌, ◌+◌, ◌∷◌, [], List, length, take, drop, arith, rules, ap, sym, ◌∙◌}
+use Rattle.std.proofs.Common.{◌≡◌, ℕ, ◌+◌, suc, add-one, ◌∷◌, [], ◌++◌, List, length, take, drop, arith, rules, ap, sym, ◌∙◌}
 use Rattle.std.proofs.lemmas.List.{drop-map, drop_all}
-use Rattle.std.proofs.lemmas.Result.{IfOk-weaker}
 use Rattle.gx_model.specs.Item.{Items}
-use Rattle.gx_core.specs.Meaning.{Bindings, for_each, meaning}
+use Rattle.gx_core.specs.Meaning.{Bindings, item_bound, meaning}
 use Rattle.gx_core.specs.Outcome.{after}
 use Rattle.gx_store.specs.declared.item.Item.{Item}
 use Rattle.gx_store.specs.Items.{item_in, items_in}
 use Rattle.gx_eval.specs.declared.evaluation.Pending.{Pending}
-use Rattle.gx_eval.specs.declared.evaluation.Pending.TheVariants.{Evaluate, Each, Unbind}
-use Rattle.gx_eval.specs.Resume.{Stacks, with_sources, resume, items_of, stacks_of, turn}
+use Rattle.gx_eval.specs.declared.evaluation.Pending.TheVariants.{Evaluate}
+use Rattle.gx_eval.specs.declared.looping.Loop.TheVariants.{For}
+use Rattle.gx_eval.specs.Resume.{Stacks, with_sources, resume, items_of, stacks_of, looped, turn}
 use Rattle.gx_eval.proofs.LaterItems.{next_source}
-use Rattle.gx_eval.proofs.Resuming.{next_turn}
+use Rattle.gx_eval.proofs.Resuming.{turn_goes_on}
 use Rattle.gx_eval.proofs.evaluation.Evaluation.turn.Goals as goal
 
 pub returns-then-next-len : goal.returns-then-next-len
@@ -22,7 +22,7 @@ returns-then-next-len c = λ k forest later.
     let there : c.len.result ≡ length sources = search rules in
     let none : drop c.args.next (items_in later sources) ≡ [] = drop-map (item_in later) c.args.next sources ∙ ap (items_in later) (drop_all c.args.next sources (omega (arith, there))) in
     ap (λ (s : Items). resume k c.args.self.now.work values (with_sources stacks s) bindings forest) (c.cut_off.ensures later)
-    ∙ ap (λ (v : Items). after (for_each (turn (meaning k c.args.body.now) c.args.variable bindings) values v forest) (λ vs left. resume k c.args.self.now.work vs (with_sources stacks (take c.args.start stacks.sources)) bindings left)) (sym none)
+    ∙ ap (λ (v : Items). after (looped (meaning k c.args.body.now) (For c.args.variable c.args.position c.args.number) bindings values v forest) (λ vs left. resume k c.args.self.now.work vs (with_sources stacks (take c.args.start stacks.sources)) bindings left)) (sym none)
 
 pub returns : goal.returns
 returns c = λ k forest later.
@@ -32,13 +32,14 @@ returns c = λ k forest later.
     let bindings : Bindings = items_of later c.args.self.now.scope in
     let work : List Pending = c.args.self.now.work in
     let x = item_in later c.in_ok-item.item in
-    let down : List Pending = Each c.args.variable (c.args.next + 1) c.args.start c.args.body ∷ work in
+    let bound : Bindings = item_bound c.args.variable c.args.position c.args.number x ++ bindings in
+    let next : c.in-Some.following ≡ suc c.args.number = (let step : c.in-Some.following ≡ c.args.number + 1 = search rules in step) ∙ add-one c.args.number in
     let there : c.len.result ≡ length sources = search rules in
-    IfOk-weaker c.push-3.result _ _
-    (λ done put. ap (λ (w : List Pending). resume k w values stacks (items_of later c.bind.new.self) forest)
-    (put ∙ ap (λ (w : List Pending). Evaluate c.args.body ∷ w) (c.in_ok-push-2.ensures.ok ∙ ap (λ (w : List Pending). Unbind ∷ w) c.in_ok-push.ensures.ok))
-    ∙ ap (λ scope. resume k (Evaluate c.args.body ∷ Unbind ∷ down) values stacks (items_of later scope) forest) c.in_ok-bind.ensures
-    ∙ next_turn forest c.args.variable (meaning k c.args.body.now) values x (drop (c.args.next + 1) (items_in later sources)) (drop c.args.next (items_in later sources)) bindings
-    (λ vs left. resume k work vs (with_sources stacks (take c.args.start stacks.sources)) bindings left)
-    (next_source later sources c.args.next c.in_ok-item.item c.index.result.now (omega (arith, there)) c.index.ensures c.in_ok-item.ensures.cases))
-    c.push-3.ensures.ok
+    let put : c.push-2.new.self ≡ Evaluate c.args.body ∷ c.unbind_item.new.work = c.in_ok-push-2.ensures.ok in
+    let scope : items_of later c.bind_item.new.scope ≡ bound = c.in_ok-bind_item.ensures later in
+    let source = next_source later sources c.args.next c.in_ok-item.item c.index.result.now (omega (arith, there)) c.index.ensures c.in_ok-item.ensures.cases in
+    ap (λ (w : List Pending). resume k w values stacks (items_of later c.bind_item.new.scope) forest) put
+    ∙ ap (λ (b : Bindings). resume k (Evaluate c.args.body ∷ c.unbind_item.new.work) values stacks b forest) scope
+    ∙ turn_goes_on forest c.args.variable c.args.position c.args.number c.in-Some.following (meaning k c.args.body.now) values x (drop (c.args.next + 1) stacks.sources) (drop c.args.next stacks.sources) bindings
+    (λ vs left. resume k work vs (with_sources stacks (take c.args.start stacks.sources)) bindings left) (λ vs left. resume k c.unbind_item.new.work vs stacks bound left) next source
+    (λ vs left. c.in_ok-unbind_item.ensures k vs stacks c.args.variable c.args.number x bindings left ∙ ap (λ (w : List Pending). resume k w vs stacks bindings left) c.in_ok-push.ensures.ok)

@@ -1,6 +1,6 @@
 use Rattle.std.proofs.Common.{refl}
 use Rattle.gx_core.specs.declared.operator.Operator.TheVariants as operators
-use Rattle.gx_static.proofs.Continuing.{single_opens, pair_opens, conditional_opens, call_opens, for_opens, let_opens}
+use Rattle.gx_static.proofs.Continuing.{single_opens, pair_opens, conditional_opens, call_opens, for_opens, some_opens, every_opens, let_opens}
 use Rattle.gx_static.proofs.typing.Typing.open.Goals as goal
 
 pub returns-in-Seq : goal.returns-in-Seq
@@ -95,9 +95,27 @@ returns-in-For c = λ schemas.
     rw (
       c.into_parts-kind.ensures,
       c.in-For.is,
-      ← for_opens schemas c.args.self.now.tasks c.args.self.now.parts c.args.self.now.scope c.args.self.now.declared.items c.into_parts-kind.result.0 c.into_parts-kind.result.1 c.in-For.binder c.in-For.source.value c.in-For.body.value,
+      ← for_opens schemas c.args.self.now.tasks c.args.self.now.parts c.args.self.now.scope c.args.self.now.declared.items c.into_parts-kind.result.0 c.into_parts-kind.result.1 c.in-For.binder c.in-For.position c.in-For.source.value c.in-For.body.value,
     )
-    (c.open_for.ensures schemas)
+    (c.open_loop.ensures schemas)
+
+pub returns-in-SomeIn : goal.returns-in-SomeIn
+returns-in-SomeIn c = λ schemas.
+    rw (
+      c.into_parts-kind.ensures,
+      c.in-SomeIn.is,
+      ← some_opens schemas c.args.self.now.tasks c.args.self.now.parts c.args.self.now.scope c.args.self.now.declared.items c.into_parts-kind.result.0 c.into_parts-kind.result.1 c.in-SomeIn.binder c.in-SomeIn.source.value c.in-SomeIn.test.value,
+    )
+    (c.open_loop-in-SomeIn.ensures schemas)
+
+pub returns-in-EveryIn : goal.returns-in-EveryIn
+returns-in-EveryIn c = λ schemas.
+    rw (
+      c.into_parts-kind.ensures,
+      c.in-EveryIn.is,
+      ← every_opens schemas c.args.self.now.tasks c.args.self.now.parts c.args.self.now.scope c.args.self.now.declared.items c.into_parts-kind.result.0 c.into_parts-kind.result.1 c.in-EveryIn.binder c.in-EveryIn.source.value c.in-EveryIn.test.value,
+    )
+    (c.open_loop-in-EveryIn.ensures schemas)
 
 pub returns-in-Step : goal.returns-in-Step
 returns-in-Step c = λ schemas. rw (c.into_parts-kind.ensures, c.in-Step.is) (c.open_leaf-in-Step.ensures schemas)
