@@ -1,5 +1,5 @@
 -- An evaluation raises the codes of dynamic errors alone.
-use Rattle.std.proofs.Common.{◌≡◌, Bool, true, false, not, List, [], ◌∷◌, ◌++◌, map, Option, None, Some, Result, Ok, Err, refl, subst, if◌then◌else◌}
+use Rattle.std.proofs.Common.{◌≡◌, Bool, true, false, not, List, [], ◌∷◌, ◌++◌, map, Option, None, Some, Result, Ok, Err, refl, subst, if◌then◌else◌, ◌&&◌}
 use Rattle.std.specs.Prelude.{ℕ, suc, nat_le, option_map}
 use Rattle.std.specs.List.{list_all, list_any}
 use Rattle.gx_base.specs.declared.code.Code.{Code}
@@ -31,21 +31,26 @@ use Rattle.gx_core.specs.declared.operator.Operator.{Operator}
 use Rattle.gx_core.specs.declared.operator.Operator.TheVariants as operators
 use Rattle.gx_core.specs.declared.expression.ArithmeticOp.{ArithmeticOp}
 use Rattle.gx_core.specs.declared.expression.BinaryClass.{BinaryClass}
-use Rattle.gx_core.specs.declared.expression.BinaryClass.TheVariants.{Arithmetic, Value, General, Range}
+use Rattle.gx_core.specs.declared.expression.BinaryClass.TheVariants.{Arithmetic, Value, General, Nodes, Range, Sets}
+use Rattle.gx_core.specs.declared.expression.NodeComparison.{NodeComparison}
 use Rattle.gx_core.specs.declared.expression.Declaration.TheVariants.{Global}
 use Rattle.gx_core.specs.Queries.{CoreDeclaration}
 use Rattle.gx_core.specs.BinaryOperators.{class_of}
 use Rattle.gx_core.specs.Expression.{Expression, At, Parts, no_parts, a_part}
-use Rattle.gx_core.specs.Bindings.{look_up}
 use Rattle.gx_core.specs.Outcome.{Outcome, gives, raises, wrong, after, given}
 use Rattle.gx_core.specs.Operands.{on_one, on_two}
 use Rattle.gx_core.specs.Arithmetic.{number_of_item, computed, result_of, computed_of_items, negation_of_item}
 use Rattle.gx_core.specs.Comparing.{truth_value, condition_of, value_of_item, compared_items, cast_failure, decided, atoms_among, generally_compared}
+use Rattle.gx_core.specs.ComparingNodes.{compared_nodes}
+use Rattle.gx_core.specs.NodeSets.{combined}
 use Rattle.gx_core.specs.Ranging.{integer_of_item, range_length, integers_from, range_between, range_of_items}
 use Rattle.gx_core.specs.Casting.{cast_outcome, cast_items, castable_items}
 use Rattle.gx_core.specs.Calling.{views_of, answered}
 use Rattle.gx_core.specs.Paths.{is_node, places_of, stepped, put_in_order}
-use Rattle.gx_core.specs.Meaning.{Context, Bindings, Denotation, binary_meaning, acts, all_of, for_each, item_bound, decides, any_decides, branch, denoted, meaning, meanings}
+use Rattle.gx_core.specs.declared.cases.TypeCase.{TypeCase}
+use Rattle.gx_core.specs.Instances.{is_instance}
+use Rattle.gx_core.specs.Bindings.{look_up, position_bound}
+use Rattle.gx_core.specs.Meaning.{Context, Bindings, Denotation, binary_meaning, acts, all_of, for_each, item_bound, decides, any_decides, branch, switched, denoted, meaning, meanings}
 use Rattle.gx_core.specs.QueryMeaning.{globals_bound, query_outcome, QueriesRaiseDynamicCodes}
 use Rattle.gx_core.specs.Laws.{RaisesDynamicCodes, ExpressionsRaiseDynamicCodes}
 
@@ -152,11 +157,19 @@ dynamic_general op (x ∷ xs) (y ∷ ys) forest =
     dynamic_given (atoms_among (x ∷ xs)) (λ as'. given (atoms_among (y ∷ ys)) (λ bs. decided (general_comparison op as' bs) forest))
     (λ as'. dynamic_given (atoms_among (y ∷ ys)) (λ bs. decided (general_comparison op as' bs) forest) (λ bs. dynamic_decision (general_comparison op as' bs) forest))
 
+dynamic_nodes : (op : NodeComparison) (x y : Item) (forest : Forest) → IsDynamic (compared_nodes op x y forest)
+dynamic_nodes op (node a) (node b) forest = tt
+dynamic_nodes op (node a) (atom y) forest = tt
+dynamic_nodes op (atom x) y forest = tt
+
 dynamic_binary : (class : BinaryClass) (xs ys : Items) (forest : Forest) → IsDynamic (binary_meaning class xs ys forest)
 dynamic_binary (Arithmetic operation) xs ys forest = dynamic_on_two xs ys forest (computed_of_items operation) (λ x y. dynamic_arithmetic operation x y forest)
 dynamic_binary (Value op) xs ys forest = dynamic_on_two xs ys forest (compared_items op) (λ x y. dynamic_comparison op x y forest)
 dynamic_binary (General op) xs ys forest = dynamic_general op xs ys forest
+dynamic_binary (Nodes op) xs ys forest = dynamic_on_two xs ys forest (compared_nodes op) (λ x y. dynamic_nodes op x y forest)
 dynamic_binary Range xs ys forest = dynamic_on_two xs ys forest range_of_items (λ x y. dynamic_range x y forest)
+dynamic_binary (Sets op) xs ys forest =
+    dynamic_choice (list_all is_node xs && list_all is_node ys) (gives (map node (in_document_order forest (combined op (places_of xs) (places_of ys)))) forest) wrong tt tt
 
 -- ---- paths and calls
 
@@ -195,6 +208,8 @@ dynamic_act context operators.Empty [] forest = tt
 dynamic_act context operators.Seq (xs ∷ ys ∷ []) forest = tt
 dynamic_act context operators.Nodes (xs ∷ []) forest = dynamic_choice (list_all is_node xs) (gives xs forest) wrong tt tt
 dynamic_act context operators.Order (xs ∷ []) forest = dynamic_order xs forest
+dynamic_act context (operators.Nth number reverse) (xs ∷ []) forest = tt
+dynamic_act context (operators.Final reverse) (xs ∷ []) forest = tt
 dynamic_act context operators.DataOf (xs ∷ []) forest = dynamic_given (atomized context.schemas forest xs) (λ ys. gives ys forest) (λ ys. tt)
 dynamic_act context (operators.Cast kind optional) (xs ∷ []) forest = dynamic_cast context.schemas kind optional xs forest
 dynamic_act context (operators.Castable kind optional) (xs ∷ []) forest = dynamic_castable context.schemas kind optional xs forest
@@ -231,6 +246,16 @@ dynamic_branch : (b : Bool) (chosen otherwise : Denotation) (bindings : Bindings
 dynamic_branch true chosen otherwise bindings forest h k = h
 dynamic_branch false chosen otherwise bindings forest h k = k
 
+dynamic_switched : (schemas : SchemaSet) (cases : List TypeCase) (default : ℕ) (branches : List Denotation) (xs : Items) (bindings : Bindings) (forest : Forest)
+    → AreDynamic branches → IsDynamic (switched schemas cases default branches xs bindings forest)
+dynamic_switched schemas [] default (otherwise ∷ []) xs bindings forest h = h.0 (position_bound default xs ++ bindings) forest
+dynamic_switched schemas (c ∷ cases) default (chosen ∷ branches) xs bindings forest h =
+    dynamic_choice (is_instance schemas c.kind xs) (chosen (position_bound c.variable xs ++ bindings) forest) (switched schemas cases default branches xs bindings forest)
+    (h.0 (position_bound c.variable xs ++ bindings) forest) (dynamic_switched schemas cases default branches xs bindings forest h.1)
+dynamic_switched schemas [] default [] xs bindings forest h = tt
+dynamic_switched schemas [] default (b ∷ d ∷ branches) xs bindings forest h = tt
+dynamic_switched schemas (c ∷ cases) default [] xs bindings forest h = tt
+
 dynamic_operator : (context : Context) (operator : Operator) (parts : List Denotation) (bindings : Bindings) (forest : Forest) → AreDynamic parts → IsDynamic (denoted context operator parts bindings forest)
 dynamic_operator context (operators.Var number) [] bindings forest h = dynamic_given (look_up bindings number) (λ value. gives value forest) (λ value. tt)
 dynamic_operator context (operators.For binder position) (source ∷ body ∷ []) bindings forest h =
@@ -246,10 +271,19 @@ dynamic_operator context (operators.Step axis asks number) [] bindings forest h 
     dynamic_given (look_up bindings number) (λ value. stepped context.schemas axis asks value forest) (λ value. dynamic_step context.schemas axis asks value forest)
 dynamic_operator context (operators.Let binder) (value ∷ body ∷ []) bindings forest h =
     dynamic_after (value bindings forest) (λ xs left. body ((binder.variable, xs) ∷ bindings) left) (h.0 bindings forest) (λ xs left. h.1.0 ((binder.variable, xs) ∷ bindings) left)
+dynamic_operator context (operators.Switch cases default) (operand ∷ branches) bindings forest h =
+    dynamic_after (operand bindings forest) (λ xs left. switched context.schemas cases default branches xs bindings left) (h.0 bindings forest)
+    (λ xs left. dynamic_switched context.schemas cases default branches xs bindings left h.1)
 dynamic_operator context operators.If (condition ∷ chosen ∷ otherwise ∷ []) bindings forest h =
     dynamic_after (condition bindings forest) (λ xs left. given (condition_of xs) (λ truth. branch truth chosen otherwise bindings left)) (h.0 bindings forest)
     (λ xs left. dynamic_given (condition_of xs) (λ truth. branch truth chosen otherwise bindings left)
     (λ truth. dynamic_branch truth chosen otherwise bindings left (h.1.0 bindings left) (h.1.1.0 bindings left)))
+dynamic_operator context (operators.For binder position) _ bindings forest h = tt
+dynamic_operator context (operators.SomeIn binder) _ bindings forest h = tt
+dynamic_operator context (operators.EveryIn binder) _ bindings forest h = tt
+dynamic_operator context (operators.Let binder) _ bindings forest h = tt
+dynamic_operator context operators.If _ bindings forest h = tt
+dynamic_operator context (operators.Switch cases default) [] bindings forest h = tt
 dynamic_operator context operator parts bindings forest h =
     dynamic_after (all_of parts bindings forest) (acts context operator) (dynamic_all parts bindings forest h) (λ values left. dynamic_act context operator values left)
 

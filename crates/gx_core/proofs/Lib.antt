@@ -5,3 +5,5 @@ pub mod SoundQueries
 pub mod SlotLemmas
 pub mod DynamicCodes
 pub mod LoopBindings
+pub mod DecidingParts
+pub mod FreeMeaning

@@ -1,10 +1,12 @@
--- What the operators of two operands do (XQuery 1.0, sections 3.3.1, 3.4 and 3.5).
+-- What the operators of two operands do (XQuery 1.0, sections 3.3.1, 3.3.3, 3.4 and 3.5).
 use Rattle.gx_atomic.specs.declared.comparison.Op.TheVariants as comparisons
 use Rattle.gx_core.specs.declared.expression.BinaryOp.{BinaryOp}
 use Rattle.gx_core.specs.declared.expression.BinaryOp.TheVariants as binary
 use Rattle.gx_core.specs.declared.expression.ArithmeticOp.TheVariants as arithmetic
 use Rattle.gx_core.specs.declared.expression.BinaryClass.{BinaryClass}
-use Rattle.gx_core.specs.declared.expression.BinaryClass.TheVariants.{Arithmetic, Value, General, Range}
+use Rattle.gx_core.specs.declared.expression.BinaryClass.TheVariants.{Arithmetic, Value, General, Nodes, Range, Sets}
+use Rattle.gx_core.specs.declared.expression.NodeComparison.TheVariants as nodes
+use Rattle.gx_core.specs.declared.expression.SetOperator.TheVariants as sets
 
 abbrev pub class_of : BinaryOp → BinaryClass
 class_of binary.Add = Arithmetic arithmetic.Add
@@ -25,4 +27,10 @@ class_of binary.AnyLt = General comparisons.Lt
 class_of binary.AnyLe = General comparisons.Le
 class_of binary.AnyGt = General comparisons.Gt
 class_of binary.AnyGe = General comparisons.Ge
+class_of binary.Is = Nodes nodes.Is
+class_of binary.Before = Nodes nodes.Before
+class_of binary.After = Nodes nodes.After
 class_of binary.To = Range
+class_of binary.Union = Sets sets.Union
+class_of binary.Intersect = Sets sets.Intersect
+class_of binary.Except = Sets sets.Except

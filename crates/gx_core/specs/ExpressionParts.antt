@@ -3,7 +3,7 @@ use Rattle.std.specs.Prelude.{◌+◌, ◌≤◌, max, List, [], ◌∷◌}
 use Rattle.std.proofs.Common.{arith}
 use denote.Param.Weighed.{most}
 use Rattle.gx_core.specs.declared.expression.Form.{Form}
-use Rattle.gx_core.specs.declared.expression.Form.TheVariants.{Lit, Var, Empty, Seq, For, Let, If, Cast, Castable, Step, Nodes, Order, SomeIn, EveryIn, DataOf, NoContext, Call, Neg, Binary}
+use Rattle.gx_core.specs.declared.expression.Form.TheVariants.{Lit, Var, Empty, Seq, For, Let, If, Cast, Castable, Step, Nodes, Order, SomeIn, EveryIn, Switch, Nth, Final, DataOf, NoContext, Call, Neg, Binary}
 use Rattle.gx_core.specs.declared.expression.Expr.TheDeep.{deep-Form}
 use Rattle.gx_core.specs.Expression.{Expression, expression_size, parts_size, all_parts}
 use Rattle.gx_core.specs.ExpressionView.{parts_of}
@@ -28,6 +28,9 @@ parts_are_smaller (Nodes a) = omega arith
 parts_are_smaller (Order a) = omega arith
 parts_are_smaller (SomeIn v a b) = omega arith
 parts_are_smaller (EveryIn v a b) = omega arith
+parts_are_smaller (Switch a cases default es) = omega (arith, most_parts es.items)
+parts_are_smaller (Nth a number reverse) = omega arith
+parts_are_smaller (Final a reverse) = omega arith
 parts_are_smaller (DataOf a) = omega arith
 parts_are_smaller NoContext = omega arith
 parts_are_smaller (Call function es) = omega (arith, most_parts es.items)

@@ -2,9 +2,9 @@
 use Rattle.gx_core.specs.declared.operator.Operator.{Operator}
 use Rattle.gx_core.specs.declared.operator.Operator.TheVariants as operators
 use Rattle.gx_core.specs.declared.expression.Form.{Form}
-use Rattle.gx_core.specs.declared.expression.Form.TheVariants.{Lit, Var, Empty, Seq, For, Let, If, Cast, Castable, Step, Nodes, Order, SomeIn, EveryIn, DataOf, NoContext, Call, Neg, Binary}
+use Rattle.gx_core.specs.declared.expression.Form.TheVariants.{Lit, Var, Empty, Seq, For, Let, If, Cast, Castable, Step, Nodes, Order, SomeIn, EveryIn, Switch, Nth, Final, DataOf, NoContext, Call, Neg, Binary}
 use Rattle.gx_core.specs.declared.expression.Expr.TheInside.{Inside}
-use Rattle.gx_core.specs.Expression.{Expression, At, Parts, no_parts, one_part, two_parts, three_parts, all_parts}
+use Rattle.gx_core.specs.Expression.{Expression, At, Parts, no_parts, a_part, one_part, two_parts, three_parts, all_parts}
 
 abbrev pub operator_of : {A : Type 0} → Form A → Operator
 operator_of (Lit a) = operators.Lit a
@@ -21,6 +21,9 @@ operator_of (Nodes a) = operators.Nodes
 operator_of (Order a) = operators.Order
 operator_of (SomeIn v a b) = operators.SomeIn v
 operator_of (EveryIn v a b) = operators.EveryIn v
+operator_of (Switch a cases default es) = operators.Switch cases default
+operator_of (Nth a number reverse) = operators.Nth number reverse
+operator_of (Final a reverse) = operators.Final reverse
 operator_of (DataOf a) = operators.DataOf
 operator_of NoContext = operators.NoContext
 operator_of (Call function es) = operators.Call function
@@ -42,6 +45,9 @@ parts_of (Nodes a) = one_part a.value
 parts_of (Order a) = one_part a.value
 parts_of (SomeIn v a b) = two_parts a.value b.value
 parts_of (EveryIn v a b) = two_parts a.value b.value
+parts_of (Switch a cases default es) = a_part a.value (all_parts es.items)
+parts_of (Nth a number reverse) = one_part a.value
+parts_of (Final a reverse) = one_part a.value
 parts_of (DataOf a) = one_part a.value
 parts_of NoContext = no_parts
 parts_of (Call function es) = all_parts es.items

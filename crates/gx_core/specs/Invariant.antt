@@ -1,6 +1,6 @@
 -- What a Core keeps to: each variable stands in the scope of its binder, and no number is bound twice; each literal is a string or a
--- number, and each call has the arguments of a function of the table.
-use Rattle.std.specs.Prelude.{◌≡◌, ◌≢◌, ℕ, ◌+◌, nat_eq, Bool, true, false, List, [], ◌∷◌, ◌++◌, Option, None, Some, is_some, All}
+-- number, each call has the arguments of a function of the table, and each switch a branch for each case and for the default.
+use Rattle.std.specs.Prelude.{◌≡◌, ◌≢◌, ℕ, ◌+◌, nat_eq, Bool, true, false, List, [], ◌∷◌, ◌++◌, length, Option, None, Some, is_some, All}
 use Rattle.std.specs.Bool.{IsTrue}
 use Rattle.std.specs.List.{list_any}
 use Rattle.gx_base.specs.declared.type_name.Builtin.TheVariants as builtins
@@ -19,6 +19,7 @@ use Rattle.gx_core.specs.Queries.{Core, CoreDeclaration}
 use Rattle.gx_core.specs.declared.expression.Declaration.TheVariants.{Global}
 use Rattle.gx_core.specs.Expression.{Expression, At, Parts, no_parts, a_part, CoreExpression}
 use Rattle.gx_core.specs.Bindings.{numbers_bound_by}
+use Rattle.gx_core.specs.Instances.{AreAtomicCases}
 
 abbrev pub is_among : List ℕ → ℕ → Bool
 is_among numbers number = list_any (λ other. nat_eq other number) numbers
@@ -96,7 +97,7 @@ pub record HasQueryVariablesInOrder (core : Core) : Type 0 where
   pub once : AreDistinct (declared_numbers core.declarations ++ numbers_bound core.body)
   pub externals : All HasValueOrType core.declarations
 
--- ---- literals and calls
+-- ---- literals, calls and cases
 
 -- the value of a literal is a string, an integer or a decimal, and the type is that of the value
 abbrev pub IsCoreLiteralOf : AtomValue → TypeName → Type 0
@@ -109,15 +110,19 @@ IsCoreLiteralOf (Truth truth) kind = ⊥
 abbrev pub IsCoreLiteral : Atomic → Type 0
 IsCoreLiteral literal = IsCoreLiteralOf literal.value literal.kind
 
--- a call of a function of the table with its number of arguments; `data` is an operator of its own
+-- a call of a function of the table with its number of arguments; `data` is an operator of its own, and `position` and `last` are
+-- variables
 pub record IsTableCall (function : Function) (arguments : ℕ) : Type 0 where
   pub other : function ≢ functions.Data
+  pub not_position : function ≢ functions.Position
+  pub not_last : function ≢ functions.Last
   pub all : arguments ≡ arity_of function
 
 -- an operator over this number of parts
 abbrev pub IsWellFormedOver : Operator → (parts : ℕ) → Type 0
 IsWellFormedOver (operators.Lit value) parts = IsCoreLiteral value
 IsWellFormedOver (operators.Call function) parts = IsTableCall function parts
+IsWellFormedOver (operators.Switch cases default) parts = AreAtomicCases cases × (parts ≡ 2 + length cases)
 IsWellFormedOver _ parts = Unit {0}
 
 abbrev pub number_of_parts : {A : Type 0} → Parts A → ℕ
@@ -138,7 +143,7 @@ AreValuesWellFormed [] = Unit {0}
 AreValuesWellFormed (Global name binder None ∷ others) = AreValuesWellFormed others
 AreValuesWellFormed (Global name binder (Some value) ∷ others) = IsWellFormedExpression value × AreValuesWellFormed others
 
--- the literals and the calls of a whole query
+-- the literals, the calls and the cases of a whole query
 pub record IsWellFormedQuery (core : Core) : Type 0 where
   pub values : AreValuesWellFormed core.declarations
   pub body : IsWellFormedExpression core.body

@@ -1,5 +1,6 @@
 -- What outcomes keep.
-use Rattle.std.specs.Prelude.{◌≡◌, true, List, [], ◌∷◌}
+use Rattle.std.specs.Prelude.{◌≡◌, ℕ, true, List, [], ◌∷◌, length}
+use Rattle.std.specs.List.{AllByRecursion}
 use Rattle.gx_base.specs.declared.code.Code.{Code}
 use Rattle.gx_base.specs.Code.{is_dynamic}
 use Rattle.gx_types.specs.SequenceType.{SequenceType}
@@ -10,9 +11,12 @@ use Rattle.gx_model.specs.Belongs.{Belongs}
 use Rattle.gx_model.specs.Growth.{Extends}
 use Rattle.gx_core.specs.declared.expression.Binder.{Binder}
 use Rattle.gx_core.specs.Expression.{CoreExpression, plain}
-use Rattle.gx_core.specs.Bindings.{Types}
+use Rattle.gx_core.specs.declared.operator.Operator.{Operator}
+use Rattle.gx_core.specs.Bindings.{Types, look_up}
 use Rattle.gx_core.specs.Outcome.{Outcome, raises, after}
-use Rattle.gx_core.specs.Meaning.{Context, Bindings, Denotation, all_of, meaning}
+use Rattle.gx_core.specs.Meaning.{Context, Bindings, Denotation, all_of, denoted, meaning}
+use Rattle.gx_core.specs.Calls.{Call, calls, evaluated_as}
+use Rattle.gx_core.specs.FreeVariables.{is_free_in}
 use Rattle.gx_core.specs.Soundness.{TypedExpression, Setting, KeepsFact, AreOfTypes, Keeps, Fits, Situation}
 
 -- the meaning of a typed expression is that of the same expression without its types
@@ -59,3 +63,23 @@ RaisesDynamicCodes outcome = (code : Code) → outcome ≡ raises code → is_dy
 -- the evaluation of an expression raises the codes of dynamic errors alone
 abbrev pub ExpressionsRaiseDynamicCodes : Type 0
 ExpressionsRaiseDynamicCodes = (context : Context) (e : CoreExpression) (bindings : Bindings) (forest : Forest) → RaisesDynamicCodes (meaning context e bindings forest)
+
+-- parts that come to the same in an evaluation
+abbrev pub AgreeAt : (parts others : List Denotation) → Call → Type 0
+AgreeAt parts others evaluation = evaluated_as parts evaluation ≡ evaluated_as others evaluation
+
+-- parts that come to the same in each evaluation that an operator asks for may stand for one another: the operator comes to the same, and
+-- asks for the same evaluations
+abbrev pub PartsDecide : Type 0
+PartsDecide =
+    (context : Context) (operator : Operator) (parts others : List Denotation) (bindings : Bindings) (forest : Forest) → length parts ≡ length others
+    → AllByRecursion (AgreeAt parts others) (calls context operator parts bindings forest)
+    → (denoted context operator parts bindings forest ≡ denoted context operator others bindings forest)
+    × (calls context operator parts bindings forest ≡ calls context operator others bindings forest)
+
+-- an expression comes to the same under bindings that are the same for the variables that it names and does not bind
+abbrev pub MeaningLooksAtFreeVariables : Type 0
+MeaningLooksAtFreeVariables =
+    (context : Context) (e : CoreExpression) (bindings others : Bindings) (forest : Forest)
+    → ((number : ℕ) → is_free_in e number ≡ true → look_up bindings number ≡ look_up others number)
+    → meaning context e bindings forest ≡ meaning context e others forest

@@ -15,7 +15,12 @@ pub mod Ranging
 pub mod Casting
 pub mod Calling
 pub mod Paths
+pub mod ComparingNodes
+pub mod NodeSets
+pub mod Filtering
+pub mod Instances
 pub mod Meaning
+pub mod Calls
 pub mod Soundness
 pub mod FreeVariables
 pub mod QueryMeaning

@@ -11,14 +11,19 @@ use Rattle.gx_core.specs.Expression.{Expression, At, Parts, no_parts, a_part}
 use Rattle.gx_core.specs.Bindings.{look_up, position_bound}
 use Rattle.gx_core.specs.Outcome.{Outcome, gives, wrong, after, given}
 use Rattle.gx_core.specs.declared.expression.BinaryClass.{BinaryClass}
-use Rattle.gx_core.specs.declared.expression.BinaryClass.TheVariants.{Arithmetic, Value, General, Range}
+use Rattle.gx_core.specs.declared.expression.BinaryClass.TheVariants.{Arithmetic, Value, General, Nodes, Range, Sets}
 use Rattle.gx_core.specs.BinaryOperators.{class_of}
 use Rattle.gx_core.specs.Arithmetic.{arithmetic, negation}
 use Rattle.gx_core.specs.Comparing.{truth_value, condition_of, value_compared, generally_compared}
+use Rattle.gx_core.specs.ComparingNodes.{nodes_compared}
 use Rattle.gx_core.specs.Ranging.{range}
 use Rattle.gx_core.specs.Casting.{cast_items, castable_items}
 use Rattle.gx_core.specs.Calling.{called}
 use Rattle.gx_core.specs.Paths.{stepped, nodes_alone, put_in_order}
+use Rattle.gx_core.specs.NodeSets.{sets_combined}
+use Rattle.gx_core.specs.Filtering.{nth_of, final_of}
+use Rattle.gx_core.specs.Instances.{is_instance}
+use Rattle.gx_core.specs.declared.cases.TypeCase.{TypeCase}
 
 -- what an expression stands in
 pub record Context : Type 0 where
@@ -36,7 +41,9 @@ abbrev pub binary_meaning : BinaryClass → Items → Items → Forest → Outco
 binary_meaning (Arithmetic operation) xs ys forest = arithmetic operation xs ys forest
 binary_meaning (Value op) xs ys forest = value_compared op xs ys forest
 binary_meaning (General op) xs ys forest = generally_compared op xs ys forest
+binary_meaning (Nodes op) xs ys forest = nodes_compared op xs ys forest
 binary_meaning Range xs ys forest = range xs ys forest
+binary_meaning (Sets op) xs ys forest = sets_combined op xs ys forest
 
 -- what a strict operator makes of the values of its parts; a wrong number of them is a type error
 abbrev pub acts : Context → Operator → List Items → Forest → Outcome Items
@@ -45,6 +52,8 @@ acts context operators.Empty [] forest = gives [] forest
 acts context operators.Seq (xs ∷ ys ∷ []) forest = gives (xs ++ ys) forest
 acts context operators.Nodes (xs ∷ []) forest = nodes_alone xs forest
 acts context operators.Order (xs ∷ []) forest = put_in_order xs forest
+acts context (operators.Nth number reverse) (xs ∷ []) forest = gives (nth_of number reverse xs) forest
+acts context (operators.Final reverse) (xs ∷ []) forest = gives (final_of reverse xs) forest
 acts context operators.DataOf (xs ∷ []) forest = given (atomized context.schemas forest xs) (λ ys. gives ys forest)
 acts context (operators.Cast kind optional) (xs ∷ []) forest = cast_items context.schemas kind optional xs forest
 acts context (operators.Castable kind optional) (xs ∷ []) forest = castable_items context.schemas kind optional xs forest
@@ -84,20 +93,36 @@ abbrev pub branch : Bool → (chosen otherwise : Denotation) → Denotation
 branch true chosen otherwise = chosen
 branch false chosen otherwise = otherwise
 
--- an operator over its parts: those that choose, bind or repeat have a line each, and all others are strict
+-- the branch of the first case whose type a value is of, or that of the default; each with its variable bound to the value
+abbrev pub switched : SchemaSet → List TypeCase → (default : ℕ) → (branches : List Denotation) → Items → Bindings → Forest → Outcome Items
+switched schemas [] default (otherwise ∷ []) xs bindings forest = otherwise (position_bound default xs ++ bindings) forest
+switched schemas (case ∷ cases) default (chosen ∷ branches) xs bindings forest =
+    if is_instance schemas case.kind xs then chosen (position_bound case.variable xs ++ bindings) forest else switched schemas cases default branches xs bindings forest
+switched schemas _ default _ xs bindings forest = wrong
+
+-- an operator over its parts: those that choose, bind or repeat have a line each, and over another number of parts than theirs they are a
+-- type error; all others are strict
 abbrev pub denoted : Context → Operator → List Denotation → Bindings → Forest → Outcome Items
 denoted context (operators.Var number) [] bindings forest = given (look_up bindings number) (λ value. gives value forest)
 denoted context (operators.For binder position) (source ∷ body ∷ []) bindings forest =
     after (source bindings forest) (λ xs left. for_each (λ number x now. body (item_bound binder.variable position number x ++ bindings) now) 1 [] xs left)
+denoted context (operators.For binder position) _ bindings forest = wrong
 denoted context (operators.SomeIn binder) (source ∷ test ∷ []) bindings forest =
     after (source bindings forest) (λ xs left. any_decides true (λ x now. test ((binder.variable, x ∷ []) ∷ bindings) now) xs left)
+denoted context (operators.SomeIn binder) _ bindings forest = wrong
 denoted context (operators.EveryIn binder) (source ∷ test ∷ []) bindings forest =
     after (source bindings forest) (λ xs left. any_decides false (λ x now. test ((binder.variable, x ∷ []) ∷ bindings) now) xs left)
+denoted context (operators.EveryIn binder) _ bindings forest = wrong
 denoted context (operators.Step axis asks number) [] bindings forest = given (look_up bindings number) (λ value. stepped context.schemas axis asks value forest)
 denoted context (operators.Let binder) (value ∷ body ∷ []) bindings forest =
     after (value bindings forest) (λ xs left. body ((binder.variable, xs) ∷ bindings) left)
+denoted context (operators.Let binder) _ bindings forest = wrong
+denoted context (operators.Switch cases default) (operand ∷ branches) bindings forest =
+    after (operand bindings forest) (λ xs left. switched context.schemas cases default branches xs bindings left)
+denoted context (operators.Switch cases default) _ bindings forest = wrong
 denoted context operators.If (condition ∷ chosen ∷ otherwise ∷ []) bindings forest =
     after (condition bindings forest) (λ xs left. given (condition_of xs) (λ truth. branch truth chosen otherwise bindings left))
+denoted context operators.If _ bindings forest = wrong
 denoted context operator parts bindings forest = after (all_of parts bindings forest) (acts context operator)
 
 -- the meaning looks at no place and at no annotation

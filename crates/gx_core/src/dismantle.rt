@@ -54,6 +54,14 @@ fn set_aside<K: Drop>(alloc: Global, form: Form<K>, parts: &mut Vec<Part<K>>) {
         Form::Cast(operand, _target, _) | Form::Castable(operand, _target, _) => {
             let _kept = parts.push(operand);
         }
+        Form::Nth(operand, _, _) | Form::Final(operand, _) => {
+            let _kept = parts.push(operand);
+        }
+        Form::Switch(operand, cases, _, branches) => {
+            drop(cases);
+            let _kept = parts.push(operand);
+            set_arguments_aside(alloc, branches, parts);
+        }
         Form::Seq(first, second) | Form::Binary(_, first, second) => {
             let _first_kept = parts.push(first);
             let _second_kept = parts.push(second);

@@ -3,6 +3,7 @@
 ghost use Rattle.std.specs.Prelude.{◌≡◌};
 ghost use Rattle.gx_core.specs.BinaryOperators.{class_of};
 
+use crate::cases::Cases;
 use crate::declarations::Declarations;
 use gx_atomic::Op;
 use gx_base::name::Name;
@@ -61,7 +62,7 @@ impl Drop for Binder {
     }
 }
 
-/// The operators of two operands (XQuery 1.0, sections 3.3.1, 3.4 and 3.5).
+/// The operators of two operands (XQuery 1.0, sections 3.3.1, 3.3.3, 3.4 and 3.5).
 #[derive(Clone, Copy, PartialEq, Eq)]
 pub enum BinaryOp {
     Add,
@@ -86,7 +87,15 @@ pub enum BinaryOp {
     AnyLe,
     AnyGt,
     AnyGe,
+    Is,
+    /// `<<`.
+    Before,
+    /// `>>`.
+    After,
     To,
+    Union,
+    Intersect,
+    Except,
 }
 
 /// The operators of arithmetic (XQuery 1.0, section 3.4).
@@ -100,13 +109,32 @@ pub enum ArithmeticOp {
     Mod,
 }
 
-/// What an operator of two operands does: arithmetic, a value comparison, a general comparison, or a range of integers.
-#[derive(Clone, Copy, PartialEq, Eq)]
+/// The comparisons of nodes (XQuery 1.0, section 3.5.3): one is the other, comes before it in document order, or comes after it.
+#[derive(Clone, Copy)]
+pub enum NodeComparison {
+    Is,
+    Before,
+    After,
+}
+
+/// The operators that combine sequences of nodes (XQuery 1.0, section 3.3.3).
+#[derive(Clone, Copy)]
+pub enum SetOperator {
+    Union,
+    Intersect,
+    Except,
+}
+
+/// What an operator of two operands does: arithmetic, a value comparison, a general comparison, a comparison of nodes, a range of
+/// integers, or a combination of sequences of nodes.
+#[derive(Clone, Copy)]
 pub enum BinaryClass {
     Arithmetic(ArithmeticOp),
     Value(Op),
     General(Op),
+    Nodes(NodeComparison),
     Range,
+    Sets(SetOperator),
 }
 
 impl BinaryOp {
@@ -133,7 +161,13 @@ impl BinaryOp {
             BinaryOp::AnyLe => BinaryClass::General(Op::Le),
             BinaryOp::AnyGt => BinaryClass::General(Op::Gt),
             BinaryOp::AnyGe => BinaryClass::General(Op::Ge),
+            BinaryOp::Is => BinaryClass::Nodes(NodeComparison::Is),
+            BinaryOp::Before => BinaryClass::Nodes(NodeComparison::Before),
+            BinaryOp::After => BinaryClass::Nodes(NodeComparison::After),
             BinaryOp::To => BinaryClass::Range,
+            BinaryOp::Union => BinaryClass::Sets(SetOperator::Union),
+            BinaryOp::Intersect => BinaryClass::Sets(SetOperator::Intersect),
+            BinaryOp::Except => BinaryClass::Sets(SetOperator::Except),
         }
     }
 }
@@ -160,7 +194,8 @@ pub type Part<K> = Box<Expr<K>>;
 /// What an expression is: a literal, a variable by its number, the empty sequence, a sequence of two parts, a `for` with the number
 /// of the variable that has the position of the item, or 0 where there is none, a `let`, a conditional, a cast or a test whether there is one, to a type and of an empty operand where that is true, a step along
 /// an axis with a test from the node of a variable, an operand of nodes alone, an operand in document order, whether a test holds
-/// of some item or of every item of an operand, the atomization of its operand, what looks at a context where there is none, a call of a built-in function, the negation of a number, or an operator of two operands.
+/// of some item or of every item of an operand, the branch of the first case whose type an operand is of, or of the default, an item
+/// by its number, and the last one, counted from the end where that is true, the atomization of its operand, what looks at a context where there is none, a call of a built-in function, the negation of a number, or an operator of two operands.
 #[cycle(core_tree)]
 #[derive(Drop)]
 pub enum Form<K> {
@@ -178,6 +213,9 @@ pub enum Form<K> {
     Order(Part<K>),
     SomeIn(Binder, Part<K>, Part<K>),
     EveryIn(Binder, Part<K>, Part<K>),
+    Switch(Part<K>, Cases, u32, Vec<Expr<K>>),
+    Nth(Part<K>, i128, bool),
+    Final(Part<K>, bool),
     DataOf(Part<K>),
     NoContext,
     Call(Function, Vec<Expr<K>>),

@@ -1,6 +1,6 @@
 // Laws of the meaning of Core.
 
-ghost use Rattle.gx_core.specs.Laws.{MeaningLooksAtNoType, AfterKeeps, BindingsFitStill, BindingFits, OperandsKeepTheirTypes, ExpressionsRaiseDynamicCodes};
+ghost use Rattle.gx_core.specs.Laws.{MeaningLooksAtNoType, AfterKeeps, BindingsFitStill, BindingFits, OperandsKeepTheirTypes, ExpressionsRaiseDynamicCodes, PartsDecide, MeaningLooksAtFreeVariables};
 ghost use Rattle.gx_core.specs.QueryMeaning.{NoneNeedsNoDocument, SoundQueriesKeepTheirTypes, QueriesRaiseDynamicCodes};
 
 /// The meaning of a typed expression is that of the same expression without its types.
@@ -44,4 +44,15 @@ pub fn expressions_raise_dynamic_codes()
 /// The evaluation of a query raises the codes of dynamic errors alone (XQuery 1.0, section 2.3.1).
 pub fn queries_raise_dynamic_codes()
     ensures { QueriesRaiseDynamicCodes }
+{}
+
+/// Parts that come to the same in each evaluation that an operator asks for may stand for one another.
+pub fn parts_decide()
+    ensures { PartsDecide }
+{}
+
+/// An expression comes to the same under bindings that are the same for the variables that it names and does not bind (XQuery 1.0,
+/// section 3.1.2).
+pub fn meaning_looks_at_free_variables()
+    ensures { MeaningLooksAtFreeVariables }
 {}

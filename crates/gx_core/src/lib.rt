@@ -1,6 +1,7 @@
 //! Core, the language that queries are normalised to: its expressions, its typed expressions, and their meaning.
 #![tactic(auto)]
 
+pub mod cases;
 pub mod declarations;
 pub mod dismantle;
 pub mod dyn_error;

@@ -1,5 +1,6 @@
 // Core operators.
 
+use crate::cases::Cases;
 use crate::expression::{BinaryOp, Binder};
 use gx_base::type_name::TypeName;
 use gx_facets::Atomic;
@@ -24,6 +25,9 @@ pub enum Operator {
     Order,
     SomeIn(Binder),
     EveryIn(Binder),
+    Switch(Cases, u32),
+    Nth(i128, bool),
+    Final(bool),
     DataOf,
     NoContext,
     Call(Function),

@@ -4,3 +4,4 @@ pub mod NodeOperators
 pub mod Resuming
 pub mod Ranges
 pub mod Globals
+pub mod Picked

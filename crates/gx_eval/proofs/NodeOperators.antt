@@ -1,7 +1,8 @@
 -- Operators over nodes.
-use Rattle.std.proofs.Common.{◌≡◌, ℕ, Bool, true, false, if◌then◌else◌, List, [], ◌∷◌, ◌++◌, map, take, drop, append_assoc, Option, None, Some, refl, sym, ◌∙◌, ap, subst}
+use Rattle.std.proofs.Common.{◌≡◌, ℕ, nat_eq, nat_lt, Bool, true, false, ◌&&◌, if◌then◌else◌, List, [], ◌∷◌, ◌++◌, map, take, drop, append_assoc, Option, None, Some, refl, sym, ◌∙◌, ap, subst, arith}
 use Rattle.std.specs.List.{list_all, list_any}
 use Rattle.std.specs.Option.{option_map}
+use Rattle.std.proofs.lemmas.Bool.{eqb-true, eq-eqb, ltb-false, true≢false}
 use Rattle.std.proofs.lemmas.List.{take-append-drop}
 use Rattle.gx_types.specs.declared.step.Axis.{Axis}
 use Rattle.gx_types.specs.declared.step.Test.{Test}
@@ -10,12 +11,17 @@ use Rattle.gx_model.specs.Forest.{Forest, PlainNode}
 use Rattle.gx_model.specs.Item.{Item, atom, node, Items}
 use Rattle.gx_model.specs.Axes.{on_axis}
 use Rattle.gx_model.specs.Atomization.{atomized, joined_values, values_of_item}
-use Rattle.gx_model.specs.DocumentOrder.{in_document_order}
+use Rattle.gx_model.specs.DocumentOrder.{comes_before, same_node, in_document_order}
+use Rattle.gx_model.proofs.OrderLemmas.{not_before_itself, nodes_same, node_itself}
+use Rattle.gx_core.specs.declared.expression.SetOperator.{SetOperator}
 use Rattle.gx_core.specs.declared.operator.Operator.{Operator}
 use Rattle.gx_core.specs.declared.operator.Operator.TheVariants as operators
 use Rattle.gx_core.specs.Outcome.{Outcome, gives, wrong, after, given}
 use Rattle.gx_core.specs.Meaning.{Context, Bindings, Denotation, acts, denoted}
 use Rattle.gx_core.specs.Paths.{is_node, places_of, put_in_order, stepped}
+use Rattle.gx_core.specs.NodeSets.{combined, sets_combined}
+use Rattle.gx_nodes.specs.Entries.{place_of_number}
+use Rattle.gx_nodes.proofs.NumberOrder.{before_is as number_before}
 use Rattle.gx_eval.specs.declared.failure.Failure.{Failure}
 use Rattle.gx_eval.specs.declared.failure.Failure.TheVariants.{Raised, Wrong, Memory}
 use Rattle.gx_eval.specs.Failing.{FailsSo}
@@ -127,3 +133,37 @@ mixed_are_wrong xs forest h e =
 pub atoms_ordered : (xs : Items) (forest : Forest) → list_all is_node xs ≡ false → list_any is_node xs ≡ false → put_in_order xs forest ≡ gives xs forest
 atoms_ordered xs forest h e =
     ap (λ (b : Bool). if b then gives (map node (in_document_order forest (places_of xs))) forest else (if list_any is_node xs then wrong else gives xs forest)) h ∙ ap (λ (b : Bool). if b then wrong else gives xs forest) e
+
+-- ---- comparisons
+
+-- a number is one node
+pub same_is : (later : Forest) (a b : ℕ) → same_node (place_of_number later a) (place_of_number later b) ≡ nat_eq a b
+same_is later a b = by_number (nat_eq a b) refl
+  where
+    one_number : place_of_number later a ≡ place_of_number later b → a ≡ b
+    one_number e =
+        let first : nat_lt a b ≡ false = sym (number_before later a b) ∙ ap (λ (n : PlainNode). comes_before n (place_of_number later b)) e ∙ not_before_itself (place_of_number later b) in
+        let second : nat_lt b a ≡ false = sym (number_before later b a) ∙ ap (λ (n : PlainNode). comes_before (place_of_number later b) n) e ∙ not_before_itself (place_of_number later b) in
+        omega (arith, ltb-false a b first, ltb-false b a second)
+
+    never : (c : Bool) → same_node (place_of_number later a) (place_of_number later b) ≡ c → nat_eq a b ≡ false → c ≡ false
+    never true e f = absurd (true≢false (sym (eq-eqb a b (one_number (nodes_same (place_of_number later a) (place_of_number later b) e))) ∙ f))
+    never false e f = refl
+
+    by_number : (c : Bool) → nat_eq a b ≡ c → same_node (place_of_number later a) (place_of_number later b) ≡ c
+    by_number true e = ap (λ (n : ℕ). same_node (place_of_number later n) (place_of_number later b)) (eqb-true a b e) ∙ node_itself (place_of_number later b)
+    by_number false e = never (same_node (place_of_number later a) (place_of_number later b)) refl e
+
+-- document order is that of numbers
+pub before_is : (later : Forest) (a b : ℕ) → comes_before (place_of_number later a) (place_of_number later b) ≡ nat_lt a b
+before_is later a b = number_before later a b
+
+-- ---- combinations of sequences of nodes
+
+pub sets_of_nodes : (op : SetOperator) (xs ys : Items) (forest : Forest) (nodes : List PlainNode) → (list_all is_node xs && list_all is_node ys) ≡ true
+    → nodes ≡ in_document_order forest (combined op (places_of xs) (places_of ys)) → sets_combined op xs ys forest ≡ gives (map node nodes) forest
+sets_of_nodes op xs ys forest nodes h e =
+    ap (λ (b : Bool). if b then gives (map node (in_document_order forest (combined op (places_of xs) (places_of ys)))) forest else wrong) h ∙ ap (λ (ns : List PlainNode). gives (map node ns) forest) (sym e)
+
+pub others_are_no_sets : (op : SetOperator) (xs ys : Items) (forest : Forest) → (list_all is_node xs && list_all is_node ys) ≡ false → sets_combined op xs ys forest ≡ wrong
+others_are_no_sets op xs ys forest h = ap (λ (b : Bool). if b then gives (map node (in_document_order forest (combined op (places_of xs) (places_of ys)))) forest else wrong) h

@@ -20,12 +20,12 @@ use Rattle.gx_model.specs.Item.{Item, atom, node, Items, atoms}
 use Rattle.gx_core.specs.Outcome.{Outcome, gives, wrong, given}
 use Rattle.gx_core.specs.Operands.{on_one, on_two}
 use Rattle.gx_core.specs.Arithmetic.{number_of_item}
-use Rattle.gx_core.specs.Comparing.{condition_of, truth_of_value, truth_value, value_of_item, cast_failure, decided, atoms_among, generally_compared}
+use Rattle.gx_core.specs.Comparing.{condition_of, truth_of_value, truth_value, cast_failure, decided, atoms_among, generally_compared}
 use Rattle.gx_core.specs.Ranging.{integer_of_item}
 use Rattle.gx_core.specs.Calling.{views_of, answered, called}
 use Rattle.gx_core.specs.Casting.{cast_outcome, cast_items, castable_items}
 use Rattle.gx_eval.specs.declared.answer.Paired.{Paired}
-use Rattle.gx_eval.specs.declared.answer.Paired.TheVariants.{Arithmetic, Value, Range}
+use Rattle.gx_eval.specs.declared.answer.Paired.TheVariants.{Arithmetic, Value, Nodes, Range}
 use Rattle.gx_eval.specs.Failing.{FailsSo}
 use Rattle.gx_eval.specs.OneItem.{only_atom, only_node}
 use Rattle.gx_eval.specs.Answering.{failure_of, paired_meaning}
@@ -53,15 +53,17 @@ given_none : {A : Type 0} (found : Option A) (never : Outcome Items) → never �
 given_none None never e = refl
 given_none (Some x) never e = e
 
-pub no_pair_on_the_left : (operation : Paired) (place : PlainNode) (y : Item) (forest : Forest) → paired_meaning operation (node place) y forest ≡ wrong
-no_pair_on_the_left (Arithmetic operation) place y forest = refl
-no_pair_on_the_left (Value op) place y forest = refl
-no_pair_on_the_left Range place y forest = refl
+pub no_pair_on_the_left : (operation : Paired) (place : PlainNode) (a : Atomic) (forest : Forest) → paired_meaning operation (node place) (atom a) forest ≡ wrong
+no_pair_on_the_left (Arithmetic operation) place a forest = refl
+no_pair_on_the_left (Value op) place a forest = refl
+no_pair_on_the_left (Nodes op) place a forest = refl
+no_pair_on_the_left Range place a forest = refl
 
-pub no_pair_on_the_right : (operation : Paired) (x : Item) (place : PlainNode) (forest : Forest) → paired_meaning operation x (node place) forest ≡ wrong
-no_pair_on_the_right (Arithmetic operation) x place forest = given_none (number_of_item x) wrong refl
-no_pair_on_the_right (Value op) x place forest = given_none (value_of_item x) wrong refl
-no_pair_on_the_right Range x place forest = given_none (integer_of_item x) wrong refl
+pub no_pair_on_the_right : (operation : Paired) (a : Atomic) (place : PlainNode) (forest : Forest) → paired_meaning operation (atom a) (node place) forest ≡ wrong
+no_pair_on_the_right (Arithmetic operation) a place forest = given_none (number_of_item (atom a)) wrong refl
+no_pair_on_the_right (Value op) a place forest = refl
+no_pair_on_the_right (Nodes op) a place forest = refl
+no_pair_on_the_right Range a place forest = given_none (integer_of_item (atom a)) wrong refl
 
 pub many_are_not_cast : (schemas : SchemaSet) (kind : TypeName) (allows_empty : Bool) (xs : Items) (forest : Forest) → 2 ≤ length xs → cast_items schemas kind allows_empty xs forest ≡ wrong
 many_are_not_cast schemas kind allows_empty [] forest h = absurd (omega (arith, h))

@@ -9,15 +9,18 @@ use Rattle.gx_funcs.specs.Function.{ItemView, applied as applied_function}
 use Rattle.gx_model.specs.Forest.{Forest}
 use Rattle.gx_model.specs.Item.{Item, Items}
 use Rattle.gx_core.specs.declared.expression.BinaryOp.{BinaryOp}
+use Rattle.gx_core.specs.declared.cases.TypeCase.{TypeCase}
 use Rattle.gx_core.specs.declared.operator.Operator.{Operator}
 use Rattle.gx_core.specs.declared.operator.Operator.TheVariants as operators
+use Rattle.gx_core.specs.Bindings.{position_bound}
+use Rattle.gx_core.specs.Instances.{is_instance}
 use Rattle.gx_core.specs.Outcome.{Outcome, gives, raises, wrong, after, given}
 use Rattle.gx_core.specs.BinaryOperators.{class_of}
 use Rattle.gx_core.specs.Comparing.{truth_value, condition_of}
 use Rattle.gx_core.specs.Calling.{views_of, answered, called}
 use Rattle.gx_core.specs.Soundness.{TypedExpression}
 use Rattle.gx_core.specs.Expression.{all_parts}
-use Rattle.gx_core.specs.Meaning.{Context, Bindings, Denotation, binary_meaning, acts, all_of, branch, denoted, for_each, decides, any_decides, meaning, meanings}
+use Rattle.gx_core.specs.Meaning.{Context, Bindings, Denotation, binary_meaning, acts, all_of, branch, switched, denoted, for_each, decides, any_decides, meaning, meanings}
 use Rattle.gx_eval.specs.declared.failure.Failure.{Failure}
 use Rattle.gx_eval.specs.declared.failure.Failure.TheVariants.{Raised, Wrong, Memory}
 use Rattle.gx_eval.specs.declared.change.Change.{Change}
@@ -165,6 +168,8 @@ change_denoted : (k : Context) (operator : Change) (operand : Denotation) (bindi
 change_denoted k changes.Data operand bindings forest = refl
 change_denoted k changes.Nodes operand bindings forest = refl
 change_denoted k changes.Order operand bindings forest = refl
+change_denoted k (changes.Nth number reverse) operand bindings forest = refl
+change_denoted k (changes.Final reverse) operand bindings forest = refl
 
 pub change_opens : (k : Context) (forest : Forest) (operator : Change) (operand : Denotation) (work : List Pending) (values : Items) (first : ℕ) (stacks : Stacks) (bindings : Bindings) → first ≡ length values
     → after (operand bindings forest) (λ xs f. resume k (Altering operator first ∷ work) (values ++ xs) stacks bindings f)
@@ -394,6 +399,63 @@ pub sequence_opens : (k : Context) (forest : Forest) (work : List Pending) (valu
     → after (first bindings forest) (λ xs f. after (second bindings f) (λ ys g. resume k work ((values ++ xs) ++ ys) stacks bindings g))
     ≡ after (denoted k operators.Seq (first ∷ second ∷ []) bindings forest) (λ more left. resume k work (values ++ more) stacks bindings left)
 sequence_opens k forest work values stacks bindings first second = sequence_first k work values stacks bindings second (first bindings forest)
+
+-- ---- a switch
+
+pub switch_opens : (k : Context) (forest : Forest) (operand : Denotation) (chosen : Items → Forest → Outcome Items) (work : List Pending) (values : Items) (first : ℕ) (stacks : Stacks) (bindings : Bindings) → first ≡ length values
+    → after (operand bindings forest) (λ xs f. after (chosen (drop first (values ++ xs)) f) (λ more left. resume k work (take first (values ++ xs) ++ more) stacks bindings left))
+    ≡ after (after (operand bindings forest) chosen) (λ more left. resume k work (values ++ more) stacks bindings left)
+switch_opens k forest operand chosen work values first stacks bindings h =
+    ap (λ (n : ℕ). after (operand bindings forest) (λ xs f. after (chosen (drop n (values ++ xs)) f) (λ more left. resume k work (take n (values ++ xs) ++ more) stacks bindings left))) h
+    ∙ opened (operand bindings forest)
+  where
+    opened : (o : Outcome Items)
+        → after o (λ xs f. after (chosen (drop (length values) (values ++ xs)) f) (λ more left. resume k work (take (length values) (values ++ xs) ++ more) stacks bindings left))
+        ≡ after (after o chosen) (λ more left. resume k work (values ++ more) stacks bindings left)
+    opened (gives xs f) =
+        ap (λ (v : Items). after (chosen v f) (λ more left. resume k work (take (length values) (values ++ xs) ++ more) stacks bindings left)) (drop-append_seam values xs)
+        ∙ ap (λ (v : Items). after (chosen xs f) (λ more left. resume k work (v ++ more) stacks bindings left)) (take-append_seam values xs)
+    opened (raises code) = refl
+    opened wrong = refl
+
+-- the branch that a switch chooses
+pub first_case : (k : Context) (forest : Forest) (default : ℕ) (cases rest : List TypeCase) (case : TypeCase) (branches others : List TypedExpression) (branch : TypedExpression) (xs : Items) (bindings : Bindings) (next : Rest)
+    → cases ≡ case ∷ rest → branches ≡ branch ∷ others → is_instance k.schemas case.kind xs ≡ true
+    → after (meaning k branch (position_bound case.variable xs ++ bindings) forest) next ≡ after (switched k.schemas cases default (map (meaning k) branches) xs bindings forest) next
+first_case k forest default cases rest case branches others branch xs bindings next e f h =
+    sym (ap (λ (cs : List TypeCase). after (switched k.schemas cs default (map (meaning k) branches) xs bindings forest) next) e
+    ∙ ap (λ (bs : List TypedExpression). after (switched k.schemas (case ∷ rest) default (map (meaning k) bs) xs bindings forest) next) f
+    ∙ ap (λ (b : Bool). after (if b then meaning k branch (position_bound case.variable xs ++ bindings) forest else switched k.schemas rest default (map (meaning k) others) xs bindings forest) next) h)
+
+pub later_case : (k : Context) (forest : Forest) (default : ℕ) (cases rest : List TypeCase) (case : TypeCase) (branches others : List TypedExpression) (branch : TypedExpression) (xs : Items) (bindings : Bindings) (next : Rest)
+    → cases ≡ case ∷ rest → branches ≡ branch ∷ others → is_instance k.schemas case.kind xs ≡ false
+    → after (switched k.schemas rest default (map (meaning k) others) xs bindings forest) next ≡ after (switched k.schemas cases default (map (meaning k) branches) xs bindings forest) next
+later_case k forest default cases rest case branches others branch xs bindings next e f h =
+    sym (ap (λ (cs : List TypeCase). after (switched k.schemas cs default (map (meaning k) branches) xs bindings forest) next) e
+    ∙ ap (λ (bs : List TypedExpression). after (switched k.schemas (case ∷ rest) default (map (meaning k) bs) xs bindings forest) next) f
+    ∙ ap (λ (b : Bool). after (if b then meaning k branch (position_bound case.variable xs ++ bindings) forest else switched k.schemas rest default (map (meaning k) others) xs bindings forest) next) h)
+
+pub no_case : (k : Context) (forest : Forest) (default : ℕ) (cases : List TypeCase) (branches others : List TypedExpression) (branch : TypedExpression) (xs : Items) (bindings : Bindings) (next : Rest)
+    → cases ≡ [] → branches ≡ branch ∷ others → others ≡ []
+    → after (meaning k branch (position_bound default xs ++ bindings) forest) next ≡ after (switched k.schemas cases default (map (meaning k) branches) xs bindings forest) next
+no_case k forest default cases branches others branch xs bindings next e f h =
+    sym (ap (λ (cs : List TypeCase). after (switched k.schemas cs default (map (meaning k) branches) xs bindings forest) next) e
+    ∙ ap (λ (bs : List TypedExpression). after (switched k.schemas [] default (map (meaning k) bs) xs bindings forest) next) f
+    ∙ ap (λ (bs : List TypedExpression). after (switched k.schemas [] default (meaning k branch ∷ map (meaning k) bs) xs bindings forest) next) h)
+
+pub no_branch : (k : Context) (forest : Forest) (default : ℕ) (cases : List TypeCase) (branches : List TypedExpression) (xs : Items) (bindings : Bindings) (next : Rest)
+    → branches ≡ [] → after (switched k.schemas cases default (map (meaning k) branches) xs bindings forest) next ≡ wrong
+no_branch k forest default cases branches xs bindings next f =
+    ap (λ (bs : List TypedExpression). after (switched k.schemas cases default (map (meaning k) bs) xs bindings forest) next) f ∙ none_left cases
+  where
+    none_left : (cs : List TypeCase) → after (switched k.schemas cs default [] xs bindings forest) next ≡ wrong
+    none_left [] = refl
+    none_left (case ∷ cs) = refl
+
+-- a branch whose case has no variable
+pub without_variable : (forest : Forest) (variable : ℕ) (body : Denotation) (xs : Items) (bindings : Bindings) (next : Rest) → variable ≡ 0
+    → after (body bindings forest) next ≡ after (body (position_bound variable xs ++ bindings) forest) next
+without_variable forest variable body xs bindings next e = ap (λ (n : ℕ). after (body (position_bound n xs ++ bindings) forest) next) (sym e)
 
 -- ---- a `let`
 

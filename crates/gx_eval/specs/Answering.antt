@@ -1,26 +1,30 @@
 -- What a strict operator makes of its operands.
-use Rattle.std.specs.Prelude.{ℕ, ◌<◌, ℤ, ◌+ℤ◌, pos, FitsSigned, [], ◌∷◌}
+use Rattle.std.specs.Prelude.{ℕ, ◌<◌, ℤ, ◌+ℤ◌, pos, FitsSigned, [], ◌∷◌, map}
 use Rattle.std.specs.Int.{w128}
 use Rattle.gx_base.specs.declared.code.Code.TheVariants as codes
 use Rattle.gx_atomic.specs.declared.casting.CastError.{CastError}
 use Rattle.gx_atomic.specs.declared.casting.CastError.TheVariants as casts
 use Rattle.gx_model.specs.Forest.{Forest}
-use Rattle.gx_model.specs.Item.{Item, atom, Items, atoms}
+use Rattle.gx_model.specs.Item.{Item, atom, node, Items, atoms}
 use Rattle.gx_core.specs.Outcome.{Outcome}
 use Rattle.gx_core.specs.Arithmetic.{computed_of_items}
 use Rattle.gx_core.specs.Comparing.{compared_items}
+use Rattle.gx_core.specs.ComparingNodes.{compared_nodes}
 use Rattle.gx_core.specs.Ranging.{integers_from, range_of_items}
+use Rattle.gx_store.specs.Places.{node_places}
 use Rattle.gx_eval.specs.declared.failure.Failure.{Failure}
 use Rattle.gx_eval.specs.declared.failure.Failure.TheVariants.{Raised, Memory}
 use Rattle.gx_eval.specs.declared.answer.Answer.{Answer}
-use Rattle.gx_eval.specs.declared.answer.Answer.TheVariants.{Nothing, One, Integers}
+use Rattle.gx_eval.specs.declared.answer.Answer.TheVariants.{Nothing, One, Integers, Nodes}
 use Rattle.gx_eval.specs.declared.answer.Paired.{Paired}
 use Rattle.gx_eval.specs.declared.answer.Paired.TheVariants.{Arithmetic, Value, Range}
+use Rattle.gx_eval.specs.declared.answer.Paired.TheVariants as pairs
 
-abbrev pub answer_items : Answer → Items
-answer_items Nothing = []
-answer_items (One a) = atom a ∷ []
-answer_items (Integers first count) = atoms (integers_from first count)
+abbrev pub answer_items : Forest → Answer → Items
+answer_items forest Nothing = []
+answer_items forest (One a) = atom a ∷ []
+answer_items forest (Integers first count) = atoms (integers_from first count)
+answer_items forest (Nodes nodes) = map node (node_places forest nodes.items)
 
 -- each of so many integers is within the limits of xs:integer
 abbrev pub IntegersFit : (first : ℤ) → (count : ℕ) → Type 0
@@ -33,6 +37,7 @@ AnswerFits _ = Unit {0}
 abbrev pub paired_meaning : Paired → Item → Item → Forest → Outcome Items
 paired_meaning (Arithmetic operation) x y forest = computed_of_items operation x y forest
 paired_meaning (Value op) x y forest = compared_items op x y forest
+paired_meaning (pairs.Nodes op) x y forest = compared_nodes op x y forest
 paired_meaning Range x y forest = range_of_items x y forest
 
 -- how the evaluation fails where a cast does

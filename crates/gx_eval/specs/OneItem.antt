@@ -1,5 +1,5 @@
--- What a value of one item is.
-use Rattle.std.specs.Prelude.{[], ◌∷◌, Option, None, Some}
+-- What a value of one item is, and the item of a value at a place.
+use Rattle.std.specs.Prelude.{ℕ, [], ◌∷◌, take, drop, Option, None, Some}
 use Rattle.gx_facets.specs.declared.Atomic.{Atomic}
 use Rattle.gx_model.specs.Forest.{PlainNode}
 use Rattle.gx_model.specs.Item.{Items, atom, node}
@@ -13,3 +13,8 @@ only_node _ = None
 abbrev pub only_atom : Items → Option Atomic
 only_atom (atom value ∷ []) = Some value
 only_atom _ = None
+
+-- the item at a place, if one was found
+abbrev pub item_found : Option ℕ → Items → Items
+item_found None items = []
+item_found (Some index) items = take 1 (drop index items)

@@ -8,9 +8,10 @@ use Rattle.gx_core.specs.declared.operator.Operator.{Operator}
 use Rattle.gx_core.specs.declared.operator.Operator.TheVariants as operators
 use Rattle.gx_core.specs.Queries.{TypedCore, TypedDeclaration}
 use Rattle.gx_core.specs.declared.expression.Declaration.TheVariants.{Global}
+use Rattle.gx_core.specs.Bindings.{position_bound}
 use Rattle.gx_core.specs.Comparing.{truth_value, condition_of}
 use Rattle.gx_core.specs.Outcome.{Outcome, gives, wrong, after, given}
-use Rattle.gx_core.specs.Meaning.{Context, Bindings, Denotation, acts, branch, for_each, item_bound, decides, any_decides, meaning}
+use Rattle.gx_core.specs.Meaning.{Context, Bindings, Denotation, acts, branch, switched, for_each, item_bound, decides, any_decides, meaning}
 use Rattle.gx_core.specs.Soundness.{TypedExpression}
 use Rattle.gx_store.specs.Items.{items_in}
 use Rattle.gx_store.specs.Places.{node_places}
@@ -18,7 +19,7 @@ use Rattle.gx_eval.specs.BoundItems.{bound_items}
 use Rattle.gx_eval.specs.Operators.{single_operator, changing_operator}
 use Rattle.gx_eval.specs.declared.bound.Bound.{Bound}
 use Rattle.gx_eval.specs.declared.evaluation.Pending.{Pending}
-use Rattle.gx_eval.specs.declared.evaluation.Pending.TheVariants.{Evaluate, Change, Single as Operate, Right, Binary, Choose, Mark, Call, Gather, Each, Decide, Bind, Unbind, Declare, External}
+use Rattle.gx_eval.specs.declared.evaluation.Pending.TheVariants.{Evaluate, Change, Single as Operate, Right, Binary, Choose, Switch, Mark, Call, Gather, Each, Decide, Bind, Unbind, Declare, External}
 use Rattle.gx_eval.specs.declared.evaluation.Evaluation.{Evaluation}
 use Rattle.gx_eval.specs.declared.looping.Loop.{Loop}
 use Rattle.gx_eval.specs.declared.looping.Loop.TheVariants.{For, Search}
@@ -125,6 +126,8 @@ resume k (Binary operator first second ∷ work) values stacks bindings forest =
 resume k (Choose first yes' no' ∷ work) values stacks bindings forest =
     given (condition_of (drop first values))
     (λ truth. after (branch truth (meaning k yes'.now) (meaning k no'.now) bindings forest) (λ more left. resume k work (take first values ++ more) stacks bindings left))
+resume k (Switch first cases default branches ∷ work) values stacks bindings forest =
+    after (switched k.schemas cases.now default (map (meaning k) branches.now) (drop first values) bindings forest) (λ more left. resume k work (take first values ++ more) stacks bindings left)
 resume k (Mark ∷ work) values stacks bindings forest = resume k work values (with_marks stacks (length values ∷ stacks.marks)) bindings forest
 resume k (Call function more ∷ work) values stacks bindings forest =
     between_marks (more + 2) stacks.marks values []
@@ -170,3 +173,9 @@ abbrev pub outcome_then : Context → (forest later : Forest) → TypedExpressio
 outcome_then k forest later part behind evaluation =
     after (meaning k part (items_of later evaluation.scope) forest)
     (λ more left. resume k (behind ∷ evaluation.work) (items_in later evaluation.values.items ++ more) (stacks_of later evaluation) (items_of later evaluation.scope) left)
+
+-- with a branch that comes next, whose variable is bound to the values from a number of them on, where it has one
+abbrev pub branch_outcome : Context → (forest later : Forest) → (first variable : ℕ) → TypedExpression → Evaluation → Outcome Items
+branch_outcome k forest later first variable branch evaluation =
+    after (meaning k branch (position_bound variable (drop first (items_in later evaluation.values.items)) ++ items_of later evaluation.scope) forest)
+    (λ more left. resume k evaluation.work (take first (items_in later evaluation.values.items) ++ more) (stacks_of later evaluation) (items_of later evaluation.scope) left)

@@ -22,7 +22,7 @@ use std::alloc::{AllocError, Global};
 
 // What a function answers of no argument.
 pub(crate) fn called_with_none(function: Function) -> Result<Answer, Failure>
-    ensures value { (forest : PlainForest) → IfOk result (λ r. called function [] forest ≡ gives (answer_items r) forest) }
+    ensures value { (forest later : PlainForest) → IfOk result (λ r. called function [] forest ≡ gives (answer_items later r) forest) }
     ensures fits { IfOk result (λ r. AnswerFits r) }
     ensures failed { (forest : PlainForest) → IfErr result (λ e. FailsSo e (called function [] forest)) }
 {
@@ -39,7 +39,7 @@ pub(crate) fn called_with_one(
     function: Function,
     argument: &[Item],
 ) -> Result<Answer, Failure>
-    ensures value { (later : PlainForest) → Extends store.now later → IfOk result (λ r. called function (items_in later argument.now ∷ []) store.now ≡ gives (answer_items r) store.now) }
+    ensures value { (later : PlainForest) → Extends store.now later → IfOk result (λ r. called function (items_in later argument.now ∷ []) store.now ≡ gives (answer_items later r) store.now) }
     ensures fits { IfOk result (λ r. AnswerFits r) }
     ensures failed { (later : PlainForest) → Extends store.now later → IfErr result (λ e. FailsSo e (called function (items_in later argument.now ∷ []) store.now)) }
 {
@@ -59,7 +59,8 @@ pub(crate) fn called_with_one(
             Some(text) => Ok(Answer::One(string_atom(text))),
             None => Err(Failure::Wrong),
         },
-        Function::True | Function::False | Function::Data => Err(Failure::Wrong),
+        Function::True | Function::False | Function::Data | Function::Position | Function::Last =>
+            Err(Failure::Wrong),
     }
 }
 

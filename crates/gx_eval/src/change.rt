@@ -12,6 +12,7 @@ ghost use Rattle.gx_eval.specs.Operators.{changing_operator};
 ghost use Rattle.gx_eval.specs.Resume.{changed, context_over};
 
 use crate::failure::Failure;
+use crate::filtering::{keep_last, keep_nth};
 use crate::nodes::{append_nodes, atomized, put_in_order};
 use crate::operand::{all_nodes, any_node, cut_off, move_behind, values_from};
 use gx_store::item::Item;
@@ -19,12 +20,14 @@ use gx_store::store::Store;
 use gx_types::schemas::Schemas;
 use std::alloc::Global;
 
-// Atomization, the test that all items are nodes, or document order.
+// Atomization, the test that all items are nodes, document order, the item of a number, or the last one.
 #[derive(Clone, Copy)]
 pub(crate) enum Change {
     Data,
     Nodes,
     Order,
+    Nth(i128, bool),
+    Final(bool),
 }
 
 // Changes the values from a number of them on.
@@ -43,6 +46,8 @@ pub(crate) fn change_values(
         Change::Data => atomize(alloc, schemas, store, first, values),
         Change::Nodes => check_nodes(first, values),
         Change::Order => order(alloc, store, first, values),
+        Change::Nth(number, reverse) => Ok(keep_nth(number, reverse, first, values)?),
+        Change::Final(reverse) => Ok(keep_last(reverse, first, values)?),
     }
 }
 

@@ -13,7 +13,7 @@ ghost use Rattle.gx_store.specs.Places.{node_places};
 ghost use Rattle.gx_eval.specs.Answering.{answer_items, AnswerFits};
 ghost use Rattle.gx_eval.specs.Failing.{FailsSo};
 ghost use Rattle.gx_eval.specs.Operators.{single_operator, changing_operator};
-ghost use Rattle.gx_eval.specs.Resume.{resume, context_over, declared_then, only_documents, typed_outcome, in_order, outcome_of, outcome_with, outcome_behind, outcome_then, items_of, right_meaning};
+ghost use Rattle.gx_eval.specs.Resume.{resume, context_over, declared_then, only_documents, typed_outcome, in_order, outcome_of, outcome_with, outcome_behind, branch_outcome, outcome_then, items_of, right_meaning};
 ghost use Rattle.gx_eval.specs.declared.evaluation.Pending.TheVariants as work;
 ghost use Rattle.gx_eval.specs.declared.looping.Loop.TheVariants as loops;
 
@@ -30,7 +30,9 @@ use crate::operand::{
     values_from,
 };
 use crate::single::{Single, of_one};
+use crate::switching::is_instance;
 use gx_base::stack::Stack;
+use gx_core::cases::TypeCase;
 use gx_core::expression::{BinaryOp, Form, TypedCore, TypedDeclaration, TypedExpr};
 use gx_core::scope::Scope;
 use gx_funcs::function::{Function, truth_atom};
@@ -45,7 +47,7 @@ use std::mem;
 // A piece of work. A number is that of the values before an operand: to evaluate an expression, behind the values that are
 // there; to change an operand where it stands; to apply an operator of one operand; to evaluate the right operand of an operator,
 // whose left one is there; to apply an operator of two operands; to choose the first of two branches where the operand is true,
-// and else the second; to mark where an argument begins; to call a function of two arguments and so many more, behind the last
+// and else the second; to choose the branch of the first case whose type the operand is of, or of the default; to mark where an argument begins; to call a function of two arguments and so many more, behind the last
 // marks; to put the items of an operand aside for a loop; to repeat the body of a loop for each item that was put aside from the
 // first number on, where the items of this loop begin at the second; to end a search where the value of its test decides, and else to
 // go on; to bind a variable to an operand in the body of a `let`; to take
@@ -59,6 +61,12 @@ pub(crate) enum Pending<'a> {
     Right(BinaryOp, usize, &'a TypedExpr),
     Binary(BinaryOp, usize, usize),
     Choose(usize, &'a TypedExpr, &'a TypedExpr),
+    Switch {
+        first: usize,
+        cases: &'a [TypeCase],
+        default: u32,
+        branches: &'a [TypedExpr],
+    },
     Mark,
     Call(Function, usize),
     Gather(Loop, usize, &'a TypedExpr),
@@ -127,12 +135,18 @@ impl<'a> Evaluation<'a> {
                 self.apply_single(alloc, schemas, store, operator, first)
             }
             Pending::Right(operator, first, right) => {
-                self.open_right(alloc, operator, first, right)
+                self.open_right(alloc, store, operator, first, right)
             }
             Pending::Binary(operator, first, second) => {
-                self.apply_binary(alloc, operator, first, second)
+                self.apply_binary(alloc, store, operator, first, second)
             }
             Pending::Choose(first, chosen, otherwise) => self.choose(first, chosen, otherwise),
+            Pending::Switch {
+                first,
+                cases,
+                default,
+                branches,
+            } => self.switch(alloc, schemas, first, cases, default, branches),
             Pending::Mark => Ok(self.marks.push(count_of(&self.values))?),
             Pending::Call(function, more) => self.apply_call(function, more),
             Pending::Gather(repeated, first, body) => {
@@ -217,6 +231,12 @@ impl<'a> Evaluation<'a> {
             }
             Form::Nodes(operand) => Ok(self.open_change(Change::Nodes, operand)?),
             Form::Order(operand) => Ok(self.open_change(Change::Order, operand)?),
+            Form::Nth(operand, number, reverse) => {
+                Ok(self.open_change(Change::Nth(*number, *reverse), operand)?)
+            }
+            Form::Final(operand, reverse) => {
+                Ok(self.open_change(Change::Final(*reverse), operand)?)
+            }
             Form::DataOf(operand) => Ok(self.open_change(Change::Data, operand)?),
             Form::NoContext => Err(Failure::Wrong),
             Form::Call(function, arguments) => {
@@ -225,6 +245,15 @@ impl<'a> Evaluation<'a> {
             Form::Neg(operand) => { self.open_single(alloc, schemas, store, Single::Neg, operand) }
             Form::Binary(operator, left, right) => {
                 Ok(self.open_part(left, Pending::Right(*operator, first, right))?)
+            }
+            Form::Switch(operand, cases, default, branches) => {
+                let chosen = Pending::Switch {
+                    first,
+                    cases: cases.as_slice(),
+                    default: *default,
+                    branches: branches.as_slice(),
+                };
+                Ok(self.open_part(operand, chosen)?)
             }
         }
     }
@@ -273,7 +302,7 @@ impl<'a> Evaluation<'a> {
         operand: &TypedExpr,
     ) -> Result<Option<Answer>, Failure>
         ensures value { let k = context_over schemas.now in (later : PlainForest) → Extends store.now later → IfOk result (λ found. IfSome found (λ r.
-            denoted k (single_operator operator.entry) (meaning k operand.now ∷ []) (items_of later self.now.scope) store.now ≡ gives (answer_items r) store.now)) }
+            denoted k (single_operator operator.entry) (meaning k operand.now ∷ []) (items_of later self.now.scope) store.now ≡ gives (answer_items later r) store.now)) }
         ensures fits { IfOk result (λ found. IfSome found AnswerFits) }
         ensures failed { let k = context_over schemas.now in (later : PlainForest) → Extends store.now later → IfErr result (λ e. FailsSo e (denoted k (single_operator operator.entry) (meaning k operand.now ∷ []) (items_of later self.now.scope) store.now)) }
     {
@@ -287,18 +316,19 @@ impl<'a> Evaluation<'a> {
     fn right_at_hand(
         &self,
         alloc: Global,
+        store: &Store,
         operator: BinaryOp,
         first: usize,
         right: &TypedExpr,
     ) -> Result<Option<Answer>, Failure>
-        ensures value { (k : Context) (forest later : PlainForest) → IfOk result (λ found. IfSome found (λ r.
-            right_meaning k operator first right.now (items_in later self.now.values.items) (items_of later self.now.scope) forest ≡ gives (answer_items r) forest)) }
+        ensures value { (k : Context) (later : PlainForest) → Extends store.now later → IfOk result (λ found. IfSome found (λ r.
+            right_meaning k operator first right.now (items_in later self.now.values.items) (items_of later self.now.scope) store.now ≡ gives (answer_items later r) store.now)) }
         ensures fits { IfOk result (λ found. IfSome found AnswerFits) }
-        ensures failed { (k : Context) (forest later : PlainForest) → IfErr result (λ e. FailsSo e (right_meaning k operator first right.now (items_in later self.now.values.items) (items_of later self.now.scope) forest)) }
+        ensures failed { (k : Context) (later : PlainForest) → Extends store.now later → IfErr result (λ e. FailsSo e (right_meaning k operator first right.now (items_in later self.now.values.items) (items_of later self.now.scope) store.now)) }
     {
         let left = values_from(&self.values, first);
         match at_hand(&self.scope, right)? {
-            Some(hand) => Ok(Some(of_two(alloc, operator.class(), left, hand.as_slice())?)),
+            Some(hand) => Ok(Some(of_two(alloc, store, operator.class(), left, hand.as_slice())?)),
             None => Ok(None),
         }
     }
@@ -329,14 +359,15 @@ impl<'a> Evaluation<'a> {
     fn open_right(
         &mut self,
         alloc: Global,
+        store: &Store,
         operator: BinaryOp,
         first: usize,
         right: &'a TypedExpr,
     ) -> Result<(), Failure>
-        ensures value { (k : Context) (forest later : PlainForest) → OnOk result (outcome_of k forest later self.new ≡ outcome_with k forest later (work.Right operator first right.entry) self.old) }
-        ensures failed { (k : Context) (forest later : PlainForest) → IfErr result (λ e. FailsSo e (outcome_with k forest later (work.Right operator first right.entry) self.old)) }
+        ensures value { (k : Context) (later : PlainForest) → Extends store.now later → OnOk result (outcome_of k store.now later self.new ≡ outcome_with k store.now later (work.Right operator first right.entry) self.old) }
+        ensures failed { (k : Context) (later : PlainForest) → Extends store.now later → IfErr result (λ e. FailsSo e (outcome_with k store.now later (work.Right operator first right.entry) self.old)) }
     {
-        if let Some(answer) = self.right_at_hand(alloc, operator, first, right)? {
+        if let Some(answer) = self.right_at_hand(alloc, store, operator, first, right)? {
             cut_off(&mut self.values, first);
             return Ok(put(answer, &mut self.values)?);
         }
@@ -613,6 +644,58 @@ impl<'a> Evaluation<'a> {
         }
     }
 
+    // Puts the branch of the first case to the work whose type the values from the number on are of, or goes on to the next case.
+    fn switch(
+        &mut self,
+        alloc: Global,
+        schemas: &Schemas,
+        first: usize,
+        cases: &'a [TypeCase],
+        default: u32,
+        branches: &'a [TypedExpr],
+    ) -> Result<(), Failure>
+        ensures value { let k = context_over schemas.now in (forest later : PlainForest) → OnOk result (outcome_of k forest later self.new ≡ outcome_with k forest later (work.Switch first cases.entry default branches.entry) self.old) }
+        ensures failed { let k = context_over schemas.now in (forest later : PlainForest) → IfErr result (λ e. FailsSo e (outcome_with k forest later (work.Switch first cases.entry default branches.entry) self.old)) }
+    {
+        let Some((branch, others)) = branches.split_first() else {
+            return Err(Failure::Wrong);
+        };
+        let Some((case, rest)) = cases.split_first() else {
+            if !others.is_empty() {
+                return Err(Failure::Wrong);
+            }
+            return Ok(self.choose_branch(alloc, first, default, branch)?);
+        };
+        if is_instance(schemas, &case.kind, values_from(&self.values, first)) {
+            return Ok(self.choose_branch(alloc, first, case.variable, branch)?);
+        }
+        let next = Pending::Switch {
+            first,
+            cases: rest,
+            default,
+            branches: others,
+        };
+        Ok(self.work.push(next)?)
+    }
+
+    // A branch, in which a variable is bound to the values from the number on where there is one.
+    fn choose_branch(
+        &mut self,
+        alloc: Global,
+        first: usize,
+        variable: u32,
+        branch: &'a TypedExpr,
+    ) -> Result<(), AllocError>
+        ensures { (k : Context) (forest later : PlainForest) → OnOk result (outcome_of k forest later self.new ≡ branch_outcome k forest later first variable branch.now self.old) }
+    {
+        if variable != 0 {
+            return self.bind(alloc, variable, first, branch);
+        }
+        cut_off(&mut self.values, first);
+        self.work.push(Pending::Evaluate(branch))?;
+        Ok(())
+    }
+
     // Applies an operator to the values from the number on.
     fn apply_single(
         &mut self,
@@ -635,16 +718,17 @@ impl<'a> Evaluation<'a> {
     fn apply_binary(
         &mut self,
         alloc: Global,
+        store: &Store,
         operator: BinaryOp,
         first: usize,
         second: usize,
     ) -> Result<(), Failure>
-        ensures value { (k : Context) (forest later : PlainForest) → OnOk result (outcome_of k forest later self.new ≡ outcome_with k forest later (work.Binary operator first second) self.old) }
-        ensures failed { (k : Context) (forest later : PlainForest) → IfErr result (λ e. FailsSo e (outcome_with k forest later (work.Binary operator first second) self.old)) }
+        ensures value { (k : Context) (later : PlainForest) → Extends store.now later → OnOk result (outcome_of k store.now later self.new ≡ outcome_with k store.now later (work.Binary operator first second) self.old) }
+        ensures failed { (k : Context) (later : PlainForest) → Extends store.now later → IfErr result (λ e. FailsSo e (outcome_with k store.now later (work.Binary operator first second) self.old)) }
     {
         let (left, right) = cut_at(self.values.as_slice(), second);
         let (_, left) = cut_at(left, first);
-        let answer = of_two(alloc, operator.class(), left, right)?;
+        let answer = of_two(alloc, store, operator.class(), left, right)?;
         cut_off(&mut self.values, second);
         cut_off(&mut self.values, first);
         Ok(put(answer, &mut self.values)?)

@@ -1,4 +1,4 @@
-// Operators over nodes: steps, their order, and typed values.
+// Operators over nodes: steps, comparisons, document order, and typed values.
 
 ghost use Rattle.std.specs.Prelude.{◌≡◌, ◌++◌, OnOk, IfOk, IfErr, map, Some};
 ghost use Rattle.std.specs.Option.{option_map};
@@ -7,7 +7,9 @@ ghost use Rattle.gx_model.specs.Forest.{Forest as PlainForest};
 ghost use Rattle.gx_model.specs.Growth.{Extends};
 ghost use Rattle.gx_model.specs.Item.{node, atoms};
 ghost use Rattle.gx_core.specs.Outcome.{gives, given};
+ghost use Rattle.gx_core.specs.ComparingNodes.{node_comparison};
 ghost use Rattle.gx_core.specs.Paths.{places_of, put_in_order, stepped};
+ghost use Rattle.gx_nodes.specs.Entries.{place_of_number};
 ghost use Rattle.gx_store.specs.Items.{item_in, items_in};
 ghost use Rattle.gx_store.specs.Places.{node_places};
 ghost use Rattle.gx_eval.specs.Failing.{FailsSo};
@@ -15,6 +17,7 @@ ghost use Rattle.gx_eval.specs.OrderedItems.{ordered_items};
 
 use crate::failure::Failure;
 use crate::operand::{all_nodes, any_node, only_node, push_atom};
+use gx_core::expression::NodeComparison;
 use gx_facets::Atomic;
 use gx_store::item::Item;
 use gx_store::number::NodeId;
@@ -41,8 +44,20 @@ pub(crate) fn stepped(
     }
 }
 
+// Whether two nodes compare so: a node is one number, and document order is that of numbers.
+#[tactic(auto, using(crate::proofs::NodeOperators::same_is, crate::proofs::NodeOperators::before_is))]
+pub(crate) fn nodes_compare(op: NodeComparison, left: NodeId, right: NodeId) -> bool
+    ensures { (later : PlainForest) → result ≡ node_comparison op (place_of_number later left.number) (place_of_number later right.number) }
+{
+    match op {
+        NodeComparison::Is => left.number == right.number,
+        NodeComparison::Before => left.number < right.number,
+        NodeComparison::After => right.number < left.number,
+    }
+}
+
 // The nodes among items.
-fn nodes_among(alloc: Global, items: &[Item]) -> Result<Vec<NodeId>, AllocError>
+pub(crate) fn nodes_among(alloc: Global, items: &[Item]) -> Result<Vec<NodeId>, AllocError>
     ensures { (later : PlainForest) → IfOk result (λ nodes. node_places later nodes.items ≡ places_of (items_in later items.now)) }
 {
     let mut nodes = Vec::with_capacity(alloc, items.len())?;

@@ -51,7 +51,7 @@ pub(crate) fn of_one(
     operand: &[Item],
 ) -> Result<Answer, Failure>
     ensures value { (later : PlainForest) → Extends store.now later → IfOk result (λ r.
-        acts (context_over schemas.now) (single_operator operator.entry) (items_in later operand.now ∷ []) store.now ≡ gives (answer_items r) store.now) }
+        acts (context_over schemas.now) (single_operator operator.entry) (items_in later operand.now ∷ []) store.now ≡ gives (answer_items later r) store.now) }
     ensures fits { IfOk result (λ r. AnswerFits r) }
     ensures failed { (later : PlainForest) → Extends store.now later → IfErr result (λ e.
         FailsSo e (acts (context_over schemas.now) (single_operator operator.entry) (items_in later operand.now ∷ []) store.now)) }
@@ -69,7 +69,7 @@ pub(crate) fn of_one(
 // The negation of a number.
 #[tactic(auto, using(crate::proofs::Operands::many))]
 fn negation(operand: &[Item]) -> Result<Answer, Failure>
-    ensures value { (forest later : PlainForest) → IfOk result (λ r. negation (items_in later operand.now) forest ≡ gives (answer_items r) forest) }
+    ensures value { (forest later : PlainForest) → IfOk result (λ r. negation (items_in later operand.now) forest ≡ gives (answer_items later r) forest) }
     ensures fits { IfOk result (λ r. AnswerFits r) }
     ensures failed { (forest later : PlainForest) → IfErr result (λ e. FailsSo e (negation (items_in later operand.now) forest)) }
 {
@@ -89,7 +89,7 @@ fn cast(
     allows_empty: bool,
     operand: &[Item],
 ) -> Result<Answer, Failure>
-    ensures value { (forest later : PlainForest) → IfOk result (λ r. cast_items schemas.now kind.now allows_empty (items_in later operand.now) forest ≡ gives (answer_items r) forest) }
+    ensures value { (forest later : PlainForest) → IfOk result (λ r. cast_items schemas.now kind.now allows_empty (items_in later operand.now) forest ≡ gives (answer_items later r) forest) }
     ensures fits { IfOk result (λ r. AnswerFits r) }
     ensures failed { (forest later : PlainForest) → IfErr result (λ e. FailsSo e (cast_items schemas.now kind.now allows_empty (items_in later operand.now) forest)) }
 {
@@ -112,7 +112,7 @@ fn castable(
     allows_empty: bool,
     operand: &[Item],
 ) -> Result<Answer, Failure>
-    ensures value { (forest later : PlainForest) → IfOk result (λ r. castable_items schemas.now kind.now allows_empty (items_in later operand.now) forest ≡ gives (answer_items r) forest) }
+    ensures value { (forest later : PlainForest) → IfOk result (λ r. castable_items schemas.now kind.now allows_empty (items_in later operand.now) forest ≡ gives (answer_items later r) forest) }
     ensures fits { IfOk result (λ r. AnswerFits r) }
     ensures failed { (forest later : PlainForest) → IfErr result (λ e. FailsSo e (castable_items schemas.now kind.now allows_empty (items_in later operand.now) forest)) }
 {

@@ -26,6 +26,8 @@ found_by_name functions.Empty = refl
 found_by_name functions.Exists = refl
 found_by_name functions.Data = refl
 found_by_name functions.String = refl
+found_by_name functions.Position = refl
+found_by_name functions.Last = refl
 
 named_so : (local : List ℕ) (arity : ℕ) (function : Function) → function_named local arity ≡ Some function → is_of_name local arity function ≡ true
 unfolding function_named

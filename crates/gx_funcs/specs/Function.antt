@@ -1,4 +1,4 @@
--- The table of built-in functions: the name and the parameters of each, the type of its result, and what it answers (Functions and Operators, sections 2.3, 2.4, 9.1, 9.3, 15.1 and 15.4).
+-- The table of built-in functions: the name and the parameters of each, the type of its result, and what it answers (Functions and Operators, sections 2.3, 2.4, 9.1, 9.3, 15.1, 15.4, 16.1 and 16.2).
 use Rattle.std.specs.Prelude.{ℕ, ℤ, pos, Bool, true, false, not, ◌&&◌, ◌==◌, List, [], ◌∷◌, length, codes, bytes_eq, encode_utf8_all, Option, Some, None, option_map, Result, Ok, if◌then◌else◌}
 use Rattle.gx_base.specs.declared.code.Code.{Code}
 use Rattle.gx_base.specs.declared.code.Code.TheVariants.{XPTY0004, FORG0006}
@@ -18,7 +18,8 @@ use Rattle.gx_funcs.specs.declared.function.ParameterType.TheVariants as paramet
 -- all functions
 abbrev pub all_functions : List Function
 all_functions =
-    functions.True ∷ functions.False ∷ functions.Boolean ∷ functions.Not ∷ functions.Count ∷ functions.Empty ∷ functions.Exists ∷ functions.Data ∷ functions.String ∷ []
+    functions.True ∷ functions.False ∷ functions.Boolean ∷ functions.Not ∷ functions.Count ∷ functions.Empty ∷ functions.Exists ∷ functions.Data ∷ functions.String
+    ∷ functions.Position ∷ functions.Last ∷ []
 
 -- ---- names
 
@@ -33,6 +34,8 @@ function_name functions.Empty = codes "empty"
 function_name functions.Exists = codes "exists"
 function_name functions.Data = codes "data"
 function_name functions.String = codes "string"
+function_name functions.Position = codes "position"
+function_name functions.Last = codes "last"
 
 -- ---- parameters
 
@@ -58,6 +61,8 @@ parameters_of functions.Empty = any_items ∷ []
 parameters_of functions.Exists = any_items ∷ []
 parameters_of functions.Data = any_items ∷ []
 parameters_of functions.String = one_item_at_most ∷ []
+parameters_of functions.Position = []
+parameters_of functions.Last = []
 
 -- how many arguments a function has
 abbrev pub arity_of : Function → ℕ
@@ -88,6 +93,8 @@ answer_type_of functions.Empty = Some types.Boolean
 answer_type_of functions.Exists = Some types.Boolean
 answer_type_of functions.Data = None
 answer_type_of functions.String = Some types.Str
+answer_type_of functions.Position = Some types.Integer
+answer_type_of functions.Last = Some types.Integer
 
 -- ---- values
 
@@ -133,7 +140,8 @@ abbrev pub one_answer : Atomic → Result (List Atomic) Code
 one_answer a = Ok (a ∷ [])
 
 -- what a function answers of its arguments, a value or the code of a dynamic error; nothing where their number is another one
--- or they are not of the types of its parameters, and of `data`, which is an operator of its own
+-- or they are not of the types of its parameters, and of `data`, which is an operator of its own, and `position` and `last`, which are
+-- variables
 abbrev pub applied : Function → List (List ItemView) → Option (Result (List Atomic) Code)
 applied functions.True [] = Some (one_answer (truth_atom true))
 applied functions.False [] = Some (one_answer (truth_atom false))

@@ -10,7 +10,7 @@ use gx_facets::{AtomValue, Atomic};
 use gx_num::Number;
 
 /// A built-in function: one variant for each name and number of arguments (Functions and Operators, sections 2.3, 2.4, 9.1,
-/// 9.3, 15.1 and 15.4).
+/// 9.3, 15.1, 15.4, 16.1 and 16.2).
 #[derive(Clone, Copy, PartialEq, Eq)]
 pub enum Function {
     /// `fn:true()`.
@@ -31,6 +31,10 @@ pub enum Function {
     Data,
     /// `fn:string(item()?)`, the string value.
     String,
+    /// `fn:position()`, the position of the context item, which is a variable of Core.
+    Position,
+    /// `fn:last()`, the number of the items that the context item is one of, which is a variable of Core.
+    Last,
 }
 
 /// What the values of a parameter are.
@@ -52,7 +56,7 @@ pub struct Parameter {
 }
 
 // All functions, each once.
-const FUNCTIONS: [Function; 9] = [
+const FUNCTIONS: [Function; 11] = [
     Function::True,
     Function::False,
     Function::Boolean,
@@ -62,6 +66,8 @@ const FUNCTIONS: [Function; 9] = [
     Function::Exists,
     Function::Data,
     Function::String,
+    Function::Position,
+    Function::Last,
 ];
 
 const ANY_ITEMS: Parameter = Parameter {
@@ -94,6 +100,8 @@ impl Function {
             Function::Exists => "exists",
             Function::Data => "data",
             Function::String => "string",
+            Function::Position => "position",
+            Function::Last => "last",
         }
     }
 
@@ -102,7 +110,7 @@ impl Function {
         ensures { result.now ≡ parameters_of self }
     {
         match self {
-            Function::True | Function::False => &[],
+            Function::True | Function::False | Function::Position | Function::Last => &[],
             Function::Boolean | Function::Not => &[TRUTH_VALUED],
             Function::Count | Function::Empty | Function::Exists | Function::Data => &[ANY_ITEMS],
             Function::String => &[ONE_ITEM_AT_MOST],
@@ -127,7 +135,7 @@ impl Function {
             | Function::Not
             | Function::Empty
             | Function::Exists => Some(Builtin::Boolean),
-            Function::Count => Some(Builtin::Integer),
+            Function::Count | Function::Position | Function::Last => Some(Builtin::Integer),
             Function::String => Some(Builtin::Str),
             Function::Data => None,
         }

@@ -1,5 +1,5 @@
 -- Variables stand in the scopes of their binders, and are numbered once each.
-use Rattle.std.proofs.Common.{◌≡◌, ℕ, suc, add-one, ◌+◌, ◌<◌, ◌≤◌, ◌==◌, length, Bool, true, false, ◌||◌, List, [], ◌∷◌, ◌++◌, map, Option, Some, None, Result, Ok, Err, IfOk, All, refl, sym, ◌∙◌, ap, subst, rules, arith, nat_eq, if◌then◌else◌}
+use Rattle.std.proofs.Common.{◌≡◌, ℕ, zero, suc, add-one, ◌+◌, ◌<◌, ◌≤◌, ◌==◌, length, Bool, true, false, ◌||◌, List, [], ◌∷◌, ◌++◌, map, Option, Some, None, Result, Ok, Err, IfOk, All, refl, sym, ◌∙◌, ap, subst, arith, nat_eq, if◌then◌else◌}
 use Rattle.std.proofs.lemmas.Bool.{ne_eqb, eq-eqb}
 use Rattle.std.proofs.lemmas.List.Elements.{All-nil, All-cons}
 use Rattle.gx_base.specs.declared.place.Place.{Place}
@@ -20,16 +20,27 @@ use Rattle.gx_resolved.specs.declared.tree.Declaration.{Declaration}
 use Rattle.gx_resolved.specs.declared.tree.Declaration.TheVariants as declared
 use Rattle.gx_resolved.specs.ResolvedTree.{ResolvedTree, ResolvedTrees, resolved_at, no_resolved, a_resolved}
 use Rattle.gx_core.specs.declared.expression.BinaryOp.{BinaryOp}
+use Rattle.gx_core.specs.declared.expression.BinaryClass.{BinaryClass}
+use Rattle.gx_core.specs.declared.expression.BinaryClass.TheVariants.{Nodes, Sets}
+use Rattle.gx_core.specs.BinaryOperators.{class_of}
 use Rattle.gx_core.specs.Queries.{Core, CoreDeclaration}
 use Rattle.gx_core.specs.declared.expression.Declaration.TheVariants.{Global}
 use Rattle.gx_core.specs.declared.operator.Operator.TheVariants as operators
-use Rattle.gx_core.specs.Expression.{CoreExpression, At, no_parts, all_parts}
+use Rattle.gx_core.specs.Expression.{CoreExpression, At, no_parts, one_part, three_parts, all_parts, core_at, outer_of}
 use Rattle.gx_core.specs.Invariant.{is_among, IsScoped, ArePartsScoped, numbers_bound, numbers_bound_in, AreDistinct, scope_behind, AreValuesScoped, declared_numbers, HasValueOrType, HasQueryVariablesInOrder}
-use Rattle.gx_normal.specs.Constructs.{within, data_around, boolean_around, core_sequence, operator_at, call_at, call_of, empty_at, of_one, data_at, conditional_at, counted_call, and_at, or_at, signed_at, cast_at, castable_at, for_at, let_at, quantifier_at, operator_in_core, joined_by, joining, context_item_at, step_at, path_at}
+use Rattle.gx_normal.specs.Constructs.{within, data_around, boolean_around, core_sequence, operator_at, call_at, call_of, empty_at, of_one, data_at, conditional_at, counted_call, and_at, or_at, signed_at, cast_at, castable_at, for_at, let_at, quantifier_at, operator_in_core, joined_by, joining, context_item_at, step_at, nodes_at, operand_of}
 use Rattle.gx_normal.specs.declared.clauses.Ending.{Ending}
 use Rattle.gx_normal.specs.declared.clauses.Ending.TheVariants.{Returned, Condition}
 use Rattle.gx_normal.specs.Clauses.{Numbers, numbered_binder, ending_of_clauses}
-use Rattle.gx_normal.specs.Normalisation.{Focus, same_place, number_at, variable_at, of_two, of_three, joined_at, constructed, core_of, construct_core, cores_of, clauses_core, path_core, external_binder, declarations_of, behind_declarations, main_core}
+use Rattle.gx_normal.specs.declared.contexts.Asked.TheVariants as asked
+use Rattle.gx_normal.specs.declared.contexts.ContextUse.{ContextUse}
+use Rattle.gx_normal.specs.declared.contexts.ContextUse.TheVariants as uses
+use Rattle.gx_normal.specs.declared.contexts.Focus.{Focus}
+use Rattle.gx_normal.specs.declared.filters.Predicate.{Predicate}
+use Rattle.gx_normal.specs.declared.filters.Predicate.TheVariants as predicates
+use Rattle.gx_normal.specs.Contexts.{asks_context, path_use, predicate_use, no_focus, focus_with, behind_context, hidden_variable, hidden_let, hidden_for, ordered_if, with_size, position_from_end, loop_at, path_with}
+use Rattle.gx_normal.specs.Filters.{decimal_case, predicate_of, is_reverse_step, position_is, holds_at, kept_at, filtered_by}
+use Rattle.gx_normal.specs.Normalisation.{same_place, number_at, variable_at, of_two, of_three, joined_at, constructed, is_to_descendants, left_of_path, core_of, construct_core, cores_of, clauses_core, path_core, predicates_core, filtered_core, external_binder, declarations_of, behind_declarations, main_core}
 
 -- numbers that rise from one on, below another
 abbrev Rise : ℕ → ℕ → List ℕ → Type 0
@@ -119,13 +130,19 @@ sequence_numbered : JoinsTwo core_sequence
 sequence_numbered scope free middle next a b h k =
     record { scoped = (tt, (h.scoped, (k.scoped, tt))); rising = rise_joined free middle next (numbers_bound a) (numbers_bound b ++ []) h.rising (rise_alone middle next (numbers_bound b) k.rising) }
 
+operand_numbered : (class : BinaryClass) → JoinsOne (operand_of class)
+operand_numbered (Nodes op) scope free next e h = h
+operand_numbered (Sets op) scope free next e h = h
+operand_numbered _ scope free next e h = data_numbered scope free next e h
+
 operator_numbered : (place : Place) (op : BinaryOp) → JoinsTwo (operator_at place op)
 operator_numbered place op scope free middle next a b h k =
-    let d = data_numbered scope free middle a h in
-    let e = data_numbered scope middle next b k in
+    let class = class_of op in
+    let d = operand_numbered class scope free middle a h in
+    let e = operand_numbered class scope middle next b k in
     record {
       scoped = (tt, (d.scoped, (e.scoped, tt)));
-      rising = rise_joined free middle next (numbers_bound (data_around a)) (numbers_bound (data_around b) ++ []) d.rising (rise_alone middle next (numbers_bound (data_around b)) e.rising);
+      rising = rise_joined free middle next (numbers_bound (operand_of class a)) (numbers_bound (operand_of class b) ++ []) d.rising (rise_alone middle next (numbers_bound (operand_of class b)) e.rising);
     }
 
 conditional_numbered : (place : Place) (scope : List ℕ) (free second third next : ℕ) (a b c : CoreExpression)
@@ -226,6 +243,8 @@ counted_call_numbered place function scope free next es h =
 
 call_numbered : (place : Place) (function : Function) (scope : List ℕ) (free next : ℕ) (es : List CoreExpression) → AreNumbered scope free next es → IsNumbered scope free next (call_of place function es)
 call_numbered place functions.Data scope free next es h = one_numbered place (data_at place) (data_of_numbered place) scope free next es h
+call_numbered place functions.Position scope free next es h = record { scoped = (tt, tt); rising = least scope free next es h }
+call_numbered place functions.Last scope free next es h = record { scoped = (tt, tt); rising = least scope free next es h }
 call_numbered place function scope free next es h = counted_call_numbered place function scope free next es h
 
 constructed_numbered : (place : Place) (construct : Construct) (scope : List ℕ) (free next : ℕ) (es : List CoreExpression) → AreNumbered scope free next es → IsNumbered scope free next (constructed place construct es)
@@ -292,10 +311,16 @@ quantifier_numbered false place bound scope free middle next source test h k =
       rising = rise_joined free middle next (numbers_bound source) (middle ∷ (numbers_bound test ++ [])) h.rising (omega arith, rise_alone (middle + 1) next (numbers_bound test) k.rising);
     }
 
--- the variables of a scope, and that of the context item, are among these numbers
+-- a number is among these, where there is one
+abbrev AreAmong : List ℕ → Option ℕ → Type 0
+AreAmong scope found = (k : ℕ) → found ≡ Some k → is_among scope k ≡ true
+
+-- the variables of a scope, and those of the context, are among these numbers
 record IsCovered (scope : List ℕ) (numbers : Numbers) (focus : Focus) : Type 0 where
   bound : (binder : Place) (k : ℕ) → number_at numbers binder ≡ Some k → is_among scope k ≡ true
-  focused : (k : ℕ) → focus ≡ Some k → is_among scope k ≡ true
+  item : AreAmong scope focus.item
+  position : AreAmong scope focus.position
+  size : AreAmong scope focus.size
 
 among_itself : (k : ℕ) (ns : List ℕ) → is_among (k ∷ ns) k ≡ true
 among_itself k ns = ap (λ (b : Bool). b || is_among ns k) (eq-eqb k k refl)
@@ -312,70 +337,272 @@ bound_more scope numbers focus place n h binder k e =
     ] e
 
 covered_more : (scope : List ℕ) (numbers : Numbers) (focus : Focus) (place : Place) (n : ℕ) → IsCovered scope numbers focus → IsCovered (n ∷ scope) ((place, n) ∷ numbers) focus
-covered_more scope numbers focus place n h = record { bound = bound_more scope numbers focus place n h; focused = λ k e. among_more n k scope (h.focused k e) }
+covered_more scope numbers focus place n h = record { bound = bound_more scope numbers focus place n h; item = λ k e. among_more n k scope (h.item k e); position = λ k e. among_more n k scope (h.position k e); size = λ k e. among_more n k scope (h.size k e) }
 
 -- with two variables the other way round
 covered_turned : (m n : ℕ) (scope : List ℕ) (numbers : Numbers) (focus : Focus) → IsCovered (n ∷ m ∷ scope) numbers focus → IsCovered (m ∷ n ∷ scope) numbers focus
 covered_turned m n scope numbers focus h = record {
   bound = λ binder k e. scope_turned n m scope k (h.bound binder k e);
-  focused = λ k e. scope_turned n m scope k (h.focused k e);
+  item = λ k e. scope_turned n m scope k (h.item k e);
+  position = λ k e. scope_turned n m scope k (h.position k e);
+  size = λ k e. scope_turned n m scope k (h.size k e);
 }
 
--- with another context item
-covered_within : (scope : List ℕ) (numbers : Numbers) (focus : Focus) (n : ℕ) → IsCovered scope numbers focus → IsCovered (n ∷ scope) numbers (Some n)
-covered_within scope numbers focus n h = record {
-  bound = λ binder k e. among_more n k scope (h.bound binder k e);
-  focused = λ k e. let same : n ≡ k = cc in subst (λ (m : ℕ). is_among (n ∷ scope) m ≡ true) same (among_itself n scope);
+-- with another context
+abbrev scope_with : ContextUse → ℕ → List ℕ → List ℕ
+scope_with uses.Item n scope = n ∷ scope
+scope_with uses.Position n scope = n ∷ (n + 1) ∷ scope
+scope_with uses.Size n scope = (n + 2) ∷ (n + 1) ∷ n ∷ scope
+scope_with uses.PositionAndSize n scope = (n + 2) ∷ (n + 3) ∷ (n + 1) ∷ n ∷ scope
+scope_with uses.Backwards n scope = (n + 4) ∷ (n + 2) ∷ (n + 3) ∷ (n + 1) ∷ n ∷ scope
+
+among_four : (n k : ℕ) (scope : List ℕ) → is_among scope k ≡ true → is_among ((n + 2) ∷ (n + 3) ∷ (n + 1) ∷ n ∷ scope) k ≡ true
+among_four n k scope h =
+    among_more (n + 2) k ((n + 3) ∷ (n + 1) ∷ n ∷ scope) (among_more (n + 3) k ((n + 1) ∷ n ∷ scope) (among_more (n + 1) k (n ∷ scope) (among_more n k scope h)))
+
+among_wider : (use' : ContextUse) (n k : ℕ) (scope : List ℕ) → is_among scope k ≡ true → is_among (scope_with use' n scope) k ≡ true
+among_wider uses.Item n k scope h = among_more n k scope h
+among_wider uses.Position n k scope h = among_more n k ((n + 1) ∷ scope) (among_more (n + 1) k scope h)
+among_wider uses.Size n k scope h = among_more (n + 2) k ((n + 1) ∷ n ∷ scope) (among_more (n + 1) k (n ∷ scope) (among_more n k scope h))
+among_wider uses.PositionAndSize n k scope h = among_four n k scope h
+among_wider uses.Backwards n k scope h = among_more (n + 4) k (scope_with uses.PositionAndSize n scope) (among_four n k scope h)
+
+-- a number that is there is among those that it is among
+there : (scope : List ℕ) (n : ℕ) → is_among scope n ≡ true → AreAmong scope (Some n)
+there scope n h k e = let same : n ≡ k = cc in subst (λ (m : ℕ). is_among scope m ≡ true) same h
+
+nowhere : (scope : List ℕ) → AreAmong scope None
+nowhere scope k e = absurd (cc)
+
+second_among : (m n : ℕ) (scope : List ℕ) → is_among (m ∷ n ∷ scope) n ≡ true
+second_among m n scope = among_more m n (n ∷ scope) (among_itself n scope)
+
+third_among : (l m n : ℕ) (scope : List ℕ) → is_among (l ∷ m ∷ n ∷ scope) n ≡ true
+third_among l m n scope = among_more l n (m ∷ n ∷ scope) (second_among m n scope)
+
+covered_with : (use' : ContextUse) (scope : List ℕ) (numbers : Numbers) (focus : Focus) (n : ℕ) → IsCovered scope numbers focus → IsCovered (scope_with use' n scope) numbers (focus_with use' n)
+covered_with uses.Item scope numbers focus n h = record {
+  bound = λ binder k e. among_wider uses.Item n k scope (h.bound binder k e);
+  item = there (n ∷ scope) n (among_itself n scope);
+  position = nowhere (n ∷ scope);
+  size = nowhere (n ∷ scope);
+}
+covered_with uses.Position scope numbers focus n h = record {
+  bound = λ binder k e. among_wider uses.Position n k scope (h.bound binder k e);
+  item = there (n ∷ (n + 1) ∷ scope) n (among_itself n ((n + 1) ∷ scope));
+  position = there (n ∷ (n + 1) ∷ scope) (n + 1) (second_among n (n + 1) scope);
+  size = nowhere (n ∷ (n + 1) ∷ scope);
+}
+covered_with uses.Size scope numbers focus n h = record {
+  bound = λ binder k e. among_wider uses.Size n k scope (h.bound binder k e);
+  item = there ((n + 2) ∷ (n + 1) ∷ n ∷ scope) (n + 2) (among_itself (n + 2) ((n + 1) ∷ n ∷ scope));
+  position = nowhere ((n + 2) ∷ (n + 1) ∷ n ∷ scope);
+  size = there ((n + 2) ∷ (n + 1) ∷ n ∷ scope) (n + 1) (second_among (n + 2) (n + 1) (n ∷ scope));
+}
+covered_with uses.PositionAndSize scope numbers focus n h = record {
+  bound = λ binder k e. among_wider uses.PositionAndSize n k scope (h.bound binder k e);
+  item = there ((n + 2) ∷ (n + 3) ∷ (n + 1) ∷ n ∷ scope) (n + 2) (among_itself (n + 2) ((n + 3) ∷ (n + 1) ∷ n ∷ scope));
+  position = there ((n + 2) ∷ (n + 3) ∷ (n + 1) ∷ n ∷ scope) (n + 3) (second_among (n + 2) (n + 3) ((n + 1) ∷ n ∷ scope));
+  size = there ((n + 2) ∷ (n + 3) ∷ (n + 1) ∷ n ∷ scope) (n + 1) (third_among (n + 2) (n + 3) (n + 1) (n ∷ scope));
+}
+covered_with uses.Backwards scope numbers focus n h = record {
+  bound = λ binder k e. among_wider uses.Backwards n k scope (h.bound binder k e);
+  item = there (scope_with uses.Backwards n scope) (n + 2) (second_among (n + 4) (n + 2) ((n + 3) ∷ (n + 1) ∷ n ∷ scope));
+  position = there (scope_with uses.Backwards n scope) (n + 4) (among_itself (n + 4) ((n + 2) ∷ (n + 3) ∷ (n + 1) ∷ n ∷ scope));
+  size = there (scope_with uses.Backwards n scope) (n + 1) (among_more (n + 4) (n + 1) ((n + 2) ∷ (n + 3) ∷ (n + 1) ∷ n ∷ scope) (third_among (n + 2) (n + 3) (n + 1) (n ∷ scope)));
 }
 
-covered_without : (numbers : Numbers) → IsCovered (numbers_of numbers) numbers None
-covered_without numbers = record { bound = found_among numbers; focused = λ k e. absurd (cc) }
+covered_without : (numbers : Numbers) → IsCovered (numbers_of numbers) numbers no_focus
+covered_without numbers = record {
+  bound = found_among numbers;
+  item = nowhere (numbers_of numbers);
+  position = nowhere (numbers_of numbers);
+  size = nowhere (numbers_of numbers);
+}
 
 found_numbered : (place : Place) (scope : List ℕ) (free : ℕ) (found : Option ℕ) → ((k : ℕ) → found ≡ Some k → is_among scope k ≡ true) → IsNumbered scope free free (variable_at place found)
 found_numbered place scope free None h = empty_numbered place scope free free (omega arith)
 found_numbered place scope free (Some k) h = record { scoped = (h k refl, tt); rising = omega arith }
 
-context_item_numbered : (place : Place) (scope : List ℕ) (free : ℕ) (focus : Focus) → ((k : ℕ) → focus ≡ Some k → is_among scope k ≡ true) → IsNumbered scope free free (context_item_at place focus)
+context_item_numbered : (place : Place) (scope : List ℕ) (free : ℕ) (found : Option ℕ) → AreAmong scope found → IsNumbered scope free free (context_item_at place found)
 context_item_numbered place scope free None h = record { scoped = (tt, tt); rising = omega arith }
 context_item_numbered place scope free (Some k) h = record { scoped = (h k refl, tt); rising = omega arith }
 
-step_numbered : (place : Place) (scope : List ℕ) (free : ℕ) (focus : Focus) (axis : Axis) (asks : Test) → ((k : ℕ) → focus ≡ Some k → is_among scope k ≡ true) → IsNumbered scope free free (step_at place focus axis asks)
-step_numbered place scope free None axis asks h = record { scoped = (tt, tt); rising = omega arith }
-step_numbered place scope free (Some k) axis asks h = record { scoped = (h k refl, tt); rising = omega arith }
+step_numbered : (place : Place) (scope : List ℕ) (free : ℕ) (found : Option ℕ) (axis : Axis) (of_test : Test) → AreAmong scope found → IsNumbered scope free free (step_at place found axis of_test)
+step_numbered place scope free None axis of_test h = record { scoped = (tt, tt); rising = omega arith }
+step_numbered place scope free (Some k) axis of_test h = record { scoped = (h k refl, tt); rising = omega arith }
 
-path_numbered : (place : Place) (scope : List ℕ) (free middle next : ℕ) (first second : CoreExpression)
-    → IsNumbered scope free middle first → IsNumbered (middle ∷ scope) (middle + 1) next second → IsNumbered scope free next (path_at place middle first second)
-path_numbered place scope free middle next first second h k =
+-- ---- loops over the items of a context
+
+variable_numbered : (place : Place) (scope : List ℕ) (free n : ℕ) → is_among scope n ≡ true → IsNumbered scope free free (hidden_variable place n)
+variable_numbered place scope free n h = record { scoped = (h, tt); rising = omega arith }
+
+-- the numbers of a variable, and of what it is bound to in a body
+rise_behind : (free middle n low next : ℕ) (values body : List ℕ) → Rise free middle values → middle ≤ n → n + 1 ≤ low → Rise low next body → Rise free next (values ++ (n ∷ (body ++ [])))
+rise_behind free middle n low next values body h a b k =
+    rise_joined free middle next values (n ∷ (body ++ [])) h (a, rise_weaker low (n + 1) next (body ++ []) b (rise_alone low next body k))
+
+hidden_let_numbered : (place : Place) (scope : List ℕ) (free middle n low next : ℕ) (value body : CoreExpression) → IsNumbered scope free middle value → middle ≤ n → n + 1 ≤ low
+    → IsNumbered (n ∷ scope) low next body → IsNumbered scope free next (hidden_let place n value body)
+hidden_let_numbered place scope free middle n low next value body h a b k =
+    record { scoped = (tt, (h.scoped, (k.scoped, tt))); rising = rise_behind free middle n low next (numbers_bound value) (numbers_bound body) h.rising a b k.rising }
+
+hidden_for_numbered : (place : Place) (scope : List ℕ) (free middle n low next : ℕ) (source body : CoreExpression) → IsNumbered scope free middle source → middle ≤ n → n + 1 ≤ low
+    → IsNumbered (n ∷ scope) low next body → IsNumbered scope free next (hidden_for place n 0 source body)
+hidden_for_numbered place scope free middle n low next source body h a b k =
+    record { scoped = (tt, (h.scoped, (k.scoped, tt))); rising = rise_behind free middle n low next (numbers_bound source) (numbers_bound body) h.rising a b k.rising }
+
+-- with the variable of the position
+position_numbered : (place : Place) (scope : List ℕ) (free middle n p low next : ℕ) (source body : CoreExpression) → IsNumbered scope free middle source → middle ≤ n → n + 1 ≤ p → p + 1 ≤ low
+    → IsNumbered (n ∷ p ∷ scope) low next body → IsNumbered scope free next (hidden_for place n p source body)
+position_numbered place scope free middle n zero low next source body h a b c k = absurd (omega (arith, b))
+position_numbered place scope free middle n (suc p) low next source body h a b c k =
     record {
-      scoped = (tt, ((tt, ((tt, (h.scoped, tt)), (k.scoped, tt))), tt));
-      rising =
-          rise_alone free next ((numbers_bound first ++ []) ++ (middle ∷ (numbers_bound second ++ [])))
-          (rise_joined free middle next (numbers_bound first ++ []) (middle ∷ (numbers_bound second ++ [])) (rise_alone free middle (numbers_bound first) h.rising)
-          (omega arith, rise_alone (middle + 1) next (numbers_bound second) k.rising));
+      scoped = (tt, (h.scoped, (k.scoped, tt)));
+      rising = rise_joined free middle next (numbers_bound source) (n ∷ suc p ∷ (numbers_bound body ++ [])) h.rising
+          (a, (b, rise_weaker low (suc p + 1) next (numbers_bound body ++ []) c (rise_alone low next (numbers_bound body) k.rising)));
     }
+
+ordered_numbered : (ordered : Bool) (place : Place) → JoinsOne (ordered_if ordered place)
+ordered_numbered true place scope free next e h = record { scoped = (tt, (h.scoped, tt)); rising = rise_alone free next (numbers_bound e) h.rising }
+ordered_numbered false place scope free next e h = h
+
+size_numbered : (place : Place) (scope : List ℕ) (free n next : ℕ) (source body : CoreExpression) → IsNumbered scope free n source → IsNumbered ((n + 1) ∷ n ∷ scope) (n + 2) next body
+    → IsNumbered scope free next (with_size place n source body)
+size_numbered place scope free n next source body h k =
+    let counted : IsNumbered (n ∷ scope) (n + 1) (n + 1) (call_at place functions.Count (one_part (hidden_variable place n))) =
+    record { scoped = (tt, ((among_itself n scope, tt), tt)); rising = omega arith } in
+    hidden_let_numbered place scope free n n (n + 1) next source (hidden_let place (n + 1) (call_at place functions.Count (one_part (hidden_variable place n))) body) h (omega arith) (omega arith)
+    (hidden_let_numbered place (n ∷ scope) (n + 1) (n + 1) (n + 1) (n + 2) next (call_at place functions.Count (one_part (hidden_variable place n))) body counted (omega arith) (omega arith) k)
+
+from_end_numbered : (place : Place) (scope : List ℕ) (free size position : ℕ) → is_among scope size ≡ true → is_among scope position ≡ true → IsNumbered scope free free (position_from_end place size position)
+from_end_numbered place scope free size position h k = record { scoped = (tt, ((tt, ((h, tt), ((k, tt), tt))), ((tt, tt), tt))); rising = omega arith }
+
+loop_numbered : (use' : ContextUse) (ordered : Bool) (place : Place) (scope : List ℕ) (free n next : ℕ) (source body : CoreExpression)
+    → IsNumbered scope free n source → IsNumbered (scope_with use' n scope) (behind_context use' n) next body → IsNumbered scope free next (loop_at use' ordered place n source body)
+loop_numbered uses.Item ordered place scope free n next source body h k =
+    ordered_numbered ordered place scope free next (hidden_for place n 0 source body) (hidden_for_numbered place scope free n n (n + 1) next source body h (omega arith) (omega arith) k)
+loop_numbered uses.Position ordered place scope free n next source body h k =
+    ordered_numbered ordered place scope free next (hidden_for place n (n + 1) source body)
+    (position_numbered place scope free n n (n + 1) (n + 2) next source body h (omega arith) (omega arith) (omega arith) k)
+loop_numbered uses.Size ordered place scope free n next source body h k =
+    let inner : List ℕ = (n + 1) ∷ n ∷ scope in
+    size_numbered place scope free n next source (ordered_if ordered place (hidden_for place (n + 2) 0 (hidden_variable place n) body)) h
+    (ordered_numbered ordered place inner (n + 2) next (hidden_for place (n + 2) 0 (hidden_variable place n) body)
+    (hidden_for_numbered place inner (n + 2) (n + 2) (n + 2) (n + 3) next (hidden_variable place n) body (variable_numbered place inner (n + 2) n (second_among (n + 1) n scope)) (omega arith) (omega arith) k))
+loop_numbered uses.PositionAndSize ordered place scope free n next source body h k =
+    let inner : List ℕ = (n + 1) ∷ n ∷ scope in
+    size_numbered place scope free n next source (ordered_if ordered place (hidden_for place (n + 2) (n + 3) (hidden_variable place n) body)) h
+    (ordered_numbered ordered place inner (n + 2) next (hidden_for place (n + 2) (n + 3) (hidden_variable place n) body)
+    (position_numbered place inner (n + 2) (n + 2) (n + 2) (n + 3) (n + 4) next (hidden_variable place n) body (variable_numbered place inner (n + 2) n (second_among (n + 1) n scope)) (omega arith) (omega arith) (omega arith) k))
+loop_numbered uses.Backwards ordered place scope free n next source body h k =
+    let inner : List ℕ = (n + 1) ∷ n ∷ scope in
+    let turned : CoreExpression = hidden_let place (n + 4) (position_from_end place (n + 1) (n + 3)) body in
+    let within_loop : List ℕ = (n + 2) ∷ (n + 3) ∷ inner in
+    size_numbered place scope free n next source (ordered_if ordered place (hidden_for place (n + 2) (n + 3) (hidden_variable place n) turned)) h
+    (ordered_numbered ordered place inner (n + 2) next (hidden_for place (n + 2) (n + 3) (hidden_variable place n) turned)
+    (position_numbered place inner (n + 2) (n + 2) (n + 2) (n + 3) (n + 4) next (hidden_variable place n) turned (variable_numbered place inner (n + 2) n (second_among (n + 1) n scope)) (omega arith) (omega arith) (omega arith)
+    (hidden_let_numbered place within_loop (n + 4) (n + 4) (n + 4) (n + 5) next (position_from_end place (n + 1) (n + 3)) body
+    (from_end_numbered place within_loop (n + 4) (n + 1) (n + 3) (third_among (n + 2) (n + 3) (n + 1) (n ∷ scope)) (second_among (n + 2) (n + 3) inner)) (omega arith) (omega arith) k)))
+
+path_numbered : (use' : ContextUse) (place : Place) (scope : List ℕ) (free n next : ℕ) (first second : CoreExpression)
+    → IsNumbered scope free n first → IsNumbered (scope_with use' n scope) (behind_context use' n) next second → IsNumbered scope free next (path_with use' place n first second)
+path_numbered use' place scope free n next first second h k =
+    loop_numbered use' true place scope free n next (nodes_at place first) second (record { scoped = (tt, (h.scoped, tt)); rising = rise_alone free n (numbers_bound first) h.rising }) k
+
+-- ---- predicates
+
+position_is_numbered : (place : Place) (scope : List ℕ) (focus : Focus) (free n : ℕ) → is_among scope n ≡ true → AreAmong scope focus.position → IsNumbered scope free free (position_is place focus n)
+position_is_numbered place scope focus free n h c =
+    let position = context_item_numbered place scope free focus.position c in
+    record { scoped = (tt, ((h, tt), (position.scoped, tt))); rising = rise_alone free free (numbers_bound (context_item_at place focus.position)) position.rising }
+
+-- whether a condition holds, with these variables of the cases
+abbrev holds_with : Place → Focus → (number other : ℕ) → (condition : CoreExpression) → CoreExpression
+holds_with place focus number other condition =
+    core_at place place (operators.Switch (decimal_case number ∷ []) other)
+    (three_parts condition (position_is place focus number) (call_at place functions.Boolean (one_part (hidden_variable place other))))
+
+cases_numbered : (place : Place) (scope : List ℕ) (focus : Focus) (free n : ℕ) (condition : CoreExpression) → AreAmong scope focus.position → IsNumbered scope free (suc n) condition
+    → IsNumbered scope free (suc n + 2) (holds_with place focus (suc n) (suc (suc n)) condition)
+cases_numbered place scope focus free n condition c h =
+    let tested = position_is_numbered place (suc n ∷ scope) focus (suc n + 1) (suc n) (among_itself (suc n) scope) (λ k e. among_more (suc n) k scope (c k e)) in
+    let behind_test : List ℕ = suc (suc n) ∷ [] in
+    record {
+      scoped = (tt, (h.scoped, (tested.scoped, ((tt, ((among_itself (suc (suc n)) scope, tt), tt)), tt))));
+      rising = rise_joined free (suc n) (suc n + 2) (numbers_bound condition) (suc n ∷ (numbers_bound (position_is place focus (suc n)) ++ behind_test)) h.rising
+          (omega arith, rise_joined (suc n + 1) (suc n + 1) (suc n + 2) (numbers_bound (position_is place focus (suc n))) behind_test tested.rising (omega arith, omega arith));
+    }
+
+holds_numbered : (place : Place) (scope : List ℕ) (focus : Focus) (free n : ℕ) (condition : CoreExpression) → 1 ≤ n → AreAmong scope focus.position → IsNumbered scope free n condition
+    → IsNumbered scope free (n + 2) (holds_at place focus n condition)
+holds_numbered place scope focus free zero condition p c h = absurd (omega (arith, p))
+holds_numbered place scope focus free (suc n) condition p c h =
+    let behind : suc (suc n) ≡ suc n + 1 = omega arith in
+    subst (λ (m : ℕ). IsNumbered scope free (suc n + 2) (holds_with place focus (suc n) m condition)) behind (cases_numbered place scope focus free n condition c h)
+
+kept_numbered : (place : Place) (scope : List ℕ) (focus : Focus) (free n : ℕ) (condition : CoreExpression) → 1 ≤ n → AreAmong scope focus.item → AreAmong scope focus.position → IsNumbered scope free n condition
+    → IsNumbered scope free (n + 2) (kept_at place focus n condition)
+kept_numbered place scope focus free n condition p i c h =
+    let holds = holds_numbered place scope focus free n condition p c h in
+    let item = context_item_numbered place scope (n + 2) focus.item i in
+    record {
+      scoped = (tt, (holds.scoped, (item.scoped, ((tt, tt), tt))));
+      rising = rise_joined free (n + 2) (n + 2) (numbers_bound (holds_at place focus n condition)) (numbers_bound (context_item_at place focus.item) ++ []) holds.rising
+          (rise_alone (n + 2) (n + 2) (numbers_bound (context_item_at place focus.item)) item.rising);
+    }
+
+behind_some : (use' : ContextUse) (n : ℕ) → 1 ≤ behind_context use' n
+behind_some uses.Item n = omega arith
+behind_some uses.Position n = omega arith
+behind_some uses.Size n = omega arith
+behind_some uses.PositionAndSize n = omega arith
+behind_some uses.Backwards n = omega arith
+
+filtered_by_numbered : (predicate : Predicate) (reverse : Bool) (use' : ContextUse) (place : Place) (scope : List ℕ) (numbers : Numbers) (focus : Focus) (free n : ℕ) (e : CoreExpression) (condition : CoreExpression × ℕ)
+    → IsCovered scope numbers focus → IsNumbered scope free n e → IsNumbered (scope_with use' n scope) (behind_context use' n) condition.1 condition.0
+    → IsNumbered scope free (filtered_by predicate reverse use' place n e condition).1 (filtered_by predicate reverse use' place n e condition).0
+filtered_by_numbered (predicates.Numbered number) reverse use' place scope numbers focus free n e condition c h k = record { scoped = (tt, (h.scoped, tt)); rising = rise_alone free n (numbers_bound e) h.rising }
+filtered_by_numbered predicates.Last reverse use' place scope numbers focus free n e condition c h k = record { scoped = (tt, (h.scoped, tt)); rising = rise_alone free n (numbers_bound e) h.rising }
+filtered_by_numbered predicates.Condition reverse use' place scope numbers focus free n e condition c h k =
+    let inner = covered_with use' scope numbers focus n c in
+    let some = behind_some use' n in
+    let order = rising_order (behind_context use' n) condition.1 (numbers_bound condition.0) k.rising in
+    loop_numbered use' false place scope free n (condition.1 + 2) e (kept_at (outer_of condition.0) (focus_with use' n) condition.1 condition.0) h
+    (kept_numbered (outer_of condition.0) (scope_with use' n scope) (focus_with use' n) (behind_context use' n) condition.1 condition.0 (omega (arith, some, order)) inner.item inner.position k)
 
 -- ---- trees
 
 abbrev IsNumberedCore : List ℕ → ℕ → CoreExpression × ℕ → Type 0
 IsNumberedCore scope free made = IsNumbered scope free made.1 made.0
 
-construct_numbered : (place : Place) (construct : Construct) (scope : List ℕ) (numbers : Numbers) (focus : Focus) (free : ℕ) (parts : List CoreExpression × ℕ) (clauses path : CoreExpression × ℕ)
-    → IsCovered scope numbers focus → AreNumbered scope free parts.1 parts.0 → IsNumberedCore scope free clauses → IsNumberedCore scope free path
-    → IsNumberedCore scope free (construct_core place construct numbers focus free parts clauses path)
-construct_numbered place (written.Variable name binder) scope numbers focus free parts clauses path c h k l = found_numbered place scope free (number_at numbers binder) (c.bound binder)
-construct_numbered place written.Context scope numbers focus free parts clauses path c h k l = context_item_numbered place scope free focus c.focused
-construct_numbered place (written.Step axis asks) scope numbers focus free parts clauses path c h k l = step_numbered place scope free focus axis asks c.focused
-construct_numbered place written.ParentStep scope numbers focus free parts clauses path c h k l = step_numbered place scope free focus axes.Parent tests.Node c.focused
-construct_numbered place written.Flwor scope numbers focus free parts clauses path c h k l = k
-construct_numbered place (written.Quantified every) scope numbers focus free parts clauses path c h k l = k
-construct_numbered place (written.Path false) scope numbers focus free parts clauses path c h k l = l
-construct_numbered place construct scope numbers focus free parts clauses path c h k l = constructed_numbered place construct scope free parts.1 parts.0 h
+left_numbered : (descendants : Bool) (place : Place) (scope : List ℕ) (free : ℕ) (left : CoreExpression × ℕ) → IsNumberedCore scope free left → IsNumberedCore scope free (left_of_path descendants place left)
+left_numbered false place scope free left h = h
+left_numbered true place scope free left h =
+    path_numbered uses.Item place scope free left.1 (left.1 + 1) left.0 (step_at place (Some left.1) axes.DescendantOrSelf tests.Node) h (record { scoped = (among_itself left.1 scope, tt); rising = omega arith })
+
+construct_numbered : (place : Place) (construct : Construct) (scope : List ℕ) (numbers : Numbers) (focus : Focus) (free : ℕ) (parts : List CoreExpression × ℕ) (clauses path filtered : CoreExpression × ℕ)
+    → IsCovered scope numbers focus → AreNumbered scope free parts.1 parts.0 → IsNumberedCore scope free clauses → IsNumberedCore scope free path → IsNumberedCore scope free filtered
+    → IsNumberedCore scope free (construct_core place construct numbers focus free parts clauses path filtered)
+construct_numbered place (written.Variable name binder) scope numbers focus free parts clauses path filtered c h k l m = found_numbered place scope free (number_at numbers binder) (c.bound binder)
+construct_numbered place written.Context scope numbers focus free parts clauses path filtered c h k l m = context_item_numbered place scope free focus.item c.item
+construct_numbered place (written.Call functions.Position) scope numbers focus free parts clauses path filtered c h k l m = context_item_numbered place scope free focus.position c.position
+construct_numbered place (written.Call functions.Last) scope numbers focus free parts clauses path filtered c h k l m = context_item_numbered place scope free focus.size c.size
+construct_numbered place (written.Step axis asks) scope numbers focus free parts clauses path filtered c h k l m = step_numbered place scope free focus.item axis asks c.item
+construct_numbered place written.ParentStep scope numbers focus free parts clauses path filtered c h k l m = step_numbered place scope free focus.item axes.Parent tests.Node c.item
+construct_numbered place written.Flwor scope numbers focus free parts clauses path filtered c h k l m = k
+construct_numbered place (written.Quantified every) scope numbers focus free parts clauses path filtered c h k l m = k
+construct_numbered place (written.Path descendants) scope numbers focus free parts clauses path filtered c h k l m = l
+construct_numbered place written.Filtered scope numbers focus free parts clauses path filtered c h k l m = m
+construct_numbered place construct scope numbers focus free parts clauses path filtered c h k l m = constructed_numbered place construct scope free parts.1 parts.0 h
 
 mutual
   core_numbered : (tree : ResolvedTree) (scope : List ℕ) (numbers : Numbers) (focus : Focus) (free : ℕ) → IsCovered scope numbers focus → IsNumberedCore scope free (core_of tree numbers focus free)
   core_numbered (resolved_at place construct parts) scope numbers focus free c =
-      construct_numbered place construct scope numbers focus free (cores_of parts numbers focus free) (clauses_core (ending_of_clauses construct) place parts numbers focus free) (path_core place parts numbers focus free) c
-      (cores_numbered parts scope numbers focus free c) (clauses_numbered (ending_of_clauses construct) place parts scope numbers focus free c) (path_parts_numbered place parts scope numbers focus free c)
+      construct_numbered place construct scope numbers focus free (cores_of parts numbers focus free) (clauses_core (ending_of_clauses construct) place parts numbers focus free) (path_core (is_to_descendants construct) place parts numbers focus free)
+      (predicates_core place parts numbers focus free) c
+      (cores_numbered parts scope numbers focus free c) (clauses_numbered (ending_of_clauses construct) place parts scope numbers focus free c) (path_parts_numbered (is_to_descendants construct) place parts scope numbers focus free c)
+      (predicates_numbered place parts scope numbers focus free c)
 
   cores_numbered : (parts : ResolvedTrees) (scope : List ℕ) (numbers : Numbers) (focus : Focus) (free : ℕ) → IsCovered scope numbers focus
       → AreNumbered scope free (cores_of parts numbers focus free).1 (cores_of parts numbers focus free).0
@@ -426,13 +653,32 @@ mutual
   clauses_numbered (Condition every) place (a_resolved last others) scope numbers focus free c =
       boolean_numbered scope free (core_of last numbers focus free).1 (core_of last numbers focus free).0 (core_numbered last scope numbers focus free c)
 
-  path_parts_numbered : (place : Place) (parts : ResolvedTrees) (scope : List ℕ) (numbers : Numbers) (focus : Focus) (free : ℕ) → IsCovered scope numbers focus → IsNumberedCore scope free (path_core place parts numbers focus free)
-  path_parts_numbered place (a_resolved first (a_resolved second no_resolved)) scope numbers focus free c =
-      let middle = (core_of first numbers focus free).1 in
-      let b = core_of second numbers (Some middle) (middle + 1) in
-      path_numbered place scope free middle b.1 (core_of first numbers focus free).0 b.0 (core_numbered first scope numbers focus free c)
-      (core_numbered second (middle ∷ scope) numbers (Some middle) (middle + 1) (covered_within scope numbers focus middle c))
-  path_parts_numbered place _ scope numbers focus free c = empty_numbered place scope free free (omega arith)
+  path_parts_numbered : (descendants : Bool) (place : Place) (parts : ResolvedTrees) (scope : List ℕ) (numbers : Numbers) (focus : Focus) (free : ℕ) → IsCovered scope numbers focus
+      → IsNumberedCore scope free (path_core descendants place parts numbers focus free)
+  path_parts_numbered descendants place (a_resolved first (a_resolved second no_resolved)) scope numbers focus free c =
+      let a = left_of_path descendants place (core_of first numbers focus free) in
+      let use' = path_use (asks_context asked.Position second) (asks_context asked.Last second) in
+      let b = core_of second numbers (focus_with use' a.1) (behind_context use' a.1) in
+      path_numbered use' place scope free a.1 b.1 a.0 b.0 (left_numbered descendants place scope free (core_of first numbers focus free) (core_numbered first scope numbers focus free c))
+      (core_numbered second (scope_with use' a.1 scope) numbers (focus_with use' a.1) (behind_context use' a.1) (covered_with use' scope numbers focus a.1 c))
+  path_parts_numbered descendants place _ scope numbers focus free c = empty_numbered place scope free free (omega arith)
+
+  predicates_numbered : (place : Place) (parts : ResolvedTrees) (scope : List ℕ) (numbers : Numbers) (focus : Focus) (free : ℕ) → IsCovered scope numbers focus → IsNumberedCore scope free (predicates_core place parts numbers focus free)
+  predicates_numbered place no_resolved scope numbers focus free c = empty_numbered place scope free free (omega arith)
+  predicates_numbered place (a_resolved operand predicates) scope numbers focus free c =
+      let e = core_of operand numbers focus free in
+      filtered_numbered (is_reverse_step operand) place e.0 predicates scope numbers focus free e.1 c (core_numbered operand scope numbers focus free c)
+
+  filtered_numbered : (reverse : Bool) (place : Place) (e : CoreExpression) (predicates : ResolvedTrees) (scope : List ℕ) (numbers : Numbers) (focus : Focus) (free n : ℕ) → IsCovered scope numbers focus → IsNumbered scope free n e
+      → IsNumberedCore scope free (filtered_core reverse place e predicates numbers focus n)
+  filtered_numbered reverse place e no_resolved scope numbers focus free n c h = h
+  filtered_numbered reverse place e (a_resolved predicate others) scope numbers focus free n c h =
+      let use' = predicate_use reverse (asks_context asked.Last predicate) in
+      let condition = core_of predicate numbers (focus_with use' n) (behind_context use' n) in
+      let f = filtered_by (predicate_of predicate) reverse use' place n e condition in
+      filtered_numbered reverse place f.0 others scope numbers focus free f.1 c
+      (filtered_by_numbered (predicate_of predicate) reverse use' place scope numbers focus free n e condition c h
+      (core_numbered predicate (scope_with use' n scope) numbers (focus_with use' n) (behind_context use' n) (covered_with use' scope numbers focus n c)))
 
 -- ---- whole queries
 
@@ -442,32 +688,32 @@ scope_of declarations numbers free = numbers_of (behind_declarations declaration
 scope_is : (ds : List Declaration) (numbers : Numbers) (free : ℕ) → scope_behind (declarations_of ds numbers free) (numbers_of numbers) ≡ scope_of ds numbers free
 scope_is [] numbers free = refl
 scope_is (declared.Global g ∷ ds) numbers free =
-    let middle = (core_of g.value numbers None free).1 in scope_is ds ((g.bound.place, middle) ∷ numbers) (middle + 1)
+    let middle = (core_of g.value numbers no_focus free).1 in scope_is ds ((g.bound.place, middle) ∷ numbers) (middle + 1)
 scope_is (declared.External e ∷ ds) numbers free = scope_is ds ((e.bound.place, free) ∷ numbers) (free + 1)
 scope_is (declared.Function f ∷ ds) numbers free = scope_is ds numbers free
 
 values_scoped : (ds : List Declaration) (numbers : Numbers) (free : ℕ) → AreValuesScoped (numbers_of numbers) (declarations_of ds numbers free)
 values_scoped [] numbers free = tt
 values_scoped (declared.Global g ∷ ds) numbers free =
-    let middle = (core_of g.value numbers None free).1 in
-    ((core_numbered g.value (numbers_of numbers) numbers None free (covered_without numbers)).scoped, values_scoped ds ((g.bound.place, middle) ∷ numbers) (middle + 1))
+    let middle = (core_of g.value numbers no_focus free).1 in
+    ((core_numbered g.value (numbers_of numbers) numbers no_focus free (covered_without numbers)).scoped, values_scoped ds ((g.bound.place, middle) ∷ numbers) (middle + 1))
 values_scoped (declared.External e ∷ ds) numbers free = (tt, values_scoped ds ((e.bound.place, free) ∷ numbers) (free + 1))
 values_scoped (declared.Function f ∷ ds) numbers free = values_scoped ds numbers free
 
 variables_rising : (ds : List Declaration) (numbers : Numbers) (free : ℕ) → Rise free (behind_declarations ds numbers free).1 (declared_numbers (declarations_of ds numbers free))
 variables_rising [] numbers free = omega arith
 variables_rising (declared.Global g ∷ ds) numbers free =
-    let middle = (core_of g.value numbers None free).1 in
+    let middle = (core_of g.value numbers no_focus free).1 in
     let next = (behind_declarations ds ((g.bound.place, middle) ∷ numbers) (middle + 1)).1 in
-    rise_joined free middle next (numbers_bound (core_of g.value numbers None free).0) (middle ∷ declared_numbers (declarations_of ds ((g.bound.place, middle) ∷ numbers) (middle + 1)))
-    (core_numbered g.value (numbers_of numbers) numbers None free (covered_without numbers)).rising (omega arith, variables_rising ds ((g.bound.place, middle) ∷ numbers) (middle + 1))
+    rise_joined free middle next (numbers_bound (core_of g.value numbers no_focus free).0) (middle ∷ declared_numbers (declarations_of ds ((g.bound.place, middle) ∷ numbers) (middle + 1)))
+    (core_numbered g.value (numbers_of numbers) numbers no_focus free (covered_without numbers)).rising (omega arith, variables_rising ds ((g.bound.place, middle) ∷ numbers) (middle + 1))
 variables_rising (declared.External e ∷ ds) numbers free = (omega arith, variables_rising ds ((e.bound.place, free) ∷ numbers) (free + 1))
 variables_rising (declared.Function f ∷ ds) numbers free = variables_rising ds numbers free
 
 have_values : (ds : List Declaration) (numbers : Numbers) (free : ℕ) → All HasValueOrType (declarations_of ds numbers free)
 have_values [] numbers free = All-nil HasValueOrType
 have_values (declared.Global g ∷ ds) numbers free =
-    let v = core_of g.value numbers None free in
+    let v = core_of g.value numbers no_focus free in
     let d : CoreDeclaration = Global g.bound.name (numbered_binder g.bound v.1) (Some v.0) in
     All-cons HasValueOrType d (declarations_of ds ((g.bound.place, v.1) ∷ numbers) (v.1 + 1)) tt (have_values ds ((g.bound.place, v.1) ∷ numbers) (v.1 + 1))
 have_values (declared.External e ∷ ds) numbers free =
@@ -478,8 +724,8 @@ have_values (declared.Function f ∷ ds) numbers free = have_values ds numbers f
 query_in_order : (ds : List Declaration) (tree : ResolvedTree) → HasQueryVariablesInOrder (main_core ds tree)
 query_in_order ds tree =
     let behind = behind_declarations ds [] 1 in
-    let body = core_of tree behind.0 None behind.1 in
-    let numbered = core_numbered tree (numbers_of behind.0) behind.0 None behind.1 (covered_without behind.0) in
+    let body = core_of tree behind.0 no_focus behind.1 in
+    let numbered = core_numbered tree (numbers_of behind.0) behind.0 no_focus behind.1 (covered_without behind.0) in
     record {
       values = values_scoped ds [] 1;
       body = subst (λ (scope : List ℕ). IsScoped scope body.0) (sym (scope_is ds [] 1)) numbered.scoped;

@@ -19,15 +19,26 @@ use Rattle.gx_resolved.specs.declared.tree.Declaration.{Declaration}
 use Rattle.gx_resolved.specs.declared.tree.Declaration.TheVariants as declared
 use Rattle.gx_resolved.specs.ResolvedTree.{ResolvedTree, ResolvedTrees, resolved_at, no_resolved, a_resolved}
 use Rattle.gx_core.specs.declared.expression.BinaryOp.{BinaryOp}
+use Rattle.gx_core.specs.declared.expression.BinaryClass.{BinaryClass}
+use Rattle.gx_core.specs.declared.expression.BinaryClass.TheVariants.{Nodes, Sets}
+use Rattle.gx_core.specs.BinaryOperators.{class_of}
 use Rattle.gx_core.specs.Arithmetic.{number_atom}
 use Rattle.gx_core.specs.Queries.{Core}
-use Rattle.gx_core.specs.Expression.{CoreExpression, At, all_parts}
+use Rattle.gx_core.specs.Expression.{CoreExpression, At, one_part, all_parts, outer_of}
 use Rattle.gx_core.specs.Invariant.{IsCoreLiteral, number_of_parts, IsWellFormedExpression, ArePartsWellFormed, AreValuesWellFormed, IsWellFormedQuery}
-use Rattle.gx_normal.specs.Constructs.{within, boolean_around, core_sequence, operator_at, call_at, counted_call, call_of, empty_at, of_one, data_at, conditional_at, and_at, or_at, signed_at, cast_at, castable_at, operator_in_core, joined_by, joining, context_item_at, step_at}
+use Rattle.gx_normal.specs.Constructs.{within, boolean_around, core_sequence, operator_at, call_at, counted_call, call_of, empty_at, of_one, data_at, conditional_at, and_at, or_at, signed_at, cast_at, castable_at, operator_in_core, joined_by, joining, context_item_at, step_at, operand_of, nodes_at}
 use Rattle.gx_normal.specs.declared.clauses.Ending.{Ending}
 use Rattle.gx_normal.specs.declared.clauses.Ending.TheVariants.{Returned, Condition}
 use Rattle.gx_normal.specs.Clauses.{Numbers, ending_of_clauses}
-use Rattle.gx_normal.specs.Normalisation.{Focus, number_at, variable_at, of_two, of_three, joined_at, constructed, core_of, construct_core, cores_of, clauses_core, path_core, declarations_of, behind_declarations, main_core}
+use Rattle.gx_normal.specs.declared.contexts.Asked.TheVariants as asked
+use Rattle.gx_normal.specs.declared.contexts.ContextUse.{ContextUse}
+use Rattle.gx_normal.specs.declared.contexts.ContextUse.TheVariants as uses
+use Rattle.gx_normal.specs.declared.contexts.Focus.{Focus}
+use Rattle.gx_normal.specs.declared.filters.Predicate.{Predicate}
+use Rattle.gx_normal.specs.declared.filters.Predicate.TheVariants as predicates
+use Rattle.gx_normal.specs.Contexts.{asks_context, path_use, predicate_use, no_focus, focus_with, behind_context, hidden_variable, hidden_let, hidden_for, ordered_if, with_size, position_from_end, loop_at}
+use Rattle.gx_normal.specs.Filters.{predicate_of, is_reverse_step, position_is, kept_at, filtered_by}
+use Rattle.gx_normal.specs.Normalisation.{number_at, variable_at, of_two, of_three, joined_at, constructed, is_to_descendants, left_of_path, core_of, construct_core, cores_of, clauses_core, path_core, predicates_core, filtered_core, declarations_of, behind_declarations, main_core}
 
 -- ---- constructs over well-formed parts
 
@@ -53,16 +64,16 @@ signed_formed place true e h = (tt, ((tt, (h, tt)), tt))
 signed_formed place false e h = (tt, ((tt, (h, tt)), ((refl, tt), tt)))
 
 boolean_formed : KeepsOne boolean_around
-boolean_formed e h = (record { other = λ c. cc; all = refl }, (h, tt))
+boolean_formed e h = (record { other = λ c. cc; not_position = λ c. cc; not_last = λ c. cc; all = refl }, (h, tt))
 
 conditional_formed : (place : Place) (a b c : CoreExpression) → IsWellFormedExpression a → IsWellFormedExpression b → IsWellFormedExpression c → IsWellFormedExpression (conditional_at place a b c)
 conditional_formed place a b c h k l = (tt, (boolean_formed a h, (k, (l, tt))))
 
 and_formed : (place : Place) → KeepsTwo (and_at place)
-and_formed place a b h k = (tt, (boolean_formed a h, (boolean_formed b k, ((record { other = λ c. cc; all = refl }, tt), tt))))
+and_formed place a b h k = (tt, (boolean_formed a h, (boolean_formed b k, ((record { other = λ c. cc; not_position = λ c. cc; not_last = λ c. cc; all = refl }, tt), tt))))
 
 or_formed : (place : Place) → KeepsTwo (or_at place)
-or_formed place a b h k = (tt, (boolean_formed a h, ((record { other = λ c. cc; all = refl }, tt), (boolean_formed b k, tt))))
+or_formed place a b h k = (tt, (boolean_formed a h, ((record { other = λ c. cc; not_position = λ c. cc; not_last = λ c. cc; all = refl }, tt), (boolean_formed b k, tt))))
 
 one_formed : (place : Place) (make : CoreExpression → CoreExpression) → KeepsOne make → (es : List CoreExpression) → AreWellFormed es → IsWellFormedExpression (of_one place make es)
 one_formed place make f [] h = (tt, tt)
@@ -82,9 +93,14 @@ three_formed place (a ∷ b ∷ []) h = (tt, tt)
 three_formed place (a ∷ b ∷ c ∷ []) h = conditional_formed place a b c h.0 h.1.0 h.1.1.0
 three_formed place (a ∷ b ∷ c ∷ d ∷ es) h = (tt, tt)
 
+operand_formed : (class : BinaryClass) → KeepsOne (operand_of class)
+operand_formed (Nodes op) e h = h
+operand_formed (Sets op) e h = h
+operand_formed _ e h = (tt, (h, tt))
+
 joined_formed : (place : Place) (found : Option BinaryOp) (es : List CoreExpression) → AreWellFormed es → IsWellFormedExpression (joined_at place (joined_by place found) es)
 joined_formed place None es h = (tt, tt)
-joined_formed place (Some op) es h = two_formed place (operator_at place op) (λ a b k l. (tt, ((tt, (k, tt)), ((tt, (l, tt)), tt)))) es h
+joined_formed place (Some op) es h = two_formed place (operator_at place op) (λ a b k l. (tt, (operand_formed (class_of op) a k, (operand_formed (class_of op) b l, tt)))) es h
 
 joining_formed : (place : Place) (o : BinaryOperator) (es : List CoreExpression) → AreWellFormed es → IsWellFormedExpression (joined_at place (joining place o) es)
 joining_formed place operator.And es h = two_formed place (and_at place) (and_formed place) es h
@@ -101,16 +117,19 @@ number_of_all : (es : List CoreExpression) → number_of_parts (all_parts es) �
 number_of_all [] = refl
 number_of_all (e ∷ es) = let h : number_of_parts (all_parts es) ≡ length es = number_of_all es in omega (arith, h)
 
-counted_formed : (place : Place) (function : Function) (es : List CoreExpression) → (function ≡ functions.Data → ⊥) → AreWellFormed es → IsWellFormedExpression (counted_call place function es)
-counted_formed place function es other h = by (length es == arity_of function) refl
+counted_formed : (place : Place) (function : Function) (es : List CoreExpression)
+    → (function ≡ functions.Data → ⊥) → (function ≡ functions.Position → ⊥) → (function ≡ functions.Last → ⊥) → AreWellFormed es → IsWellFormedExpression (counted_call place function es)
+counted_formed place function es other position last h = by (length es == arity_of function) refl
   where
     by : (b : Bool) → (length es == arity_of function) ≡ b → IsWellFormedExpression (if b then call_at place function (all_parts es) else empty_at place)
-    by true e = (record { other = other; all = number_of_all es ∙ eqb-true (length es) (arity_of function) e }, all_formed es h)
+    by true e = (record { other = other; not_position = position; not_last = last; all = number_of_all es ∙ eqb-true (length es) (arity_of function) e }, all_formed es h)
     by false e = (tt, tt)
 
 call_formed : (place : Place) (function : Function) (es : List CoreExpression) → AreWellFormed es → IsWellFormedExpression (call_of place function es)
 call_formed place functions.Data es h = one_formed place (data_at place) (λ e k. (tt, (k, tt))) es h
-call_formed place function es h = counted_formed place function es (λ e. cc) h
+call_formed place functions.Position es h = (tt, tt)
+call_formed place functions.Last es h = (tt, tt)
+call_formed place function es h = counted_formed place function es (λ e. cc) (λ e. cc) (λ e. cc) h
 
 -- ---- trees
 
@@ -131,33 +150,84 @@ variable_formed : (place : Place) (found : Option ℕ) → IsWellFormedExpressio
 variable_formed place None = (tt, tt)
 variable_formed place (Some number) = (tt, tt)
 
-context_formed : (place : Place) (focus : Focus) → IsWellFormedExpression (context_item_at place focus)
+context_formed : (place : Place) (found : Option ℕ) → IsWellFormedExpression (context_item_at place found)
 context_formed place None = (tt, tt)
 context_formed place (Some number) = (tt, tt)
 
-step_formed : (place : Place) (focus : Focus) (axis : Axis) (asks : Test) → IsWellFormedExpression (step_at place focus axis asks)
-step_formed place None axis asks = (tt, tt)
-step_formed place (Some number) axis asks = (tt, tt)
+step_formed : (place : Place) (found : Option ℕ) (axis : Axis) (of_test : Test) → IsWellFormedExpression (step_at place found axis of_test)
+step_formed place None axis of_test = (tt, tt)
+step_formed place (Some number) axis of_test = (tt, tt)
+
+-- ---- contexts and predicates
+
+ordered_formed : (ordered : Bool) (place : Place) → KeepsOne (ordered_if ordered place)
+ordered_formed true place e h = (tt, (h, tt))
+ordered_formed false place e h = h
+
+size_formed : (place : Place) (free : ℕ) → KeepsTwo (with_size place free)
+size_formed place free source body h k =
+    (tt, (h, ((tt, ((record { other = λ c. cc; not_position = λ c. cc; not_last = λ c. cc; all = refl }, ((tt, tt), tt)), (k, tt))), tt)))
+
+for_formed : (place : Place) (number position : ℕ) → KeepsTwo (hidden_for place number position)
+for_formed place number position source body h k = (tt, (h, (k, tt)))
+
+loop_formed : (use' : ContextUse) (ordered : Bool) (place : Place) (free : ℕ) → KeepsTwo (loop_at use' ordered place free)
+loop_formed uses.Item ordered place free source body h k = ordered_formed ordered place (hidden_for place free 0 source body) (for_formed place free 0 source body h k)
+loop_formed uses.Position ordered place free source body h k = ordered_formed ordered place (hidden_for place free (free + 1) source body) (for_formed place free (free + 1) source body h k)
+loop_formed uses.Size ordered place free source body h k =
+    let each : CoreExpression = hidden_for place (free + 2) 0 (hidden_variable place free) body in
+    size_formed place free source (ordered_if ordered place each) h (ordered_formed ordered place each (for_formed place (free + 2) 0 (hidden_variable place free) body (tt, tt) k))
+loop_formed uses.PositionAndSize ordered place free source body h k =
+    let each : CoreExpression = hidden_for place (free + 2) (free + 3) (hidden_variable place free) body in
+    size_formed place free source (ordered_if ordered place each) h (ordered_formed ordered place each (for_formed place (free + 2) (free + 3) (hidden_variable place free) body (tt, tt) k))
+loop_formed uses.Backwards ordered place free source body h k =
+    let turned : CoreExpression = hidden_let place (free + 4) (position_from_end place (free + 1) (free + 3)) body in
+    let each : CoreExpression = hidden_for place (free + 2) (free + 3) (hidden_variable place free) turned in
+    size_formed place free source (ordered_if ordered place each) h (ordered_formed ordered place each (for_formed place (free + 2) (free + 3) (hidden_variable place free) turned (tt, tt)
+    (tt, ((tt, ((tt, ((tt, tt), ((tt, tt), tt))), ((refl, tt), tt))), (k, tt)))))
+
+kept_formed : (place : Place) (focus : Focus) (free : ℕ) → KeepsOne (kept_at place focus free)
+kept_formed place focus free condition h =
+    let tested : IsWellFormedExpression (position_is place focus free) = (tt, ((tt, tt), (context_formed place focus.position, tt))) in
+    let truth : IsWellFormedExpression (call_at place functions.Boolean (one_part (hidden_variable place (free + 1)))) =
+    (record { other = λ c. cc; not_position = λ c. cc; not_last = λ c. cc; all = refl }, ((tt, tt), tt)) in
+    (tt, ((((tt, tt), refl), (h, (tested, (truth, tt)))), (context_formed place focus.item, ((tt, tt), tt))))
+
+filtered_by_formed : (predicate : Predicate) (reverse : Bool) (use' : ContextUse) (place : Place) (free : ℕ) (e : CoreExpression) (condition : CoreExpression × ℕ)
+    → IsWellFormedExpression e → IsWellFormedExpression condition.0 → IsWellFormedExpression (filtered_by predicate reverse use' place free e condition).0
+filtered_by_formed (predicates.Numbered number) reverse use' place free e condition h k = (tt, (h, tt))
+filtered_by_formed predicates.Last reverse use' place free e condition h k = (tt, (h, tt))
+filtered_by_formed predicates.Condition reverse use' place free e condition h k =
+    loop_formed use' false place free e (kept_at (outer_of condition.0) (focus_with use' free) condition.1 condition.0) h
+    (kept_formed (outer_of condition.0) (focus_with use' free) condition.1 condition.0 k)
 
 abbrev IsFormed : CoreExpression × ℕ → Type 0
 IsFormed made = IsWellFormedExpression made.0
 
-construct_formed : (place : Place) (construct : Construct) (numbers : Numbers) (focus : Focus) (free : ℕ) (parts : List CoreExpression × ℕ) (clauses path : CoreExpression × ℕ)
-    → AreWellFormed parts.0 → IsFormed clauses → IsFormed path → IsFormed (construct_core place construct numbers focus free parts clauses path)
-construct_formed place (written.Variable name binder) numbers focus free parts clauses path h k l = variable_formed place (number_at numbers binder)
-construct_formed place written.Context numbers focus free parts clauses path h k l = context_formed place focus
-construct_formed place (written.Step axis asks) numbers focus free parts clauses path h k l = step_formed place focus axis asks
-construct_formed place written.ParentStep numbers focus free parts clauses path h k l = step_formed place focus axes.Parent tests.Node
-construct_formed place written.Flwor numbers focus free parts clauses path h k l = k
-construct_formed place (written.Quantified every) numbers focus free parts clauses path h k l = k
-construct_formed place (written.Path false) numbers focus free parts clauses path h k l = l
-construct_formed place construct numbers focus free parts clauses path h k l = constructed_formed place construct parts.0 h
+left_formed : (descendants : Bool) (place : Place) (left : CoreExpression × ℕ) → IsFormed left → IsFormed (left_of_path descendants place left)
+left_formed false place left h = h
+left_formed true place left h = (tt, ((tt, ((tt, (h, tt)), ((tt, tt), tt))), tt))
+
+construct_formed : (place : Place) (construct : Construct) (numbers : Numbers) (focus : Focus) (free : ℕ) (parts : List CoreExpression × ℕ) (clauses path filtered : CoreExpression × ℕ)
+    → AreWellFormed parts.0 → IsFormed clauses → IsFormed path → IsFormed filtered → IsFormed (construct_core place construct numbers focus free parts clauses path filtered)
+construct_formed place (written.Variable name binder) numbers focus free parts clauses path filtered h k l m = variable_formed place (number_at numbers binder)
+construct_formed place written.Context numbers focus free parts clauses path filtered h k l m = context_formed place focus.item
+construct_formed place (written.Call functions.Position) numbers focus free parts clauses path filtered h k l m = context_formed place focus.position
+construct_formed place (written.Call functions.Last) numbers focus free parts clauses path filtered h k l m = context_formed place focus.size
+construct_formed place (written.Step axis asks) numbers focus free parts clauses path filtered h k l m = step_formed place focus.item axis asks
+construct_formed place written.ParentStep numbers focus free parts clauses path filtered h k l m = step_formed place focus.item axes.Parent tests.Node
+construct_formed place written.Flwor numbers focus free parts clauses path filtered h k l m = k
+construct_formed place (written.Quantified every) numbers focus free parts clauses path filtered h k l m = k
+construct_formed place (written.Path descendants) numbers focus free parts clauses path filtered h k l m = l
+construct_formed place written.Filtered numbers focus free parts clauses path filtered h k l m = m
+construct_formed place construct numbers focus free parts clauses path filtered h k l m = constructed_formed place construct parts.0 h
 
 mutual
   core_formed : (tree : ResolvedTree) (numbers : Numbers) (focus : Focus) (free : ℕ) → IsFormed (core_of tree numbers focus free)
   core_formed (resolved_at place construct parts) numbers focus free =
-      construct_formed place construct numbers focus free (cores_of parts numbers focus free) (clauses_core (ending_of_clauses construct) place parts numbers focus free) (path_core place parts numbers focus free)
-      (cores_formed parts numbers focus free) (clauses_formed (ending_of_clauses construct) place parts numbers focus free) (path_formed place parts numbers focus free)
+      construct_formed place construct numbers focus free (cores_of parts numbers focus free) (clauses_core (ending_of_clauses construct) place parts numbers focus free) (path_core (is_to_descendants construct) place parts numbers focus free) (predicates_core place parts numbers focus free)
+      (cores_formed parts numbers focus free) (clauses_formed (ending_of_clauses construct) place parts numbers focus free) (path_formed (is_to_descendants construct) place parts numbers focus free)
+      (predicates_formed place parts numbers focus free)
 
   cores_formed : (parts : ResolvedTrees) (numbers : Numbers) (focus : Focus) (free : ℕ) → AreWellFormed (cores_of parts numbers focus free).0
   cores_formed no_resolved numbers focus free = tt
@@ -188,26 +258,45 @@ mutual
   clauses_formed Returned place (a_resolved last others) numbers focus free = core_formed last numbers focus free
   clauses_formed (Condition every) place (a_resolved last others) numbers focus free = boolean_formed (core_of last numbers focus free).0 (core_formed last numbers focus free)
 
-  path_formed : (place : Place) (parts : ResolvedTrees) (numbers : Numbers) (focus : Focus) (free : ℕ) → IsFormed (path_core place parts numbers focus free)
-  path_formed place (a_resolved first (a_resolved second no_resolved)) numbers focus free =
-      let middle = (core_of first numbers focus free).1 in
-      (tt, ((tt, ((tt, (core_formed first numbers focus free, tt)), (core_formed second numbers (Some middle) (middle + 1), tt))), tt))
-  path_formed place _ numbers focus free = (tt, tt)
+  path_formed : (descendants : Bool) (place : Place) (parts : ResolvedTrees) (numbers : Numbers) (focus : Focus) (free : ℕ) → IsFormed (path_core descendants place parts numbers focus free)
+  path_formed descendants place (a_resolved first (a_resolved second no_resolved)) numbers focus free =
+      let a = left_of_path descendants place (core_of first numbers focus free) in
+      let use' = path_use (asks_context asked.Position second) (asks_context asked.Last second) in
+      let b = core_of second numbers (focus_with use' a.1) (behind_context use' a.1) in
+      loop_formed use' true place a.1 (nodes_at place a.0) b.0 (tt, (left_formed descendants place (core_of first numbers focus free) (core_formed first numbers focus free), tt))
+      (core_formed second numbers (focus_with use' a.1) (behind_context use' a.1))
+  path_formed descendants place _ numbers focus free = (tt, tt)
+
+  predicates_formed : (place : Place) (parts : ResolvedTrees) (numbers : Numbers) (focus : Focus) (free : ℕ) → IsFormed (predicates_core place parts numbers focus free)
+  predicates_formed place no_resolved numbers focus free = (tt, tt)
+  predicates_formed place (a_resolved operand predicates) numbers focus free =
+      let e = core_of operand numbers focus free in
+      filtered_formed (is_reverse_step operand) place e.0 predicates numbers focus e.1 (core_formed operand numbers focus free)
+
+  filtered_formed : (reverse : Bool) (place : Place) (e : CoreExpression) (predicates : ResolvedTrees) (numbers : Numbers) (focus : Focus) (free : ℕ) → IsWellFormedExpression e
+      → IsFormed (filtered_core reverse place e predicates numbers focus free)
+  filtered_formed reverse place e no_resolved numbers focus free h = h
+  filtered_formed reverse place e (a_resolved predicate others) numbers focus free h =
+      let use' = predicate_use reverse (asks_context asked.Last predicate) in
+      let condition = core_of predicate numbers (focus_with use' free) (behind_context use' free) in
+      let f = filtered_by (predicate_of predicate) reverse use' place free e condition in
+      filtered_formed reverse place f.0 others numbers focus f.1
+      (filtered_by_formed (predicate_of predicate) reverse use' place free e condition h (core_formed predicate numbers (focus_with use' free) (behind_context use' free)))
 
 -- ---- whole queries
 
 values_formed : (ds : List Declaration) (numbers : Numbers) (free : ℕ) → AreValuesWellFormed (declarations_of ds numbers free)
 values_formed [] numbers free = tt
 values_formed (declared.Global g ∷ ds) numbers free =
-    let middle = (core_of g.value numbers None free).1 in
-    (core_formed g.value numbers None free, values_formed ds ((g.bound.place, middle) ∷ numbers) (middle + 1))
+    let middle = (core_of g.value numbers no_focus free).1 in
+    (core_formed g.value numbers no_focus free, values_formed ds ((g.bound.place, middle) ∷ numbers) (middle + 1))
 values_formed (declared.External e ∷ ds) numbers free = values_formed ds ((e.bound.place, free) ∷ numbers) (free + 1)
 values_formed (declared.Function f ∷ ds) numbers free = values_formed ds numbers free
 
 query_formed : (ds : List Declaration) (tree : ResolvedTree) → IsWellFormedQuery (main_core ds tree)
 query_formed ds tree =
     let behind = behind_declarations ds [] 1 in
-    record { values = values_formed ds [] 1; body = core_formed tree behind.0 None behind.1 }
+    record { values = values_formed ds [] 1; body = core_formed tree behind.0 no_focus behind.1 }
 
 pub made_well_formed : {E : Type 0} (ds : List Declaration) (tree : ResolvedTree) (made : Result Core E) → IfOk made (λ core. core ≡ main_core ds tree) → IfOk made (λ core. IsWellFormedQuery core)
 made_well_formed ds tree (Ok core) h = subst (λ (c : Core). IsWellFormedQuery c) (sym h) (query_formed ds tree)

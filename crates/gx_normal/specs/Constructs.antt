@@ -13,6 +13,9 @@ use Rattle.gx_funcs.specs.declared.function.Function.TheVariants as functions
 use Rattle.gx_funcs.specs.Function.{arity_of}
 use Rattle.gx_core.specs.declared.expression.BinaryOp.{BinaryOp}
 use Rattle.gx_core.specs.declared.expression.BinaryOp.TheVariants as core
+use Rattle.gx_core.specs.declared.expression.BinaryClass.{BinaryClass}
+use Rattle.gx_core.specs.declared.expression.BinaryClass.TheVariants.{Nodes, Sets}
+use Rattle.gx_core.specs.BinaryOperators.{class_of}
 use Rattle.gx_core.specs.declared.expression.Binder.{Binder}
 use Rattle.gx_core.specs.declared.operator.Operator.{Operator}
 use Rattle.gx_core.specs.declared.operator.Operator.TheVariants as operators
@@ -41,9 +44,14 @@ literal_at place value = core_at place place (operators.Lit value) no_parts
 abbrev pub core_sequence : CoreExpression → CoreExpression → CoreExpression
 core_sequence a b = around a operators.Seq (two_parts a b)
 
--- an operator over the atomized operands
+-- an operand of an operator: comparisons and combinations of nodes take it as it is, and all others atomize it
+abbrev pub operand_of : BinaryClass → CoreExpression → CoreExpression
+operand_of (Nodes op) e = e
+operand_of (Sets op) e = e
+operand_of _ e = data_around e
+
 abbrev pub operator_at : Place → BinaryOp → CoreExpression → CoreExpression → CoreExpression
-operator_at place op a b = core_at place place (operators.Binary op) (two_parts (data_around a) (data_around b))
+operator_at place op a b = core_at place place (operators.Binary op) (two_parts (operand_of (class_of op) a) (operand_of (class_of op) b))
 
 abbrev pub call_at : Place → Function → Parts (Unit {0}) → CoreExpression
 call_at place function arguments = core_at place place (operators.Call function) arguments
@@ -59,14 +67,20 @@ of_one place make _ = empty_at place
 abbrev pub data_at : Place → CoreExpression → CoreExpression
 data_at place e = core_at place place operators.DataOf (one_part e)
 
+-- what looks at a context where there is none
+abbrev pub no_context_at : Place → CoreExpression
+no_context_at place = core_at place place operators.NoContext no_parts
+
 -- a call of a function with its number of arguments; with another number it stands for nothing
 abbrev pub counted_call : Place → Function → List CoreExpression → CoreExpression
 counted_call place function arguments =
     if length arguments == arity_of function then call_at place function (all_parts arguments) else empty_at place
 
--- a call; `data` is an operator of its own
+-- a call; `data` is an operator of its own, and `position` and `last` look at a context
 abbrev pub call_of : Place → Function → List CoreExpression → CoreExpression
 call_of place functions.Data arguments = of_one place (data_at place) arguments
+call_of place functions.Position arguments = no_context_at place
+call_of place functions.Last arguments = no_context_at place
 call_of place function arguments = counted_call place function arguments
 
 abbrev pub conditional_at : Place → CoreExpression → CoreExpression → CoreExpression → CoreExpression
@@ -102,10 +116,6 @@ quantifier_at false place binder source test = core_at place place (operators.So
 
 -- ---- paths
 
--- what looks at a context item where there is none
-abbrev pub no_context_at : Place → CoreExpression
-no_context_at place = core_at place place operators.NoContext no_parts
-
 -- the context item, which is the value of the variable with this number
 abbrev pub context_item_at : Place → Option ℕ → CoreExpression
 context_item_at place None = no_context_at place
@@ -122,11 +132,6 @@ nodes_at place e = core_at place place operators.Nodes (one_part e)
 -- a variable of Core alone
 abbrev pub hidden_binder : Place → ℕ → Binder
 hidden_binder place number = record { variable = number; place = place; kind = None }
-
--- the right part for each node that the left one gives, which is the context item there; what all of them give is put in document order
-abbrev pub path_at : Place → (number : ℕ) → CoreExpression → CoreExpression → CoreExpression
-path_at place number first second =
-    core_at place place operators.Order (one_part (for_at place (hidden_binder place number) 0 (nodes_at place first) second))
 
 -- the operator of Core for one that is written, if it is one
 abbrev pub operator_in_core : BinaryOperator → Option BinaryOp
@@ -148,14 +153,20 @@ operator_in_core written.Less = Some core.AnyLt
 operator_in_core written.LessOrEqual = Some core.AnyLe
 operator_in_core written.Greater = Some core.AnyGt
 operator_in_core written.GreaterOrEqual = Some core.AnyGe
+operator_in_core written.Is = Some core.Is
+operator_in_core written.Before = Some core.Before
+operator_in_core written.After = Some core.After
 operator_in_core written.To = Some core.To
+operator_in_core written.Union = Some core.Union
+operator_in_core written.Intersect = Some core.Intersect
+operator_in_core written.Except = Some core.Except
 operator_in_core _ = None
 
 abbrev pub joined_by : Place → Option BinaryOp → Option (CoreExpression → CoreExpression → CoreExpression)
 joined_by place None = None
 joined_by place (Some op) = Some (operator_at place op)
 
--- how an operator joins its operands, if it is built
+-- how an operator joins its operands
 abbrev pub joining : Place → BinaryOperator → Option (CoreExpression → CoreExpression → CoreExpression)
 joining place written.And = Some (and_at place)
 joining place written.Or = Some (or_at place)

@@ -1,5 +1,8 @@
 pub mod Constructs
 pub mod Clauses
+pub mod Contexts
+pub mod Filters
+pub mod Asking
 pub mod Normalisation
 pub mod Normalising
 pub mod Unbuilt

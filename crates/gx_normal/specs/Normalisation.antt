@@ -1,5 +1,5 @@
 -- From resolved trees to Core: the numbers of variables, and what each construct stands for (XQuery 1.0 and XPath 2.0 Formal Semantics, section 4).
-use Rattle.std.specs.Prelude.{ℕ, ◌+◌, Bool, false, ◌==◌, ◌&&◌, List, [], ◌∷◌, ◌++◌, Option, None, Some}
+use Rattle.std.specs.Prelude.{ℕ, ◌+◌, Bool, true, false, ◌==◌, ◌&&◌, List, [], ◌∷◌, ◌++◌, Option, None, Some}
 use Rattle.gx_base.specs.declared.place.Place.{Place}
 use Rattle.gx_types.specs.SequenceType.{SequenceType, item}
 use Rattle.gx_types.specs.declared.item_type.ItemType.TheVariants as items
@@ -13,6 +13,7 @@ use Rattle.gx_resolved.specs.declared.tree.Declaration.TheVariants as declared
 use Rattle.gx_resolved.specs.declared.tree.Resolved.{Resolved}
 use Rattle.gx_resolved.specs.NestedMap.{innermost_value}
 use Rattle.gx_resolved.specs.ResolvedTree.{ResolvedTree, ResolvedTrees, resolved_at, no_resolved, a_resolved}
+use Rattle.gx_funcs.specs.declared.function.Function.TheVariants as functions
 use Rattle.gx_funcs.specs.Function.{string_atom}
 use Rattle.gx_core.specs.declared.expression.Binder.{Binder}
 use Rattle.gx_core.specs.Queries.{Core, CoreDeclaration}
@@ -20,7 +21,12 @@ use Rattle.gx_core.specs.declared.expression.Declaration.TheVariants.{Global}
 use Rattle.gx_core.specs.declared.operator.Operator.TheVariants as operators
 use Rattle.gx_core.specs.Arithmetic.{number_atom}
 use Rattle.gx_core.specs.Expression.{CoreExpression, no_parts, core_at}
-use Rattle.gx_normal.specs.Constructs.{within, literal_at, core_sequence, call_of, empty_at, of_one, conditional_at, signed_at, cast_at, castable_at, joining, context_item_at, step_at, path_at}
+use Rattle.gx_normal.specs.Constructs.{within, literal_at, core_sequence, call_of, empty_at, of_one, conditional_at, signed_at, cast_at, castable_at, joining, context_item_at, step_at}
+use Rattle.gx_normal.specs.declared.contexts.Asked.TheVariants as asked
+use Rattle.gx_normal.specs.declared.contexts.Focus.{Focus}
+use Rattle.gx_normal.specs.declared.contexts.ContextUse.TheVariants.{Item}
+use Rattle.gx_normal.specs.Contexts.{asks_context, path_use, predicate_use, no_focus, focus_with, behind_context, path_with}
+use Rattle.gx_normal.specs.Filters.{predicate_of, is_reverse_step, filtered_by}
 use Rattle.gx_normal.specs.Clauses.{Numbers, numbered_binder, clause_numbers, behind_clause, clause_at, ended, ending_of_clauses}
 use Rattle.gx_normal.specs.declared.clauses.Ending.{Ending}
 
@@ -74,27 +80,36 @@ constructed place _ parts = empty_at place
 
 -- ---- trees
 
--- the number of the variable that has the context item, where there is one
-abbrev pub Focus : Type 0
-Focus = Option ℕ
+-- a construct, over the Core of its parts, or of its clauses where it has clauses, of its two parts where it is a path, or of what
+-- is left of its first part where it has predicates; with the number that is free behind it
+abbrev pub construct_core : Place → Construct → Numbers → Focus → (free : ℕ) → (parts : List CoreExpression × ℕ) → (clauses path filtered : CoreExpression × ℕ) → CoreExpression × ℕ
+construct_core place (written.Variable name binder) numbers focus free parts clauses path filtered = (variable_at place (number_at numbers binder), free)
+construct_core place written.Context numbers focus free parts clauses path filtered = (context_item_at place focus.item, free)
+construct_core place (written.Call functions.Position) numbers focus free parts clauses path filtered = (context_item_at place focus.position, free)
+construct_core place (written.Call functions.Last) numbers focus free parts clauses path filtered = (context_item_at place focus.size, free)
+construct_core place (written.Step axis asks) numbers focus free parts clauses path filtered = (step_at place focus.item axis asks, free)
+construct_core place written.ParentStep numbers focus free parts clauses path filtered = (step_at place focus.item axes.Parent tests.Node, free)
+construct_core place written.Flwor numbers focus free parts clauses path filtered = clauses
+construct_core place (written.Quantified every) numbers focus free parts clauses path filtered = clauses
+construct_core place (written.Path descendants) numbers focus free parts clauses path filtered = path
+construct_core place written.Filtered numbers focus free parts clauses path filtered = filtered
+construct_core place construct numbers focus free parts clauses path filtered = (constructed place construct parts.0, parts.1)
 
--- a construct, over the Core of its parts, or of its clauses where it has clauses, or of its two parts where it is a path; with the number
--- that is free behind it
-abbrev pub construct_core : Place → Construct → Numbers → Focus → (free : ℕ) → (parts : List CoreExpression × ℕ) → (clauses path : CoreExpression × ℕ) → CoreExpression × ℕ
-construct_core place (written.Variable name binder) numbers focus free parts clauses path = (variable_at place (number_at numbers binder), free)
-construct_core place written.Context numbers focus free parts clauses path = (context_item_at place focus, free)
-construct_core place (written.Step axis asks) numbers focus free parts clauses path = (step_at place focus axis asks, free)
-construct_core place written.ParentStep numbers focus free parts clauses path = (step_at place focus axes.Parent tests.Node, free)
-construct_core place written.Flwor numbers focus free parts clauses path = clauses
-construct_core place (written.Quantified every) numbers focus free parts clauses path = clauses
-construct_core place (written.Path false) numbers focus free parts clauses path = path
-construct_core place construct numbers focus free parts clauses path = (constructed place construct parts.0, parts.1)
+-- whether `//` stands between the parts of a path
+abbrev pub is_to_descendants : Construct → Bool
+is_to_descendants (written.Path descendants) = descendants
+is_to_descendants construct = false
+
+-- the left part of a path: where `//` stands behind it, a path from it to `descendant-or-self::node()`, with a number of its own
+abbrev pub left_of_path : (descendants : Bool) → Place → CoreExpression × ℕ → CoreExpression × ℕ
+left_of_path false place left = left
+left_of_path true place left = (path_with Item place left.1 left.0 (step_at place (Some left.1) axes.DescendantOrSelf tests.Node), left.1 + 1)
 
 -- Variables are numbered in the order in which their scopes begin.
 abbrev mutual
   pub core_of : ResolvedTree → Numbers → Focus → (free : ℕ) → CoreExpression × ℕ
   core_of (resolved_at place construct parts) numbers focus free =
-      construct_core place construct numbers focus free (cores_of parts numbers focus free) (clauses_core (ending_of_clauses construct) place parts numbers focus free) (path_core place parts numbers focus free)
+      construct_core place construct numbers focus free (cores_of parts numbers focus free) (clauses_core (ending_of_clauses construct) place parts numbers focus free) (path_core (is_to_descendants construct) place parts numbers focus free) (predicates_core place parts numbers focus free)
 
   pub cores_of : ResolvedTrees → Numbers → Focus → (free : ℕ) → List CoreExpression × ℕ
   cores_of no_resolved numbers focus free = ([], free)
@@ -124,13 +139,30 @@ abbrev mutual
       (clause_at ending place (written.In bound) p.1 p.0 rest.0, rest.1)
   clauses_core ending place (a_resolved last others) numbers focus free = let e = core_of last numbers focus free in (ended ending e.0, e.1)
 
-  -- the two parts of a path; the context item of the right one is a variable whose scope begins behind the left one
-  pub path_core : Place → ResolvedTrees → Numbers → Focus → (free : ℕ) → CoreExpression × ℕ
-  path_core place (a_resolved first (a_resolved second no_resolved)) numbers focus free =
-      let a = core_of first numbers focus free in
-      let b = core_of second numbers (Some a.1) (a.1 + 1) in
-      (path_at place a.1 a.0 b.0, b.1)
-  path_core place _ numbers focus free = (empty_at place, free)
+  -- the two parts of a path; the variables of the context of the right one are numbered behind the left one
+  pub path_core : (descendants : Bool) → Place → ResolvedTrees → Numbers → Focus → (free : ℕ) → CoreExpression × ℕ
+  path_core descendants place (a_resolved first (a_resolved second no_resolved)) numbers focus free =
+      let a = left_of_path descendants place (core_of first numbers focus free) in
+      let use' = path_use (asks_context asked.Position second) (asks_context asked.Last second) in
+      let b = core_of second numbers (focus_with use' a.1) (behind_context use' a.1) in
+      (path_with use' place a.1 a.0 b.0, b.1)
+  path_core descendants place _ numbers focus free = (empty_at place, free)
+
+  -- an expression and its predicates
+  pub predicates_core : Place → ResolvedTrees → Numbers → Focus → (free : ℕ) → CoreExpression × ℕ
+  predicates_core place no_resolved numbers focus free = (empty_at place, free)
+  predicates_core place (a_resolved operand predicates) numbers focus free =
+      let e = core_of operand numbers focus free in
+      filtered_core (is_reverse_step operand) place e.0 predicates numbers focus e.1
+
+  -- what predicates let through, one after another; each has a context of its own
+  pub filtered_core : (reverse : Bool) → Place → CoreExpression → ResolvedTrees → Numbers → Focus → (free : ℕ) → CoreExpression × ℕ
+  filtered_core reverse place e no_resolved numbers focus free = (e, free)
+  filtered_core reverse place e (a_resolved predicate others) numbers focus free =
+      let use' = predicate_use reverse (asks_context asked.Last predicate) in
+      let condition = core_of predicate numbers (focus_with use' free) (behind_context use' free) in
+      let f = filtered_by (predicate_of predicate) reverse use' place free e condition in
+      filtered_core reverse place f.0 others numbers focus f.1
 
 -- ---- whole queries
 
@@ -138,7 +170,7 @@ abbrev mutual
 abbrev pub declarations_of : List Declaration → Numbers → (free : ℕ) → List CoreDeclaration
 declarations_of [] numbers free = []
 declarations_of (declared.Global g ∷ others) numbers free =
-    let v = core_of g.value numbers None free in
+    let v = core_of g.value numbers no_focus free in
     Global g.bound.name (numbered_binder g.bound v.1) (Some v.0) ∷ declarations_of others ((g.bound.place, v.1) ∷ numbers) (v.1 + 1)
 declarations_of (declared.External e ∷ others) numbers free =
     Global e.bound.name (external_binder e.bound free) None ∷ declarations_of others ((e.bound.place, free) ∷ numbers) (free + 1)
@@ -148,7 +180,7 @@ declarations_of (declared.Function f ∷ others) numbers free = declarations_of 
 abbrev pub behind_declarations : List Declaration → Numbers → (free : ℕ) → Numbers × ℕ
 behind_declarations [] numbers free = (numbers, free)
 behind_declarations (declared.Global g ∷ others) numbers free =
-    let v = core_of g.value numbers None free in
+    let v = core_of g.value numbers no_focus free in
     behind_declarations others ((g.bound.place, v.1) ∷ numbers) (v.1 + 1)
 behind_declarations (declared.External e ∷ others) numbers free = behind_declarations others ((e.bound.place, free) ∷ numbers) (free + 1)
 behind_declarations (declared.Function f ∷ others) numbers free = behind_declarations others numbers free
@@ -157,7 +189,7 @@ behind_declarations (declared.Function f ∷ others) numbers free = behind_decla
 abbrev pub main_core : List Declaration → ResolvedTree → Core
 main_core declarations body =
     let behind = behind_declarations declarations [] 1 in
-    record { declarations = declarations_of declarations [] 1; body = (core_of body behind.0 None behind.1).0 }
+    record { declarations = declarations_of declarations [] 1; body = (core_of body behind.0 no_focus behind.1).0 }
 
 abbrev pub query_core : Resolved → Core
 query_core query = main_core query.declarations query.body

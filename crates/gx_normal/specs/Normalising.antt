@@ -1,16 +1,21 @@
 -- What a normalisation in its midst comes to.
-use Rattle.std.specs.Prelude.{ℕ, ◌+◌, List, [], ◌∷◌, ◌++◌, Some, reverse, drop}
+use Rattle.std.specs.Prelude.{ℕ, ◌+◌, Bool, List, [], ◌∷◌, ◌++◌, reverse, drop, true}
 use Rattle.gx_base.specs.declared.place.Place.{Place}
 use Rattle.gx_resolved.specs.declared.tree.Construct.{Construct}
+use Rattle.gx_resolved.specs.ResolvedTree.{ResolvedTree, ResolvedTrees}
 use Rattle.gx_resolved.specs.ResolvedView.{resolved_parts}
 use Rattle.gx_core.specs.Expression.{CoreExpression}
 use Rattle.gx_normal.specs.declared.normalising.Task.{Task}
-use Rattle.gx_normal.specs.declared.normalising.Task.TheVariants.{Normalise, Parts, Clauses, Bind, Unbind, FinishClause, End, Enter, Leave, FinishPath, Finish}
+use Rattle.gx_normal.specs.declared.normalising.Task.TheVariants.{Normalise, Parts, Clauses, Bind, Unbind, FinishClause, End, Enter, Filter, FinishPredicate, Leave, FinishPath, Finish, Descend}
 use Rattle.gx_normal.specs.declared.normalising.Normalising.{Normalising}
 use Rattle.gx_normal.specs.declared.clauses.Ending.{Ending}
 use Rattle.gx_normal.specs.Clauses.{Numbers, clause_numbers, behind_clause, clause_at, ended}
-use Rattle.gx_normal.specs.Constructs.{path_at}
-use Rattle.gx_normal.specs.Normalisation.{Focus, constructed, core_of, cores_of, clauses_core}
+use Rattle.gx_normal.specs.declared.contexts.Asked.TheVariants as asked
+use Rattle.gx_normal.specs.declared.contexts.ContextUse.{ContextUse}
+use Rattle.gx_normal.specs.declared.contexts.Focus.{Focus}
+use Rattle.gx_normal.specs.Contexts.{asks_context, path_use, predicate_use, focus_with, behind_context, path_with}
+use Rattle.gx_normal.specs.Filters.{filter_at}
+use Rattle.gx_normal.specs.Normalisation.{constructed, left_of_path, core_of, cores_of, clauses_core, filtered_core}
 
 -- ---- the parts that are there, the last first, of each construct in the making, the innermost first
 
@@ -38,9 +43,26 @@ abbrev pub last_ended : Ending → Made → Made
 last_ended ending ((last ∷ parts) ∷ outer) = (ended ending last ∷ parts) ∷ outer
 last_ended ending _ = []
 
-abbrev pub path_finished : Place → (number : ℕ) → Made → Made
-path_finished place number ((second ∷ first ∷ more) ∷ outer) = added (path_at place number first second) outer
-path_finished place number _ = []
+-- the last part is the left one of a path with `//`
+abbrev pub left_descended : Place → (free : ℕ) → Made → Made
+left_descended place free ((left ∷ parts) ∷ outer) = ((left_of_path true place (left, free)).0 ∷ parts) ∷ outer
+left_descended place free _ = []
+
+abbrev pub path_finished : ContextUse → Place → (number : ℕ) → Made → Made
+path_finished use' place number ((second ∷ first ∷ more) ∷ outer) = added (path_with use' place number first second) outer
+path_finished use' place number _ = []
+
+-- the last part is what predicates filter, and they number variables from the free number on
+abbrev pub last_filtered : (reverse : Bool) → Place → (predicates : ResolvedTrees) → Made → Numbers → Focus → (free : ℕ) → Made × ℕ
+last_filtered reverse place predicates ((e ∷ parts) ∷ outer) numbers focus free =
+    let f = filtered_core reverse place e predicates numbers focus free in
+    let made : Made × ℕ = ((f.0 ∷ parts) ∷ outer, f.1) in made
+last_filtered reverse place predicates _ numbers focus free = ([], free)
+
+-- the last part is the condition of a predicate, and the one before it is what the predicate filters
+abbrev pub predicate_finished : ContextUse → Place → (number : ℕ) → Made → (free : ℕ) → Made × ℕ
+predicate_finished use' place number ((condition ∷ e ∷ parts) ∷ outer) free = ((filter_at use' place number free e condition ∷ parts) ∷ outer, free + 2)
+predicate_finished use' place number _ free = ([], free)
 
 -- ---- what is left to do
 
@@ -63,10 +85,17 @@ core_left (Bind ending place clause others ∷ tasks) made numbers focus free =
 core_left (Unbind ∷ tasks) made numbers focus free = core_left tasks made (drop 1 numbers) focus free
 core_left (FinishClause ending place clause number ∷ tasks) made numbers focus free = core_left tasks (clause_finished ending place clause.now number made) numbers focus free
 core_left (End ending ∷ tasks) made numbers focus free = core_left tasks (last_ended ending made) numbers focus free
+core_left (Descend place ∷ tasks) made numbers focus free = core_left tasks (left_descended place free made) numbers focus (free + 1)
 core_left (Enter place second ∷ tasks) made numbers focus free =
-    let e = core_of second.now numbers (Some free) (free + 1) in core_left tasks (path_finished place free (added e.0 made)) numbers focus e.1
+    let use' = path_use (asks_context asked.Position second.now) (asks_context asked.Last second.now) in
+    let e = core_of second.now numbers (focus_with use' free) (behind_context use' free) in
+    core_left tasks (path_finished use' place free (added e.0 made)) numbers focus e.1
+core_left (Filter reverse place predicates ∷ tasks) made numbers focus free =
+    let m = last_filtered reverse place (resolved_parts predicates.now) made numbers focus free in core_left tasks m.0 numbers focus m.1
+core_left (FinishPredicate use' place number ∷ tasks) made numbers focus free =
+    let m = predicate_finished use' place number made free in core_left tasks m.0 numbers focus m.1
 core_left (Leave outer ∷ tasks) made numbers focus free = core_left tasks made numbers outer free
-core_left (FinishPath place number ∷ tasks) made numbers focus free = core_left tasks (path_finished place number made) numbers focus free
+core_left (FinishPath use' place number ∷ tasks) made numbers focus free = core_left tasks (path_finished use' place number made) numbers focus free
 core_left (Finish place construct ∷ tasks) made numbers focus free = core_left tasks (construct_finished place construct.now made) numbers focus free
 
 abbrev pub core_to_make : Normalising → Left
@@ -79,6 +108,14 @@ left_with task n = core_left (task ∷ n.tasks) n.made n.numbers n.focus n.free
 -- with an expression that comes next
 abbrev pub left_behind : CoreExpression → Normalising → Left
 left_behind e n = core_left n.tasks (added e n.made) n.numbers n.focus n.free
+
+-- with a condition that filters the last part
+abbrev pub condition_left : (reverse : Bool) → Place → ResolvedTree → Normalising → Left
+condition_left reverse place condition n =
+    let use' = predicate_use reverse (asks_context asked.Last condition) in
+    let c = core_of condition n.numbers (focus_with use' n.free) (behind_context use' n.free) in
+    let m = predicate_finished use' place n.free (added c.0 n.made) c.1 in
+    core_left n.tasks m.0 n.numbers n.focus m.1
 
 -- a Core that is done stands alone
 abbrev pub IsOnePart : Made → Type 0

@@ -1,10 +1,6 @@
 -- The productions of the grammar that the program does not evaluate yet. The first of them in the text is where a query is refused.
-use Rattle.std.specs.Prelude.{Bool, true, false, List, [], ◌∷◌, Option, None, Some}
+use Rattle.std.specs.Prelude.{List, [], ◌∷◌, Option, None, Some}
 use Rattle.gx_base.specs.declared.place.Place.{Place}
-use Rattle.gx_ast.specs.declared.expression.BinaryOperator.{BinaryOperator}
-use Rattle.gx_ast.specs.declared.expression.BinaryOperator.TheVariants.{Is, Before, After, Union, Intersect, Except}
-use Rattle.gx_ast.specs.declared.name.Axis.{Axis}
-use Rattle.gx_ast.specs.declared.name.Axis.TheVariants as axes
 use Rattle.gx_ast.specs.declared.query.Definition.{Definition}
 use Rattle.gx_ast.specs.declared.query.DefinitionNode.{DefinitionNode}
 use Rattle.gx_ast.specs.declared.query.DefinitionNode.TheVariants as definitions
@@ -16,28 +12,6 @@ use Rattle.gx_ast.specs.SyntaxTree.{SyntaxTree, SyntaxForm, SyntaxTrees, Binding
 abbrev pub earlier_place : Option Place → Option Place → Option Place
 earlier_place None later = later
 earlier_place (Some place) later = Some place
-
--- an operator, at its place
-abbrev pub unbuilt_operator : BinaryOperator → Place → Option Place
-unbuilt_operator Is place = Some place
-unbuilt_operator Before place = Some place
-unbuilt_operator After place = Some place
-unbuilt_operator Union place = Some place
-unbuilt_operator Intersect place = Some place
-unbuilt_operator Except place = Some place
-unbuilt_operator _ place = None
-
--- an axis on which nodes lie farther away than the parent, the children and the attributes
-abbrev pub is_far_axis : Option Axis → Bool
-is_far_axis (Some axes.Descendant) = true
-is_far_axis (Some axes.DescendantOrSelf) = true
-is_far_axis (Some axes.Ancestor) = true
-is_far_axis (Some axes.AncestorOrSelf) = true
-is_far_axis _ = false
-
-abbrev pub unbuilt_if : Bool → Place → Option Place
-unbuilt_if true place = Some place
-unbuilt_if false place = None
 
 -- a clause that orders, at its first word
 abbrev pub unbuilt_keys : Keys → Place → Option Place
@@ -59,17 +33,17 @@ abbrev mutual
   unbuilt_form place (flwor clauses order stable keys returned) = earlier_place (unbuilt_clauses clauses) (earlier_place (unbuilt_keys keys order) (first_unbuilt returned))
   unbuilt_form place (quantified every bindings condition) = earlier_place (unbuilt_bindings bindings) (first_unbuilt condition)
   unbuilt_form place (conditional test chosen otherwise) = earlier_place (first_unbuilt test) (earlier_place (first_unbuilt chosen) (first_unbuilt otherwise))
-  unbuilt_form place (binary operator left right) = earlier_place (first_unbuilt left) (earlier_place (unbuilt_operator operator place) (first_unbuilt right))
+  unbuilt_form place (binary operator left right) = earlier_place (first_unbuilt left) (first_unbuilt right)
   unbuilt_form place (castable_as operand kind) = first_unbuilt operand
   unbuilt_form place (cast_as operand kind) = first_unbuilt operand
   unbuilt_form place (signed minus operand) = first_unbuilt operand
   unbuilt_form place (instance_of operand kind) = earlier_place (first_unbuilt operand) (Some place)
   unbuilt_form place (treat_as operand kind) = earlier_place (first_unbuilt operand) (Some place)
   unbuilt_form place context_item = None
-  unbuilt_form place (path descendants left right) = earlier_place (first_unbuilt left) (earlier_place (unbuilt_if descendants place) (first_unbuilt right))
-  unbuilt_form place (axis_step step) = unbuilt_if (is_far_axis step.axis) place
+  unbuilt_form place (path descendants left right) = earlier_place (first_unbuilt left) (first_unbuilt right)
+  unbuilt_form place (axis_step step) = None
   unbuilt_form place parent_step = None
-  unbuilt_form place (filtered bracket operand predicates) = earlier_place (first_unbuilt operand) (Some bracket)
+  unbuilt_form place (filtered bracket operand predicates) = earlier_place (first_unbuilt operand) (unbuilt_trees predicates)
   unbuilt_form place _ = Some place
 
   pub unbuilt_trees : SyntaxTrees → Option Place

@@ -3,7 +3,7 @@
 ghost use Rattle.std.specs.Prelude.{◌≡◌, ◌++◌, ◌+◌, ◌∷◌, ℕ, IfOk, OnOk, option_copied};
 ghost use Rattle.gx_resolved.specs.ResolvedView.{resolved_parts};
 ghost use Rattle.gx_normal.specs.Clauses.{Numbers as PlainNumbers, behind_clause, clause_at, clause_numbers, clause_part, leading_part, is_clause, numbered_binder, position_number, test_at};
-ghost use Rattle.gx_normal.specs.Normalisation.{Focus};
+ghost use Rattle.gx_normal.specs.declared.contexts.Focus.{Focus as PlainFocus};
 ghost use Rattle.gx_normal.specs.Normalising.{Made, core_left};
 
 use crate::construct::{at, conditional, empty};
@@ -104,7 +104,7 @@ pub(crate) fn unbind_clause(
     tasks: &mut Stack<Task<'_>>,
     clause: &Construct,
 ) -> Result<(), AllocError>
-    ensures { (made : Made) (numbers : PlainNumbers) (focus : Focus) (free number : ℕ)
+    ensures { (made : Made) (numbers : PlainNumbers) (focus : PlainFocus) (free number : ℕ)
         → OnOk result (core_left tasks.new made (clause_numbers clause.now number ++ numbers) focus free ≡ core_left tasks.old made numbers focus free) }
 {
     match clause {

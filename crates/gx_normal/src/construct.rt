@@ -1,11 +1,11 @@
 // The Core of each construct, over its parts.
 
-ghost use Rattle.std.specs.Prelude.{◌≡◌, IfOk, MatchOption, Some, None};
+ghost use Rattle.std.specs.Prelude.{◌≡◌, true, IfOk, MatchOption, Some, None};
 ghost use Rattle.gx_core.specs.Arithmetic.{number_atom};
 ghost use Rattle.gx_funcs.specs.Function.{string_atom};
 ghost use Rattle.gx_core.specs.Expression.{CoreExpression, core_at, no_parts, one_part};
 ghost use Rattle.gx_core.specs.ExpressionView.{operator_of, parts_of};
-ghost use Rattle.gx_normal.specs.Constructs.{boolean_around, call_at, call_of, cast_at, castable_at, conditional_at, counted_call, data_at, empty_at, joining, of_one, operator_in_core, data_around, literal_at, signed_at, within, context_item_at, step_at, path_at};
+ghost use Rattle.gx_normal.specs.Constructs.{boolean_around, call_at, call_of, cast_at, castable_at, conditional_at, counted_call, data_at, empty_at, joining, of_one, operator_in_core, data_around, literal_at, signed_at, within, context_item_at, step_at, operand_of};
 ghost use Rattle.gx_normal.specs.Normalisation.{constructed, of_two, of_three};
 ghost use Rattle.gx_normal.specs.Making.{made_of_one, made_of_two, operation_at};
 
@@ -13,7 +13,7 @@ use gx_ast::expression::BinaryOperator;
 use gx_base::place::Place;
 use gx_base::text::Text;
 use gx_base::type_name::{Builtin, TypeName};
-use gx_core::expression::{BinaryOp, Binder, CoreExpr, Form};
+use gx_core::expression::{BinaryClass, BinaryOp, CoreExpr, Form};
 use gx_facets::{AtomValue, Atomic};
 use gx_funcs::function::{Function, string_atom};
 use gx_num::Number;
@@ -115,12 +115,26 @@ fn operation(
         }
         _ => match operator_in_core(operator) {
             Some(op) => {
-                let first = data_around(alloc, first)?;
-                let second = data_around(alloc, second)?;
+                let first = operand_of(alloc, op.class(), first)?;
+                let second = operand_of(alloc, op.class(), second)?;
                 Ok(at(place, Form::Binary(op, first, second)))
             }
             None => Ok(empty(place)),
         },
+    }
+}
+
+// An operand of an operator, atomized or as it is.
+fn operand_of(
+    alloc: Global,
+    class: BinaryClass,
+    operand: Box<CoreExpr>,
+) -> Result<Box<CoreExpr>, AllocError>
+    ensures { IfOk result (λ e. e.value ≡ operand_of class operand.value) }
+{
+    match class {
+        BinaryClass::Nodes(_) | BinaryClass::Sets(_) => Ok(operand),
+        _ => data_around(alloc, operand),
     }
 }
 
@@ -230,28 +244,6 @@ pub(crate) fn step(
     }
 }
 
-/// A path of two parts, the context item of the right one the variable with this number.
-pub(crate) fn path(
-    alloc: Global,
-    place: Place,
-    number: u32,
-    first: CoreExpr,
-    second: CoreExpr,
-) -> Result<CoreExpr, AllocError>
-    ensures { IfOk result (λ e. e ≡ path_at place number first second) }
-{
-    let first = Box::new(alloc, first)?;
-    let second = Box::new(alloc, second)?;
-    let nodes = Box::new(alloc, at(place, Form::Nodes(first)))?;
-    let binder = Binder {
-        variable: number,
-        place,
-        kind: None,
-    };
-    let each = Box::new(alloc, at(place, Form::For(binder, 0, nodes, second)))?;
-    Ok(at(place, Form::Order(each)))
-}
-
 /// The empty sequence.
 pub(crate) fn empty(place: Place) -> CoreExpr
     ensures { result ≡ empty_at place }
@@ -285,7 +277,7 @@ fn castable(
     Ok(at(place, Form::Castable(operand, kind, optional)))
 }
 
-// A call, or the operator that `data` is.
+// A call, or the operator that `data` is; `position` and `last` look at a context.
 fn call_of(
     alloc: Global,
     place: Place,
@@ -299,6 +291,10 @@ fn call_of(
             Some(argument) => Ok(data_of(place, argument)),
             None => Ok(empty(place)),
         },
+        Function::Position | Function::Last => {
+            drop(arguments);
+            Ok(at(place, Form::NoContext))
+        }
         _ => Ok(counted_call(place, function, arguments)),
     }
 }
@@ -396,7 +392,13 @@ pub(crate) fn operator_in_core(operator: BinaryOperator) -> Option<BinaryOp>
         BinaryOperator::LessOrEqual => Some(BinaryOp::AnyLe),
         BinaryOperator::Greater => Some(BinaryOp::AnyGt),
         BinaryOperator::GreaterOrEqual => Some(BinaryOp::AnyGe),
+        BinaryOperator::Is => Some(BinaryOp::Is),
+        BinaryOperator::Before => Some(BinaryOp::Before),
+        BinaryOperator::After => Some(BinaryOp::After),
         BinaryOperator::To => Some(BinaryOp::To),
+        BinaryOperator::Union => Some(BinaryOp::Union),
+        BinaryOperator::Intersect => Some(BinaryOp::Intersect),
+        BinaryOperator::Except => Some(BinaryOp::Except),
         _ => None,
     }
 }
@@ -429,7 +431,8 @@ fn signed(
     Ok(at(place, Form::Binary(BinaryOp::Sub, operand, zero)))
 }
 
-fn call(
+/// A call of one argument.
+pub(crate) fn call(
     alloc: Global,
     place: Place,
     function: Function,

@@ -3,6 +3,8 @@
 
 pub mod clauses;
 mod construct;
+pub mod contexts;
+pub mod filters;
 pub mod normalise;
 mod normalising;
 pub mod unbuilt;

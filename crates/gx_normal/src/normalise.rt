@@ -3,6 +3,7 @@
 ghost use Rattle.std.specs.Prelude.{◌≡◌, [], ◌++◌, ◌∷◌, ◌+◌, None, IfOk, OnOk};
 ghost use Rattle.gx_core.specs.Invariant.{HasQueryVariablesInOrder, IsWellFormedQuery};
 ghost use Rattle.gx_core.specs.declared.expression.Declaration.TheVariants as declarations;
+ghost use Rattle.gx_normal.specs.Contexts.{no_focus};
 ghost use Rattle.gx_normal.specs.Normalisation.{behind_declarations, core_of, declarations_of, external_binder, main_core, query_core};
 
 use crate::clauses::numbered_binder;
@@ -156,9 +157,9 @@ fn expression(
     numbers: Numbers,
     free: u32,
 ) -> Result<(CoreExpr, Numbers, u32), AllocError>
-    ensures core { IfOk result (λ r. r.0 ≡ (core_of tree.now numbers None free).0) }
+    ensures core { IfOk result (λ r. r.0 ≡ (core_of tree.now numbers no_focus free).0) }
     ensures numbers { IfOk result (λ r. r.1 ≡ numbers) }
-    ensures free { IfOk result (λ r. r.2 ≡ (core_of tree.now numbers None free).1) }
+    ensures free { IfOk result (λ r. r.2 ≡ (core_of tree.now numbers no_focus free).1) }
 {
     let mut normalising = Normalising::new(alloc, tree, numbers, free)?;
     for _ in 0..u64::MAX {

@@ -1,18 +1,27 @@
 // A normalisation in its midst: the tasks that are left, and the Core expressions that are there.
 
-ghost use Rattle.std.specs.Prelude.{◌≡◌, ◌≢◌, [], ◌∷◌, length, None, IfOk, IfSome, IsNone, OnOk};
+ghost use Rattle.std.specs.Prelude.{◌≡◌, ◌≢◌, ℕ, List, [], ◌∷◌, length, None, IfOk, IfSome, IsNone, OnOk};
 ghost use Rattle.gx_resolved.specs.ResolvedView.{resolved_parts};
-ghost use Rattle.gx_normal.specs.Clauses.{ended};
-ghost use Rattle.gx_normal.specs.Normalisation.{constructed, core_of, cores_of, number_at, path_core, variable_at};
-ghost use Rattle.gx_normal.specs.Normalising.{added, core_left, IsOnePart, left_behind, core_to_make, left_with};
+ghost use Rattle.gx_normal.specs.Clauses.{ended, Numbers as PlainNumbers};
+ghost use Rattle.gx_normal.specs.Contexts.{behind_context, focus_with, no_focus};
+ghost use Rattle.gx_normal.specs.Normalisation.{constructed, core_of, cores_of, left_of_path, number_at, path_core, predicates_core, variable_at};
+ghost use Rattle.gx_normal.specs.declared.contexts.Focus.{Focus as PlainFocus};
+ghost use Rattle.gx_normal.specs.Normalising.{added, core_left, IsOnePart, left_behind, core_to_make, left_with, condition_left, Made};
+ghost use Rattle.gx_core.specs.Expression.{CoreExpression};
 ghost use Rattle.gx_normal.specs.declared.normalising.Task.TheVariants as tasks;
 
 use crate::clauses::{Ending, bind_clause, clause, clause_part, unbind_clause};
-use crate::construct::{at, boolean_around, construct, context_item, empty, path, step};
+use crate::construct::{at, boolean_around, construct, context_item, empty, step};
+use crate::contexts::{
+    Asked, ContextUse, Focus, asks_context, behind, behind_context, focus_with, path, path_use,
+    predicate_use, with_descendants,
+};
+use crate::filters::{Predicate, filter, is_reverse_step, last, numbered, predicate_of};
 use gx_base::place::Place;
 use gx_base::stack::Stack;
 use gx_core::dismantle::dismantle;
 use gx_core::expression::{CoreExpr, Form};
+use gx_funcs::function::Function;
 use gx_resolved::nested_map::NestedMap;
 use gx_resolved::tree::{Construct, ResolvedExpr};
 use gx_types::step::{Axis, Test};
@@ -23,8 +32,10 @@ pub(crate) type Numbers = NestedMap<Place, u32>;
 
 // A task: to normalise a tree, or trees, or clauses, and what they end in, at the place of their expression; to bind the variables of a
 // clause, whose part is there, in the clauses behind it; to take the innermost number away; to put the parts of a clause together, whose
-// variables have the numbers from one on; to make the last part what clauses end in; to normalise the right part of a path, whose left
-// part is there; to go back to the focus outside of it; to put the parts of a path together; or those of another construct.
+// variables have the numbers from one on; to make the last part what clauses end in; to go from the left part of a path, which is there,
+// to its descendants; to normalise the right part of a path, whose left part is there; to filter the last part by predicates, which count
+// from the end where that is true; to filter the part before the last one by the last one, a condition whose context has the variables from
+// a number on; to go back to the focus outside of it; to put the parts of a path together; or those of another construct.
 #[derive(Drop)]
 pub(crate) enum Task<'a> {
     Normalise(&'a ResolvedExpr),
@@ -34,20 +45,23 @@ pub(crate) enum Task<'a> {
     Unbind,
     FinishClause(Ending, Place, &'a Construct, u32),
     End(Ending),
+    Descend(Place),
     Enter(Place, &'a ResolvedExpr),
-    Leave(Option<u32>),
-    FinishPath(Place, u32),
+    Filter(bool, Place, &'a [ResolvedExpr]),
+    FinishPredicate(ContextUse, Place, u32),
+    Leave(Focus),
+    FinishPath(ContextUse, Place, u32),
     Finish(Place, &'a Construct),
 }
 
-// `made` has the parts that are there of each construct in the making, the innermost on top; `focus` is the number of the variable
-// that has the context item; `free` is the first number that no variable has so far.
+// `made` has the parts that are there of each construct in the making, the innermost on top; `focus` has the numbers of the variables of
+// the context; `free` is the first number that no variable has so far.
 #[derive(Drop)]
 pub(crate) struct Normalising<'a> {
     pub(crate) tasks: Stack<Task<'a>>,
     made: Stack<Stack<CoreExpr>>,
     numbers: Numbers,
-    focus: Option<u32>,
+    focus: Focus,
     free: u32,
 }
 
@@ -71,7 +85,7 @@ impl<'a> Normalising<'a> {
         free: u32,
     ) -> Result<Normalising<'a>, AllocError>
         ensures { IfOk result (λ n. core_to_make n
-            ≡ record { made = ((core_of tree.now numbers None free).0 ∷ []) ∷ []; numbers = numbers; focus = None; free = (core_of tree.now numbers None free).1 }) }
+            ≡ record { made = ((core_of tree.now numbers no_focus free).0 ∷ []) ∷ []; numbers = numbers; focus = no_focus; free = (core_of tree.now numbers no_focus free).1 }) }
     {
         let mut tasks = Stack::new(alloc);
         tasks.push(Task::Normalise(tree))?;
@@ -79,7 +93,7 @@ impl<'a> Normalising<'a> {
             tasks,
             made: Stack::new(alloc),
             numbers,
-            focus: None,
+            focus: Focus::none(),
             free,
         })
     }
@@ -114,12 +128,21 @@ impl<'a> Normalising<'a> {
                 self.finish_clause(alloc, ending, place, clause, number)
             }
             Task::End(ending) => self.end(alloc, ending),
-            Task::Enter(place, second) => self.enter(place, second),
+            Task::Descend(place) => self.descend(alloc, place),
+            Task::Enter(place, second) => self.enter(alloc, place, second),
             Task::Leave(outer) => {
                 self.focus = outer;
                 Ok(())
             }
-            Task::FinishPath(place, number) => self.finish_path(alloc, place, number),
+            Task::Filter(reverse, place, predicates) => {
+                self.filter(alloc, reverse, place, predicates)
+            }
+            Task::FinishPredicate(context, place, number) => {
+                self.finish_predicate(alloc, context, place, number)
+            }
+            Task::FinishPath(context, place, number) => {
+                self.finish_path(alloc, context, place, number)
+            }
             Task::Finish(place, construct) => self.finish(alloc, place, construct),
         }
     }
@@ -146,15 +169,23 @@ impl<'a> Normalising<'a> {
         match &tree.construct {
             Construct::Variable(_, binder) => self.variable(alloc, tree.place, *binder),
             Construct::Context => {
-                let item = context_item(tree.place, self.focus);
+                let item = context_item(tree.place, self.focus.item);
                 self.add(alloc, item)
             }
+            Construct::Call(Function::Position) => {
+                let position = context_item(tree.place, self.focus.position);
+                self.add(alloc, position)
+            }
+            Construct::Call(Function::Last) => {
+                let size = context_item(tree.place, self.focus.size);
+                self.add(alloc, size)
+            }
             Construct::Step(axis, test) => {
-                let step = step(tree.place, self.focus, *axis, test)?;
+                let step = step(tree.place, self.focus.item, *axis, test)?;
                 self.add(alloc, step)
             }
             Construct::ParentStep => {
-                let step = step(tree.place, self.focus, Axis::Parent, &Test::Node)?;
+                let step = step(tree.place, self.focus.item, Axis::Parent, &Test::Node)?;
                 self.add(alloc, step)
             }
             Construct::Flwor => {
@@ -165,7 +196,10 @@ impl<'a> Normalising<'a> {
                 let parts = tree.parts.as_slice();
                 self.open_clauses(alloc, Ending::Condition(*every), tree.place, parts)
             }
-            Construct::Path(false) => self.open_path(alloc, tree.place, tree.parts.as_slice()),
+            Construct::Path(descendants) => {
+                self.open_path(alloc, *descendants, tree.place, tree.parts.as_slice())
+            }
+            Construct::Filtered => self.open_filtered(alloc, tree.place, tree.parts.as_slice()),
             construct => self.open_construct(alloc, tree.place, construct, tree.parts.as_slice()),
         }
     }
@@ -291,10 +325,11 @@ impl<'a> Normalising<'a> {
     fn open_path(
         &mut self,
         alloc: Global,
+        descendants: bool,
         place: Place,
         parts: &'a [ResolvedExpr],
     ) -> Result<(), AllocError>
-        ensures { OnOk result (core_to_make self.new ≡ (let path = path_core place (resolved_parts parts.now) self.old.numbers self.old.focus self.old.free in
+        ensures { OnOk result (core_to_make self.new ≡ (let path = path_core descendants place (resolved_parts parts.now) self.old.numbers self.old.focus self.old.free in
             core_left self.old.tasks (added path.0 self.old.made) self.old.numbers self.old.focus path.1)) }
     {
         let Some((first, second)) = two_parts(parts) else {
@@ -302,26 +337,71 @@ impl<'a> Normalising<'a> {
         };
         self.made.push(Stack::new(alloc))?;
         self.tasks.push(Task::Enter(place, second))?;
+        put_descent(&mut self.tasks, descendants, place)?;
         self.tasks.push(Task::Normalise(first))
     }
 
-    // The context item of the right part is the variable with the free number.
-    fn enter(&mut self, place: Place, second: &'a ResolvedExpr) -> Result<(), AllocError>
-        ensures { OnOk result (core_to_make self.new ≡ left_with (tasks.Enter place second.entry) self.old) }
+    // Makes the last part a path from it to its descendants, through a variable with the free number.
+    fn descend(&mut self, alloc: Global, place: Place) -> Result<(), AllocError>
+        ensures { OnOk result (core_to_make self.new ≡ left_with (tasks.Descend place) self.old) }
     {
         let number = self.free;
         let Some(next) = number.checked_add(1) else {
             return Err(AllocError);
         };
-        self.tasks.push(Task::FinishPath(place, number))?;
-        self.tasks.push(Task::Leave(self.focus))?;
-        self.focus = Some(number);
         self.free = next;
-        self.tasks.push(Task::Normalise(second))
+        let Some(mut parts) = self.made.pop() else {
+            return Ok(());
+        };
+        let Some(left) = parts.pop() else {
+            return self.lose(alloc);
+        };
+        parts.push(with_descendants(alloc, place, number, left)?)?;
+        self.made.push(parts)
     }
 
-    fn finish_path(&mut self, alloc: Global, place: Place, number: u32) -> Result<(), AllocError>
-        ensures { OnOk result (core_to_make self.new ≡ left_with (tasks.FinishPath place number) self.old) }
+    // The variables of the context of the right part are numbered from the free number on.
+    fn enter(
+        &mut self,
+        alloc: Global,
+        place: Place,
+        second: &'a ResolvedExpr,
+    ) -> Result<(), AllocError>
+        ensures { OnOk result (core_to_make self.new ≡ left_with (tasks.Enter place second.entry) self.old) }
+    {
+        let number = self.free;
+        let position = asks_context(alloc, Asked::Position, second)?;
+        let context = path_use(position, asks_context(alloc, Asked::Last, second)?);
+        self.tasks.push(Task::FinishPath(context, place, number))?;
+        self.enter_context(context, second)
+    }
+
+    // Normalises an expression in a context whose variables are numbered from the free number on.
+    fn enter_context(
+        &mut self,
+        context: ContextUse,
+        inner: &'a ResolvedExpr,
+    ) -> Result<(), AllocError>
+        ensures { OnOk result (core_to_make self.new ≡ (let e = core_of inner.now self.old.numbers (focus_with context self.old.free) (behind_context context self.old.free) in
+            core_left self.old.tasks (added e.0 self.old.made) self.old.numbers self.old.focus e.1)) }
+    {
+        let focus = focus_with(context, self.free)?;
+        let free = behind_context(context, self.free)?;
+        self.tasks.push(Task::Leave(self.focus))?;
+        self.tasks.push(Task::Normalise(inner))?;
+        self.focus = focus;
+        self.free = free;
+        Ok(())
+    }
+
+    fn finish_path(
+        &mut self,
+        alloc: Global,
+        context: ContextUse,
+        place: Place,
+        number: u32,
+    ) -> Result<(), AllocError>
+        ensures { OnOk result (core_to_make self.new ≡ left_with (tasks.FinishPath context place number) self.old) }
     {
         let Some(mut parts) = self.made.pop() else {
             return Ok(());
@@ -332,8 +412,111 @@ impl<'a> Normalising<'a> {
         let Some(first) = parts.pop() else {
             return self.lose(alloc);
         };
-        let path = path(alloc, place, number, first, second)?;
+        let second = Box::new(alloc, second)?;
+        let first = Box::new(alloc, first)?;
+        let path = path(alloc, context, place, number, first, second)?;
         self.add(alloc, path)
+    }
+
+    // An expression, and then its predicates.
+    fn open_filtered(
+        &mut self,
+        alloc: Global,
+        place: Place,
+        parts: &'a [ResolvedExpr],
+    ) -> Result<(), AllocError>
+        ensures { OnOk result (core_to_make self.new ≡ (let e = predicates_core place (resolved_parts parts.now) self.old.numbers self.old.focus self.old.free in
+            core_left self.old.tasks (added e.0 self.old.made) self.old.numbers self.old.focus e.1)) }
+    {
+        let Some((operand, predicates)) = parts.split_first() else {
+            return self.add(alloc, empty(place));
+        };
+        self.tasks
+            .push(Task::Filter(is_reverse_step(operand), place, predicates))?;
+        self.tasks.push(Task::Normalise(operand))
+    }
+
+    // Filters the last part by the first predicate, and leaves the others to the tasks.
+    fn filter(
+        &mut self,
+        alloc: Global,
+        reverse: bool,
+        place: Place,
+        predicates: &'a [ResolvedExpr],
+    ) -> Result<(), AllocError>
+        ensures { OnOk result (core_to_make self.new ≡ left_with (tasks.Filter reverse place predicates.entry) self.old) }
+    {
+        let Some(mut parts) = self.made.pop() else {
+            return Ok(());
+        };
+        let Some(e) = parts.pop() else {
+            return self.lose(alloc);
+        };
+        let Some((first, others)) = predicates.split_first() else {
+            parts.push(e)?;
+            return self.made.push(parts);
+        };
+        self.tasks.push(Task::Filter(reverse, place, others))?;
+        match predicate_of(first)? {
+            Predicate::Numbered(number) => {
+                parts.push(numbered(alloc, place, number, reverse, e)?)?;
+                self.made.push(parts)
+            }
+            Predicate::Last => {
+                parts.push(last(alloc, place, reverse, e)?)?;
+                self.made.push(parts)
+            }
+            Predicate::Condition => {
+                parts.push(e)?;
+                self.made.push(parts)?;
+                self.enter_predicate(alloc, reverse, place, first)
+            }
+        }
+    }
+
+    // The variables of the context of a condition are numbered from the free number on.
+    fn enter_predicate(
+        &mut self,
+        alloc: Global,
+        reverse: bool,
+        place: Place,
+        condition: &'a ResolvedExpr,
+    ) -> Result<(), AllocError>
+        ensures { OnOk result (core_to_make self.new ≡ condition_left reverse place condition.now self.old) }
+    {
+        let number = self.free;
+        let context = predicate_use(reverse, asks_context(alloc, Asked::Last, condition)?);
+        self.tasks
+            .push(Task::FinishPredicate(context, place, number))?;
+        self.enter_context(context, condition)
+    }
+
+    // The variables of the cases have the free numbers.
+    fn finish_predicate(
+        &mut self,
+        alloc: Global,
+        context: ContextUse,
+        place: Place,
+        number: u32,
+    ) -> Result<(), AllocError>
+        ensures { OnOk result (core_to_make self.new ≡ left_with (tasks.FinishPredicate context place number) self.old) }
+    {
+        let Some(mut parts) = self.made.pop() else {
+            return Ok(());
+        };
+        let Some(condition) = parts.pop() else {
+            return self.lose(alloc);
+        };
+        let Some(e) = parts.pop() else {
+            return self.lose(alloc);
+        };
+        let free = self.free;
+        let condition = Box::new(alloc, condition)?;
+        let e = Box::new(alloc, e)?;
+        parts.push(filter(alloc, context, place, number, free, e, condition)?)?;
+        self.made.push(parts)?;
+        self.free = behind(free, 2)?;
+        Ok(())
     }
 
     // Forgets what is there, where a part is missing.
@@ -366,6 +549,23 @@ impl<'a> Normalising<'a> {
                 dismantle(alloc, part);
             }
         }
+    }
+}
+
+// Puts down that a path goes from its left part, which is made next, to the descendants, where it does.
+fn put_descent(
+    tasks: &mut Stack<Task<'_>>,
+    descendants: bool,
+    place: Place,
+) -> Result<(), AllocError>
+    ensures { (left : CoreExpression) (parts : List CoreExpression) (outer : Made) (numbers : PlainNumbers) (focus : PlainFocus) (free : ℕ)
+        → OnOk result (core_left tasks.new ((left ∷ parts) ∷ outer) numbers focus free
+        ≡ (let descended = left_of_path descendants place (left, free) in core_left tasks.old ((descended.0 ∷ parts) ∷ outer) numbers focus descended.1)) }
+{
+    if descendants {
+        tasks.push(Task::Descend(place))
+    } else {
+        Ok(())
     }
 }
 

@@ -4,10 +4,9 @@ ghost use Rattle.std.specs.Prelude.{◌≡◌, ◌∷◌, IfOk, OnOk};
 ghost use Rattle.gx_ast.specs.SyntaxView.{keys_of, trees_of};
 ghost use Rattle.gx_normal.specs.declared.unbuilt.Pending.TheVariants as pendings;
 ghost use Rattle.gx_normal.specs.Searching.{first_of_all};
-ghost use Rattle.gx_normal.specs.Unbuilt.{first_unbuilt, earlier_place, unbuilt_definition, unbuilt_definitions, unbuilt_keys, unbuilt_operator, unbuilt_query, unbuilt_if, is_far_axis};
+ghost use Rattle.gx_normal.specs.Unbuilt.{first_unbuilt, earlier_place, unbuilt_definition, unbuilt_definitions, unbuilt_keys, unbuilt_query};
 
-use gx_ast::expression::{BinaryOperator, Binding, Clause, Expr, ExprNode, Key};
-use gx_ast::name::Axis;
+use gx_ast::expression::{Binding, Clause, Expr, ExprNode, Key};
 use gx_ast::query::{Definition, DefinitionNode, Initialiser, Query};
 use gx_base::place::Place;
 use gx_base::stack::Stack;
@@ -62,23 +61,6 @@ fn unbuilt_definition(
         DefinitionNode::Variable(_, _, Initialiser::Value(value)) => first_unbuilt(alloc, value),
         DefinitionNode::Variable(_, _, Initialiser::External) => Ok(None),
         _ => Ok(Some(place)),
-    }
-}
-
-fn unbuilt_if(unbuilt: bool, place: Place) -> Option<Place>
-    ensures { result ≡ unbuilt_if unbuilt place }
-{
-    if unbuilt { Some(place) } else { None }
-}
-
-// Whether nodes on an axis lie farther away than the parent, the children and the attributes.
-fn is_far_axis(axis: Option<Axis>) -> bool
-    ensures { result ≡ is_far_axis axis }
-{
-    match axis {
-        Some(Axis::Descendant | Axis::DescendantOrSelf | Axis::Ancestor | Axis::AncestorOrSelf) =>
-            true,
-        _ => false,
     }
 }
 
@@ -168,24 +150,16 @@ fn open_tree<'a>(tree: &'a Expr, pending: &mut Stack<Pending<'a>>) -> Result<(),
         | ExprNode::Variable(_)
         | ExprNode::Empty
         | ExprNode::Context
+        | ExprNode::Step(_)
         | ExprNode::ParentStep => Ok(()),
-        ExprNode::Step(step) => {
-            pending.push(Pending::Found(unbuilt_if(is_far_axis(step.axis), tree.place)))
-        }
         ExprNode::Parenthesised(operand)
         | ExprNode::CastableAs(operand, _)
         | ExprNode::CastAs(operand, _)
         | ExprNode::Signed(_, operand) => pending.push(Pending::Tree(operand)),
         ExprNode::Call(call) => pending.push(Pending::Trees(call.arguments.as_slice())),
-        ExprNode::Sequence(first, second) => open_three(first, None, second, pending),
-        ExprNode::Binary(operator, left, right) => {
-            open_three(
-                left,
-                unbuilt_operator(*operator, tree.place),
-                right,
-                pending,
-            )
-        }
+        ExprNode::Sequence(left, right)
+        | ExprNode::Binary(_, left, right)
+        | ExprNode::Path(_, left, right) => open_both(left, right, pending),
         ExprNode::If(test, chosen, otherwise) => {
             pending.push(Pending::Tree(otherwise))?;
             pending.push(Pending::Tree(chosen))?;
@@ -203,26 +177,24 @@ fn open_tree<'a>(tree: &'a Expr, pending: &mut Stack<Pending<'a>>) -> Result<(),
         ExprNode::InstanceOf(operand, _) | ExprNode::TreatAs(operand, _) => {
             open_front(operand, tree.place, pending)
         }
-        ExprNode::Path(descendants, left, right) => {
-            open_three(left, unbuilt_if(*descendants, tree.place), right, pending)
+        ExprNode::Filtered(filtered) => {
+            pending.push(Pending::Trees(filtered.predicates.as_slice()))?;
+            pending.push(Pending::Tree(&filtered.operand))
         }
-        ExprNode::Filtered(filtered) => open_front(&filtered.operand, filtered.place, pending),
         _ => pending.push(Pending::Found(Some(tree.place))),
     }
 }
 
-// Two operands with an operator between them.
+// Two operands.
 #[tactic(auto, using(crate::proofs::SearchLemmas::or_else_nests))]
-fn open_three<'a>(
+fn open_both<'a>(
     left: &'a Expr,
-    operator: Option<Place>,
     right: &'a Expr,
     pending: &mut Stack<Pending<'a>>,
 ) -> Result<(), AllocError>
-    ensures { OnOk result (first_of_all pending.new ≡ earlier_place (earlier_place (first_unbuilt left.now) (earlier_place operator (first_unbuilt right.now))) (first_of_all pending.old)) }
+    ensures { OnOk result (first_of_all pending.new ≡ earlier_place (earlier_place (first_unbuilt left.now) (first_unbuilt right.now)) (first_of_all pending.old)) }
 {
     pending.push(Pending::Tree(right))?;
-    pending.push(Pending::Found(operator))?;
     pending.push(Pending::Tree(left))
 }
 
@@ -237,20 +209,6 @@ fn open_front<'a>(
 {
     pending.push(Pending::Found(Some(behind)))?;
     pending.push(Pending::Tree(operand))
-}
-
-fn unbuilt_operator(operator: BinaryOperator, place: Place) -> Option<Place>
-    ensures { result ≡ unbuilt_operator operator place }
-{
-    match operator {
-        BinaryOperator::Is
-        | BinaryOperator::Before
-        | BinaryOperator::After
-        | BinaryOperator::Union
-        | BinaryOperator::Intersect
-        | BinaryOperator::Except => Some(place),
-        _ => None,
-    }
 }
 
 fn unbuilt_keys(keys: &[Key], order: Place) -> Option<Place>

@@ -6,7 +6,7 @@ use Rattle.gx_base.specs.Name.{same_name}
 use Rattle.gx_base.specs.Text.{same_text}
 use Rattle.gx_base.specs.declared.name.Name.{Name}
 use Rattle.gx_base.specs.declared.place.Place.{Place}
-use Rattle.gx_base.specs.declared.type_name.Builtin.TheVariants.{AnyAtomic}
+use Rattle.gx_base.specs.declared.type_name.Builtin.TheVariants.{AnyAtomic, Decimal}
 use Rattle.gx_base.specs.declared.type_name.TypeName.{TypeName}
 use Rattle.gx_base.specs.declared.type_name.TypeName.TheVariants as names
 use Rattle.gx_ast.specs.declared.expression.BinaryOperator.{BinaryOperator}
@@ -50,16 +50,27 @@ use Rattle.gx_names.specs.Refusals.{definition_scope, scope_after, with_function
 use Rattle.gx_names.specs.Resolution.{declaration_resolved, declarations_resolved, query_resolved}
 use Rattle.gx_names.specs.SettingRefusals.{prolog_environment}
 use Rattle.gx_core.specs.declared.expression.BinaryOp.{BinaryOp}
+use Rattle.gx_core.specs.declared.expression.BinaryClass.{BinaryClass}
+use Rattle.gx_core.specs.declared.expression.BinaryClass.TheVariants.{Nodes, Sets}
+use Rattle.gx_core.specs.BinaryOperators.{class_of}
 use Rattle.gx_core.specs.Queries.{Core}
-use Rattle.gx_core.specs.Expression.{CoreExpression, At, all_parts}
-use Rattle.gx_normal.specs.Constructs.{within, core_sequence, operator_at, call_at, counted_call, call_of, empty_at, of_one, data_at, conditional_at, and_at, or_at, signed_at, cast_at, castable_at, operator_in_core, joined_by, joining, context_item_at, step_at}
+use Rattle.gx_core.specs.Expression.{CoreExpression, At, all_parts, outer_of}
+use Rattle.gx_normal.specs.Constructs.{within, core_sequence, operator_at, call_at, counted_call, call_of, empty_at, of_one, data_at, conditional_at, and_at, or_at, signed_at, cast_at, castable_at, operator_in_core, joined_by, joining, context_item_at, step_at, nodes_at, operand_of}
 use Rattle.gx_normal.specs.declared.clauses.Ending.{Ending}
 use Rattle.gx_normal.specs.declared.clauses.Ending.TheVariants.{Returned, Condition}
 use Rattle.gx_normal.specs.Clauses.{Numbers, ending_of_clauses}
-use Rattle.gx_normal.specs.Normalisation.{Focus, number_at, variable_at, of_two, of_three, joined_at, constructed, construct_core, core_of, cores_of, clauses_core, path_core, declared_type, declarations_of, behind_declarations, query_core}
+use Rattle.gx_normal.specs.declared.contexts.Asked.TheVariants as asked
+use Rattle.gx_normal.specs.declared.contexts.ContextUse.{ContextUse}
+use Rattle.gx_normal.specs.declared.contexts.ContextUse.TheVariants as uses
+use Rattle.gx_normal.specs.declared.contexts.Focus.{Focus}
+use Rattle.gx_normal.specs.declared.filters.Predicate.{Predicate}
+use Rattle.gx_normal.specs.declared.filters.Predicate.TheVariants as predicates
+use Rattle.gx_normal.specs.Contexts.{asks_context, path_use, predicate_use, no_focus, focus_with, behind_context, hidden_variable, hidden_let, hidden_for, ordered_if, with_size, position_from_end, loop_at}
+use Rattle.gx_normal.specs.Filters.{predicate_of, is_reverse_step, kept_at, filtered_by}
+use Rattle.gx_normal.specs.Normalisation.{number_at, variable_at, of_two, of_three, joined_at, constructed, construct_core, is_to_descendants, left_of_path, core_of, cores_of, clauses_core, path_core, predicates_core, filtered_core, declared_type, declarations_of, behind_declarations, query_core}
 use Rattle.gx_static.specs.NormalTypes.{CastsToAtomicTypes, PartsCastToAtomicTypes}
 use Rattle.gx_static.specs.ByInclusion.{IsNormalIfWritten, NameKnownTypes, NamesKnownTypes}
-use Rattle.gx_static.proofs.AtomicTypes.{IsAtomic, top}
+use Rattle.gx_static.proofs.AtomicTypes.{IsAtomic, top, nameable_is_atomic}
 use Rattle.gx_static.proofs.NormalData.{atomic_is_derived}
 use Rattle.gx_static.proofs.NormalSteps.{known_below, named_is_known}
 use Rattle.gx_static.proofs.JudgedByInclusion.{queries_are_judged_by_inclusion}
@@ -289,9 +300,14 @@ module _ (s : SchemaSet) (is : IsSchemaSet s) where
   signed_casts place true e h = (tt, ((tt, (h, tt)), tt))
   signed_casts place false e h = (tt, ((tt, (h, tt)), ((tt, tt), tt)))
 
+  operand_casts : (class : BinaryClass) (e : CoreExpression) → Casts e → Casts (operand_of class e)
+  operand_casts (Nodes op) e h = h
+  operand_casts (Sets op) e h = h
+  operand_casts _ e h = (tt, (h, tt))
+
   joined_cast : (place : Place) (found : Option BinaryOp) (es : List CoreExpression) → AllCast es → Casts (joined_at place (joined_by place found) es)
   joined_cast place None es h = (tt, tt)
-  joined_cast place (Some op) es h = two_cast place (operator_at place op) (λ a b k l. (tt, ((tt, (k, tt)), ((tt, (l, tt)), tt)))) es h
+  joined_cast place (Some op) es h = two_cast place (operator_at place op) (λ a b k l. (tt, (operand_casts (class_of op) a k, (operand_casts (class_of op) b l, tt)))) es h
 
   joining_casts : (place : Place) (o : BinaryOperator) (es : List CoreExpression) → AllCast es → Casts (joined_at place (joining place o) es)
   joining_casts place operator.And es h = two_cast place (and_at place) (λ a b k l. (tt, ((tt, (k, tt)), ((tt, (l, tt)), ((tt, tt), tt))))) es h
@@ -311,6 +327,8 @@ module _ (s : SchemaSet) (is : IsSchemaSet s) where
 
   call_casts : (place : Place) (function : Function) (es : List CoreExpression) → AllCast es → Casts (call_of place function es)
   call_casts place functions.Data es h = one_casts place (data_at place) (λ e k. (tt, (k, tt))) es h
+  call_casts place functions.Position es h = (tt, tt)
+  call_casts place functions.Last es h = (tt, tt)
   call_casts place function es h = counted_casts place function es h
 
   constructed_casts : (place : Place) (construct : Construct) (es : List CoreExpression) → CastsAtomically s construct → AllCast es → Casts (constructed place construct es)
@@ -330,30 +348,77 @@ module _ (s : SchemaSet) (is : IsSchemaSet s) where
   variable_casts place None = (tt, tt)
   variable_casts place (Some bound) = (tt, tt)
 
-  context_casts : (place : Place) (focus : Focus) → Casts (context_item_at place focus)
+  context_casts : (place : Place) (found : Option ℕ) → Casts (context_item_at place found)
   context_casts place None = (tt, tt)
   context_casts place (Some bound) = (tt, tt)
 
-  step_casts : (place : Place) (focus : Focus) (axis : Axis) (asks : Test) → Casts (step_at place focus axis asks)
-  step_casts place None axis asks = (tt, tt)
-  step_casts place (Some bound) axis asks = (tt, tt)
+  step_casts : (place : Place) (found : Option ℕ) (axis : Axis) (of_test : Test) → Casts (step_at place found axis of_test)
+  step_casts place None axis of_test = (tt, tt)
+  step_casts place (Some bound) axis of_test = (tt, tt)
 
-  construct_casts : (place : Place) (construct : Construct) (numbers : Numbers) (focus : Focus) (free : ℕ) (parts : List CoreExpression × ℕ) (clauses steps : CoreExpression × ℕ)
-      → CastsAtomically s construct → AllCast parts.0 → Casts clauses.0 → Casts steps.0 → Casts (construct_core place construct numbers focus free parts clauses steps).0
-  construct_casts place (constructs.Variable name binder) numbers focus free parts clauses steps c h k l = variable_casts place (number_at numbers binder)
-  construct_casts place constructs.Context numbers focus free parts clauses steps c h k l = context_casts place focus
-  construct_casts place (constructs.Step axis asks) numbers focus free parts clauses steps c h k l = step_casts place focus axis asks
-  construct_casts place constructs.ParentStep numbers focus free parts clauses steps c h k l = step_casts place focus axes.Parent tests.Node
-  construct_casts place constructs.Flwor numbers focus free parts clauses steps c h k l = k
-  construct_casts place (constructs.Quantified every) numbers focus free parts clauses steps c h k l = k
-  construct_casts place (constructs.Path false) numbers focus free parts clauses steps c h k l = l
-  construct_casts place construct numbers focus free parts clauses steps c h k l = constructed_casts place construct parts.0 c h
+  -- contexts and predicates
+
+  ordered_casts : (ordered : Bool) (place : Place) (e : CoreExpression) → Casts e → Casts (ordered_if ordered place e)
+  ordered_casts true place e h = (tt, (h, tt))
+  ordered_casts false place e h = h
+
+  size_casts : (place : Place) (free : ℕ) (source body : CoreExpression) → Casts source → Casts body → Casts (with_size place free source body)
+  size_casts place free source body h k = (tt, (h, ((tt, ((tt, ((tt, tt), tt)), (k, tt))), tt)))
+
+  for_casts : (place : Place) (item position : ℕ) (source body : CoreExpression) → Casts source → Casts body → Casts (hidden_for place item position source body)
+  for_casts place item position source body h k = (tt, (h, (k, tt)))
+
+  loop_casts : (use' : ContextUse) (ordered : Bool) (place : Place) (free : ℕ) (source body : CoreExpression) → Casts source → Casts body → Casts (loop_at use' ordered place free source body)
+  loop_casts uses.Item ordered place free source body h k = ordered_casts ordered place (hidden_for place free 0 source body) (for_casts place free 0 source body h k)
+  loop_casts uses.Position ordered place free source body h k = ordered_casts ordered place (hidden_for place free (free + 1) source body) (for_casts place free (free + 1) source body h k)
+  loop_casts uses.Size ordered place free source body h k =
+      let each : CoreExpression = hidden_for place (free + 2) 0 (hidden_variable place free) body in
+      size_casts place free source (ordered_if ordered place each) h (ordered_casts ordered place each (for_casts place (free + 2) 0 (hidden_variable place free) body (tt, tt) k))
+  loop_casts uses.PositionAndSize ordered place free source body h k =
+      let each : CoreExpression = hidden_for place (free + 2) (free + 3) (hidden_variable place free) body in
+      size_casts place free source (ordered_if ordered place each) h (ordered_casts ordered place each (for_casts place (free + 2) (free + 3) (hidden_variable place free) body (tt, tt) k))
+  loop_casts uses.Backwards ordered place free source body h k =
+      let turned : CoreExpression = hidden_let place (free + 4) (position_from_end place (free + 1) (free + 3)) body in
+      let each : CoreExpression = hidden_for place (free + 2) (free + 3) (hidden_variable place free) turned in
+      size_casts place free source (ordered_if ordered place each) h (ordered_casts ordered place each (for_casts place (free + 2) (free + 3) (hidden_variable place free) turned (tt, tt)
+      (tt, ((tt, ((tt, ((tt, tt), ((tt, tt), tt))), ((tt, tt), tt))), (k, tt)))))
+
+  kept_casts : (place : Place) (focus : Focus) (free : ℕ) (condition : CoreExpression) → Casts condition → Casts (kept_at place focus free condition)
+  kept_casts place focus free condition h =
+      (tt, (((nameable_is_atomic s Decimal refl, tt), (h, ((tt, ((tt, tt), (context_casts place focus.position, tt))), ((tt, ((tt, tt), tt)), tt)))), (context_casts place focus.item, ((tt, tt), tt))))
+
+  filtered_by_casts : (predicate : Predicate) (reverse : Bool) (use' : ContextUse) (place : Place) (free : ℕ) (e : CoreExpression) (condition : CoreExpression × ℕ) → Casts e → Casts condition.0
+      → Casts (filtered_by predicate reverse use' place free e condition).0
+  filtered_by_casts (predicates.Numbered chosen) reverse use' place free e condition h k = (tt, (h, tt))
+  filtered_by_casts predicates.Last reverse use' place free e condition h k = (tt, (h, tt))
+  filtered_by_casts predicates.Condition reverse use' place free e condition h k =
+      loop_casts use' false place free e (kept_at (outer_of condition.0) (focus_with use' free) condition.1 condition.0) h (kept_casts (outer_of condition.0) (focus_with use' free) condition.1 condition.0 k)
+
+  left_casts : (descendants : Bool) (place : Place) (left : CoreExpression × ℕ) → Casts left.0 → Casts (left_of_path descendants place left).0
+  left_casts false place left h = h
+  left_casts true place left h = (tt, ((tt, ((tt, (h, tt)), ((tt, tt), tt))), tt))
+
+  construct_casts : (place : Place) (construct : Construct) (numbers : Numbers) (focus : Focus) (free : ℕ) (parts : List CoreExpression × ℕ) (clauses steps picked : CoreExpression × ℕ)
+      → CastsAtomically s construct → AllCast parts.0 → Casts clauses.0 → Casts steps.0 → Casts picked.0 → Casts (construct_core place construct numbers focus free parts clauses steps picked).0
+  construct_casts place (constructs.Variable name binder) numbers focus free parts clauses steps picked c h k l m = variable_casts place (number_at numbers binder)
+  construct_casts place constructs.Context numbers focus free parts clauses steps picked c h k l m = context_casts place focus.item
+  construct_casts place (constructs.Call functions.Position) numbers focus free parts clauses steps picked c h k l m = context_casts place focus.position
+  construct_casts place (constructs.Call functions.Last) numbers focus free parts clauses steps picked c h k l m = context_casts place focus.size
+  construct_casts place (constructs.Step axis asks) numbers focus free parts clauses steps picked c h k l m = step_casts place focus.item axis asks
+  construct_casts place constructs.ParentStep numbers focus free parts clauses steps picked c h k l m = step_casts place focus.item axes.Parent tests.Node
+  construct_casts place constructs.Flwor numbers focus free parts clauses steps picked c h k l m = k
+  construct_casts place (constructs.Quantified every) numbers focus free parts clauses steps picked c h k l m = k
+  construct_casts place (constructs.Path descendants) numbers focus free parts clauses steps picked c h k l m = l
+  construct_casts place constructs.Filtered numbers focus free parts clauses steps picked c h k l m = m
+  construct_casts place construct numbers focus free parts clauses steps picked c h k l m = constructed_casts place construct parts.0 c h
 
   mutual
     core_casts : (tree : ResolvedTree) (numbers : Numbers) (focus : Focus) (free : ℕ) → AreCastsAtomic s tree → Casts (core_of tree numbers focus free).0
     core_casts (resolved_at place construct parts) numbers focus free c =
-        construct_casts place construct numbers focus free (cores_of parts numbers focus free) (clauses_core (ending_of_clauses construct) place parts numbers focus free) (path_core place parts numbers focus free) c.0
-        (cores_cast parts numbers focus free c.1) (clauses_cast (ending_of_clauses construct) place parts numbers focus free c.1) (path_casts place parts numbers focus free c.1)
+        construct_casts place construct numbers focus free (cores_of parts numbers focus free) (clauses_core (ending_of_clauses construct) place parts numbers focus free) (path_core (is_to_descendants construct) place parts numbers focus free)
+        (predicates_core place parts numbers focus free) c.0
+        (cores_cast parts numbers focus free c.1) (clauses_cast (ending_of_clauses construct) place parts numbers focus free c.1) (path_casts (is_to_descendants construct) place parts numbers focus free c.1)
+        (predicates_cast place parts numbers focus free c.1)
 
     cores_cast : (parts : ResolvedTrees) (numbers : Numbers) (focus : Focus) (free : ℕ) → AreAllCastsAtomic s parts → AllCast (cores_of parts numbers focus free).0
     cores_cast no_resolved numbers focus free c = tt
@@ -383,11 +448,30 @@ module _ (s : SchemaSet) (is : IsSchemaSet s) where
     clauses_cast Returned place (a_resolved last others) numbers focus free c = core_casts last numbers focus free c.0
     clauses_cast (Condition every) place (a_resolved last others) numbers focus free c = (tt, (core_casts last numbers focus free c.0, tt))
 
-    path_casts : (place : Place) (parts : ResolvedTrees) (numbers : Numbers) (focus : Focus) (free : ℕ) → AreAllCastsAtomic s parts → Casts (path_core place parts numbers focus free).0
-    path_casts place (a_resolved first (a_resolved second no_resolved)) numbers focus free c =
-        let middle = (core_of first numbers focus free).1 in
-        (tt, ((tt, ((tt, (core_casts first numbers focus free c.0, tt)), (core_casts second numbers (Some middle) (middle + 1) c.1.0, tt))), tt))
-    path_casts place _ numbers focus free c = (tt, tt)
+    path_casts : (descendants : Bool) (place : Place) (parts : ResolvedTrees) (numbers : Numbers) (focus : Focus) (free : ℕ) → AreAllCastsAtomic s parts → Casts (path_core descendants place parts numbers focus free).0
+    path_casts descendants place (a_resolved first (a_resolved second no_resolved)) numbers focus free c =
+        let a = left_of_path descendants place (core_of first numbers focus free) in
+        let use' = path_use (asks_context asked.Position second) (asks_context asked.Last second) in
+        let b = core_of second numbers (focus_with use' a.1) (behind_context use' a.1) in
+        loop_casts use' true place a.1 (nodes_at place a.0) b.0 (tt, (left_casts descendants place (core_of first numbers focus free) (core_casts first numbers focus free c.0), tt))
+        (core_casts second numbers (focus_with use' a.1) (behind_context use' a.1) c.1.0)
+    path_casts descendants place _ numbers focus free c = (tt, tt)
+
+    predicates_cast : (place : Place) (parts : ResolvedTrees) (numbers : Numbers) (focus : Focus) (free : ℕ) → AreAllCastsAtomic s parts → Casts (predicates_core place parts numbers focus free).0
+    predicates_cast place no_resolved numbers focus free c = (tt, tt)
+    predicates_cast place (a_resolved operand predicates) numbers focus free c =
+        let e = core_of operand numbers focus free in
+        filtered_cast (is_reverse_step operand) place e.0 predicates numbers focus e.1 (core_casts operand numbers focus free c.0) c.1
+
+    filtered_cast : (reverse : Bool) (place : Place) (e : CoreExpression) (predicates : ResolvedTrees) (numbers : Numbers) (focus : Focus) (free : ℕ) → Casts e → AreAllCastsAtomic s predicates
+        → Casts (filtered_core reverse place e predicates numbers focus free).0
+    filtered_cast reverse place e no_resolved numbers focus free h c = h
+    filtered_cast reverse place e (a_resolved predicate others) numbers focus free h c =
+        let use' = predicate_use reverse (asks_context asked.Last predicate) in
+        let condition = core_of predicate numbers (focus_with use' free) (behind_context use' free) in
+        let f = filtered_by (predicate_of predicate) reverse use' place free e condition in
+        filtered_cast reverse place f.0 others numbers focus f.1
+        (filtered_by_casts (predicate_of predicate) reverse use' place free e condition h (core_casts predicate numbers (focus_with use' free) (behind_context use' free) c.0)) c.1
 
   -- ---- types of external variables
 
@@ -414,7 +498,7 @@ module _ (s : SchemaSet) (is : IsSchemaSet s) where
 
   one_known : (environment : Environment) (place : Place) (node : DefinitionNode) (others : List Declaration) → Under environment → AllKnown others → AllKnown (declaration_resolved environment place node ∷ others)
   one_known environment place (definitions.Variable binder kind (initial.Value value)) others e rest numbers free h =
-      (core_casts (tree_resolved environment value) numbers None free (atomic_tree environment value e), rest _ _ h)
+      (core_casts (tree_resolved environment value) numbers no_focus free (atomic_tree environment value e), rest _ _ h)
   one_known environment place (definitions.Variable binder kind initial.External) others e rest numbers free h =
       (document_is_normal (Some (declared_type (option_map (type_written environment) kind))) h.0, rest _ _ h.1)
   one_known environment place (definitions.Function name parameters result body) others e rest numbers free h = rest numbers free h
@@ -442,6 +526,6 @@ named_queries_are_judged_by_inclusion s query core is e =
     let body = atomic_tree s is (scope_after query.definitions environment) query.body (scope_same query.definitions environment) in
     let known : NamesKnownTypes s whole = record {
       declarations = declarations_known s is query.definitions environment refl [] 1 documents;
-      body = core_casts s is (tree_resolved (scope_after query.definitions environment) query.body) behind.0 None behind.1 body;
+      body = core_casts s is (tree_resolved (scope_after query.definitions environment) query.body) behind.0 no_focus behind.1 body;
     } in
     queries_are_judged_by_inclusion s core is (subst (λ (c : Core). NamesKnownTypes s c) same known)

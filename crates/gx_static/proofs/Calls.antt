@@ -120,5 +120,7 @@ call_keeps s functions.Exists g arguments t forest values e honest h =
     with_one s forest functions.Exists any_items Boolean t arguments values e h
     (λ a xs taken b. truth_keeps s forest (not (has_no_item (views_of forest xs))) honest)
 call_keeps s functions.Data g arguments t forest values e honest h = absurd (cc (arguments_taken s (any_items ∷ []) arguments 0 (has_none XPTY0004 None) t e).1)
+call_keeps s functions.Position g arguments t forest values e honest h = absurd (cc (arguments_taken s [] arguments 0 (has_none XPTY0004 None) t e).1)
+call_keeps s functions.Last g arguments t forest values e honest h = absurd (cc (arguments_taken s [] arguments 0 (has_none XPTY0004 None) t e).1)
 call_keeps s functions.String g arguments t forest values e honest h =
     with_one s forest functions.String one_item_at_most Str t arguments values e h (λ a xs taken b. text_keeps s forest a xs honest taken b)

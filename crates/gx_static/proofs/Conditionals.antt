@@ -56,7 +56,7 @@ chosen_belongs s forest t u xs b = record { seen = b.seen; shaped = b.shaped; ta
 other_belongs : (s : SchemaSet) (forest : Forest) (t u : SequenceType) (xs : Items) → Belongs s forest xs u → Belongs s forest xs (choice_of t u)
 other_belongs s forest t u xs b = record { seen = b.seen; shaped = b.shaped; taken = choice_takes_members s t u b.seen (inr b.taken) }
 
-widened : (setting : Setting) (forest : Forest) (t u : SequenceType) (o : Outcome Items) → ((now : Forest) (xs : Items) → Belongs setting.schemas now xs t → Belongs setting.schemas now xs u) → Keeps setting forest t o → Keeps setting forest u o
+pub widened : (setting : Setting) (forest : Forest) (t u : SequenceType) (o : Outcome Items) → ((now : Forest) (xs : Items) → Belongs setting.schemas now xs t → Belongs setting.schemas now xs u) → Keeps setting forest t o → Keeps setting forest u o
 widened setting forest t u (gives xs now) h k = record { grown = k.grown; honest = k.honest; fact = h now xs k.fact }
 widened setting forest t u (raises code) h k = tt
 widened setting forest t u wrong h k = absurd k

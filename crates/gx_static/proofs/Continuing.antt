@@ -9,14 +9,16 @@ use Rattle.gx_core.specs.declared.expression.Binder.{Binder}
 use Rattle.gx_core.specs.declared.operator.Operator.{Operator}
 use Rattle.gx_core.specs.declared.operator.Operator.TheVariants as operators
 use Rattle.gx_core.specs.Expression.{CoreExpression, core_at, Parts, no_parts, a_part, one_part, two_parts, three_parts, all_parts, each_of, annotation_of}
-use Rattle.gx_core.specs.Bindings.{Types, types_bound, position_bound}
+use Rattle.gx_core.specs.Bindings.{Types, types_bound, position_bound, branch_types}
+use Rattle.gx_core.specs.declared.cases.TypeCase.{TypeCase}
+use Rattle.gx_static.proofs.Switches.{GoesOn, next_is, one_more_done}
 use Rattle.gx_core.specs.Soundness.{TypedExpression}
 use Rattle.gx_core.specs.Queries.{TypedCore, TypedDeclaration}
 use Rattle.gx_static.specs.Rule.{ruling}
 use Rattle.gx_static.specs.Judgement.{Judged, Judgement, typed, rejected, with_typed, judged, parts_judged, concluded}
 use Rattle.gx_static.specs.declared.typing.Task.{Task}
-use Rattle.gx_static.specs.declared.typing.Task.TheVariants.{Finish, FinishCall}
-use Rattle.gx_static.specs.Typing.{Awaited, part_count, then_typed, item_type_bound, finished, typed_in_order, last_parts, continued}
+use Rattle.gx_static.specs.declared.typing.Task.TheVariants.{Finish, FinishCall, FinishSwitch}
+use Rattle.gx_static.specs.Typing.{Awaited, part_count, then_typed, item_type_bound, branches_in_order, finished, typed_in_order, last_parts, continued}
 
 -- what is made of all parts, made of each
 made_typed : {R : Type 0} (j : Judged R) (make : R → Judgement) (next : TypedExpression → Awaited) → then_typed j (λ x. then_typed (make x) next) ≡ then_typed (with_typed j make) next
@@ -174,6 +176,58 @@ pub every_opens : (schemas : SchemaSet) (tasks : List Task) (parts : List TypedE
 every_opens schemas tasks parts types declared place outer binder source test =
     both_typed (judged schemas source types) (λ t. judged schemas test (item_type_bound binder.variable 0 t ++ types))
     (λ ts. concluded place outer (operators.EveryIn binder) ts (ruling schemas (operators.EveryIn binder) (each_of annotation_of ts) types)) (λ t. continued schemas tasks (t ∷ parts) types declared)
+
+-- what a switch binds for the branch behind one that is done
+next_goes_on : (all left : List TypeCase) (default : ℕ) (operand t : SequenceType) (done : List SequenceType) → GoesOn all left default operand done → GoesOn all (drop 1 left) default operand (done ++ t ∷ [])
+next_goes_on all [] default operand t done g more = ap (λ (d : List SequenceType). branch_types all default operand d) (append_assoc done (t ∷ []) more) ∙ g (t ∷ more)
+next_goes_on all (c ∷ left) default operand t done g more = one_more_done all left c default operand t done g more
+
+-- typing branches in order and taking them is judging them
+branches_open : (schemas : SchemaSet) (all : List TypeCase) (default : ℕ) (types : Types) (operand : SequenceType) (next : Parts SequenceType → List TypedExpression → Awaited) (below : List TypedExpression)
+    (left : List TypeCase) (es : List CoreExpression) (done : List SequenceType) (n : ℕ) (there : List TypedExpression) (behind : Parts SequenceType → Parts SequenceType)
+    → GoesOn all left default operand done → ((parts : Parts SequenceType) → last_parts n there parts next ≡ next (behind parts) below)
+    → branches_in_order schemas operand left default es types (λ parts. last_parts (count_with es n) parts no_parts next) there
+    ≡ then_typed (parts_judged schemas (operators.Switch all default) (operand ∷ done) (all_parts es) types) (λ ts. next (behind ts) below)
+branches_open schemas all default types operand next below left [] done n there behind g h = h no_parts
+branches_open schemas all default types operand next below left (e ∷ es) done n there behind g h =
+    subst (λ (bound : Types). then_typed (judged schemas e (branch_types left default operand [] ++ types))
+    (λ t. branches_in_order schemas operand (drop 1 left) default es types (λ parts. last_parts (count_with es (suc n)) parts no_parts next) (t ∷ there))
+    ≡ then_typed (with_typed (judged schemas e (bound ++ types))
+    (λ t. with_typed (parts_judged schemas (operators.Switch all default) ((operand ∷ done) ++ annotation_of t ∷ []) (all_parts es) types) (λ ts. typed (a_part t ts)))) (λ ts. next (behind ts) below))
+    (sym (next_is all left default operand done g))
+    (one_more (judged schemas e (branch_types left default operand [] ++ types)) (λ t. parts_judged schemas (operators.Switch all default) ((operand ∷ done) ++ annotation_of t ∷ []) (all_parts es) types)
+    (λ t. branches_in_order schemas operand (drop 1 left) default es types (λ parts. last_parts (count_with es (suc n)) parts no_parts next) (t ∷ there)) (λ ts. next (behind ts) below)
+    (λ t. branches_open schemas all default types operand next below (drop 1 left) es (done ++ annotation_of t ∷ []) (suc n) (t ∷ there) (λ ts. behind (a_part t ts))
+    (next_goes_on all left default operand (annotation_of t) done g) (λ parts. h (a_part t parts))))
+
+pub switch_opens : (schemas : SchemaSet) (tasks : List Task) (parts : List TypedExpression) (types : Types) (declared : List TypedDeclaration) (place outer : Place) (cases : List TypeCase) (default : ℕ) (operand : CoreExpression)
+    (branches : List CoreExpression)
+    → then_typed (judged schemas operand types) (λ t. branches_in_order schemas (annotation_of t) cases default branches types
+    (λ parts. continued schemas (FinishSwitch place outer cases default (length branches) ∷ tasks) parts types declared) (t ∷ parts))
+    ≡ then_typed (judged schemas (core_at place outer (operators.Switch cases default) (a_part operand (all_parts branches))) types) (λ t. continued schemas tasks (t ∷ parts) types declared)
+switch_opens schemas tasks parts types declared place outer cases default operand branches =
+    let made : Parts SequenceType → List TypedExpression → Awaited = finished schemas place outer (operators.Switch cases default) types (λ t below. continued schemas tasks (t ∷ below) types declared) in
+    let count : count_with branches 1 ≡ suc (length branches) = omega (arith, counted branches 1) in
+    subst (λ (n : ℕ). then_typed (judged schemas operand types) (λ t. branches_in_order schemas (annotation_of t) cases default branches types (λ there. last_parts n there no_parts made) (t ∷ parts))
+    ≡ then_typed (judged schemas (core_at place outer (operators.Switch cases default) (a_part operand (all_parts branches))) types) (λ t. continued schemas tasks (t ∷ parts) types declared)) count
+    (one_more (judged schemas operand types) (λ t. parts_judged schemas (operators.Switch cases default) (annotation_of t ∷ []) (all_parts branches) types)
+    (λ t. branches_in_order schemas (annotation_of t) cases default branches types (λ there. last_parts (count_with branches 1) there no_parts made) (t ∷ parts)) (λ ts. made ts parts)
+    (λ t. branches_open schemas cases default types (annotation_of t) made parts cases branches [] 1 (t ∷ parts) (λ ts. a_part t ts) (λ more. refl) (λ ps. refl))
+    ∙ made_typed (parts_judged schemas (operators.Switch cases default) [] (a_part operand (all_parts branches)) types)
+    (λ ts. concluded place outer (operators.Switch cases default) ts (ruling schemas (operators.Switch cases default) (each_of annotation_of ts) types)) (λ t. continued schemas tasks (t ∷ parts) types declared))
+
+-- the operand stands below the branches
+last_of_more : (count : ℕ) (there : List TypedExpression) (parts : Parts SequenceType) (next : Parts SequenceType → List TypedExpression → Awaited)
+    → last_parts (suc count) there parts next ≡ last_parts count there parts (λ ps below. last_parts 1 below ps next)
+last_of_more zero there parts next = refl
+last_of_more (suc count) [] parts next = refl
+last_of_more (suc count) (t ∷ there) parts next = last_of_more count there (a_part t parts) next
+
+pub operand_below : (count : ℕ) (there below behind : List TypedExpression) (operand : TypedExpression) (branches : List TypedExpression) (next : Parts SequenceType → List TypedExpression → Awaited)
+    → ((next : Parts SequenceType → List TypedExpression → Awaited) → last_parts count there no_parts next ≡ next (all_parts branches) below) → below ≡ operand ∷ behind
+    → last_parts (suc count) there no_parts next ≡ next (a_part operand (all_parts branches)) behind
+operand_below count there below behind operand branches next h e =
+    last_of_more count there no_parts next ∙ h (λ ps rest. last_parts 1 rest ps next) ∙ ap (λ (rest : List TypedExpression). last_parts 1 rest (all_parts branches) next) e
 
 -- a turn ends where its variable is unbound, and that of the position
 pub two_are_unbound : (position variable : ℕ) (i t : SequenceType) (types : Types) → position ≢ 0 → drop 1 (drop 1 (((variable, t) ∷ position_bound position i) ++ types)) ≡ types

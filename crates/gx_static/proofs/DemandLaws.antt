@@ -119,7 +119,7 @@ pub each_starred : (s : SchemaSet) (u : SequenceType) (list : List Shape) → Ea
 each_starred s u [] h = ([], refl, tt)
 each_starred s u (shape ∷ list) h = let r = each_starred s u list h.1 in ((shape ∷ []) ∷ r.0, ap (λ (xs : List Shape). shape ∷ xs) r.1, (h.0, r.2))
 
-short_taken : (s : SchemaSet) (u : SequenceType) (list : List Shape) → length list ≤ 1 → EachShape (λ shape. Takes s u (shape ∷ [])) list → Takes s (optional u) list
+pub short_taken : (s : SchemaSet) (u : SequenceType) (list : List Shape) → length list ≤ 1 → EachShape (λ shape. Takes s u (shape ∷ [])) list → Takes s (optional u) list
 short_taken s u [] n h = inl refl
 short_taken s u (shape ∷ []) n h = inr h.0
 short_taken s u (shape ∷ other ∷ list) n h = absurd (omega (arith, n))
@@ -129,7 +129,7 @@ single_taken s u [] l n h = absurd (omega (arith, l))
 single_taken s u (shape ∷ []) l n h = h.0
 single_taken s u (shape ∷ other ∷ list) l n h = absurd (omega (arith, n))
 
-no_more_than_one : (s : SchemaSet) (t : SequenceType) (list : List Shape) → is_at_most_one t ≡ true → Takes s t list → length list ≤ 1
+pub no_more_than_one : (s : SchemaSet) (t : SequenceType) (list : List Shape) → is_at_most_one t ≡ true → Takes s t list → length list ≤ 1
 no_more_than_one s t list e h =
     let g = leb-true (occurrence_of t).greatest 1 e in
     let most = (occurrence_bounds_length s t list h).greatest (omega (arith, g)) in

@@ -23,7 +23,7 @@ use Rattle.gx_funcs.specs.declared.function.Function.{Function}
 use Rattle.gx_funcs.specs.declared.function.Parameter.{Parameter}
 use Rattle.gx_funcs.specs.declared.function.ParameterType.{ParameterType}
 use Rattle.gx_funcs.specs.declared.function.ParameterType.TheVariants as parameters
-use Rattle.gx_funcs.specs.Function.{parameters_of, answer_type_of}
+use Rattle.gx_funcs.specs.Function.{parameters_of}
 use Rattle.gx_core.specs.declared.expression.ArithmeticOp.{ArithmeticOp}
 use Rattle.gx_core.specs.declared.expression.ArithmeticOp.TheVariants as operations
 use Rattle.gx_core.specs.declared.expression.BinaryClass.{BinaryClass}
@@ -40,10 +40,10 @@ use Rattle.gx_core.specs.QueryMeaning.{external_types, global_types, types_decla
 use Rattle.gx_core.specs.Soundness.{TypedExpression}
 use Rattle.gx_static.specs.declared.comparison.Family.{Family}
 use Rattle.gx_static.specs.declared.comparison.Family.TheVariants as families
-use Rattle.gx_static.specs.Rule.{Ruling, has_type, has_none, type_if, atomic, all_items, is_atomic_in, is_of_family, is_at_most_one, is_at_least_one, is_all_in, is_optional_in, are_of_one_family, are_comparable_items, integer_if, both_occur, number_type, arithmetic_rule, negation_rule, range_rule, value_comparison_type, value_comparison_rule, general_comparison_rule, binary_rule, conditional_rule, quantifier_rule, order_rule, cast_rule, castable_rule, nodes_type, is_as_written, takes_argument, arguments_rule, answer_rule, call_rule, rule, ruling}
+use Rattle.gx_static.specs.Rule.{called_type, Ruling, has_type, has_none, type_if, atomic, all_items, is_atomic_in, is_of_family, is_at_most_one, is_at_least_one, is_all_in, is_optional_in, are_of_one_family, are_comparable_items, integer_if, both_occur, number_type, arithmetic_rule, negation_rule, range_rule, value_comparison_type, value_comparison_rule, general_comparison_rule, binary_rule, conditional_rule, quantifier_rule, order_rule, cast_rule, castable_rule, nodes_type, is_as_written, takes_argument, arguments_rule, answer_rule, call_rule, rule, ruling}
 use Rattle.gx_static.specs.Judgement.{typed, rejected, with_typed, judged}
 use Rattle.gx_static.specs.QueryJudgement.{declared_as, declaration_judged, declarations_judged}
-use Rattle.gx_static.specs.NormalTypes.{IsOfKnownType, IsMadeOfItems, IsNormalType, HaveNormalTypes, CastsToAtomicTypes, PartsCastToAtomicTypes, IsNormalThroughout, AreNormalThroughout}
+use Rattle.gx_static.specs.NormalTypes.{CastsToAtomicType, IsOfKnownType, IsMadeOfItems, IsNormalType, HaveNormalTypes, CastsToAtomicTypes, PartsCastToAtomicTypes, IsNormalThroughout, AreNormalThroughout}
 use Rattle.gx_static.specs.Demands.{Demand, of_type, of_family, of_atomic, of_any, meets_demand, demanded_type, family_type, AreOfOneFamily}
 use Rattle.gx_static.specs.ByInclusion.{is_optional_value, are_values, number_included, arithmetic_included, negation_included, range_included, are_optional_in, value_comparison_included, is_item_of, are_comparable_kinds, general_comparison_included, binary_included, conditional_included, quantifier_included, order_included, cast_included, castable_included, parameter_type, arguments_included, call_included, rule_included, ruling_included, IsJudgedByInclusion, PartsAreJudgedByInclusion, ValuesAreJudgedByInclusion, IsNormalIfWritten, NameKnownTypes, QueriesAreJudgedByInclusion}
 use Rattle.gx_static.proofs.DemandLaws.{demands_are_inclusion}
@@ -207,7 +207,9 @@ module _ (s : SchemaSet) (g : Grounded (bases_of s)) where
   binary_same (classes.Arithmetic operation) left right m n = arithmetic_same operation left right m n
   binary_same (classes.Value op) left right m n = value_comparison_same left right m n
   binary_same (classes.General op) left right m n = general_comparison_same left right m n
+  binary_same (classes.Nodes op) left right m n = refl
   binary_same classes.Range left right m n = range_same left right m n
+  binary_same (classes.Sets op) left right m n = refl
 
   -- ---- conditionals, paths and casts
 
@@ -256,7 +258,7 @@ module _ (s : SchemaSet) (g : Grounded (bases_of s)) where
 
   call_same : (function : Function) (ts : List SequenceType) → HoldsOfEach (IsNormalType s) ts → call_rule s function ts ≡ call_included s function ts
   unfolding call_rule
-  call_same function ts n = arguments_same (parameters_of function) ts 0 (answer_rule (answer_type_of function)) n
+  call_same function ts n = arguments_same (parameters_of function) ts 0 (answer_rule (called_type function)) n
 
   -- ---- each operator
 
@@ -285,18 +287,18 @@ IsNormalBinding s binding = IsNormalType s binding.1
 mutual
   expression_included : (s : SchemaSet) → IsSchemaSet s → (e : CoreExpression) (types : Types) → CastsToAtomicTypes s e → HaveNormalTypes s types → IsJudgedByInclusion s e types
   expression_included s is (At place outer tt operator parts) types c n = (
-    parts_included s is operator [] parts types c.1 n tt,
+    parts_included s is operator [] parts types c.0 c.1 n tt,
     λ ts j. ruling_same s is.grounded operator (each_of annotation_of ts) types
-        (annotations_are_normal s ts (subst (IfTyped (AreNormalThroughout s)) j (parts_are_normal s is operator [] parts types c.1 n tt))),
+        (annotations_are_normal s ts (subst (IfTyped (AreNormalThroughout s)) j (parts_are_normal s is operator [] parts types c.0 c.1 n tt))),
   )
 
-  parts_included : (s : SchemaSet) → IsSchemaSet s → (operator : Operator) (before : List SequenceType) (parts : Parts (Unit {0})) (types : Types) → PartsCastToAtomicTypes s parts → HaveNormalTypes s types
+  parts_included : (s : SchemaSet) → IsSchemaSet s → (operator : Operator) (before : List SequenceType) (parts : Parts (Unit {0})) (types : Types) → CastsToAtomicType s operator → PartsCastToAtomicTypes s parts → HaveNormalTypes s types
       → HoldsOfEach (IsNormalType s) before → PartsAreJudgedByInclusion s operator before parts types
-  parts_included s is operator before no_parts types c n b = tt
-  parts_included s is operator before (a_part first others) types c n b =
-      let inner : HaveNormalTypes s (types_bound operator before ++ types) = both_hold (IsNormalBinding s) (types_bound operator before) types (bound_are_normal s operator before b) n in (
+  parts_included s is operator before no_parts types o c n b = tt
+  parts_included s is operator before (a_part first others) types o c n b =
+      let inner : HaveNormalTypes s (types_bound operator before ++ types) = both_hold (IsNormalBinding s) (types_bound operator before) types (bound_are_normal s operator before o b) n in (
         expression_included s is first (types_bound operator before ++ types) c.0 inner,
-        λ t j. parts_included s is operator (before ++ annotation_of t ∷ []) others types c.1 n
+        λ t j. parts_included s is operator (before ++ annotation_of t ∷ []) others types o c.1 n
             (both_hold (IsNormalType s) before (annotation_of t ∷ []) b
             (annotation_is_normal s t (subst (IfTyped (IsNormalThroughout s)) j (judged_is_normal s is first (types_bound operator before ++ types) c.0 inner)), tt)),
       )

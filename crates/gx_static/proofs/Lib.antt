@@ -10,8 +10,12 @@ pub mod Arithmetic
 pub mod Families
 pub mod Comparisons
 pub mod Ranges
+pub mod NodeComparisons
+pub mod NodeSets
 pub mod Conditionals
 pub mod Quantifiers
+pub mod Picking
+pub mod Switches
 pub mod Casts
 pub mod CallLemmas
 pub mod BooleanTypes

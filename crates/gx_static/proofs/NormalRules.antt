@@ -1,10 +1,10 @@
 -- Each rule gives a normal type where the parts have such.
-use Rattle.std.proofs.Common.{◌≡◌, ℕ, ◌+◌, Bool, true, false, ◌&&◌, List, [], ◌∷◌, None, Some, refl, if◌then◌else◌}
+use Rattle.std.proofs.Common.{◌≡◌, ℕ, ◌+◌, Bool, true, false, ◌&&◌, List, [], ◌∷◌, None, Some, refl, if◌then◌else◌, length, min, ◌==◌}
+use Rattle.gx_types.specs.Choice.{choice_among}
 use Rattle.gx_base.specs.declared.type_name.Builtin.TheVariants.{AnyAtomic, Boolean, Decimal, Integer}
 use Rattle.gx_base.specs.declared.type_name.Builtin.TheVariants as builtins
 use Rattle.gx_base.specs.declared.type_name.TypeName.TheVariants as names
-use Rattle.gx_base.specs.declared.code.Code.{Code}
-use Rattle.gx_base.specs.declared.code.Code.TheVariants.{XPST0003, XPTY0004, XPTY0018, XPTY0019, XPTY0020, FOTY0012}
+use Rattle.gx_base.specs.declared.code.Code.TheVariants.{XPTY0004, XPTY0018, XPTY0019, XPTY0020, FOTY0012}
 use Rattle.gx_facets.specs.declared.Atomic.{Atomic}
 use Rattle.gx_facets.specs.declared.AtomValue.{AtomValue}
 use Rattle.gx_facets.specs.declared.AtomValue.TheVariants.{Untyped, Str, Truth, Num}
@@ -14,28 +14,30 @@ use Rattle.gx_types.specs.SameItemType.{same_type_name}
 use Rattle.gx_types.specs.SameType.{same_type}
 use Rattle.gx_types.specs.SchemaSet.{SchemaSet}
 use Rattle.gx_types.specs.SchemaInvariant.{IsSchemaSet}
-use Rattle.gx_types.specs.Occurrence.{occurrence_of}
+use Rattle.gx_types.specs.Occurrence.{occurrence_of, occurs}
 use Rattle.gx_types.specs.Prime.{prime_of}
 use Rattle.gx_types.specs.SequenceType.{SequenceType, never, item, star}
-use Rattle.gx_types.specs.TypeRules.{choice_of, times_of}
+use Rattle.gx_types.specs.TypeRules.{sequence_of, choice_of, times_of, limited}
 use Rattle.gx_types.specs.Derivation.{DerivesFrom}
 use Rattle.gx_types.proofs.PublicLaws.{derivation_is_a_preorder}
 use Rattle.gx_include.specs.Decision.{is_included}
 use Rattle.gx_steptype.specs.DataType.{has_data, type_of_data}
-use Rattle.gx_steptype.specs.StepType.{is_near, node_type, step_type}
+use Rattle.gx_steptype.specs.StepType.{node_type, step_type}
 use Rattle.gx_funcs.specs.declared.function.Function.{Function}
 use Rattle.gx_funcs.specs.declared.function.Function.TheVariants as functions
 use Rattle.gx_funcs.specs.declared.function.Parameter.{Parameter}
-use Rattle.gx_funcs.specs.Function.{parameters_of, answer_type_of}
+use Rattle.gx_funcs.specs.Function.{parameters_of}
 use Rattle.gx_core.specs.declared.expression.ArithmeticOp.{ArithmeticOp}
 use Rattle.gx_core.specs.declared.expression.ArithmeticOp.TheVariants.{Div, IDiv}
 use Rattle.gx_core.specs.declared.expression.BinaryClass.{BinaryClass}
-use Rattle.gx_core.specs.declared.expression.BinaryClass.TheVariants.{Arithmetic, Value, General, Range}
+use Rattle.gx_core.specs.declared.expression.BinaryClass.TheVariants.{Arithmetic, Value, General, Nodes, Range, Sets}
+use Rattle.gx_core.specs.declared.expression.SetOperator.{SetOperator}
+use Rattle.gx_core.specs.declared.expression.SetOperator.TheVariants as sets
 use Rattle.gx_core.specs.declared.operator.Operator.TheVariants as operators
 use Rattle.gx_core.specs.BinaryOperators.{class_of}
-use Rattle.gx_static.specs.Rule.{Ruling, has_type, has_none, type_if, atomic, all_items, is_atomic, is_all_in, is_optional_in, is_at_most_one, is_at_least_one, both_occur, integer_if, number_type, arithmetic_type, compared_occur, are_of_one_family, value_comparison_type, are_comparable_types, shown_type, literal_rule, is_as_written, data_rule, nodes_type, order_rule, takes_argument, arguments_rule, answer_rule, call_rule, binary_rule}
+use Rattle.gx_static.specs.Rule.{called_type, Ruling, has_type, has_none, type_if, atomic, all_items, is_atomic, is_all_in, is_optional_in, is_at_most_one, is_at_least_one, both_occur, integer_if, number_type, arithmetic_type, compared_occur, are_of_one_family, value_comparison_type, are_comparable_types, shown_type, literal_rule, is_as_written, data_rule, optional_node, nodes_type, set_type, order_rule, takes_argument, arguments_rule, answer_rule, call_rule, binary_rule, is_first}
 use Rattle.gx_static.specs.NormalTypes.{IsNormalType, GivesNormalType, RulesGiveNormalTypes}
-use Rattle.gx_static.proofs.NormalTypes.{times_is_normal, prime_is_normal, sequence_is_normal, choice_of_two_is_normal}
+use Rattle.gx_static.proofs.NormalTypes.{times_is_normal, prime_is_normal, sequence_is_normal, choice_of_two_is_normal, limited_is_normal, choice_of_normal}
 use Rattle.gx_static.proofs.AtomicTypes.{untyped_is_atomic, boolean_is_atomic, integer_is_atomic, nameable_is_atomic}
 use Rattle.gx_static.proofs.NormalData.{data_is_normal}
 use Rattle.gx_static.proofs.NormalSteps.{step_is_normal}
@@ -80,23 +82,31 @@ number_is_atomic s Div left right = nameable_is_atomic s Decimal refl
 number_is_atomic s IDiv left right = integer_is_atomic s
 number_is_atomic s _ left right = whole_is_atomic s (is_all_in s Integer left && is_all_in s Integer right)
 
-binary_is_normal : (s : SchemaSet) (class : BinaryClass) (left right : SequenceType) → GivesNormalType s (binary_rule s class left right)
-binary_is_normal s (Arithmetic operation) left right =
+compared_is_normal : (s : SchemaSet) (left right : SequenceType) → IsNormalType s (value_comparison_type left right)
+compared_is_normal s left right =
+    never_or s (same_type never left) (times_of (atomic Boolean) (compared_occur left right)) (times_is_normal s (atomic Boolean) (compared_occur left right) (boolean_is_atomic s))
+
+set_is_normal : (s : SchemaSet) (op : SetOperator) (left right : SequenceType) → IsNormalType s left → IsNormalType s right → IsNormalType s (set_type op left right)
+set_is_normal s sets.Union left right m n =
+    times_is_normal s (prime_of (sequence_of left right)) (occurrence_of (sequence_of left right)) (prime_is_normal s (sequence_of left right) (sequence_is_normal s left right m n))
+set_is_normal s sets.Intersect left right m n = times_is_normal s (prime_of left) (occurs 0 (occurrence_of left).greatest) (prime_is_normal s left m)
+set_is_normal s sets.Except left right m n = times_is_normal s (prime_of left) (occurs 0 (occurrence_of left).greatest) (prime_is_normal s left m)
+
+binary_is_normal : (s : SchemaSet) (class : BinaryClass) (left right : SequenceType) → IsNormalType s left → IsNormalType s right → GivesNormalType s (binary_rule s class left right)
+binary_is_normal s (Arithmetic operation) left right m n =
     type_if_normal s (is_optional_in s Decimal left && is_optional_in s Decimal right) (arithmetic_type s operation left right)
     (never_or s (same_type never left) (times_of (atomic (number_type s operation left right)) (both_occur left right))
     (times_is_normal s (atomic (number_type s operation left right)) (both_occur left right) (number_is_atomic s operation left right)))
-binary_is_normal s (Value op) left right =
-    type_if_normal s (is_at_most_one left && is_at_most_one right && are_of_one_family s left right) (value_comparison_type left right)
-    (never_or s (same_type never left) (times_of (atomic Boolean) (compared_occur left right)) (times_is_normal s (atomic Boolean) (compared_occur left right) (boolean_is_atomic s)))
-binary_is_normal s (General op) left right =
+binary_is_normal s (Value op) left right m n =
+    type_if_normal s (is_at_most_one left && is_at_most_one right && are_of_one_family s left right) (value_comparison_type left right) (compared_is_normal s left right)
+binary_is_normal s (General op) left right m n =
     type_if_normal s (are_comparable_types s left right) (if same_type never left then never else atomic Boolean) (never_or s (same_type never left) (atomic Boolean) (boolean_is_atomic s))
-binary_is_normal s Range left right = type_if_normal s (is_optional_in s Integer left && is_optional_in s Integer right) (star (atomic Integer)) (integer_is_atomic s)
+binary_is_normal s (Nodes op) left right m n =
+    type_if_normal s (is_included s left optional_node && is_included s right optional_node) (value_comparison_type left right) (compared_is_normal s left right)
+binary_is_normal s Range left right m n = type_if_normal s (is_optional_in s Integer left && is_optional_in s Integer right) (star (atomic Integer)) (integer_is_atomic s)
+binary_is_normal s (Sets op) left right m n = type_if_normal s (is_included s left nodes_type && is_included s right nodes_type) (set_type op left right) (set_is_normal s op left right m n)
 
 -- ---- paths
-
-near_step : (s : SchemaSet) (near within : Bool) (t : SequenceType) (far outside : Code) → IsNormalType s t → GivesNormalType s (if near then (if within then has_type t else has_none outside None) else has_none far None)
-near_step s true within t far outside n = either_given s within t (has_none outside None) n tt
-near_step s false within t far outside n = tt
 
 order_is_normal : (s : SchemaSet) (operand : SequenceType) → IsNormalType s operand → GivesNormalType s (order_rule s operand)
 order_is_normal s operand n =
@@ -109,8 +119,10 @@ atomized_is_normal s operand is n = either_given s (has_data s operand) (type_of
 
 -- ---- calls
 
-answer_is_normal : (s : SchemaSet) (function : Function) → GivesNormalType s (answer_rule (answer_type_of function))
+answer_is_normal : (s : SchemaSet) (function : Function) → GivesNormalType s (answer_rule (called_type function))
 answer_is_normal s functions.Data = tt
+answer_is_normal s functions.Position = tt
+answer_is_normal s functions.Last = tt
 answer_is_normal s functions.Count = integer_is_atomic s
 answer_is_normal s functions.String = nameable_is_atomic s builtins.Str refl
 answer_is_normal s _ = boolean_is_atomic s
@@ -127,7 +139,7 @@ arguments_are_normal s _ _ number ruling n = tt
 
 call_is_normal : (s : SchemaSet) (function : Function) (arguments : List SequenceType) → GivesNormalType s (call_rule s function arguments)
 unfolding call_rule
-call_is_normal s function arguments = arguments_are_normal s (parameters_of function) arguments 0 (answer_rule (answer_type_of function)) (answer_is_normal s function)
+call_is_normal s function arguments = arguments_are_normal s (parameters_of function) arguments 0 (answer_rule (called_type function)) (answer_is_normal s function)
 
 -- ---- operators
 
@@ -143,11 +155,17 @@ rules_give_normal_types s (operators.EveryIn binder) (source ∷ test ∷ []) is
 rules_give_normal_types s (operators.For binder position) (source ∷ body ∷ []) is c n =
     type_if_normal s (is_as_written s binder.kind (prime_of source)) (times_of body (occurrence_of source)) (times_is_normal s body (occurrence_of source) n.1.0)
 rules_give_normal_types s (operators.Step axis asks number) (context ∷ []) is c n =
-    near_step s (is_near axis) (is_included s context node_type) (step_type s axis asks context) XPST0003 XPTY0020 (step_is_normal s axis asks context is n.0)
+    either_given s (is_included s context node_type) (step_type s axis asks context) (has_none XPTY0020 None) (step_is_normal s axis asks context is n.0) tt
 rules_give_normal_types s operators.Nodes (operand ∷ []) is c n = either_given s (is_included s operand nodes_type) operand (has_none XPTY0019 None) n.0 tt
 rules_give_normal_types s operators.Order (operand ∷ []) is c n = order_is_normal s operand n.0
 rules_give_normal_types s operators.NoContext [] is c n = tt
 rules_give_normal_types s (operators.Let binder) (value ∷ body ∷ []) is c n = type_if_normal s (is_as_written s binder.kind value) body n.1.0
+rules_give_normal_types s (operators.Switch cases default) (operand ∷ branches) is c n =
+    type_if_normal s (length branches == length cases + 1) (limited (choice_among branches)) (limited_is_normal s (choice_among branches) (choice_of_normal s branches n.1))
+rules_give_normal_types s (operators.Nth number backwards) (operand ∷ []) is c n =
+    times_is_normal s (prime_of operand) (occurs (if is_first number then (occurrence_of operand).least else 0) (min 1 (occurrence_of operand).greatest)) (prime_is_normal s operand n.0)
+rules_give_normal_types s (operators.Final backwards) (operand ∷ []) is c n =
+    times_is_normal s (prime_of operand) (occurs (occurrence_of operand).least (min 1 (occurrence_of operand).greatest)) (prime_is_normal s operand n.0)
 rules_give_normal_types s operators.DataOf (operand ∷ []) is c n = atomized_is_normal s operand is n.0
 rules_give_normal_types s operators.If (condition ∷ chosen ∷ otherwise ∷ []) is c n =
     type_if_normal s (is_at_least_one condition && is_optional_in s Boolean condition) (choice_of chosen otherwise) (choice_of_two_is_normal s chosen otherwise n.1.0 n.1.1.0)
@@ -161,5 +179,5 @@ rules_give_normal_types s (operators.Call function) arguments is c n = call_is_n
 rules_give_normal_types s operators.Neg (operand ∷ []) is c n =
     type_if_normal s (is_optional_in s Decimal operand) (times_of (atomic (integer_if (is_all_in s Integer operand))) (occurrence_of operand))
     (times_is_normal s (atomic (integer_if (is_all_in s Integer operand))) (occurrence_of operand) (whole_is_atomic s (is_all_in s Integer operand)))
-rules_give_normal_types s (operators.Binary operator) (left ∷ right ∷ []) is c n = binary_is_normal s (class_of operator) left right
+rules_give_normal_types s (operators.Binary operator) (left ∷ right ∷ []) is c n = binary_is_normal s (class_of operator) left right n.0 n.1.0
 rules_give_normal_types s _ _ is c n = tt

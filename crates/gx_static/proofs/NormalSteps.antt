@@ -18,6 +18,7 @@ use Rattle.gx_types.specs.declared.step.Test.{Test}
 use Rattle.gx_types.specs.SchemaSet.{SchemaSet, declaration_of}
 use Rattle.gx_types.specs.SchemaInvariant.{HoldsOfEach, is_simple_type, is_named_type, IsModelItem, ContentFits, IsSchemaSet}
 use Rattle.gx_types.specs.SequenceType.{SequenceType, nothing, item, optional}
+use Rattle.gx_types.specs.Choice.{choice_among}
 use Rattle.gx_types.specs.Indicator.{star_of}
 use Rattle.gx_types.specs.Prime.{items_of}
 use Rattle.gx_types.specs.TypeRules.{joined_types, factored}
@@ -33,12 +34,13 @@ use Rattle.gx_steptype.specs.declared.tested.Meeting.TheVariants.{Never, Always,
 use Rattle.gx_steptype.specs.DerivedTypes.{listed_types, derived_among, over_derived}
 use Rattle.gx_steptype.specs.Replaced.{replaced_items}
 use Rattle.gx_steptype.specs.TestedType.{name_met, type_met, both_met, narrowed_name, narrowed_type, where_met, at_most_possibly, tested_item}
-use Rattle.gx_steptype.specs.StepType.{content_type, declared_content, content_of, is_ur_type, child_type, use_type, declared_attributes, attributes_of_type, has_one_name, any_attributes, any_attribute, untyped_attribute, attributes_behind, attribute_content, attribute_type, parent_type, item_step, step_type}
+use Rattle.gx_steptype.specs.StepType.{content_type, declared_content, content_of, is_ur_type, child_type, use_type, declared_attributes, attributes_of_type, has_one_name, any_attributes, any_attribute, untyped_attribute, attributes_behind, attribute_content, attribute_type, parent_type, grandchild_kinds, descendant_kinds, ancestor_kinds, any_tested, descendant_type, ancestor_type, item_step, step_type}
 use Rattle.gx_steptype.proofs.Declarations.{declared_is}
+use Rattle.gx_steptype.proofs.DescendantKinds.{descendant_kinds_hold}
 use Rattle.gx_steptype.proofs.SimpleKinds.{simple_is_derived}
 use Rattle.gx_static.specs.NormalTypes.{IsOfKnownType, IsNormalType}
 use Rattle.gx_static.proofs.DemandLaws.{normal_kinds}
-use Rattle.gx_static.proofs.NormalTypes.{limited_is_normal, factored_is_normal, star_is_normal}
+use Rattle.gx_static.proofs.NormalTypes.{limited_is_normal, factored_is_normal, star_is_normal, joined_is_normal, choice_of_normal}
 use Rattle.gx_static.proofs.NormalParts.{each_so, each_made, replaced_is_normal, AreKnown, joined_is_known, choice_is_known}
 
 -- ---- known types
@@ -241,6 +243,39 @@ attribute_is_normal s test items.Text is = tt
 attribute_is_normal s test (items.Document element) is = tt
 attribute_is_normal s test (items.Atom t) is = tt
 
+-- ---- descendants and ancestors
+
+each_tested : (s : SchemaSet) (test : KindTest) (kinds : List ItemType) → HoldsOfEach (IsOfKnownType s) kinds → HoldsOfEach (IsNormalType s) (map (tested_item s test) kinds)
+each_tested s test [] k = tt
+each_tested s test (kind ∷ kinds) k = (tested_is_normal s test kind k.0, each_tested s test kinds k.1)
+
+any_tested_is_normal : (s : SchemaSet) (test : KindTest) (kinds : List ItemType) → HoldsOfEach (IsOfKnownType s) kinds → IsNormalType s (any_tested s test kinds)
+any_tested_is_normal s test kinds k =
+    star_is_normal s (choice_among (map (tested_item s test) kinds)) (choice_of_normal s (map (tested_item s test) kinds) (each_tested s test kinds k))
+
+grandchildren_are_known : (s : SchemaSet) (kind : ItemType) → IsSchemaSet s → IsOfKnownType s kind → HoldsOfEach (IsOfKnownType s) (grandchild_kinds s kind)
+grandchildren_are_known s (items.Element name t) is k = child_is_known s (items.Element name t) is k
+grandchildren_are_known s (items.Attribute name t) is k = tt
+grandchildren_are_known s items.Text is k = tt
+grandchildren_are_known s (items.Document None) is k = tt
+grandchildren_are_known s (items.Document (Some e)) is k = tt
+grandchildren_are_known s (items.Atom t) is k = tt
+
+descendants_are_normal : (s : SchemaSet) (test : KindTest) (kind : ItemType) → IsSchemaSet s → IsOfKnownType s kind → IsNormalType s (descendant_type s test kind)
+descendants_are_normal s test kind is k =
+    any_tested_is_normal s test (descendant_kinds s kind)
+    (descendant_kinds_hold s kind (IsOfKnownType s) (child_is_known s kind is k) (λ other h. grandchildren_are_known s other is h))
+
+ancestors_are_known : (s : SchemaSet) (kind : ItemType) → HoldsOfEach (IsOfKnownType s) (ancestor_kinds kind)
+ancestors_are_known s (items.Element name t) = (refl, (tt, tt))
+ancestors_are_known s (items.Attribute name t) = (refl, (tt, tt))
+ancestors_are_known s items.Text = (refl, (tt, tt))
+ancestors_are_known s (items.Document element) = tt
+ancestors_are_known s (items.Atom t) = tt
+
+ancestors_are_normal : (s : SchemaSet) (test : KindTest) (kind : ItemType) → IsNormalType s (ancestor_type s test kind)
+ancestors_are_normal s test kind = any_tested_is_normal s test (ancestor_kinds kind) (ancestors_are_known s kind)
+
 -- ---- steps
 
 parent_is_known : (s : SchemaSet) (kind : ItemType) → AreKnown s (parent_type kind)
@@ -255,7 +290,13 @@ item_step_is_normal s axes.Child test kind is k = tested_in_place s test (child_
 item_step_is_normal s axes.Attribute test kind is k = attribute_is_normal s test kind is
 item_step_is_normal s axes.SelfAxis test kind is k = tested_is_normal s test kind k
 item_step_is_normal s axes.Parent test kind is k = tested_in_place s test (parent_type kind) (parent_is_known s kind)
-item_step_is_normal s _ test kind is k = tt
+item_step_is_normal s axes.Descendant test kind is k = descendants_are_normal s test kind is k
+item_step_is_normal s axes.DescendantOrSelf test kind is k =
+    joined_is_normal s (tested_item s test kind) (descendant_type s test kind) (tested_is_normal s test kind k) (descendants_are_normal s test kind is k)
+item_step_is_normal s axes.Ancestor test kind is k = ancestors_are_normal s test kind
+item_step_is_normal s axes.AncestorOrSelf test kind is k =
+    factored_is_normal s (joined_types (tested_item s test kind) (ancestor_type s test kind))
+    (joined_is_normal s (tested_item s test kind) (ancestor_type s test kind) (tested_is_normal s test kind k) (ancestors_are_normal s test kind))
 
 pub step_is_normal : (s : SchemaSet) (axis : Axis) (test : Test) (context : SequenceType) → IsSchemaSet s → IsNormalType s context → IsNormalType s (step_type s axis test context)
 step_is_normal s axis test context is n =

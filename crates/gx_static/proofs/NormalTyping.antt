@@ -10,7 +10,8 @@ use Rattle.gx_types.specs.declared.step.Axis.{Axis}
 use Rattle.gx_types.specs.declared.step.Test.{Test}
 use Rattle.gx_core.specs.declared.operator.Operator.{Operator}
 use Rattle.gx_core.specs.declared.operator.Operator.TheVariants as operators
-use Rattle.gx_core.specs.Bindings.{Types, look_up, types_bound}
+use Rattle.gx_core.specs.declared.cases.TypeCase.{TypeCase}
+use Rattle.gx_core.specs.Bindings.{Types, look_up, types_bound, position_bound, branch_types}
 use Rattle.gx_core.specs.Expression.{CoreExpression, At, Parts, no_parts, a_part, each_of, annotation_of}
 use Rattle.gx_core.specs.Soundness.{TypedExpression}
 use Rattle.gx_static.specs.Rule.{Ruling, has_type, has_none, rule, variable_ruling, reaching, step_ruling, ruling}
@@ -36,13 +37,24 @@ found_is_normal : (s : SchemaSet) (types : Types) (number : ℕ) → HaveNormalT
 found_is_normal s [] number n = tt
 found_is_normal s (binding ∷ types) number n = found_or s (nat_eq binding.0 number) binding.1 (look_up types number) n.0 (found_is_normal s types number n.1)
 
-pub bound_are_normal : (s : SchemaSet) (operator : Operator) (before : List SequenceType) → HoldsOfEach (IsNormalType s) before → HaveNormalTypes s (types_bound operator before)
-bound_are_normal s (operators.For binder zero) (source ∷ []) n = (prime_is_normal s source n.0, tt)
-bound_are_normal s (operators.For binder (suc position)) (source ∷ []) n = (prime_is_normal s source n.0, (integer_is_atomic s, tt))
-bound_are_normal s (operators.SomeIn binder) (source ∷ []) n = (prime_is_normal s source n.0, tt)
-bound_are_normal s (operators.EveryIn binder) (source ∷ []) n = (prime_is_normal s source n.0, tt)
-bound_are_normal s (operators.Let binder) (value ∷ []) n = (n.0, tt)
-bound_are_normal s _ _ n = tt
+one_bound_is_normal : (s : SchemaSet) (number : ℕ) (t : SequenceType) → IsNormalType s t → HaveNormalTypes s (position_bound number t)
+one_bound_is_normal s zero t n = tt
+one_bound_is_normal s (suc number) t n = (n, tt)
+
+branch_is_normal : (s : SchemaSet) (cases : List TypeCase) (default : ℕ) (operand : SequenceType) (branches : List SequenceType) → HoldsOfEach (λ (c : TypeCase). IsNormalType s c.kind) cases → IsNormalType s operand
+    → HaveNormalTypes s (branch_types cases default operand branches)
+branch_is_normal s [] default operand branches c n = one_bound_is_normal s default operand n
+branch_is_normal s (t ∷ cases) default operand [] c n = one_bound_is_normal s t.variable t.kind c.0
+branch_is_normal s (t ∷ cases) default operand (branch ∷ branches) c n = branch_is_normal s cases default operand branches c.1 n
+
+pub bound_are_normal : (s : SchemaSet) (operator : Operator) (before : List SequenceType) → CastsToAtomicType s operator → HoldsOfEach (IsNormalType s) before → HaveNormalTypes s (types_bound operator before)
+bound_are_normal s (operators.For binder zero) (source ∷ []) c n = (prime_is_normal s source n.0, tt)
+bound_are_normal s (operators.For binder (suc position)) (source ∷ []) c n = (prime_is_normal s source n.0, (integer_is_atomic s, tt))
+bound_are_normal s (operators.SomeIn binder) (source ∷ []) c n = (prime_is_normal s source n.0, tt)
+bound_are_normal s (operators.EveryIn binder) (source ∷ []) c n = (prime_is_normal s source n.0, tt)
+bound_are_normal s (operators.Let binder) (value ∷ []) c n = (n.0, tt)
+bound_are_normal s (operators.Switch cases default) (operand ∷ branches) c n = branch_is_normal s cases default operand branches c n.0
+bound_are_normal s _ _ c n = tt
 
 -- ---- rulings
 
@@ -97,18 +109,18 @@ mutual
   pub judged_is_normal : (s : SchemaSet) → IsSchemaSet s → (e : CoreExpression) (types : Types) → CastsToAtomicTypes s e → HaveNormalTypes s types → IfTyped (IsNormalThroughout s) (judged s e types)
   judged_is_normal s is (At place outer tt operator parts) types c n =
       made_typed (AreNormalThroughout s) (IsNormalThroughout s) (parts_judged s operator [] parts types) (λ ts. concluded place outer operator ts (ruling s operator (each_of annotation_of ts) types))
-      (parts_are_normal s is operator [] parts types c.1 n tt)
+      (parts_are_normal s is operator [] parts types c.0 c.1 n tt)
       (λ ts h. concluded_is_normal s place outer operator ts (ruling s operator (each_of annotation_of ts) types) h (ruling_is_normal s operator (each_of annotation_of ts) types is c.0 n (annotations_are_normal s ts h)))
 
-  pub parts_are_normal : (s : SchemaSet) → IsSchemaSet s → (operator : Operator) (before : List SequenceType) (parts : Parts (Unit {0})) (types : Types) → PartsCastToAtomicTypes s parts → HaveNormalTypes s types
+  pub parts_are_normal : (s : SchemaSet) → IsSchemaSet s → (operator : Operator) (before : List SequenceType) (parts : Parts (Unit {0})) (types : Types) → CastsToAtomicType s operator → PartsCastToAtomicTypes s parts → HaveNormalTypes s types
       → HoldsOfEach (IsNormalType s) before → IfTyped (AreNormalThroughout s) (parts_judged s operator before parts types)
-  parts_are_normal s is operator before no_parts types c n b = tt
-  parts_are_normal s is operator before (a_part first others) types c n b =
+  parts_are_normal s is operator before no_parts types o c n b = tt
+  parts_are_normal s is operator before (a_part first others) types o c n b =
       made_typed (IsNormalThroughout s) (AreNormalThroughout s) (judged s first (types_bound operator before ++ types))
       (λ t. with_typed (parts_judged s operator (before ++ annotation_of t ∷ []) others types) (λ ts. typed (a_part t ts)))
-      (judged_is_normal s is first (types_bound operator before ++ types) c.0 (both_hold (λ (binding : ℕ × SequenceType). IsNormalType s binding.1) (types_bound operator before) types (bound_are_normal s operator before b) n))
+      (judged_is_normal s is first (types_bound operator before ++ types) c.0 (both_hold (λ (binding : ℕ × SequenceType). IsNormalType s binding.1) (types_bound operator before) types (bound_are_normal s operator before o b) n))
       (λ t h. made_typed (AreNormalThroughout s) (AreNormalThroughout s) (parts_judged s operator (before ++ annotation_of t ∷ []) others types) (λ ts. typed (a_part t ts))
-      (parts_are_normal s is operator (before ++ annotation_of t ∷ []) others types c.1 n (both_hold (IsNormalType s) before (annotation_of t ∷ []) b (annotation_is_normal s t h, tt)))
+      (parts_are_normal s is operator (before ++ annotation_of t ∷ []) others types o c.1 n (both_hold (IsNormalType s) before (annotation_of t ∷ []) b (annotation_is_normal s t h, tt)))
       (λ ts k. (h, k)))
 
 pub typing_gives_normal_types : TypingGivesNormalTypes

@@ -70,7 +70,7 @@ node_itself n =
 
 -- ---- counts
 
-abbrev count : {A : Type 0} → (A → Bool) → List A → ℕ
+abbrev pub count : {A : Type 0} → (A → Bool) → List A → ℕ
 count f xs = length (filter f xs)
 
 -- a test that passes less often passes fewer
@@ -80,7 +80,7 @@ count_if f g x xs false true h l = omega (arith, l)
 count_if f g x xs false false h l = l
 count_if f g x xs true false h l = let e = h refl in absurd (cc)
 
-fewer_pass : {A : Type 0} → (f g : A → Bool) → ((x : A) → f x ≡ true → g x ≡ true) → (xs : List A) → count f xs ≤ count g xs
+pub fewer_pass : {A : Type 0} → (f g : A → Bool) → ((x : A) → f x ≡ true → g x ≡ true) → (xs : List A) → count f xs ≤ count g xs
 fewer_pass f g h [] = omega arith
 fewer_pass f g h (x ∷ xs) = count_if f g x xs (f x) (g x) (h x) (fewer_pass f g h xs)
 
@@ -201,7 +201,7 @@ stands_once forest p shape e = once_if_found forest p shape (slice_get forest p.
 
 -- ---- how many nodes there are in order
 
-least_is_small : (t : SequenceType) → (occurrence_of t).least ≤ 1
+pub least_is_small : (t : SequenceType) → (occurrence_of t).least ≤ 1
 least_is_small never = omega arith
 least_is_small nothing = omega arith
 least_is_small (item kind) = omega arith
@@ -223,7 +223,7 @@ one_there : (forest : Forest) (p : PlainNode) → count (λ n. same_node n p) (n
 one_there forest p e =
     let l = fewer_pass (λ n. list_any (same_node n) (p ∷ [])) (λ n. same_node n p) (λ n h. only_there (same_node n p) h) (nodes_from 0 forest) in omega (arith, l, e)
 
-ordered_count : (s : SchemaSet) (forest : Forest) (t : SequenceType) (xs : Items) (ss : List Shape) → EachItem IsNode xs → HaveShapes s forest xs ss → Allows (occurrence_of t) (length xs)
+pub ordered_count : (s : SchemaSet) (forest : Forest) (t : SequenceType) (xs : Items) (ss : List Shape) → EachItem IsNode xs → HaveShapes s forest xs ss → Allows (occurrence_of t) (length xs)
     → Allows (occurrence_of t) (length (in_document_order forest (places_of xs)))
 ordered_count s forest t [] ss nodes h w =
     let none = count_none (λ n. list_any (same_node n) []) (λ n. refl) (nodes_from 0 forest) in
@@ -245,7 +245,7 @@ ordered_count s forest t (node p ∷ xs) (shape ∷ ss) nodes h w =
 same_belongs : (s : SchemaSet) (forest : Forest) (t : SequenceType) (n p : PlainNode) → same_node n p ≡ true → Belongs s forest (node p ∷ []) t → Belongs s forest (node n ∷ []) t
 same_belongs s forest t n p e b = subst (λ (m : PlainNode). Belongs s forest (node m ∷ []) t) (sym (same_is_one n p e)) b
 
-among_belongs : (s : SchemaSet) (forest : Forest) (t : SequenceType) (n : PlainNode) (xs : Items) → EachBelongs s forest t xs → list_any (same_node n) (places_of xs) ≡ true → Belongs s forest (node n ∷ []) t
+pub among_belongs : (s : SchemaSet) (forest : Forest) (t : SequenceType) (n : PlainNode) (xs : Items) → EachBelongs s forest t xs → list_any (same_node n) (places_of xs) ≡ true → Belongs s forest (node n ∷ []) t
 among_belongs s forest t n [] h e = absurd (cc)
 among_belongs s forest t n (atom a ∷ xs) h e = among_belongs s forest t n xs h.1 e
 among_belongs s forest t n (node p ∷ xs) h e =
@@ -255,11 +255,11 @@ among_belongs s forest t n (node p ∷ xs) h e =
     ] refl e
 
 -- as lists of one shape each
-record SingleLists (s : SchemaSet) (forest : Forest) (t : SequenceType) (nodes : List PlainNode) : Type 0 where
-  parts : List (List Shape)
-  shaped : HaveShapes s forest (map node nodes) (all_joined parts)
-  each : Each (Takes s t) parts
-  counted : length parts ≡ length nodes
+pub record SingleLists (s : SchemaSet) (forest : Forest) (t : SequenceType) (nodes : List PlainNode) : Type 0 where
+  pub parts : List (List Shape)
+  pub shaped : HaveShapes s forest (map node nodes) (all_joined parts)
+  pub each : Each (Takes s t) parts
+  pub counted : length parts ≡ length nodes
 
 kept_if_single : (s : SchemaSet) (forest : Forest) (t : SequenceType) (n : PlainNode) (kept : List PlainNode) (b : Bool) → (b ≡ true → Belongs s forest (node n ∷ []) t) → SingleLists s forest t kept → SingleLists s forest t (cond b (n ∷ kept) kept)
 kept_if_single s forest t n kept true h r =
@@ -271,11 +271,11 @@ kept_if_single s forest t n kept true h r =
     }
 kept_if_single s forest t n kept false h r = r
 
-kept_lists : (s : SchemaSet) (forest : Forest) (t : SequenceType) (test : PlainNode → Bool) → ((n : PlainNode) → test n ≡ true → Belongs s forest (node n ∷ []) t) → (all : List PlainNode) → SingleLists s forest t (filter test all)
+pub kept_lists : (s : SchemaSet) (forest : Forest) (t : SequenceType) (test : PlainNode → Bool) → ((n : PlainNode) → test n ≡ true → Belongs s forest (node n ∷ []) t) → (all : List PlainNode) → SingleLists s forest t (filter test all)
 kept_lists s forest t test h [] = record { parts = []; shaped = tt; each = tt; counted = refl }
 kept_lists s forest t test h (n ∷ all) = kept_if_single s forest t n (filter test all) (test n) (h n) (kept_lists s forest t test h all)
 
-in_order_belongs : (s : SchemaSet) (forest : Forest) (t : SequenceType) (xs : Items) → EachItem IsNode xs → Belongs s forest xs t
+pub in_order_belongs : (s : SchemaSet) (forest : Forest) (t : SequenceType) (xs : Items) → EachItem IsNode xs → Belongs s forest xs t
     → Belongs s forest (map node (in_document_order forest (places_of xs))) (times_of (prime_of t) (occurrence_of t))
 in_order_belongs s forest t xs nodes b =
     let r = kept_lists s forest (prime_of t) (λ n. list_any (same_node n) (places_of xs)) (λ n e. among_belongs s forest (prime_of t) n xs (items_belong s forest t xs b) e) (nodes_from 0 forest) in

@@ -2,7 +2,7 @@
 use Rattle.std.proofs.Common.{◌≡◌, ℕ, Bool, true, false, ◌&&◌, [], ◌∷◌, map, Option, None, Some, refl, sym, ◌∙◌, ap, subst, if◌then◌else◌}
 use Rattle.std.specs.Prelude.{not}
 use Rattle.std.specs.List.{list_all}
-use Rattle.gx_base.specs.declared.code.Code.TheVariants.{XPST0003, XPST0005, XPTY0020}
+use Rattle.gx_base.specs.declared.code.Code.TheVariants.{XPST0005}
 use Rattle.gx_types.specs.declared.step.Axis.{Axis}
 use Rattle.gx_types.specs.declared.step.Test.{Test}
 use Rattle.gx_types.specs.SchemaSet.{SchemaSet}
@@ -17,8 +17,8 @@ use Rattle.gx_model.specs.Item.{Item, node, Items}
 use Rattle.gx_model.specs.Belongs.{Belongs}
 use Rattle.gx_model.specs.Axes.{on_axis}
 use Rattle.gx_include.specs.Decision.{is_included}
-use Rattle.gx_steptype.specs.StepType.{is_near, node_type, step_type}
-use Rattle.gx_steptype.proofs.NearSteps.{steps_keep_their_types}
+use Rattle.gx_steptype.specs.StepType.{node_type, step_type}
+use Rattle.gx_steptype.proofs.StepTypes.{steps_keep_their_types}
 use Rattle.gx_core.specs.Expression.{no_parts, a_part}
 use Rattle.gx_core.specs.Bindings.{look_up, Types}
 use Rattle.gx_core.specs.Outcome.{gives, wrong, given}
@@ -62,16 +62,11 @@ reached context (has_none code part) t e = absurd (cc)
 
 -- what a rule of a step says of its context
 record IsStepFrom (s : SchemaSet) (axis : Axis) (asks : Test) (context t : SequenceType) : Type 0 where
-  near : is_near axis ≡ true
   included : is_included s context node_type ≡ true
   type : step_type s axis asks context ≡ t
 
 step_so : (s : SchemaSet) (axis : Axis) (asks : Test) (context t : SequenceType) → step_rule s axis asks context ≡ has_type t → IsStepFrom s axis asks context t
-step_so s axis asks context t e = of_axis (is_near axis) refl e
-  where
-    of_axis : (b : Bool) → is_near axis ≡ b → (if b then (if is_included s context node_type then has_type (step_type s axis asks context) else has_none XPTY0020 None) else has_none XPST0003 None) ≡ has_type t → IsStepFrom s axis asks context t
-    of_axis true near f = let r = tested (is_included s context node_type) (step_type s axis asks context) t _ _ f in record { near = near; included = r.0; type = r.1 }
-    of_axis false near f = absurd (cc)
+step_so s axis asks context t e = let r = tested (is_included s context node_type) (step_type s axis asks context) t _ _ e in record { included = r.0; type = r.1 }
 
 -- the value of a context is one node
 one_node : (s : SchemaSet) (forest : Forest) (xs : Items) (t : SequenceType) → Grounded (bases_of s) → IsHonest s forest → is_included s t node_type ≡ true → Belongs s forest xs t → (place : PlainNode) × (xs ≡ node place ∷ [])
@@ -87,7 +82,7 @@ stepped_keeps s forest axis asks xs context t is honest r b =
     let n = one_node s forest xs context is.grounded honest r.included b in
     subst (λ (ys : Items). Keeps (typed_setting s) forest t (stepped s axis asks ys forest)) (sym n.1)
     (value_keeps s (step_type s axis asks context) t forest (map node (on_axis s forest n.0 axis asks)) r.type honest
-    (steps_keep_their_types s forest n.0 axis asks context is honest r.near (subst (λ (ys : Items). Belongs s forest ys context) n.1 b)))
+    (steps_keep_their_types s forest n.0 axis asks context is honest (subst (λ (ys : Items). Belongs s forest ys context) n.1 b)))
 
 bound_step_keeps : (s : SchemaSet) (axis : Axis) (asks : Test) (number : ℕ) (types : Types) (situation : Situation (typed_setting s) types) (t : SequenceType) (found : Option SequenceType) → IsSchemaSet s
     → look_up types number ≡ found → step_ruling s axis asks number found ≡ has_type t

@@ -1,9 +1,10 @@
 -- Where each variable stands in the scope of its binder, no variable is rejected.
 use Rattle.std.proofs.Common.{◌≡◌, ◌≢◌, ℕ, zero, suc, ◌+◌, Bool, true, false, ◌||◌, ◌&&◌, List, [], ◌∷◌, ◌++◌, map, Option, Some, None, refl, sym, ◌∙◌, ap, subst, nat_eq, if◌then◌else◌}
 use Rattle.std.specs.Prelude.{not}
+use Rattle.gx_core.specs.declared.cases.TypeCase.{TypeCase}
 use Rattle.gx_base.specs.declared.place.Place.{Place}
 use Rattle.gx_base.specs.declared.code.Code.{Code}
-use Rattle.gx_base.specs.declared.code.Code.TheVariants.{XPST0003, XPST0005, XPST0008, XPTY0004, XPTY0018, XPTY0019, XPTY0020, XPDY0002, FOTY0012}
+use Rattle.gx_base.specs.declared.code.Code.TheVariants.{XPST0005, XPST0008, XPTY0004, XPTY0018, XPTY0019, XPTY0020, XPDY0002, FOTY0012}
 use Rattle.gx_base.specs.declared.type_name.Builtin.{Builtin}
 use Rattle.gx_types.specs.SchemaSet.{SchemaSet}
 use Rattle.gx_types.specs.declared.step.Axis.{Axis}
@@ -14,21 +15,21 @@ use Rattle.gx_types.specs.Occurrence.{occurrence_of}
 use Rattle.gx_types.specs.Prime.{prime_of}
 use Rattle.gx_types.specs.TypeRules.{times_of}
 use Rattle.gx_include.specs.Decision.{is_included}
-use Rattle.gx_steptype.specs.StepType.{is_near, node_type, step_type}
+use Rattle.gx_steptype.specs.StepType.{node_type, step_type}
 use Rattle.gx_steptype.specs.DataType.{has_data, type_of_data}
 use Rattle.gx_funcs.specs.declared.function.Function.{Function}
 use Rattle.gx_funcs.specs.declared.function.Function.TheVariants as functions
 use Rattle.gx_funcs.specs.declared.function.Parameter.{Parameter}
-use Rattle.gx_funcs.specs.Function.{parameters_of, answer_type_of}
+use Rattle.gx_funcs.specs.Function.{parameters_of}
 use Rattle.gx_core.specs.declared.expression.BinaryClass.{BinaryClass}
 use Rattle.gx_core.specs.declared.expression.BinaryClass.TheVariants as classes
 use Rattle.gx_core.specs.BinaryOperators.{class_of}
 use Rattle.gx_core.specs.declared.operator.Operator.{Operator}
 use Rattle.gx_core.specs.declared.operator.Operator.TheVariants as operators
 use Rattle.gx_core.specs.Expression.{CoreExpression, At, Parts, no_parts, a_part, each_of, annotation_of}
-use Rattle.gx_core.specs.Bindings.{look_up, Types, types_bound, numbers_bound_by}
+use Rattle.gx_core.specs.Bindings.{look_up, Types, types_bound, numbers_bound_by, branch_numbers, branch_types, position_bound, position_numbers}
 use Rattle.gx_core.specs.Invariant.{is_among, IsInScope, IsScoped, ArePartsScoped}
-use Rattle.gx_static.specs.Rule.{has_type, has_none, all_items, is_atomic, nodes_type, step_rule, reaching, step_ruling, order_rule, data_rule, binary_rule, takes_argument, arguments_rule, answer_rule, call_rule, ruling, variable_ruling}
+use Rattle.gx_static.specs.Rule.{called_type, has_type, has_none, all_items, is_atomic, nodes_type, step_rule, reaching, step_ruling, order_rule, data_rule, binary_rule, takes_argument, arguments_rule, answer_rule, call_rule, ruling, variable_ruling}
 use Rattle.gx_static.specs.Judgement.{typed, with_typed, concluded, judged, parts_judged}
 use Rattle.gx_static.specs.Laws.{ScopedVariablesHaveTypes}
 use Rattle.gx_static.proofs.Failing.{IfRejected, made_fails, own_fails}
@@ -68,7 +69,9 @@ binary_code : (s : SchemaSet) (class : BinaryClass) (t u : SequenceType) (code :
 binary_code s (classes.Arithmetic operation) t u code part e = tested_code _ _ XPTY0004 code part (λ x. cc) e
 binary_code s (classes.Value op) t u code part e = tested_code _ _ XPTY0004 code part (λ x. cc) e
 binary_code s (classes.General op) t u code part e = tested_code _ _ XPTY0004 code part (λ x. cc) e
+binary_code s (classes.Nodes op) t u code part e = tested_code _ _ XPTY0004 code part (λ x. cc) e
 binary_code s classes.Range t u code part e = tested_code _ _ XPTY0004 code part (λ x. cc) e
+binary_code s (classes.Sets op) t u code part e = tested_code _ _ XPTY0004 code part (λ x. cc) e
 
 -- parameters none of which has the code
 abbrev HaveOtherCodes : List Parameter → Type 0
@@ -78,6 +81,8 @@ HaveOtherCodes (p ∷ ps) = (p.code ≢ XPST0008) × HaveOtherCodes ps
 parameters_code : (function : Function) → HaveOtherCodes (parameters_of function)
 parameters_code functions.True = tt
 parameters_code functions.False = tt
+parameters_code functions.Position = tt
+parameters_code functions.Last = tt
 parameters_code _ = (λ e. cc, tt)
 
 answer_code : (found : Option Builtin) (code : Code) (part : Option ℕ) → answer_rule found ≡ has_none code part → code ≢ XPST0008
@@ -97,7 +102,7 @@ arguments_code s (p ∷ ps) (t ∷ ts) number found code part h e =
 
 call_code : (s : SchemaSet) (function : Function) (ts : List SequenceType) (code : Code) (part : Option ℕ) → call_rule s function ts ≡ has_none code part → code ≢ XPST0008
 unfolding call_rule
-call_code s function ts code part e = arguments_code s (parameters_of function) ts 0 (answer_type_of function) code part (parameters_code function) e
+call_code s function ts code part e = arguments_code s (parameters_of function) ts 0 (called_type function) code part (parameters_code function) e
 
 -- a step from a variable that has a type
 another_code : (given code : Code) (there part : Option ℕ) → given ≢ XPST0008 → has_none given there ≡ has_none code part → code ≢ XPST0008
@@ -112,12 +117,9 @@ reached_code given context code part e =
 
 context_code : (s : SchemaSet) (axis : Axis) (asks : Test) (context : SequenceType) (code : Code) (part : Option ℕ) → reaching context (step_rule s axis asks context) ≡ has_none code part → code ≢ XPST0008
 context_code s axis asks context code part e =
-    elim (is_near axis) as (λ (b : Bool). reaching context (if b then (if is_included s context node_type then has_type (step_type s axis asks context) else has_none XPTY0020 None) else has_none XPST0003 None) ≡ has_none code part → code ≢ XPST0008) [
-      | true ↦ λ f. elim (is_included s context node_type) as (λ (b : Bool). reaching context (if b then has_type (step_type s axis asks context) else has_none XPTY0020 None) ≡ has_none code part → code ≢ XPST0008) [
-        | true ↦ λ g. reached_code (step_type s axis asks context) context code part g
-        | false ↦ λ g. another_code XPTY0020 code None part (λ x. cc) g
-      ] f
-      | false ↦ λ f. another_code XPST0003 code None part (λ x. cc) f
+    elim (is_included s context node_type) as (λ (b : Bool). reaching context (if b then has_type (step_type s axis asks context) else has_none XPTY0020 None) ≡ has_none code part → code ≢ XPST0008) [
+      | true ↦ λ f. reached_code (step_type s axis asks context) context code part f
+      | false ↦ λ f. another_code XPTY0020 code None part (λ x. cc) f
     ] e
 
 step_code : (s : SchemaSet) (axis : Axis) (asks : Test) (number : ℕ) (types : Types) (found : Option SequenceType) (code : Code) (part : Option ℕ) → look_up types number ≡ found → is_among (in_scope types) number ≡ true
@@ -162,6 +164,12 @@ ruling_code s operators.NoContext [] types code part h e = let same : XPDY0002 �
 ruling_code s operators.NoContext (t ∷ ts) types code part h e = other_code code part e
 ruling_code s (operators.Let binder) (t ∷ u ∷ []) types code part h e = tested_code _ _ XPTY0004 code part (λ x. cc) e
 ruling_code s (operators.Let binder) _ types code part h e = other_code code part e
+ruling_code s (operators.Switch cases default) (t ∷ ts) types code part h e = tested_code _ _ XPTY0004 code part (λ x. cc) e
+ruling_code s (operators.Switch cases default) [] types code part h e = other_code code part e
+ruling_code s (operators.Nth number backwards) (t ∷ []) types code part h e = absurd (cc)
+ruling_code s (operators.Nth number backwards) _ types code part h e = other_code code part e
+ruling_code s (operators.Final backwards) (t ∷ []) types code part h e = absurd (cc)
+ruling_code s (operators.Final backwards) _ types code part h e = other_code code part e
 ruling_code s operators.DataOf (t ∷ []) types code part h e = data_code s t code part e
 ruling_code s operators.DataOf _ types code part h e = other_code code part e
 ruling_code s operators.If (t ∷ u ∷ v ∷ []) types code part h e = tested_code _ _ XPTY0004 code part (λ x. cc) e
@@ -180,6 +188,15 @@ ruling_code s (operators.Binary operator) _ types code part h e = other_code cod
 abbrev pub places_of : List SequenceType → List (Unit {0})
 places_of ts = map (λ t. tt) ts
 
+bound_agree : (number : ℕ) (t : SequenceType) → in_scope (position_bound number t) ≡ position_numbers number
+bound_agree zero t = refl
+bound_agree (suc number) t = refl
+
+branches_agree : (cases : List TypeCase) (default : ℕ) (operand : SequenceType) (branches : List SequenceType) → in_scope (branch_types cases default operand branches) ≡ branch_numbers cases default (places_of branches)
+branches_agree [] default operand branches = bound_agree default operand
+branches_agree (c ∷ cases) default operand [] = bound_agree c.variable c.kind
+branches_agree (c ∷ cases) default operand (t ∷ branches) = branches_agree cases default operand branches
+
 pub numbers_agree : (operator : Operator) (before : List SequenceType) → in_scope (types_bound operator before) ≡ numbers_bound_by operator (places_of before)
 numbers_agree (operators.For binder zero) [] = refl
 numbers_agree (operators.For binder zero) (t ∷ []) = refl
@@ -196,6 +213,8 @@ numbers_agree (operators.EveryIn binder) (t ∷ u ∷ ts) = refl
 numbers_agree (operators.Let binder) [] = refl
 numbers_agree (operators.Let binder) (t ∷ []) = refl
 numbers_agree (operators.Let binder) (t ∷ u ∷ ts) = refl
+numbers_agree (operators.Switch cases default) [] = refl
+numbers_agree (operators.Switch cases default) (operand ∷ branches) = branches_agree cases default operand branches
 numbers_agree _ before = refl
 
 pub in_scope_joined : (bound types : Types) → in_scope (bound ++ types) ≡ in_scope bound ++ in_scope types

@@ -93,18 +93,26 @@ two_keep s forest t u v next xs ys honest few_t few_u b c h =
     (record { least = omega (arith, p.least, q.least); greatest = λ _. omega (arith, l, m) }) (λ x y d e w. h x y (both_occur t u) d e w)
 
 -- the same with a type that is optional where an operand is
+pub two_compared_so : (s : SchemaSet) (forest : Forest) (t u v : SequenceType) (next : Item → Item → Forest → Outcome Items) (xs ys : Items) → IsHonest s forest → length xs ≤ 1 → length ys ≤ 1
+    → Belongs s forest xs t → Belongs s forest ys u → ((x y : Item) (o : Occurs) → xs ≡ x ∷ [] → ys ≡ y ∷ [] → Allows o 1 → Kept s forest v o (next x y forest))
+    → Keeps (typed_setting s) forest (if same_type never t then never else times_of v (compared_occur t u)) (on_two xs ys forest next)
+two_compared_so s forest t u v next xs ys honest l m b c h =
+    let p = belongs_within s forest t xs b in
+    let q = belongs_within s forest u ys c in
+    two_keep_so s forest t v (compared_occur t u) next xs ys honest b l m
+    (record { least = omega (arith, p.least, q.least); greatest = λ _. omega (arith, l, m) }) (λ x y d e w. h x y (compared_occur t u) d e w)
+
+-- at most one item, by its type
+pub few_items : (s : SchemaSet) (forest : Forest) (t : SequenceType) (xs : Items) → is_at_most_one t ≡ true → Belongs s forest xs t → length xs ≤ 1
+few_items s forest t xs few b =
+    let i = at_most_one (occurrence_of t).greatest few in
+    let p = belongs_within s forest t xs b in omega (arith, p.greatest (omega (arith, i)), i)
+
 pub two_compared : (s : SchemaSet) (forest : Forest) (t u v : SequenceType) (next : Item → Item → Forest → Outcome Items) (xs ys : Items) → IsHonest s forest → is_at_most_one t ≡ true → is_at_most_one u ≡ true
     → Belongs s forest xs t → Belongs s forest ys u → ((x y : Item) (o : Occurs) → xs ≡ x ∷ [] → ys ≡ y ∷ [] → Allows o 1 → Kept s forest v o (next x y forest))
     → Keeps (typed_setting s) forest (if same_type never t then never else times_of v (compared_occur t u)) (on_two xs ys forest next)
 two_compared s forest t u v next xs ys honest few_t few_u b c h =
-    let i = at_most_one (occurrence_of t).greatest few_t in
-    let j = at_most_one (occurrence_of u).greatest few_u in
-    let p = belongs_within s forest t xs b in
-    let q = belongs_within s forest u ys c in
-    let l : length xs ≤ 1 = omega (arith, p.greatest (omega (arith, i)), i) in
-    let m : length ys ≤ 1 = omega (arith, q.greatest (omega (arith, j)), j) in
-    two_keep_so s forest t v (compared_occur t u) next xs ys honest b l m
-    (record { least = omega (arith, p.least, q.least); greatest = λ _. omega (arith, l, m) }) (λ x y d e w. h x y (compared_occur t u) d e w)
+    two_compared_so s forest t u v next xs ys honest (few_items s forest t xs few_t b) (few_items s forest u ys few_u c) b c h
 
 -- an operator of two operands whose type has the empty sequence
 pub pairs_keep : (s : SchemaSet) (forest : Forest) (t u v : SequenceType) (next : Item → Item → Forest → Outcome Items) (xs ys : Items) → IsHonest s forest → is_at_most_one t ≡ true → is_at_most_one u ≡ true

@@ -3,6 +3,8 @@ use Rattle.std.proofs.Common.{◌≡◌, List, [], ◌∷◌, ◌++◌, refl, �
 use Rattle.gx_base.specs.declared.place.Place.{Place}
 use Rattle.gx_types.specs.SchemaSet.{SchemaSet}
 use Rattle.gx_types.specs.SchemaInvariant.{IsSchemaSet}
+use Rattle.gx_types.specs.Derivation.{bases_of}
+use Rattle.gx_types.specs.Grounded.{Grounded}
 use Rattle.gx_types.specs.SequenceType.{SequenceType}
 use Rattle.gx_core.specs.declared.expression.BinaryOp.{BinaryOp}
 use Rattle.gx_core.specs.declared.expression.BinaryClass.{BinaryClass}
@@ -25,15 +27,21 @@ use Rattle.gx_static.proofs.Orders.{order_keeps}
 use Rattle.gx_static.proofs.Arithmetic.{arithmetic_keeps, negation_keeps}
 use Rattle.gx_static.proofs.Comparisons.{value_comparison_keeps, general_comparison_keeps}
 use Rattle.gx_static.proofs.Ranges.{range_keeps}
+use Rattle.gx_static.proofs.NodeComparisons.{node_comparison_keeps}
+use Rattle.gx_static.proofs.NodeSets.{node_set_keeps}
 use Rattle.gx_static.proofs.Conditionals.{conditional_keeps}
+use Rattle.gx_static.proofs.Picking.{nth_keeps, final_keeps}
+use Rattle.gx_static.proofs.Switches.{switch_keeps}
 use Rattle.gx_static.proofs.Casts.{cast_keeps, castable_keeps}
 use Rattle.gx_static.proofs.Calls.{call_keeps}
 
-binary_keeps : (s : SchemaSet) (operator : BinaryOp) (class : BinaryClass) → class_of operator ≡ class → ActsKeepType s (operators.Binary operator)
-binary_keeps s operator (classes.Arithmetic operation) e = arithmetic_keeps operation s operator e
-binary_keeps s operator (classes.Value op) e = value_comparison_keeps op s operator e
-binary_keeps s operator (classes.General op) e = general_comparison_keeps op s operator e
-binary_keeps s operator classes.Range e = range_keeps s operator e
+binary_keeps : (s : SchemaSet) → Grounded (bases_of s) → (operator : BinaryOp) (class : BinaryClass) → class_of operator ≡ class → ActsKeepType s (operators.Binary operator)
+binary_keeps s g operator (classes.Arithmetic operation) e = arithmetic_keeps operation s operator e
+binary_keeps s g operator (classes.Value op) e = value_comparison_keeps op s operator e
+binary_keeps s g operator (classes.General op) e = general_comparison_keeps op s operator e
+binary_keeps s g operator (classes.Nodes op) e = node_comparison_keeps op s operator g e
+binary_keeps s g operator classes.Range e = range_keeps s operator e
+binary_keeps s g operator (classes.Sets op) e = node_set_keeps op s operator g e
 
 -- the laws of all operators
 operator_keeps : (s : SchemaSet) → IsSchemaSet s → (operator : Operator) → OperatorKeepsType s operator
@@ -55,6 +63,11 @@ operator_keeps s is operators.Empty =
     strict_keeps s operators.Empty (record { denotes = λ k ps bs f. refl; binds_nothing = λ before. refl; ruled = λ s ps types. refl }) (empty_keeps s)
 operator_keeps s is operators.Seq =
     strict_keeps s operators.Seq (record { denotes = λ k ps bs f. refl; binds_nothing = λ before. refl; ruled = λ s ps types. refl }) (sequence_keeps s)
+operator_keeps s is (operators.Switch cases default) = switch_keeps s cases default
+operator_keeps s is (operators.Nth number backwards) =
+    strict_keeps s (operators.Nth number backwards) (record { denotes = λ k ps bs f. refl; binds_nothing = λ before. refl; ruled = λ s ps types. refl }) (nth_keeps s number backwards)
+operator_keeps s is (operators.Final backwards) =
+    strict_keeps s (operators.Final backwards) (record { denotes = λ k ps bs f. refl; binds_nothing = λ before. refl; ruled = λ s ps types. refl }) (final_keeps s backwards)
 operator_keeps s is operators.DataOf =
     strict_keeps s operators.DataOf (record { denotes = λ k ps bs f. refl; binds_nothing = λ before. refl; ruled = λ s ps types. refl }) (data_keeps s is)
 operator_keeps s is operators.If = conditional_keeps s
@@ -67,7 +80,7 @@ operator_keeps s is (operators.Call function) =
 operator_keeps s is operators.Neg =
     strict_keeps s operators.Neg (record { denotes = λ k ps bs f. refl; binds_nothing = λ before. refl; ruled = λ s ps types. refl }) (negation_keeps s)
 operator_keeps s is (operators.Binary operator) =
-    strict_keeps s (operators.Binary operator) (record { denotes = λ k ps bs f. refl; binds_nothing = λ before. refl; ruled = λ s ps types. refl }) (binary_keeps s operator (class_of operator) refl)
+    strict_keeps s (operators.Binary operator) (record { denotes = λ k ps bs f. refl; binds_nothing = λ before. refl; ruled = λ s ps types. refl }) (binary_keeps s is.grounded operator (class_of operator) refl)
 
 -- what holds of what has types, if there is something
 abbrev pub IfTyped : {R : Type 0} → (R → Type 0) → Judged R → Type 0

@@ -4,7 +4,7 @@ use Rattle.std.specs.Prelude.{not}
 use Rattle.gx_base.specs.declared.name.Name.{Name}
 use Rattle.gx_base.specs.declared.place.Place.{Place}
 use Rattle.gx_base.specs.declared.code.Code.{Code}
-use Rattle.gx_base.specs.declared.code.Code.TheVariants.{XPST0003, XPST0005, XPTY0004, XPTY0018, XPTY0019, XPTY0020, FOTY0012}
+use Rattle.gx_base.specs.declared.code.Code.TheVariants.{XPST0005, XPTY0004, XPTY0018, XPTY0019, XPTY0020, FOTY0012}
 use Rattle.gx_base.specs.Code.{is_static}
 use Rattle.gx_base.specs.declared.type_name.Builtin.{Builtin}
 use Rattle.gx_types.specs.SchemaSet.{SchemaSet}
@@ -16,12 +16,12 @@ use Rattle.gx_types.specs.Occurrence.{occurrence_of}
 use Rattle.gx_types.specs.Prime.{prime_of}
 use Rattle.gx_types.specs.TypeRules.{times_of}
 use Rattle.gx_include.specs.Decision.{is_included}
-use Rattle.gx_steptype.specs.StepType.{is_near, node_type, step_type}
+use Rattle.gx_steptype.specs.StepType.{node_type, step_type}
 use Rattle.gx_steptype.specs.DataType.{has_data, type_of_data}
 use Rattle.gx_funcs.specs.declared.function.Function.{Function}
 use Rattle.gx_funcs.specs.declared.function.Function.TheVariants as functions
 use Rattle.gx_funcs.specs.declared.function.Parameter.{Parameter}
-use Rattle.gx_funcs.specs.Function.{parameters_of, answer_type_of}
+use Rattle.gx_funcs.specs.Function.{parameters_of}
 use Rattle.gx_core.specs.declared.expression.BinaryClass.{BinaryClass}
 use Rattle.gx_core.specs.declared.expression.BinaryClass.TheVariants as classes
 use Rattle.gx_core.specs.declared.expression.Binder.{Binder}
@@ -34,7 +34,7 @@ use Rattle.gx_core.specs.Expression.{CoreExpression, At, Parts, no_parts, a_part
 use Rattle.gx_core.specs.Bindings.{look_up, Types, types_bound}
 use Rattle.gx_core.specs.QueryMeaning.{global_types, types_declared}
 use Rattle.gx_core.specs.Soundness.{TypedExpression}
-use Rattle.gx_static.specs.Rule.{Ruling, has_type, has_none, all_items, is_atomic, is_as_written, nodes_type, step_rule, reaching, step_ruling, order_rule, data_rule, binary_rule, takes_argument, arguments_rule, answer_rule, call_rule, ruling, variable_ruling}
+use Rattle.gx_static.specs.Rule.{called_type, Ruling, has_type, has_none, all_items, is_atomic, is_as_written, nodes_type, step_rule, reaching, step_ruling, order_rule, data_rule, binary_rule, takes_argument, arguments_rule, answer_rule, call_rule, ruling, variable_ruling}
 use Rattle.gx_static.specs.Judgement.{typed, rejected, with_typed, concluded, judged, parts_judged}
 use Rattle.gx_static.specs.QueryJudgement.{declared_as, declaration_judged, declarations_judged, core_judged, QueriesAreRejectedWithStaticCodes}
 use Rattle.gx_static.specs.Laws.{ExpressionsAreRejectedWithStaticCodes}
@@ -66,7 +66,9 @@ static_binary : (s : SchemaSet) (class : BinaryClass) (t u : SequenceType) → R
 static_binary s (classes.Arithmetic operation) t u = static_test _ _ XPTY0004 refl
 static_binary s (classes.Value op) t u = static_test _ _ XPTY0004 refl
 static_binary s (classes.General op) t u = static_test _ _ XPTY0004 refl
+static_binary s (classes.Nodes op) t u = static_test _ _ XPTY0004 refl
 static_binary s classes.Range t u = static_test _ _ XPTY0004 refl
+static_binary s (classes.Sets op) t u = static_test _ _ XPTY0004 refl
 
 static_order : (s : SchemaSet) (t : SequenceType) → RulesStatically (order_rule s t)
 static_order s t =
@@ -89,9 +91,7 @@ static_reaching context (has_type given) h =
 static_reaching context (has_none code part) h = h
 
 static_step_rule : (s : SchemaSet) (axis : Axis) (asks : Test) (context : SequenceType) → RulesStatically (step_rule s axis asks context)
-static_step_rule s axis asks context =
-    static_choice (is_near axis) (if is_included s context node_type then has_type (step_type s axis asks context) else has_none XPTY0020 None) (has_none XPST0003 None)
-    (static_test (is_included s context node_type) (step_type s axis asks context) XPTY0020 refl) refl
+static_step_rule s axis asks context = static_test (is_included s context node_type) (step_type s axis asks context) XPTY0020 refl
 
 static_step : (s : SchemaSet) (axis : Axis) (asks : Test) (number : ℕ) (found : Option SequenceType) → RulesStatically (step_ruling s axis asks number found)
 static_step s axis asks number None = refl
@@ -107,6 +107,8 @@ HaveStaticCodes (p ∷ ps) = (is_static p.code ≡ true) × HaveStaticCodes ps
 parameters_static : (function : Function) → HaveStaticCodes (parameters_of function)
 parameters_static functions.True = tt
 parameters_static functions.False = tt
+parameters_static functions.Position = tt
+parameters_static functions.Last = tt
 parameters_static _ = (refl, tt)
 
 static_answer : (found : Option Builtin) → RulesStatically (answer_rule found)
@@ -122,7 +124,7 @@ static_arguments s (p ∷ ps) (t ∷ ts) number r h k =
 
 static_call : (s : SchemaSet) (function : Function) (ts : List SequenceType) → RulesStatically (call_rule s function ts)
 unfolding call_rule
-static_call s function ts = static_arguments s (parameters_of function) ts 0 (answer_rule (answer_type_of function)) (parameters_static function) (static_answer (answer_type_of function))
+static_call s function ts = static_arguments s (parameters_of function) ts 0 (answer_rule (called_type function)) (parameters_static function) (static_answer (called_type function))
 
 -- ---- each operator
 
@@ -138,6 +140,9 @@ static_ruling s (operators.Step axis asks number) [] types = static_step s axis 
 static_ruling s operators.Nodes (t ∷ []) types = static_test _ _ XPTY0019 refl
 static_ruling s operators.Order (t ∷ []) types = static_order s t
 static_ruling s (operators.Let binder) (t ∷ u ∷ []) types = static_test _ _ XPTY0004 refl
+static_ruling s (operators.Switch cases default) (t ∷ ts) types = static_test _ _ XPTY0004 refl
+static_ruling s (operators.Nth number backwards) (t ∷ []) types = tt
+static_ruling s (operators.Final backwards) (t ∷ []) types = tt
 static_ruling s operators.DataOf (t ∷ []) types = static_data s t
 static_ruling s operators.If (t ∷ u ∷ v ∷ []) types = static_test _ _ XPTY0004 refl
 static_ruling s (operators.Cast kind allows_empty) (t ∷ []) types = static_test _ _ XPTY0004 refl

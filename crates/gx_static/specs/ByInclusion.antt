@@ -19,11 +19,11 @@ use Rattle.gx_funcs.specs.declared.function.Function.{Function}
 use Rattle.gx_funcs.specs.declared.function.Parameter.{Parameter}
 use Rattle.gx_funcs.specs.declared.function.ParameterType.{ParameterType}
 use Rattle.gx_funcs.specs.declared.function.ParameterType.TheVariants as parameters
-use Rattle.gx_funcs.specs.Function.{parameters_of, answer_type_of}
+use Rattle.gx_funcs.specs.Function.{parameters_of}
 use Rattle.gx_core.specs.declared.expression.ArithmeticOp.{ArithmeticOp}
 use Rattle.gx_core.specs.declared.expression.ArithmeticOp.TheVariants.{Div, IDiv}
 use Rattle.gx_core.specs.declared.expression.BinaryClass.{BinaryClass}
-use Rattle.gx_core.specs.declared.expression.BinaryClass.TheVariants.{Arithmetic, Value, General, Range}
+use Rattle.gx_core.specs.declared.expression.BinaryClass.TheVariants.{Arithmetic, Value, General, Range, Nodes, Sets}
 use Rattle.gx_core.specs.declared.expression.Binder.{Binder}
 use Rattle.gx_core.specs.declared.expression.Declaration.TheVariants.{Global}
 use Rattle.gx_core.specs.declared.operator.Operator.{Operator}
@@ -36,7 +36,7 @@ use Rattle.gx_core.specs.QueryMeaning.{global_types, types_declared}
 use Rattle.gx_core.specs.Soundness.{TypedExpression}
 use Rattle.gx_static.specs.declared.comparison.Family.{Family}
 use Rattle.gx_static.specs.declared.comparison.Family.TheVariants as families
-use Rattle.gx_static.specs.Rule.{Ruling, has_type, has_none, type_if, atomic, all_items, integer_if, both_occur, value_comparison_type, boolean_types, nodes_type, answer_rule, rule, ruling, is_as_written}
+use Rattle.gx_static.specs.Rule.{Ruling, has_type, has_none, type_if, atomic, all_items, integer_if, both_occur, value_comparison_type, boolean_types, nodes_type, answer_rule, called_type, rule, ruling, is_as_written, node_comparison_rule, set_rule}
 use Rattle.gx_static.specs.Demands.{family_type}
 use Rattle.gx_static.specs.Judgement.{typed, judged, parts_judged}
 use Rattle.gx_static.specs.NormalTypes.{IsNormalType, CastsToAtomicTypes}
@@ -104,7 +104,9 @@ abbrev pub binary_included : SchemaSet → BinaryClass → (left right : Sequenc
 binary_included schemas (Arithmetic operation) left right = arithmetic_included schemas operation left right
 binary_included schemas (Value op) left right = value_comparison_included schemas left right
 binary_included schemas (General op) left right = general_comparison_included schemas left right
+binary_included schemas (Nodes op) left right = node_comparison_rule schemas left right
 binary_included schemas Range left right = range_included schemas left right
+binary_included schemas (Sets op) left right = set_rule schemas op left right
 
 -- ---- conditionals, paths and casts
 
@@ -145,7 +147,7 @@ arguments_included schemas (parameter ∷ others) (argument ∷ arguments) numbe
 arguments_included schemas _ _ number ruling = has_none XPTY0004 None
 
 abbrev pub call_included : SchemaSet → Function → List SequenceType → Ruling
-call_included schemas function arguments = arguments_included schemas (parameters_of function) arguments 0 (answer_rule (answer_type_of function))
+call_included schemas function arguments = arguments_included schemas (parameters_of function) arguments 0 (answer_rule (called_type function))
 
 -- ---- each operator; the rules of all others name inclusion, or demand nothing of an operand
 

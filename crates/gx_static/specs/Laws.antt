@@ -1,5 +1,5 @@
 -- The laws of typing: each operator keeps its type where its parts keep theirs, and so every typed Core is sound.
-use Rattle.std.specs.Prelude.{◌≡◌, ◌≢◌, ℕ, Bool, true, List, [], ◌∷◌, ◌++◌, map}
+use Rattle.std.specs.Prelude.{◌≡◌, ◌≢◌, ℕ, ℤ, Bool, true, List, [], ◌∷◌, ◌++◌, map}
 use Rattle.gx_base.specs.declared.place.Place.{Place}
 use Rattle.gx_base.specs.declared.code.Code.{Code}
 use Rattle.gx_base.specs.declared.code.Code.TheVariants.{XPST0008}
@@ -15,6 +15,7 @@ use Rattle.gx_types.specs.SequenceType.{SequenceType}
 use Rattle.gx_model.specs.Forest.{Forest}
 use Rattle.gx_model.specs.Honest.{IsHonest}
 use Rattle.gx_model.specs.Item.{Items}
+use Rattle.gx_core.specs.declared.cases.TypeCase.{TypeCase}
 use Rattle.gx_core.specs.declared.expression.Binder.{Binder}
 use Rattle.gx_base.specs.declared.type_name.TypeName.{TypeName}
 use Rattle.gx_atomic.specs.declared.comparison.Op.{Op}
@@ -23,6 +24,8 @@ use Rattle.gx_core.specs.declared.expression.ArithmeticOp.{ArithmeticOp}
 use Rattle.gx_core.specs.declared.expression.BinaryOp.{BinaryOp}
 use Rattle.gx_core.specs.declared.expression.BinaryClass.{BinaryClass}
 use Rattle.gx_core.specs.declared.expression.BinaryClass.TheVariants as classes
+use Rattle.gx_core.specs.declared.expression.NodeComparison.{NodeComparison}
+use Rattle.gx_core.specs.declared.expression.SetOperator.{SetOperator}
 use Rattle.gx_core.specs.BinaryOperators.{class_of}
 use Rattle.gx_core.specs.declared.operator.Operator.{Operator}
 use Rattle.gx_core.specs.declared.operator.Operator.TheVariants as operators
@@ -81,6 +84,15 @@ SomeKeepsType = (schemas : SchemaSet) (binder : Binder) → OperatorKeepsType sc
 abbrev pub EveryKeepsType : Type 0
 EveryKeepsType = (schemas : SchemaSet) (binder : Binder) → OperatorKeepsType schemas (operators.EveryIn binder)
 
+abbrev pub NthKeepsType : Type 0
+NthKeepsType = (schemas : SchemaSet) (number : ℤ) (reverse : Bool) → ActsKeepType schemas (operators.Nth number reverse)
+
+abbrev pub FinalKeepsType : Type 0
+FinalKeepsType = (schemas : SchemaSet) (reverse : Bool) → ActsKeepType schemas (operators.Final reverse)
+
+abbrev pub SwitchKeepsType : Type 0
+SwitchKeepsType = (schemas : SchemaSet) (cases : List TypeCase) (default : ℕ) → OperatorKeepsType schemas (operators.Switch cases default)
+
 abbrev pub StepKeepsType : Type 0
 StepKeepsType = (schemas : SchemaSet) (axis : Axis) (asks : Test) (number : ℕ) → IsSchemaSet schemas → OperatorKeepsType schemas (operators.Step axis asks number)
 
@@ -114,6 +126,16 @@ GeneralComparisonKeepsType = (op : Op) → ClassKeepsType (classes.General op)
 
 abbrev pub RangeKeepsType : Type 0
 RangeKeepsType = ClassKeepsType classes.Range
+
+-- the operators over nodes, where the types of the schemas end at built-in ones
+abbrev pub NodeClassKeepsType : BinaryClass → Type 0
+NodeClassKeepsType class = (schemas : SchemaSet) (operator : BinaryOp) → Grounded (bases_of schemas) → class_of operator ≡ class → ActsKeepType schemas (operators.Binary operator)
+
+abbrev pub NodeComparisonKeepsType : Type 0
+NodeComparisonKeepsType = (op : NodeComparison) → NodeClassKeepsType (classes.Nodes op)
+
+abbrev pub NodeSetKeepsType : Type 0
+NodeSetKeepsType = (op : SetOperator) → NodeClassKeepsType (classes.Sets op)
 
 abbrev pub ConditionalKeepsType : Type 0
 ConditionalKeepsType = (schemas : SchemaSet) → OperatorKeepsType schemas operators.If

@@ -10,6 +10,7 @@ use Rattle.gx_types.specs.SchemaInvariant.{HoldsOfEach, IsSchemaSet}
 use Rattle.gx_types.specs.Derivation.{bases_of, DerivesFrom}
 use Rattle.gx_types.specs.Grounded.{is_known}
 use Rattle.gx_types.specs.SequenceType.{SequenceType, never, nothing, item, both, either, optional, star, plus}
+use Rattle.gx_core.specs.declared.cases.TypeCase.{TypeCase}
 use Rattle.gx_core.specs.declared.operator.Operator.{Operator}
 use Rattle.gx_core.specs.declared.operator.Operator.TheVariants as operators
 use Rattle.gx_core.specs.Bindings.{Types}
@@ -56,9 +57,10 @@ abbrev pub GivesNormalType : SchemaSet → Ruling → Type 0
 GivesNormalType schemas (has_type type) = IsNormalType schemas type
 GivesNormalType schemas (has_none code part) = Unit {0}
 
--- the type that a cast names is atomic
+-- the type that a cast names is atomic, and those of cases are normal
 abbrev pub CastsToAtomicType : SchemaSet → Operator → Type 0
 CastsToAtomicType schemas (operators.Cast kind allows_empty) = DerivesFrom schemas kind (names.Builtin AnyAtomic)
+CastsToAtomicType schemas (operators.Switch cases default) = HoldsOfEach (λ (c : TypeCase). IsNormalType schemas c.kind) cases
 CastsToAtomicType schemas _ = Unit {0}
 
 -- each operator gives a normal type where its parts have such
@@ -74,7 +76,7 @@ abbrev pub HaveNormalTypes : SchemaSet → Types → Type 0
 HaveNormalTypes schemas types = HoldsOfEach (λ (binding : ℕ × SequenceType). IsNormalType schemas binding.1) types
 
 abbrev mutual
-  -- each cast in an expression names an atomic type
+  -- each cast in an expression names an atomic type, and each case a normal one
   pub CastsToAtomicTypes : SchemaSet → CoreExpression → Type 0
   CastsToAtomicTypes schemas (At place outer annotation operator parts) = CastsToAtomicType schemas operator × PartsCastToAtomicTypes schemas parts
 

@@ -1,7 +1,7 @@
 -- The static rules: the type that an operator has, from the types of its parts (XQuery 1.0 and XPath 2.0 Formal Semantics, section 4).
-use Rattle.std.specs.Prelude.{ℕ, ◌+◌, min, nat_le, Bool, true, false, ◌&&◌, ◌||◌, not, List, [], ◌∷◌, Option, None, Some, if◌then◌else◌}
+use Rattle.std.specs.Prelude.{ℕ, zero, suc, ◌+◌, ℤ, pos, min, nat_le, ◌==◌, Bool, true, false, ◌&&◌, ◌||◌, not, List, [], ◌∷◌, length, Option, None, Some, if◌then◌else◌}
 use Rattle.gx_base.specs.declared.code.Code.{Code}
-use Rattle.gx_base.specs.declared.code.Code.TheVariants.{XPST0003, XPTY0004, XPST0005, XPST0008, XPTY0018, XPTY0019, XPTY0020, XPDY0002, FOTY0012}
+use Rattle.gx_base.specs.declared.code.Code.TheVariants.{XPTY0004, XPST0005, XPST0008, XPTY0018, XPTY0019, XPTY0020, XPDY0002, FOTY0012}
 use Rattle.gx_base.specs.declared.type_name.Builtin.{Builtin}
 use Rattle.gx_base.specs.declared.type_name.Builtin.TheVariants.{Integer, Decimal, UntypedAtomic, Boolean}
 use Rattle.gx_base.specs.declared.type_name.Builtin.TheVariants as builtins
@@ -20,13 +20,14 @@ use Rattle.gx_types.specs.SameType.{same_type}
 use Rattle.gx_types.specs.Occurs.{Occurs}
 use Rattle.gx_types.specs.Occurrence.{occurrence_of, occurs}
 use Rattle.gx_types.specs.Choice.{choice_among}
-use Rattle.gx_types.specs.TypeRules.{sequence_of, choice_of, times_of}
+use Rattle.gx_types.specs.TypeRules.{sequence_of, choice_of, times_of, limited}
 use Rattle.gx_types.specs.Prime.{prime_of}
 use Rattle.gx_types.specs.declared.step.Axis.{Axis}
 use Rattle.gx_types.specs.declared.step.Test.{Test}
-use Rattle.gx_steptype.specs.StepType.{is_near, node_type, any_item, step_type}
+use Rattle.gx_steptype.specs.StepType.{node_type, any_item, step_type}
 use Rattle.gx_steptype.specs.DataType.{has_data, type_of_data}
 use Rattle.gx_funcs.specs.declared.function.Function.{Function}
+use Rattle.gx_funcs.specs.declared.function.Function.TheVariants as functions
 use Rattle.gx_funcs.specs.declared.function.Parameter.{Parameter}
 use Rattle.gx_funcs.specs.declared.function.ParameterType.{ParameterType}
 use Rattle.gx_funcs.specs.declared.function.ParameterType.TheVariants as parameters
@@ -35,7 +36,10 @@ use Rattle.gx_core.specs.declared.expression.ArithmeticOp.{ArithmeticOp}
 use Rattle.gx_core.specs.declared.expression.ArithmeticOp.TheVariants.{Div, IDiv}
 use Rattle.gx_core.specs.declared.expression.BinaryClass.{BinaryClass}
 use Rattle.gx_core.specs.declared.expression.Binder.{Binder}
-use Rattle.gx_core.specs.declared.expression.BinaryClass.TheVariants.{Arithmetic, Value, General, Range}
+use Rattle.gx_core.specs.declared.expression.BinaryClass.TheVariants.{Arithmetic, Value, General, Nodes, Range, Sets}
+use Rattle.gx_core.specs.declared.expression.SetOperator.{SetOperator}
+use Rattle.gx_core.specs.declared.expression.SetOperator.TheVariants as sets
+use Rattle.gx_core.specs.declared.cases.TypeCase.{TypeCase}
 use Rattle.gx_core.specs.declared.operator.Operator.{Operator}
 use Rattle.gx_core.specs.declared.operator.Operator.TheVariants as operators
 use Rattle.gx_core.specs.Arithmetic.{type_of_number}
@@ -137,7 +141,7 @@ are_of_one_family schemas left right =
 abbrev pub compared_occur : SequenceType → SequenceType → Occurs
 compared_occur left right = occurs (min (occurrence_of left).least (occurrence_of right).least) 1
 
--- the type of a value comparison: none where the left operand has none
+-- the type of a value comparison, and of a comparison of nodes: none where the left operand has none
 abbrev pub value_comparison_type : SequenceType → SequenceType → SequenceType
 value_comparison_type left right = if same_type never left then never else times_of (atomic Boolean) (compared_occur left right)
 
@@ -166,12 +170,36 @@ general_comparison_rule schemas left right =
 abbrev pub range_rule : SchemaSet → (left right : SequenceType) → Ruling
 range_rule schemas left right = type_if (is_optional_in schemas Integer left && is_optional_in schemas Integer right) (star (atomic Integer))
 
+-- ---- comparisons of nodes, and combinations of sequences of nodes
+
+-- at most one node, and nodes, as many as there are
+abbrev pub optional_node : SequenceType
+optional_node = optional node_type
+
+abbrev pub nodes_type : SequenceType
+nodes_type = star node_type
+
+abbrev pub node_comparison_rule : SchemaSet → (left right : SequenceType) → Ruling
+node_comparison_rule schemas left right =
+    type_if (is_included schemas left optional_node && is_included schemas right optional_node) (value_comparison_type left right)
+
+-- items of both operands, and items of the left one
+abbrev pub set_type : SetOperator → (left right : SequenceType) → SequenceType
+set_type sets.Union left right = times_of (prime_of (sequence_of left right)) (occurrence_of (sequence_of left right))
+set_type sets.Intersect left right = times_of (prime_of left) (occurs 0 (occurrence_of left).greatest)
+set_type sets.Except left right = times_of (prime_of left) (occurs 0 (occurrence_of left).greatest)
+
+abbrev pub set_rule : SchemaSet → SetOperator → (left right : SequenceType) → Ruling
+set_rule schemas op left right = type_if (is_included schemas left nodes_type && is_included schemas right nodes_type) (set_type op left right)
+
 -- an operator of two operands
 abbrev pub binary_rule : SchemaSet → BinaryClass → (left right : SequenceType) → Ruling
 binary_rule schemas (Arithmetic operation) left right = arithmetic_rule schemas operation left right
 binary_rule schemas (Value op) left right = value_comparison_rule schemas left right
 binary_rule schemas (General op) left right = general_comparison_rule schemas left right
+binary_rule schemas (Nodes op) left right = node_comparison_rule schemas left right
 binary_rule schemas Range left right = range_rule schemas left right
+binary_rule schemas (Sets op) left right = set_rule schemas op left right
 
 -- ---- conditionals
 
@@ -222,14 +250,10 @@ abbrev pub quantifier_rule : SchemaSet → Binder → (source test : SequenceTyp
 quantifier_rule schemas binder source test =
     type_if (is_as_written schemas binder.kind (prime_of source) && is_at_least_one test && is_optional_in schemas Boolean test) (atomic Boolean)
 
--- a step from one node; steps to the four far axes have no types as yet, and are refused as if they were not in the language
+-- a step from one node
 abbrev pub step_rule : SchemaSet → Axis → Test → (context : SequenceType) → Ruling
 step_rule schemas axis asks context =
-    if is_near axis then (if is_included schemas context node_type then has_type (step_type schemas axis asks context) else has_none XPTY0020 None) else has_none XPST0003 None
-
--- nodes, as many as there are
-abbrev pub nodes_type : SequenceType
-nodes_type = star node_type
+    if is_included schemas context node_type then has_type (step_type schemas axis asks context) else has_none XPTY0020 None
 
 -- an item type whose items are nodes of types that are derived from the types of all nodes
 abbrev pub is_node_item : SchemaSet → ItemType → Bool
@@ -246,6 +270,20 @@ nodes_rule schemas operand = if is_included schemas operand nodes_type then has_
 abbrev pub order_rule : SchemaSet → SequenceType → Ruling
 order_rule schemas operand =
     if is_included schemas operand nodes_type then has_type (times_of (prime_of operand) (occurrence_of operand)) else (if all_items is_atomic operand then has_type operand else has_none XPTY0018 None)
+
+-- ---- filters and switches
+
+-- at most one item of an operand; where it is there for certain, as soon as the operand has one
+abbrev pub one_of_type : (certain : Bool) → SequenceType → SequenceType
+one_of_type certain operand = times_of (prime_of operand) (occurs (if certain then (occurrence_of operand).least else 0) (min 1 (occurrence_of operand).greatest))
+
+abbrev pub is_first : (number : ℤ) → Bool
+is_first (pos (suc zero)) = true
+is_first _ = false
+
+-- the choice of all branches, of which there is one for each case and one for the default
+abbrev pub switch_rule : List TypeCase → (branches : List SequenceType) → Ruling
+switch_rule cases branches = type_if (length branches == length cases + 1) (limited (choice_among branches))
 
 -- ---- casts
 
@@ -282,13 +320,19 @@ arguments_rule schemas (parameter ∷ others) (argument ∷ arguments) number ru
     if takes_argument schemas parameter.takes argument then arguments_rule schemas others arguments (number + 1) ruling else has_none parameter.code (Some number)
 arguments_rule schemas _ _ number ruling = has_none XPTY0004 None
 
+-- the type of what a call gives; Core calls neither `data` nor a function that looks at the context
+abbrev pub called_type : Function → Option Builtin
+called_type functions.Position = None
+called_type functions.Last = None
+called_type function = answer_type_of function
+
 -- the type of the one atomic value that a function answers
 abbrev pub answer_rule : Option Builtin → Ruling
 answer_rule None = has_none XPTY0004 None
 answer_rule (Some builtin) = has_type (atomic builtin)
 
 unfoldable pub call_rule : SchemaSet → Function → List SequenceType → Ruling
-call_rule schemas function arguments = arguments_rule schemas (parameters_of function) arguments 0 (answer_rule (answer_type_of function))
+call_rule schemas function arguments = arguments_rule schemas (parameters_of function) arguments 0 (answer_rule (called_type function))
 
 -- how many parts an operator has
 abbrev pub arity : Operator → ℕ
@@ -306,6 +350,9 @@ arity (operators.Castable kind allows_empty) = 1
 arity (operators.Step axis asks number) = 1
 arity operators.Nodes = 1
 arity operators.Order = 1
+arity (operators.Switch cases default) = 2 + length cases
+arity (operators.Nth number reverse) = 1
+arity (operators.Final reverse) = 1
 arity operators.DataOf = 1
 arity operators.NoContext = 0
 arity (operators.Call function) = arity_of function
@@ -326,6 +373,9 @@ rule schemas operators.Nodes (operand ∷ []) = nodes_rule schemas operand
 rule schemas operators.Order (operand ∷ []) = order_rule schemas operand
 rule schemas operators.NoContext [] = has_none XPDY0002 None
 rule schemas (operators.Let binder) (value ∷ body ∷ []) = let_rule schemas binder value body
+rule schemas (operators.Switch cases default) (operand ∷ branches) = switch_rule cases branches
+rule schemas (operators.Nth number reverse) (operand ∷ []) = has_type (one_of_type (is_first number) operand)
+rule schemas (operators.Final reverse) (operand ∷ []) = has_type (one_of_type true operand)
 rule schemas operators.DataOf (operand ∷ []) = data_rule schemas operand
 rule schemas operators.If (condition ∷ chosen ∷ otherwise ∷ []) = conditional_rule schemas condition chosen otherwise
 rule schemas (operators.Cast kind allows_empty) (operand ∷ []) = cast_rule kind allows_empty operand

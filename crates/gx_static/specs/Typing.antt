@@ -1,5 +1,5 @@
 -- What a typing in its midst comes to.
-use Rattle.std.specs.Prelude.{◌≡◌, ℕ, zero, suc, List, [], ◌∷◌, ◌++◌, Option, None, Some, drop}
+use Rattle.std.specs.Prelude.{◌≡◌, ℕ, zero, suc, List, [], ◌∷◌, ◌++◌, ◌+◌, length, Option, None, Some, drop}
 use Rattle.gx_base.specs.declared.place.Place.{Place}
 use Rattle.gx_types.specs.SchemaSet.{SchemaSet}
 use Rattle.gx_types.specs.SequenceType.{SequenceType}
@@ -9,7 +9,8 @@ use Rattle.gx_funcs.specs.Function.{arity_of}
 use Rattle.gx_core.specs.declared.operator.Operator.{Operator}
 use Rattle.gx_core.specs.declared.operator.Operator.TheVariants as operators
 use Rattle.gx_core.specs.Expression.{CoreExpression, Parts, no_parts, a_part, each_of, annotation_of}
-use Rattle.gx_core.specs.Bindings.{Types, position_bound}
+use Rattle.gx_core.specs.Bindings.{Types, position_bound, branch_types}
+use Rattle.gx_core.specs.declared.cases.TypeCase.{TypeCase}
 use Rattle.gx_core.specs.Soundness.{TypedExpression}
 use Rattle.gx_core.specs.Queries.{TypedCore, CoreDeclaration, TypedDeclaration}
 use Rattle.gx_core.specs.declared.expression.Declaration.TheVariants.{Global}
@@ -20,7 +21,7 @@ use Rattle.gx_static.specs.QueryJudgement.{declared_as}
 use Rattle.gx_static.specs.declared.error.InferError.{InferError}
 use Rattle.gx_static.specs.declared.error.InferError.TheVariants as errors
 use Rattle.gx_static.specs.declared.typing.Task.{Task}
-use Rattle.gx_static.specs.declared.typing.Task.TheVariants.{Infer, Bind, BindItem, Unbind, Finish, FinishCall, Declare, External}
+use Rattle.gx_static.specs.declared.typing.Task.TheVariants.{Infer, Bind, BindItem, Branches, NextBranch, Unbind, Finish, FinishCall, FinishSwitch, Declare, External}
 use Rattle.gx_static.specs.declared.typing.Typing.{Typing}
 
 -- what a typing comes to, where no part is missing
@@ -48,6 +49,9 @@ part_count (operators.Castable kind allows_empty) = 1
 part_count (operators.Step axis asks number) = 0
 part_count operators.Nodes = 1
 part_count operators.Order = 1
+part_count (operators.Switch cases default) = 2 + length cases
+part_count (operators.Nth number reverse) = 1
+part_count (operators.Final reverse) = 1
 part_count operators.DataOf = 1
 part_count operators.NoContext = 0
 part_count (operators.Call function) = arity_of function
@@ -80,6 +84,12 @@ tasks_of [] behind = behind
 tasks_of (Global name binder (Some value) ∷ others) behind = Infer value ∷ Declare name binder ∷ tasks_of others behind
 tasks_of (Global name binder None ∷ others) behind = External name binder ∷ tasks_of others behind
 
+-- the branches of a switch over an operand of a type, each typed with the variable of its case and put on top of the parts
+abbrev pub branches_in_order : SchemaSet → (operand : SequenceType) → List TypeCase → (default : ℕ) → List CoreExpression → Types → (List TypedExpression → Awaited) → (parts : List TypedExpression) → Awaited
+branches_in_order schemas operand cases default [] types next parts = next parts
+branches_in_order schemas operand cases default (branch ∷ branches) types next parts =
+    then_typed (judged schemas branch (branch_types cases default operand [] ++ types)) (λ t. branches_in_order schemas operand (drop 1 cases) default branches types next (t ∷ parts))
+
 -- what is left to do, over the typed parts that are there, the last first, and what is declared so far; none where a part is missing
 abbrev pub continued : SchemaSet → List Task → (parts : List TypedExpression) → Types → (declared : List TypedDeclaration) → Awaited
 continued schemas [] [] types declared = None
@@ -89,11 +99,18 @@ continued schemas (Bind variable ∷ tasks) [] types declared = None
 continued schemas (Bind variable ∷ tasks) (t ∷ parts) types declared = continued schemas tasks (t ∷ parts) ((variable, annotation_of t) ∷ types) declared
 continued schemas (BindItem variable position ∷ tasks) [] types declared = None
 continued schemas (BindItem variable position ∷ tasks) (t ∷ parts) types declared = continued schemas tasks (t ∷ parts) (item_type_bound variable position t ++ types) declared
+continued schemas (Branches cases default branches ∷ tasks) [] types declared = None
+continued schemas (Branches cases default branches ∷ tasks) (t ∷ parts) types declared =
+    branches_in_order schemas (annotation_of t) cases default branches types (λ more. continued schemas tasks more types declared) (t ∷ parts)
+continued schemas (NextBranch operand left default branches ∷ tasks) parts types declared =
+    branches_in_order schemas operand left default branches types (λ more. continued schemas tasks more types declared) parts
 continued schemas (Unbind ∷ tasks) parts types declared = continued schemas tasks parts (drop 1 types) declared
 continued schemas (Finish place outer operator ∷ tasks) parts types declared =
     last_parts (part_count operator) parts no_parts (finished schemas place outer operator types (λ t below. continued schemas tasks (t ∷ below) types declared))
 continued schemas (FinishCall place outer function count ∷ tasks) parts types declared =
     last_parts count parts no_parts (finished schemas place outer (operators.Call function) types (λ t below. continued schemas tasks (t ∷ below) types declared))
+continued schemas (FinishSwitch place outer cases default count ∷ tasks) parts types declared =
+    last_parts (suc count) parts no_parts (finished schemas place outer (operators.Switch cases default) types (λ t below. continued schemas tasks (t ∷ below) types declared))
 continued schemas (Declare name binder ∷ tasks) [] types declared = None
 continued schemas (Declare name binder ∷ tasks) (t ∷ parts) types declared =
     then_typed (declared_as schemas name binder t) (λ d. continued schemas tasks parts (global_types d ++ types) (declared ++ d ∷ []))

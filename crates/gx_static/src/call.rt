@@ -2,10 +2,9 @@
 
 ghost use Rattle.std.specs.Prelude.{◌≡◌, ◌++◌, [], ◌∷◌, true, IfOk, IfErr, IsTrue, OnOk};
 ghost use Rattle.gx_types.specs.SequenceType.{both, star as any_number};
-ghost use Rattle.gx_funcs.specs.Function.{answer_type_of};
 ghost use Rattle.gx_include.specs.Decision.{is_included};
 ghost use Rattle.gx_steptype.specs.StepType.{node_type as type_of_node, any_item};
-ghost use Rattle.gx_static.specs.Rule.{has_type, atomic, has_effective_boolean, boolean_types, takes_argument, answer_rule, call_rule};
+ghost use Rattle.gx_static.specs.Rule.{has_type, atomic, has_effective_boolean, boolean_types, takes_argument, answer_rule, called_type, call_rule};
 ghost use Rattle.gx_static.specs.Refusal.{RefusesType};
 
 use crate::comparison::{Family, is_of_family};
@@ -113,12 +112,22 @@ fn add_atomic(alloc: Global, builtin: Builtin, members: &mut Vec<Ty>) -> Result<
     Ok(())
 }
 
+// The type of what a call gives; Core calls no function that looks at the context.
+fn called_type(function: Function) -> Option<Builtin>
+    ensures { result ≡ called_type function }
+{
+    match function {
+        Function::Position | Function::Last => None,
+        _ => function.result(),
+    }
+}
+
 // The type of what a function answers.
 fn answer_type(alloc: Global, function: Function) -> Result<Ty, RuleError>
-    ensures typed { IfOk result (λ t. answer_rule (answer_type_of function) ≡ has_type t) }
-    ensures refused { IfErr result (λ e. RefusesType e (answer_rule (answer_type_of function))) }
+    ensures typed { IfOk result (λ t. answer_rule (called_type function) ≡ has_type t) }
+    ensures refused { IfErr result (λ e. RefusesType e (answer_rule (called_type function))) }
 {
-    match function.result() {
+    match called_type(function) {
         Some(builtin) => Ok(atomic(alloc, builtin)?),
         None => Err(no_type(Code::XPTY0004)),
     }

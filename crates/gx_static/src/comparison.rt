@@ -1,7 +1,7 @@
 // The static rules of comparisons.
 
 ghost use Rattle.std.specs.Prelude.{◌≡◌, IfOk, IfErr};
-ghost use Rattle.gx_static.specs.Rule.{has_type, all_items, is_of_family, are_of_family, are_of_one_family, compared_occur, value_comparison_rule, are_comparable_items, are_comparable_types, general_comparison_rule};
+ghost use Rattle.gx_static.specs.Rule.{has_type, all_items, is_of_family, are_of_family, are_of_one_family, compared_occur, value_comparison_type, value_comparison_rule, are_comparable_items, are_comparable_types, general_comparison_rule};
 ghost use Rattle.gx_static.specs.Refusal.{RefusesType};
 
 use crate::error::RuleError;
@@ -13,7 +13,7 @@ use gx_types::occurrence::Occurrence;
 use gx_types::schemas::Schemas;
 use gx_types::sequence_type::{Ty, TyNode};
 use gx_types::type_rules::{occurrence, times};
-use std::alloc::Global;
+use std::alloc::{AllocError, Global};
 
 // A family of values that compare with one another: numbers, strings and untyped values, or booleans.
 #[derive(Clone, Copy)]
@@ -92,11 +92,18 @@ pub(crate) fn value_comparison_type(
     if !are_comparable {
         return Err(no_type(Code::XPTY0004));
     }
+    Ok(compared_type(alloc, left, right)?)
+}
+
+// The type of a comparison of single items.
+pub(crate) fn compared_type(alloc: Global, left: &Ty, right: &Ty) -> Result<Ty, AllocError>
+    ensures { IfOk result (λ t. t ≡ value_comparison_type left.now right.now) }
+{
     if is_never(left) {
         return Ok(Ty::none());
     }
     let truth = atomic(alloc, Builtin::Boolean)?;
-    Ok(times(alloc, truth, compared_occur(left, right))?)
+    times(alloc, truth, compared_occur(left, right))
 }
 
 // Whether the items of two item types can be compared.

@@ -1,6 +1,6 @@
 // Laws of typing: one for each operator, and the one that is joined of them.
 
-ghost use Rattle.gx_static.specs.Laws.{LiteralKeepsType, VariableKeepsType, EmptyKeepsType, SequenceKeepsType, ForKeepsType, SomeKeepsType, EveryKeepsType, LetKeepsType, StepKeepsType, NodesKeepType, OrderKeepsType, NoContextKeepsType, DataKeepsType, ArithmeticKeepsType, NegationKeepsType, ValueComparisonKeepsType, GeneralComparisonKeepsType, RangeKeepsType, ConditionalKeepsType, CastKeepsType, CastableKeepsType, CallKeepsType, TypingIsSound, TypingIsSoundOnFreeVariables, RejectionNamesFailure, ScopedVariablesHaveTypes, ExpressionsAreRejectedWithStaticCodes};
+ghost use Rattle.gx_static.specs.Laws.{LiteralKeepsType, VariableKeepsType, EmptyKeepsType, SequenceKeepsType, ForKeepsType, SomeKeepsType, EveryKeepsType, LetKeepsType, StepKeepsType, NodesKeepType, OrderKeepsType, FinalKeepsType, NthKeepsType, SwitchKeepsType, NoContextKeepsType, DataKeepsType, ArithmeticKeepsType, NegationKeepsType, ValueComparisonKeepsType, GeneralComparisonKeepsType, RangeKeepsType, ConditionalKeepsType, CastKeepsType, CastableKeepsType, CallKeepsType, TypingIsSound, TypingIsSoundOnFreeVariables, RejectionNamesFailure, ScopedVariablesHaveTypes, ExpressionsAreRejectedWithStaticCodes, NodeComparisonKeepsType, NodeSetKeepsType};
 ghost use Rattle.gx_static.specs.NormalTypes.{RulesGiveNormalTypes, TypingGivesNormalTypes};
 ghost use Rattle.gx_static.specs.Demands.{MetDemandsAreInclusion, DemandsAreInclusion, AllRulesDemandInclusion};
 ghost use Rattle.gx_static.specs.ByInclusion.{QueriesAreJudgedByInclusion};
@@ -62,6 +62,21 @@ pub fn order_keeps_its_type()
     ensures { OrderKeepsType }
 {}
 
+/// The item of a number belongs to its type where the operand belongs to its own.
+pub fn nth_keeps_its_type()
+    ensures { NthKeepsType }
+{}
+
+/// The last item belongs to its type where the operand belongs to its own.
+pub fn final_keeps_its_type()
+    ensures { FinalKeepsType }
+{}
+
+/// A switch keeps its type where the operand and the branches keep theirs.
+pub fn switch_keeps_its_type()
+    ensures { SwitchKeepsType }
+{}
+
 /// What looks at a context where there is none has no type.
 pub fn no_context_keeps_its_type()
     ensures { NoContextKeepsType }
@@ -96,6 +111,18 @@ pub fn general_comparison_keeps_its_type()
 /// A range belongs to its type where the operands belong to theirs.
 pub fn range_keeps_its_type()
     ensures { RangeKeepsType }
+{}
+
+/// A comparison of nodes belongs to its type where the operands belong to theirs: each of them is at most one node. The types of the
+/// schemas end at built-in ones.
+pub fn node_comparison_keeps_its_type()
+    ensures { NodeComparisonKeepsType }
+{}
+
+/// A combination of sequences of nodes belongs to its type where the operands belong to theirs, which are of nodes. The types of the
+/// schemas end at built-in ones.
+pub fn node_set_keeps_its_type()
+    ensures { NodeSetKeepsType }
 {}
 
 /// The value of a conditional belongs to its type where the condition is one boolean and those of the branches belong to theirs.

@@ -4,9 +4,11 @@
 mod call;
 mod comparison;
 pub mod error;
+mod filtering;
 pub mod infer;
 mod item_tests;
 pub mod laws;
+mod nodes;
 mod numeric;
 mod path;
 pub mod rules;

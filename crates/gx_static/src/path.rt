@@ -3,7 +3,6 @@
 ghost use Rattle.std.specs.Prelude.{◌≡◌, true, IfOk, IfErr, IsTrue};
 ghost use Rattle.gx_core.specs.Bindings.{look_up};
 ghost use Rattle.gx_include.specs.Decision.{is_included};
-ghost use Rattle.gx_steptype.specs.StepType.{is_near};
 ghost use Rattle.gx_static.specs.Rule.{has_type, step_rule, step_ruling, reaching, nodes_type, nodes_rule, order_rule, all_items, is_node_item};
 ghost use Rattle.gx_static.specs.Refusal.{RefusesType};
 
@@ -71,24 +70,12 @@ pub(crate) fn step_type(
     ensures typed { IfOk result (λ t. step_rule schemas.now axis test.now context.now ≡ has_type t) }
     ensures refused { IfErr result (λ e. RefusesType e (step_rule schemas.now axis test.now context.now)) }
 {
-    if !is_near(axis) {
-        return Err(no_type(Code::XPST0003));
-    }
     match axis_type(alloc, schemas, axis, test, context) {
         Ok(t) => Ok(t),
         Err(StepError::NotANode) => Err(no_type(Code::XPTY0020)),
         Err(StepError::NoTypedValue) => unreachable!(),
         Err(StepError::Memory) => Err(RuleError::Memory),
     }
-}
-
-fn is_near(axis: Axis) -> bool
-    ensures { result ≡ is_near axis }
-{
-    matches!(
-        axis,
-        Axis::Child | Axis::Attribute | Axis::SelfAxis | Axis::Parent
-    )
 }
 
 // The type of an operand of nodes alone.
@@ -120,7 +107,7 @@ pub(crate) fn order_type(alloc: Global, schemas: &Schemas, operand: &Ty) -> Resu
 }
 
 // Whether a type is of nodes alone. A type whose item types are of nodes is known to be, without a test of inclusion.
-fn are_nodes(alloc: Global, schemas: &Schemas, t: &Ty) -> Result<bool, AllocError>
+pub(crate) fn are_nodes(alloc: Global, schemas: &Schemas, t: &Ty) -> Result<bool, AllocError>
     ensures { IfOk result (λ answer. answer ≡ is_included schemas.now t.now nodes_type) }
 {
     if is_of_nodes(schemas, t) {
@@ -139,7 +126,7 @@ fn is_of_nodes(schemas: &Schemas, t: &Ty) -> bool
 }
 
 // Whether all item types of a type are of nodes.
-fn is_all_nodes(schemas: &Schemas, t: &Ty) -> bool
+pub(crate) fn is_all_nodes(schemas: &Schemas, t: &Ty) -> bool
     ensures { result ≡ all_items (is_node_item schemas.now) t.now }
 {
     match &t.node {

@@ -11,9 +11,11 @@ ghost use Rattle.gx_static.specs.Refusal.{RefusesType};
 use crate::call::call_type;
 use crate::comparison::{general_comparison_type, value_comparison_type};
 use crate::error::RuleError;
+use crate::filtering::{is_first, one_of_type, switch_type};
 use crate::item_tests::{
     atomic, is_all_atomic, is_at_least_one, is_at_most_one, is_atomic, is_optional_in, no_type,
 };
+use crate::nodes::{node_comparison_type, node_set_type};
 use crate::numeric::{arithmetic_type, negation_type, range_type};
 use crate::path::{nodes_type, order_type, step_type};
 use gx_base::code::Code;
@@ -68,6 +70,13 @@ pub fn operator_type(
         }
         (Operator::Nodes, [operand]) => nodes_type(alloc, schemas, operand),
         (Operator::Order, [operand]) => order_type(alloc, schemas, operand),
+        (Operator::Switch(cases, _), [_operand, branches @ ..]) => {
+            switch_type(alloc, cases.as_slice(), branches)
+        }
+        (Operator::Nth(number, _), [operand]) => {
+            Ok(one_of_type(alloc, is_first(*number), operand)?)
+        }
+        (Operator::Final(_), [operand]) => Ok(one_of_type(alloc, true, operand)?),
         (Operator::DataOf, [operand]) => data_type(alloc, schemas, operand),
         (Operator::NoContext, []) => Err(no_type(Code::XPDY0002)),
         (Operator::Call(function), arguments) => call_type(alloc, schemas, *function, arguments),
@@ -104,7 +113,9 @@ pub(crate) fn binary_type(
         }
         BinaryClass::Value(_) => value_comparison_type(alloc, schemas, left, right),
         BinaryClass::General(_) => general_comparison_type(alloc, schemas, left, right),
+        BinaryClass::Nodes(_) => node_comparison_type(alloc, schemas, left, right),
         BinaryClass::Range => range_type(alloc, schemas, left, right),
+        BinaryClass::Sets(operation) => node_set_type(alloc, schemas, operation, left, right),
     }
 }
 

@@ -1,6 +1,6 @@
 // A typing in its midst: the tasks that are left, and the typed parts that are there.
 
-ghost use Rattle.std.specs.Prelude.{◌≡◌, ◌≢◌, ◌≤◌, ◌++◌, List, [], ◌∷◌, length, map, None, Some, IfOk, IfErr, OnOk};
+ghost use Rattle.std.specs.Prelude.{◌≡◌, ◌≢◌, ◌≤◌, ◌+◌, ◌++◌, suc, List, [], ◌∷◌, length, map, None, Some, IfOk, IfErr, OnOk};
 ghost use Rattle.gx_types.specs.SchemaSet.{SchemaSet};
 ghost use Rattle.gx_types.specs.SequenceType.{SequenceType};
 ghost use Rattle.gx_core.specs.declared.operator.Operator.TheVariants as operators;
@@ -13,11 +13,12 @@ ghost use Rattle.gx_static.specs.Refusal.{RefusesType, refusal_at};
 ghost use Rattle.gx_static.specs.Rule.{has_type, ruling, variable_ruling};
 ghost use Rattle.gx_core.specs.declared.expression.Declaration.TheVariants as globals;
 ghost use Rattle.gx_static.specs.QueryJudgement.{core_judged};
-ghost use Rattle.gx_static.specs.Typing.{Awaited, continued, tasks_of, then_typed, typed_in_order, finished, part_count, last_parts, judgement_of, judgement_with, EndsRejected, item_type_bound};
+ghost use Rattle.gx_static.specs.Typing.{Awaited, continued, tasks_of, then_typed, typed_in_order, finished, part_count, last_parts, judgement_of, judgement_with, EndsRejected, item_type_bound, branches_in_order};
 ghost use Rattle.gx_static.specs.declared.typing.Task.TheVariants as tasks;
 
 use crate::call::call_type;
 use crate::error::{InferError, RuleError};
+use crate::filtering::{is_first, one_of_type, switch_type};
 use crate::item_tests::{atomic, no_type};
 use crate::numeric::negation_type;
 use crate::path::{nodes_type, order_type, step_in_scope};
@@ -30,6 +31,7 @@ use gx_base::name::Name;
 use gx_base::place::Place;
 use gx_base::stack::Stack;
 use gx_base::type_name::Builtin;
+use gx_core::cases::{Cases, TypeCase};
 use gx_core::declarations::Declarations;
 use gx_core::dismantle::{dismantle, dismantle_declarations, dismantle_form};
 use gx_core::expression::{
@@ -44,7 +46,8 @@ use gx_types::type_rules::prime;
 use std::alloc::{AllocError, Global};
 
 // A task: to infer the type of an expression, whose typed form goes on top of the parts; to bind a variable to the type of the
-// part on top, or to that of an item of it, and another one to that of the position of the item; to take the innermost binding away; or to make the expression of an operator, or of a call with so many
+// part on top, or to that of an item of it, and another one to that of the position of the item; to type the branches of a
+// switch, whose operand is on top; or those that are left, over an operand of a type; to take the innermost binding away; or to make the expression of an operator, or of a call with so many
 // arguments, at its place and that of its outermost parentheses, of the parts on top; to declare a global variable, whose value is
 // the part on top; or to declare an external variable.
 #[derive(Drop)]
@@ -52,9 +55,12 @@ pub(crate) enum Task {
     Infer(CoreExpr),
     Bind(u32),
     BindItem(u32, u32),
+    Branches(Stack<TypeCase>, u32, Stack<CoreExpr>),
+    NextBranch(Ty, Stack<TypeCase>, u32, Stack<CoreExpr>),
     Unbind,
     Finish(Place, Place, Operator),
     FinishCall(Place, Place, Function, usize),
+    FinishSwitch(Place, Place, Cases, u32, usize),
     Declare(Name, Binder),
     External(Name, Binder),
 }
@@ -99,9 +105,7 @@ impl Typing {
     // Drops the tasks, the parts and the declarations that a refusal leaves, each tree by a loop.
     pub(crate) fn dismantle(self, alloc: Global) {
         for task in self.tasks.into_items() {
-            if let Task::Infer(expression) = task {
-                dismantle(alloc, expression);
-            }
+            dismantle_task(alloc, task);
         }
         for part in self.parts.into_items() {
             dismantle(alloc, part);
@@ -121,9 +125,15 @@ impl Typing {
         ensures rejected { IfErr result (λ e. EndsRejected e (judgement_with schemas.now task self.old)) }
     {
         match task {
-            Task::Infer(expression) => Ok(self.open(expression)?),
+            Task::Infer(expression) => Ok(self.open(alloc, expression)?),
             Task::Bind(variable) => Ok(self.bind(variable)?),
             Task::BindItem(variable, position) => Ok(self.bind_item(alloc, variable, position)?),
+            Task::Branches(cases, default, branches) => {
+                Ok(self.open_branches(cases, default, branches)?)
+            }
+            Task::NextBranch(operand, cases, default, branches) => {
+                Ok(self.next_branch(operand, cases, default, branches)?)
+            }
             Task::Unbind => {
                 self.scope.unbind();
                 Ok(())
@@ -134,13 +144,16 @@ impl Typing {
             Task::FinishCall(place, outer, function, count) => {
                 self.finish_call(alloc, schemas, place, outer, function, count)
             }
+            Task::FinishSwitch(place, outer, cases, default, count) => {
+                self.finish_switch(alloc, schemas, place, outer, cases, default, count)
+            }
             Task::Declare(name, binder) => self.declare(alloc, schemas, name, binder),
             Task::External(name, binder) => Ok(self.declare_external(name, binder)?),
         }
     }
 
     // Puts down the tasks of an expression: to type its parts, and then to make it.
-    fn open(&mut self, expression: CoreExpr) -> Result<(), AllocError>
+    fn open(&mut self, alloc: Global, expression: CoreExpr) -> Result<(), AllocError>
         ensures { (schemas : SchemaSet) → OnOk result (judgement_of schemas self.new ≡ judgement_with schemas (tasks.Infer expression) self.old) }
     {
         let (place, outer, _kind, form) = expression.into_parts();
@@ -193,6 +206,15 @@ impl Typing {
             }
             Form::Nodes(operand) => self.open_single(place, outer, Operator::Nodes, operand),
             Form::Order(operand) => self.open_single(place, outer, Operator::Order, operand),
+            Form::Switch(operand, cases, default, branches) => {
+                self.open_switch(alloc, place, outer, operand, cases, default, branches)
+            }
+            Form::Nth(operand, number, reverse) => {
+                self.open_single(place, outer, Operator::Nth(number, reverse), operand)
+            }
+            Form::Final(operand, reverse) => {
+                self.open_single(place, outer, Operator::Final(reverse), operand)
+            }
             Form::DataOf(operand) => self.open_single(place, outer, Operator::DataOf, operand),
             Form::NoContext => self.open_leaf(place, outer, Operator::NoContext),
             Form::Call(function, arguments) => { self.open_call(place, outer, function, arguments) }
@@ -335,6 +357,76 @@ impl Typing {
         self.tasks.push(Task::Infer(Box::into_inner(value)))
     }
 
+    // The branches are typed behind the operand.
+    fn open_switch(
+        &mut self,
+        alloc: Global,
+        place: Place,
+        outer: Place,
+        operand: Box<CoreExpr>,
+        cases: Cases,
+        default: u32,
+        branches: Vec<CoreExpr>,
+    ) -> Result<(), AllocError>
+        ensures { (schemas : SchemaSet) → OnOk result (judgement_of schemas self.new
+            ≡ then_typed (judged schemas operand.value self.old.scope) (λ t. branches_in_order schemas (annotation_of t) cases default branches.items self.old.scope
+            (λ parts. continued schemas (tasks.FinishSwitch place outer cases default (length branches.items) ∷ self.old.tasks) parts self.old.scope self.old.declared.items) (t ∷ self.old.parts))) }
+    {
+        let count = branches.len();
+        let left = stacked_cases(alloc, &cases)?;
+        let branches = stacked(alloc, branches)?;
+        self.tasks
+            .push(Task::FinishSwitch(place, outer, cases, default, count))?;
+        self.tasks.push(Task::Branches(left, default, branches))?;
+        self.tasks.push(Task::Infer(Box::into_inner(operand)))
+    }
+
+    // The branches of a switch, over the operand on top.
+    fn open_branches(
+        &mut self,
+        cases: Stack<TypeCase>,
+        default: u32,
+        branches: Stack<CoreExpr>,
+    ) -> Result<(), AllocError>
+        requires { self.now.parts ≢ [] }
+        ensures { (schemas : SchemaSet) → OnOk result (judgement_of schemas self.new ≡ judgement_with schemas (tasks.Branches cases default branches) self.old) }
+    {
+        let Some(operand) = self.parts.pop() else {
+            unreachable!();
+        };
+        let kind = operand.kind.clone()?;
+        self.parts.push(operand)?;
+        self.tasks
+            .push(Task::NextBranch(kind, cases, default, branches))
+    }
+
+    // The next branch, with the variable of its case, or of the default, in scope.
+    #[tactic(auto, using(gx_core::proofs::LoopBindings::position_is_bound))]
+    fn next_branch(
+        &mut self,
+        operand: Ty,
+        mut cases: Stack<TypeCase>,
+        default: u32,
+        mut branches: Stack<CoreExpr>,
+    ) -> Result<(), AllocError>
+        ensures { (schemas : SchemaSet) → OnOk result (judgement_of schemas self.new ≡ judgement_with schemas (tasks.NextBranch operand cases default branches) self.old) }
+    {
+        let Some(branch) = branches.pop() else {
+            return Ok(());
+        };
+        let (variable, kind) = match cases.pop() {
+            Some(case) => (case.variable, case.kind.clone()?),
+            None => (default, operand.clone()?),
+        };
+        self.tasks
+            .push(Task::NextBranch(operand, cases, default, branches))?;
+        if variable != 0 {
+            self.tasks.push(Task::Unbind)?;
+            self.scope.bind(variable, kind)?;
+        }
+        self.tasks.push(Task::Infer(branch))
+    }
+
     // Binds a variable to the type of the part on top.
     fn bind(&mut self, variable: u32) -> Result<(), AllocError>
         requires { self.now.parts ≢ [] }
@@ -464,6 +556,26 @@ impl Typing {
         )
     }
 
+    // Makes a switch of so many branches on top, and of the operand below them.
+    #[tactic(auto, using(crate::proofs::Continuing::parts_are_there))]
+    fn finish_switch(
+        &mut self,
+        alloc: Global,
+        schemas: &Schemas,
+        place: Place,
+        outer: Place,
+        cases: Cases,
+        default: u32,
+        count: usize,
+    ) -> Result<(), InferError>
+        requires { judgement_with schemas.now (tasks.FinishSwitch place outer cases default count) self.now ≢ None }
+        ensures typed { OnOk result (judgement_of schemas.now self.new ≡ judgement_with schemas.now (tasks.FinishSwitch place outer cases default count) self.old) }
+        ensures rejected { IfErr result (λ e. EndsRejected e (judgement_with schemas.now (tasks.FinishSwitch place outer cases default count) self.old)) }
+    {
+        let form = switch_form(alloc, cases, default, count, &mut self.parts)?;
+        self.conclude(alloc, schemas, place, outer, form)
+    }
+
     // Makes the expression of this form, whose parts have been taken.
     fn conclude(
         &mut self,
@@ -494,6 +606,23 @@ impl Typing {
                 Err(refusal)
             }
         }
+    }
+}
+
+// Drops a task, each tree by a loop.
+fn dismantle_task(alloc: Global, task: Task) {
+    match task {
+        Task::Infer(expression) => dismantle(alloc, expression),
+        Task::Branches(_, _, branches) => dismantle_all(alloc, branches.into_items()),
+        Task::NextBranch(_, _, _, branches) => dismantle_all(alloc, branches.into_items()),
+        _ => {}
+    }
+}
+
+// Drops expressions, each by a loop.
+fn dismantle_all(alloc: Global, expressions: Vec<CoreExpr>) {
+    for expression in expressions {
+        dismantle(alloc, expression);
     }
 }
 
@@ -544,6 +673,12 @@ fn form(
         Operator::Step(axis, test, number) => Ok(Form::Step(axis, test, number)),
         Operator::Nodes => Ok(Form::Nodes(part(alloc, parts)?)),
         Operator::Order => Ok(Form::Order(part(alloc, parts)?)),
+        Operator::Switch(cases, default) => {
+            let count = cases.as_slice().len() + 1;
+            switch_form(alloc, cases, default, count, parts)
+        }
+        Operator::Nth(number, reverse) => Ok(Form::Nth(part(alloc, parts)?, number, reverse)),
+        Operator::Final(reverse) => Ok(Form::Final(part(alloc, parts)?, reverse)),
         Operator::DataOf => Ok(Form::DataOf(part(alloc, parts)?)),
         Operator::NoContext => Ok(Form::NoContext),
         Operator::Call(function) => {
@@ -558,6 +693,24 @@ fn form(
     }
 }
 
+// A switch over so many branches on top, and over the operand below them.
+fn switch_form(
+    alloc: Global,
+    cases: Cases,
+    default: u32,
+    count: usize,
+    parts: &mut Stack<TypedExpr>,
+) -> Result<Form<Ty>, AllocError>
+    requires { count + 1 ≤ length parts.old }
+    ensures operator { IfOk result (λ form. operator_of form ≡ operators.Switch cases default) }
+    ensures parts { (next : Parts SequenceType → List TypedExpression → Awaited)
+        → IfOk result (λ form. last_parts (suc count) parts.old no_parts next ≡ next (parts_of form) parts.new) }
+{
+    let branches = last(alloc, count, parts)?;
+    let operand = part(alloc, parts)?;
+    Ok(Form::Switch(operand, cases, default, branches))
+}
+
 // Takes so many parts on top, in order.
 #[tactic(auto, using(crate::proofs::Continuing::last_are_arguments))]
 fn last(
@@ -566,8 +719,9 @@ fn last(
     parts: &mut Stack<TypedExpr>,
 ) -> Result<Vec<TypedExpr>, AllocError>
     requires { count ≤ length parts.old }
-    ensures { (next : Parts SequenceType → List TypedExpression → Awaited)
+    ensures taken { (next : Parts SequenceType → List TypedExpression → Awaited)
         → IfOk result (λ taken. last_parts count parts.old no_parts next ≡ next (all_parts taken.items) parts.new) }
+    ensures left { OnOk result (length parts.old ≡ count + length parts.new) }
 {
     let mut taken = Vec::new(alloc);
     for _ in 0..count {
@@ -589,6 +743,32 @@ fn part(alloc: Global, parts: &mut Stack<TypedExpr>) -> Result<Box<TypedExpr>, A
         Some(part) => Ok(Box::new(alloc, part)?),
         None => unreachable!(),
     }
+}
+
+// Expressions on a stack, the first one on top.
+fn stacked(alloc: Global, mut items: Vec<CoreExpr>) -> Result<Stack<CoreExpr>, AllocError>
+    ensures { IfOk result (λ stack. stack ≡ items.items) }
+{
+    let mut stack = Stack::new(alloc);
+    while let Some(item) = items.pop() {
+        stack.push(item)?;
+    }
+    Ok(stack)
+}
+
+// Cases on a stack, the first one on top.
+fn stacked_cases(alloc: Global, cases: &Cases) -> Result<Stack<TypeCase>, AllocError>
+    ensures { IfOk result (λ stack. stack ≡ cases.now) }
+{
+    let mut stack = Stack::new(alloc);
+    let mut left = cases.as_slice();
+    while let Some((case, front)) = left.split_last() {
+        let kind = case.kind.clone()?;
+        let variable = case.variable;
+        stack.push(TypeCase { kind, variable })?;
+        left = front;
+    }
+    Ok(stack)
 }
 
 // The tasks of a query: to type and to declare its globals in order, and to type its body.
@@ -675,6 +855,14 @@ fn form_type(
         }
         Form::Nodes(operand) => nodes_type(alloc, schemas, &operand.kind),
         Form::Order(operand) => order_type(alloc, schemas, &operand.kind),
+        Form::Switch(_, cases, _, branches) => {
+            let kinds = kinds(alloc, branches.as_slice())?;
+            switch_type(alloc, cases.as_slice(), kinds.as_slice())
+        }
+        Form::Nth(operand, number, _) => {
+            Ok(one_of_type(alloc, is_first(*number), &operand.kind)?)
+        }
+        Form::Final(operand, _) => Ok(one_of_type(alloc, true, &operand.kind)?),
         Form::DataOf(operand) => data_type(alloc, schemas, &operand.kind),
         Form::NoContext => Err(no_type(Code::XPDY0002)),
         Form::Call(function, arguments) => {
@@ -725,7 +913,12 @@ fn form_place(place: Place, form: &Form<Ty>, part: Option<u32>) -> Place
         | Form::DataOf(operand)
         | Form::Neg(operand)
         | Form::Cast(operand, _, _)
-        | Form::Castable(operand, _, _) => code_place(place, &[operand.outer], part),
+        | Form::Castable(operand, _, _)
+        | Form::Nth(operand, _, _)
+        | Form::Final(operand, _) => code_place(place, &[operand.outer], part),
+        Form::Switch(operand, _, _, branches) => {
+            branch_place(place, operand.outer, branches.as_slice(), part)
+        }
         Form::Seq(first, second) | Form::Binary(_, first, second) => {
             code_place(place, &[first.outer, second.outer], part)
         }
@@ -741,6 +934,17 @@ fn form_place(place: Place, form: &Form<Ty>, part: Option<u32>) -> Place
             part,
         ),
         Form::Call(_, arguments) => argument_place(place, arguments.as_slice(), part),
+    }
+}
+
+// Where the code of a switch stands: at its operand, at a branch, or at the switch itself.
+fn branch_place(place: Place, operand: Place, branches: &[TypedExpr], part: Option<u32>) -> Place
+    ensures { result ≡ code_place place (operand ∷ map outer_of branches.now) part }
+{
+    match part {
+        Some(0) => operand,
+        Some(number) => argument_place(place, branches, Some(number - 1)),
+        None => place,
     }
 }
 

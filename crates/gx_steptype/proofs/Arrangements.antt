@@ -95,11 +95,16 @@ each_single : (s : SchemaSet) (t : SequenceType) (ys : List Shape) → EachShape
 each_single s t [] h = tt
 each_single s t (y ∷ ys) h = ((prime_is_a_choice_of_items s t (y ∷ [])).1 (record { shape = y; alone = refl; taken = h.0 }), each_single s t ys h.1)
 
-pub factored_takes_any_order : (s : SchemaSet) (t : SequenceType) (xs ys : List Shape) → Rearranged xs ys → Takes s t xs → Takes s (factored t) ys
-factored_takes_any_order s t xs ys r h =
+-- so it takes as many shapes, each of which an item type of the type takes
+pub factored_takes_members : (s : SchemaSet) (t : SequenceType) (xs ys : List Shape) → length xs ≡ length ys → EachShape (SomeItemTakes s (items_of t)) ys → Takes s t xs → Takes s (factored t) ys
+factored_takes_members s t xs ys n each h =
     repeated_takes_joined s (prime_of t) (occurrence_of t) ys (record {
       parts = singles ys;
       joined = singles_joined ys;
-      each = each_single s t ys (each_rearranged (SomeItemTakes s (items_of t)) xs ys r (items_take_each_shape s t xs h));
-      count = subst (Allows (occurrence_of t)) (as_many xs ys r ∙ sym (singles_length ys)) (occurrence_bounds_length s t xs h);
+      each = each_single s t ys each;
+      count = subst (Allows (occurrence_of t)) (n ∙ sym (singles_length ys)) (occurrence_bounds_length s t xs h);
     })
+
+pub factored_takes_any_order : (s : SchemaSet) (t : SequenceType) (xs ys : List Shape) → Rearranged xs ys → Takes s t xs → Takes s (factored t) ys
+factored_takes_any_order s t xs ys r h =
+    factored_takes_members s t xs ys (as_many xs ys r) (each_rearranged (SomeItemTakes s (items_of t)) xs ys r (items_take_each_shape s t xs h)) h

@@ -83,7 +83,7 @@ untyped_children s g kind ts d p u = elim (untyped_kinds s kind d) [
 
 -- of an element that keeps to its type
 
-ur_type_is : (t : TypeName) → is_ur_type t ≡ true → t ≡ names.Builtin builtins.AnyType
+pub ur_type_is : (t : TypeName) → is_ur_type t ≡ true → t ≡ names.Builtin builtins.AnyType
 ur_type_is (names.Builtin builtins.AnyType) h = refl
 ur_type_is _ h = absurd (cc)
 

@@ -15,9 +15,13 @@ pub mod OwnAttributes
 pub mod HonestNodes
 pub mod HonestPlaces
 pub mod FoundNodes
+pub mod FarWays
 pub mod ChildTypes
 pub mod AttributeTypes
 pub mod NearSteps
+pub mod DescendantKinds
+pub mod FarSteps
+pub mod StepTypes
 pub mod GivenLists
 pub mod TypedValues
 pub mod WiderValues

@@ -1,5 +1,7 @@
 -- The types of steps (Formal Semantics, section 8.2).
-use Rattle.std.specs.Prelude.{Bool, true, false, List, fold, Option, None, Some, if◌then◌else◌}
+use Rattle.std.specs.Prelude.{Bool, true, false, List, [], ◌∷◌, ◌++◌, map, fold, Option, None, Some, if◌then◌else◌}
+use Rattle.std.specs.List.{flat_map}
+use Rattle.gx_closure.specs.Closure.{closure_from}
 use Rattle.gx_base.specs.declared.type_name.Builtin.TheVariants as builtins
 use Rattle.gx_base.specs.declared.type_name.TypeName.{TypeName}
 use Rattle.gx_base.specs.declared.type_name.TypeName.TheVariants as names
@@ -13,14 +15,17 @@ use Rattle.gx_types.specs.declared.step.Axis.{Axis}
 use Rattle.gx_types.specs.declared.step.Axis.TheVariants as axes
 use Rattle.gx_types.specs.declared.step.NameTest.TheVariants as tests
 use Rattle.gx_types.specs.declared.step.Test.{Test}
+use Rattle.gx_types.specs.SameItemType.{same_item_type}
 use Rattle.gx_types.specs.SchemaSet.{SchemaSet, declaration_of}
 use Rattle.gx_types.specs.SequenceType.{SequenceType, nothing, item, either, optional, star}
 use Rattle.gx_types.specs.Indicator.{star_of}
+use Rattle.gx_types.specs.Choice.{choice_among}
+use Rattle.gx_types.specs.Prime.{items_of}
 use Rattle.gx_types.specs.TypeRules.{joined_types, factored, limited}
 use Rattle.gx_model.specs.NodeTest.{KindTest, an_attribute, asked}
 use Rattle.gx_model.specs.Axes.{is_attribute_axis}
 use Rattle.gx_steptype.specs.Replaced.{replaced_items}
-use Rattle.gx_steptype.specs.DerivedTypes.{over_derived}
+use Rattle.gx_steptype.specs.DerivedTypes.{listed_types, over_derived}
 use Rattle.gx_steptype.specs.TestedType.{tested_item}
 
 -- items
@@ -140,23 +145,60 @@ parent_type items.Text = optional (either any_element any_document)
 parent_type (items.Document element) = nothing
 parent_type (items.Atom kind) = nothing
 
+-- descendants and ancestors
+
+-- the item types of the children of a node
+abbrev pub child_kinds : SchemaSet → ItemType → List ItemType
+child_kinds schemas kind = items_of (child_type schemas kind)
+
+-- those of the children of a node that is a child itself: of these, elements alone have children
+abbrev pub grandchild_kinds : SchemaSet → ItemType → List ItemType
+grandchild_kinds schemas (items.Element name kind) = child_kinds schemas (items.Element name kind)
+grandchild_kinds schemas _ = []
+
+-- those of the children of all elements
+abbrev pub all_child_kinds : SchemaSet → List ItemType
+all_child_kinds schemas = flat_map (λ kind. items_of (content_of schemas kind)) (names.Builtin builtins.AnyType ∷ listed_types schemas)
+
+-- the item types of the descendants of a node: of its children, of their children, and so on, breadth first
+unfoldable pub descendant_kinds : SchemaSet → ItemType → List ItemType
+descendant_kinds schemas kind =
+    closure_from same_item_type (grandchild_kinds schemas) (child_kinds schemas kind ++ all_child_kinds schemas) (child_kinds schemas kind)
+
+-- the item types of the parent of a node
+abbrev pub parent_kinds : ItemType → List ItemType
+parent_kinds kind = items_of (parent_type kind)
+
+-- those of any parent
+abbrev pub all_parent_kinds : List ItemType
+all_parent_kinds = items.Element None (names.Builtin builtins.AnyType) ∷ items.Document None ∷ []
+
+-- the item types of the ancestors of a node: of its parent, of that one's parent, and so on, breadth first
+abbrev pub ancestor_kinds : ItemType → List ItemType
+ancestor_kinds kind = closure_from same_item_type parent_kinds all_parent_kinds (parent_kinds kind)
+
+-- what a test leaves of any number of nodes, each of one of these item types
+abbrev pub any_tested : SchemaSet → KindTest → List ItemType → SequenceType
+any_tested schemas test kinds = star_of (choice_among (map (tested_item schemas test) kinds))
+
+abbrev pub descendant_type : SchemaSet → KindTest → ItemType → SequenceType
+descendant_type schemas test kind = any_tested schemas test (descendant_kinds schemas kind)
+
+abbrev pub ancestor_type : SchemaSet → KindTest → ItemType → SequenceType
+ancestor_type schemas test kind = any_tested schemas test (ancestor_kinds kind)
+
 -- steps
 
--- an axis on which no node lies farther away than its parent, its children and its attributes
-abbrev pub is_near : Axis → Bool
-is_near axes.Child = true
-is_near axes.Attribute = true
-is_near axes.SelfAxis = true
-is_near axes.Parent = true
-is_near _ = false
-
--- a step from a node of one item type, on such an axis
+-- a step from a node of one item type
 abbrev pub item_step : SchemaSet → Axis → KindTest → ItemType → SequenceType
 item_step schemas axes.Child test kind = replaced_items (tested_item schemas test) (child_type schemas kind)
 item_step schemas axes.Attribute test kind = attribute_type schemas test kind
 item_step schemas axes.SelfAxis test kind = tested_item schemas test kind
 item_step schemas axes.Parent test kind = replaced_items (tested_item schemas test) (parent_type kind)
-item_step schemas _ test kind = nothing
+item_step schemas axes.Descendant test kind = descendant_type schemas test kind
+item_step schemas axes.DescendantOrSelf test kind = joined_types (tested_item schemas test kind) (descendant_type schemas test kind)
+item_step schemas axes.Ancestor test kind = ancestor_type schemas test kind
+item_step schemas axes.AncestorOrSelf test kind = factored (joined_types (tested_item schemas test kind) (ancestor_type schemas test kind))
 
 abbrev pub step_type : SchemaSet → Axis → Test → SequenceType → SequenceType
 step_type schemas axis test context = limited (replaced_items (item_step schemas axis (asked schemas (is_attribute_axis axis) test)) context)

@@ -1,18 +1,20 @@
 // The types of steps.
 
 ghost use Rattle.std.specs.Prelude.{◌≡◌, IfOk, IsTrue, MatchResult};
+ghost use Rattle.gx_types.specs.TypeRules.{joined_types, factored};
 ghost use Rattle.gx_include.specs.Decision.{is_included as included_in};
 ghost use Rattle.gx_model.specs.Axes.{is_attribute_axis};
 ghost use Rattle.gx_steptype.specs.AskedView.{kind_asked};
 ghost use Rattle.gx_steptype.specs.Replaced.{replaced_items};
 ghost use Rattle.gx_steptype.specs.TestedType.{tested_item as item_tested};
-ghost use Rattle.gx_steptype.specs.StepType.{is_near, step_type, child_type as type_of_children, parent_type as type_of_parent, node_type as type_of_node, any_item};
+ghost use Rattle.gx_steptype.specs.StepType.{step_type, child_type as type_of_children, parent_type as type_of_parent, descendant_type as type_of_descendants, ancestor_type as type_of_ancestors, node_type as type_of_node, any_item};
 ghost use Rattle.gx_steptype.specs.StepAnswer.{HasStepType, RefusesStep};
 
 use crate::asked::{Asked, asked_by};
 use crate::attributes::attribute_type;
 use crate::children::{any_document, any_element, child_type, parent_type, text_type};
 use crate::error::StepError;
+use crate::relatives::{ancestor_type, descendant_type};
 use crate::replace::{Replacement, replace};
 use crate::tested::{Tested, tested_type};
 use gx_base::type_name::{Builtin, TypeName};
@@ -21,11 +23,11 @@ use gx_types::item_type::ItemType;
 use gx_types::schemas::Schemas;
 use gx_types::sequence_type::Ty;
 use gx_types::step::{Axis, Test};
-use gx_types::type_rules::{choose, limit};
+use gx_types::type_rules::{choose, factor, join, limit};
 use std::alloc::{AllocError, Global};
 
-/// The type of the nodes that a step along the child, attribute, self or parent axis gives from one node (XQuery 1.0 and XPath 2.0
-/// Formal Semantics, section 8.2). `NotANode` comes exactly where the context is not included in `node()`.
+/// The type of the nodes that a step along an axis gives from one node (XQuery 1.0 and XPath 2.0 Formal Semantics, section 8.2).
+/// `NotANode` comes exactly where the context is not included in `node()`.
 pub fn axis_type(
     alloc: Global,
     schemas: &Schemas,
@@ -33,7 +35,6 @@ pub fn axis_type(
     test: &Test,
     context: &Ty,
 ) -> Result<Ty, StepError>
-    requires { IsTrue (is_near axis) }
     ensures { MatchResult result (HasStepType schemas.now axis test.now context.now) (RefusesStep schemas.now context.now) }
 {
     if !is_one_node(alloc, schemas, context)? {
@@ -96,7 +97,15 @@ impl Replacement for Step<'_> {
             Axis::Attribute => attribute_type(alloc, self.schemas, self.asked, item),
             Axis::SelfAxis => tested_type(alloc, self.schemas, self.asked, item),
             Axis::Parent => parents_tested(alloc, self.schemas, self.asked, item),
-            _ => Ok(Ty::empty()),
+            Axis::Descendant => descendant_type(alloc, self.schemas, self.asked, item),
+            Axis::DescendantOrSelf => descendant_or_self_type(
+                alloc,
+                self.schemas,
+                self.asked,
+                item,
+            ),
+            Axis::Ancestor => ancestor_type(alloc, self.schemas, self.asked, item),
+            Axis::AncestorOrSelf => ancestor_or_self_type(alloc, self.schemas, self.asked, item),
         }
     }
 }
@@ -125,6 +134,34 @@ fn parents_tested(
 {
     let parent = parent_type(alloc, item)?;
     replace(alloc, &Tested { schemas, asked }, &parent)
+}
+
+// What a test leaves of a node of an item type and of its descendants.
+fn descendant_or_self_type(
+    alloc: Global,
+    schemas: &Schemas,
+    asked: Asked<'_>,
+    item: &ItemType,
+) -> Result<Ty, AllocError>
+    ensures { IfOk result (λ t. t ≡ joined_types (item_tested schemas.now (kind_asked asked.entry) item.now) (type_of_descendants schemas.now (kind_asked asked.entry) item.now)) }
+{
+    let itself = tested_type(alloc, schemas, asked, item)?;
+    let rest = descendant_type(alloc, schemas, asked, item)?;
+    join(alloc, &itself, &rest)
+}
+
+// What a test leaves of a node of an item type and of its ancestors.
+fn ancestor_or_self_type(
+    alloc: Global,
+    schemas: &Schemas,
+    asked: Asked<'_>,
+    item: &ItemType,
+) -> Result<Ty, AllocError>
+    ensures { IfOk result (λ t. t ≡ factored (joined_types (item_tested schemas.now (kind_asked asked.entry) item.now) (type_of_ancestors schemas.now (kind_asked asked.entry) item.now))) }
+{
+    let itself = tested_type(alloc, schemas, asked, item)?;
+    let rest = ancestor_type(alloc, schemas, asked, item)?;
+    factor(alloc, &join(alloc, &itself, &rest)?)
 }
 
 /// `node()`, the type of one node (XQuery 1.0, section 2.5.4).

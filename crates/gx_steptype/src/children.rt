@@ -51,7 +51,11 @@ pub(crate) fn child_type(
 }
 
 // The children of the elements of a type and of all types that are derived from it.
-fn child_content(alloc: Global, schemas: &Schemas, kind: &TypeName) -> Result<Ty, AllocError>
+pub(crate) fn child_content(
+    alloc: Global,
+    schemas: &Schemas,
+    kind: &TypeName,
+) -> Result<Ty, AllocError>
     ensures { IfOk result (λ t. t ≡ content_of_children schemas.now kind.now) }
 {
     if is_any_type(kind) {

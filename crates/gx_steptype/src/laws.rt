@@ -1,9 +1,15 @@
 // Laws of the types of steps and of data.
 
-ghost use Rattle.gx_steptype.specs.StepLaws.{StepsKeepTheirTypes, DataKeepsItsType};
+ghost use Rattle.gx_steptype.specs.StepLaws.{DescendantKindsAreLeast, AncestorKindsAreLeast, StepsKeepTheirTypes, DataKeepsItsType};
 
-/// In an honest forest: from a node of a type, a step to a child, an attribute, the node itself or the parent gives nodes of the
-/// step's type.
+/// The item types of the descendants of a node are the least list that holds those of its children and is closed under the
+/// children of elements; those of its ancestors, the least that holds those of its parent and is closed under parents.
+pub fn relatives_are_least()
+    ensures descendants { DescendantKindsAreLeast }
+    ensures ancestors { AncestorKindsAreLeast }
+{}
+
+/// In an honest forest: from a node of a type, a step along an axis gives nodes of the step's type.
 pub fn steps_keep_their_types()
     ensures { StepsKeepTheirTypes }
 {}

@@ -9,5 +9,6 @@ pub mod data_type;
 pub mod derived;
 pub mod error;
 pub mod laws;
+mod relatives;
 mod replace;
 pub mod tested;

@@ -8,7 +8,7 @@ use gx_steptype::data_type::data_type;
 use gx_steptype::error::StepError;
 use gx_types::schemas::Schemas;
 use gx_types::sequence_type::Ty;
-use gx_types::step::{Axis, Test};
+use gx_types::step::Test;
 use gx_typetext::print::print_type;
 use gx_typetext::read::{TypeRead, read_type};
 use rows_words::not_a_row;
@@ -55,57 +55,9 @@ fn shown_step(
     context: &Ty,
 ) -> Result<String, AllocError> {
     match axis_of(along) {
-        Some(Axis::Child) => child_row(alloc, schemas, test, context),
-        Some(Axis::Attribute) => attribute_row(alloc, schemas, test, context),
-        Some(Axis::SelfAxis) => self_row(alloc, schemas, test, context),
-        Some(Axis::Parent) => parent_row(alloc, schemas, test, context),
-        _ => not_a_row(alloc),
+        Some(axis) => shown(alloc, axis_type(alloc, schemas, axis, test, context)),
+        None => not_a_row(alloc),
     }
-}
-
-fn child_row(
-    alloc: Global,
-    schemas: &Schemas,
-    test: &Test,
-    context: &Ty,
-) -> Result<String, AllocError> {
-    shown(alloc, axis_type(alloc, schemas, Axis::Child, test, context))
-}
-
-fn attribute_row(
-    alloc: Global,
-    schemas: &Schemas,
-    test: &Test,
-    context: &Ty,
-) -> Result<String, AllocError> {
-    shown(
-        alloc,
-        axis_type(alloc, schemas, Axis::Attribute, test, context),
-    )
-}
-
-fn self_row(
-    alloc: Global,
-    schemas: &Schemas,
-    test: &Test,
-    context: &Ty,
-) -> Result<String, AllocError> {
-    shown(
-        alloc,
-        axis_type(alloc, schemas, Axis::SelfAxis, test, context),
-    )
-}
-
-fn parent_row(
-    alloc: Global,
-    schemas: &Schemas,
-    test: &Test,
-    context: &Ty,
-) -> Result<String, AllocError> {
-    shown(
-        alloc,
-        axis_type(alloc, schemas, Axis::Parent, test, context),
-    )
 }
 
 // A type as its text, or the refusal.

@@ -176,7 +176,13 @@ fn binary_operator(word: &str) -> Option<BinaryOp> {
         "<=" => Some(BinaryOp::AnyLe),
         ">" => Some(BinaryOp::AnyGt),
         ">=" => Some(BinaryOp::AnyGe),
+        "is" => Some(BinaryOp::Is),
+        "<<" => Some(BinaryOp::Before),
+        ">>" => Some(BinaryOp::After),
         "to" => Some(BinaryOp::To),
+        "union" => Some(BinaryOp::Union),
+        "intersect" => Some(BinaryOp::Intersect),
+        "except" => Some(BinaryOp::Except),
         _ => None,
     }
 }

@@ -1,10 +1,12 @@
-use Rattle.std.proofs.Common.{◌≡◌, ◌++◌, ℤ, rules, subst}
+use Rattle.std.proofs.Common.{◌≡◌, ◌++◌, ℤ, List, map, rules, subst}
 use Rattle.std.specs.Prelude.{FitsSigned, OnOk}
 use Rattle.std.specs.Int.{w128}
 use Rattle.std.proofs.lemmas.Int.{to_z-of_z}
-use Rattle.gx_model.specs.Item.{atoms}
+use Rattle.gx_model.specs.Item.{atoms, node}
 use Rattle.gx_core.specs.Ranging.{integers_from}
+use Rattle.gx_store.specs.declared.number.NodeId.{NodeId}
 use Rattle.gx_store.specs.Items.{items_in}
+use Rattle.gx_store.specs.Places.{node_places}
 use Rattle.gx_eval.proofs.answer.put.Goals as goal
 
 pub returns-in-One : goal.returns-in-One
@@ -16,3 +18,9 @@ returns-in-Integers c = λ later.
     rw c.in-Integers.is
     (subst (λ (z : ℤ). OnOk c.put_integers.result (items_in later c.put_integers.new.values.items ≡ items_in later c.args.values.now.items ++ atoms (integers_from z c.in-Integers.count)))
     (to_z-of_z w128 c.in-Integers.first fits) (c.put_integers.ensures later))
+
+pub returns-in-Nodes : goal.returns-in-Nodes
+returns-in-Nodes c = λ later.
+    rw c.in-Nodes.is
+    (subst (λ (ns : List NodeId). OnOk c.append_nodes.result (items_in later c.append_nodes.new.items.items ≡ items_in later c.args.values.now.items ++ map node (node_places later ns)))
+    c.as_slice.ensures.value (c.append_nodes.ensures later))

@@ -1,3 +1,11 @@
+use Rattle.std.proofs.Common.{◌++◌, ℤ, take, drop, rules, ap, sym, ◌∙◌}
+use Rattle.std.specs.Prelude.{FitsSigned}
+use Rattle.std.specs.Int.{w128}
+use Rattle.std.proofs.lemmas.Int.{to_z-of_z}
+use Rattle.gx_model.specs.Item.{Items}
+use Rattle.gx_core.specs.Filtering.{nth_of}
+use Rattle.gx_core.specs.Outcome.{gives}
+use Rattle.gx_store.specs.Items.{items_in}
 use Rattle.gx_eval.specs.Resume.{context_over}
 use Rattle.gx_eval.proofs.change.change_values.Goals as goal
 
@@ -18,3 +26,15 @@ returns-in-Order-clause-value c = rw c.in-Order.is (c.order.ensures.value (conte
 
 pub returns-in-Order-clause-failed : goal.returns-in-Order-clause-failed
 returns-in-Order-clause-failed c = rw c.in-Order.is (c.order.ensures.failed (context_over c.args.schemas.now))
+
+pub returns-in_ok-keep_nth-in-Nth-clause-value : goal.returns-in_ok-keep_nth-in-Nth-clause-value
+returns-in_ok-keep_nth-in-Nth-clause-value c = λ later x.
+    let values : Items = items_in later c.args.values.now.items in
+    let fits : FitsSigned w128 c.in-Nth.number = search rules in
+    rw c.in-Nth.is
+    (sym (ap (λ (v : Items). gives v c.args.store.now)
+    (c.in_ok-keep_nth-in-Nth.ensures later
+    ∙ ap (λ (number : ℤ). take c.args.first values ++ nth_of number c.in-Nth.reverse (drop c.args.first values)) (to_z-of_z w128 c.in-Nth.number fits))))
+
+pub returns-in_ok-keep_last-in-Final-clause-value : goal.returns-in_ok-keep_last-in-Final-clause-value
+returns-in_ok-keep_last-in-Final-clause-value c = λ later x. rw c.in-Final.is (ap (λ (v : Items). gives v c.args.store.now) (sym (c.in_ok-keep_last-in-Final.ensures later)))

@@ -11,7 +11,8 @@ use Rattle.gx_eval.proofs.Resuming.{fails_also, binary_applies, binary_fails}
 use Rattle.gx_eval.proofs.evaluation.Evaluation.apply_binary.Goals as goal
 
 pub returns-in_err-answer-clause-failed : goal.returns-in_err-answer-clause-failed
-returns-in_err-answer-clause-failed c = λ k forest later.
+returns-in_err-answer-clause-failed c = λ k later x.
+    let forest = c.args.store.now in
     let values : Items = items_in later c.args.self.now.values.items in
     let left : items_in later c.cut_at-2.result.1.now ≡ drop c.args.first (take c.args.second values) =
     c.cut_at-2.ensures.rest later ∙ ap (drop c.args.first) (c.cut_at.ensures.front later ∙ ap (λ xs. take c.args.second (items_in later xs)) c.as_slice.ensures.value) in
@@ -24,12 +25,13 @@ returns-in_err-answer-clause-failed c = λ k forest later.
     let p = err_from_is_err_and c.from_residual.result c.from_residual.ensures.1 in
     rw (p.1, p.2)
     (binary_fails k forest c.args.operator c.args.self.now.work values c.args.first c.args.second (stacks_of later c.args.self.now) (items_of later c.args.self.now.scope) _
-    (fails_also _ _ _ same (c.in_err-answer.ensures.failed forest later)))
+    (fails_also _ _ _ same (c.in_err-answer.ensures.failed later x)))
 
 pub returns-clause-value : goal.returns-clause-value
-returns-clause-value c = λ k forest later.
+returns-clause-value c = λ k later x.
+    let forest = c.args.store.now in
     let values : Items = items_in later c.args.self.now.values.items in
-    let answer : Items = answer_items c.in_ok-answer.answer in
+    let answer : Items = answer_items later c.in_ok-answer.answer in
     let stacks : Stacks = stacks_of later c.args.self.now in
     let bindings : Bindings = items_of later c.args.self.now.scope in
     let left : items_in later c.cut_at-2.result.1.now ≡ drop c.args.first (take c.args.second values) =
@@ -41,4 +43,4 @@ returns-clause-value c = λ k forest later.
     (ap (λ (class : BinaryClass). binary_meaning class (drop c.args.first (take c.args.second values)) (drop c.args.second values) forest) (sym c.class.ensures)
     ∙ ap (λ (xs : Items). binary_meaning c.class.result xs (drop c.args.second values) forest) (sym left)
     ∙ ap (λ (ys : Items). binary_meaning c.class.result (items_in later c.cut_at-2.result.1.now) ys forest) (sym right)
-    ∙ c.in_ok-answer.ensures.value forest later)
+    ∙ c.in_ok-answer.ensures.value later x)

@@ -24,7 +24,7 @@ returns-clause-value c = λ later x.
     let k : Context = context_over c.args.schemas.now in
     let forest = c.args.store.now in
     let values : Items = items_in later c.args.self.now.values.items in
-    let answer : Items = answer_items c.in_ok-answer.answer in
+    let answer : Items = answer_items later c.in_ok-answer.answer in
     let stacks : Stacks = stacks_of later c.args.self.now in
     let bindings : Bindings = items_of later c.args.self.now.scope in
     ap (λ (v : Items). resume k c.args.self.now.work v stacks bindings forest) (c.in_ok-put.ensures later ∙ ap (λ (v : Items). v ++ answer) (c.cut_off.ensures later))

@@ -1,4 +1,4 @@
-use Rattle.std.proofs.Common.{◌≡◌, [], ◌∷◌, ◌++◌, Bool, true, false, List, Some, take, drop, ap, sym, ◌∙◌}
+use Rattle.std.proofs.Common.{◌≡◌, [], ◌∷◌, ◌++◌, true, false, List, Some, take, drop, ap, sym, ◌∙◌}
 use Rattle.gx_facets.specs.declared.Atomic.{Atomic}
 use Rattle.gx_model.specs.Item.{Items, atom}
 use Rattle.gx_core.specs.Comparing.{truth_value, condition_of}

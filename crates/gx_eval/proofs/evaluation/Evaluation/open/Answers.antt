@@ -1,15 +1,18 @@
-use Rattle.std.proofs.Common.{◌≡◌, ◌∷◌, [], ◌++◌, true, false, List, length, sym, subst, ap, ◌∙◌}
+use Rattle.std.proofs.Common.{◌≡◌, ◌∷◌, [], ◌++◌, true, false, List, length, take, drop, map, sym, subst, ap, ◌∙◌}
 use Rattle.gx_facets.specs.declared.Atomic.{Atomic}
 use Rattle.gx_model.specs.Item.{Items, atom}
 use Rattle.std.specs.Prelude.{OnOk, IfErr}
 use Rattle.gx_core.specs.declared.operator.Operator.TheVariants as operators
-use Rattle.gx_core.specs.Meaning.{Context, Bindings, Denotation, denoted, meaning}
+use Rattle.gx_core.specs.declared.cases.TypeCase.{TypeCase}
+use Rattle.gx_core.specs.Outcome.{after}
+use Rattle.gx_core.specs.Soundness.{TypedExpression}
+use Rattle.gx_core.specs.Meaning.{Context, Bindings, Denotation, denoted, switched, meaning}
 use Rattle.gx_store.specs.Items.{items_in}
 use Rattle.gx_eval.specs.Failing.{FailsSo}
 use Rattle.gx_eval.specs.declared.evaluation.Pending.{Pending}
 use Rattle.gx_eval.specs.Resume.{Stacks, context_over, outcome_of, outcome_behind, items_of, stacks_of, resume}
 use Rattle.gx_eval.specs.declared.looping.Loop.TheVariants as loops
-use Rattle.gx_eval.proofs.Resuming.{each_argument, binary_opens_at, conditional_opens_at, loop_opens_at, search_opens_at, let_opens_at}
+use Rattle.gx_eval.proofs.Resuming.{each_argument, binary_opens_at, conditional_opens_at, loop_opens_at, search_opens_at, let_opens_at, switch_opens}
 use Rattle.gx_eval.proofs.evaluation.Evaluation.open.Goals as goal
 
 pub returns-in-Var-clause-value : goal.returns-in-Var-clause-value
@@ -129,3 +132,21 @@ returns-in_ok-open_part-in-EveryIn-clause-value c = λ later x.
     c.in_ok-open_part-in-EveryIn.ensures k c.args.store.now later
     ∙ rw (← c.expression.view_is, c.in-EveryIn.is, ← c.deref-in-EveryIn.ensures, ← c.deref-in-EveryIn-2.ensures)
     (search_opens_at k c.args.store.now c.in-EveryIn.binder.variable false (meaning k c.deref-in-EveryIn.result.now) (meaning k c.deref-in-EveryIn-2.result.now) work values c.count_of-first.result stacks bindings (c.count_of-first.ensures later))
+
+pub returns-in_ok-open_part-in-Switch-clause-value : goal.returns-in_ok-open_part-in-Switch-clause-value
+returns-in_ok-open_part-in-Switch-clause-value c = λ later x.
+    let k : Context = context_over c.args.schemas.now in
+    let work : List Pending = c.args.self.now.work in
+    let values : Items = items_in later c.args.self.now.values.items in
+    let stacks : Stacks = stacks_of later c.args.self.now in
+    let bindings : Bindings = items_of later c.args.self.now.scope in
+    let cases : List TypeCase = c.as_slice-in-Switch.result.now in
+    let branches : List TypedExpression = c.as_slice-in-Switch-2.result.now in
+    let operand : Denotation = meaning k c.deref-in-Switch.result.now in
+    let first = c.count_of-first.result in
+    c.in_ok-open_part-in-Switch.ensures k c.args.store.now later
+    ∙ rw (← c.expression.view_is, c.in-Switch.is, ← c.deref-in-Switch.ensures, ← c.as_slice-in-Switch.ensures, ← c.as_slice-in-Switch-2.ensures.value)
+    (subst (λ (parts : List Denotation). after (operand bindings c.args.store.now)
+    (λ xs f. after (switched k.schemas cases c.in-Switch.default (map (meaning k) branches) (drop first (values ++ xs)) bindings f) (λ more left. resume k work (take first (values ++ xs) ++ more) stacks bindings left))
+    ≡ after (after (operand bindings c.args.store.now) (λ xs f. switched k.schemas cases c.in-Switch.default parts xs bindings f)) (λ more left. resume k work (values ++ more) stacks bindings left)) (sym (each_argument k branches))
+    (switch_opens k c.args.store.now operand (λ xs f. switched k.schemas cases c.in-Switch.default (map (meaning k) branches) xs bindings f) work values first stacks bindings (c.count_of-first.ensures later)))

@@ -11,16 +11,18 @@ use Rattle.gx_eval.proofs.Resuming.{right_at_once, right_opens}
 use Rattle.gx_eval.proofs.evaluation.Evaluation.open_right.Goals as goal
 
 pub returns-in-Some-clause-value : goal.returns-in-Some-clause-value
-returns-in-Some-clause-value c = λ k forest later.
+returns-in-Some-clause-value c = λ k later x.
+    let forest = c.args.store.now in
     let values : Items = items_in later c.args.self.now.values.items in
-    let answer : Items = answer_items c.in-Some.answer in
+    let answer : Items = answer_items later c.in-Some.answer in
     let bindings : Bindings = items_of later c.args.self.now.scope in
-    let e : right_meaning k c.args.operator c.args.first c.args.right.now values bindings forest ≡ gives answer forest = rw c.in-Some.is at (c.in_ok-answer.ensures.value k forest later) in
+    let e : right_meaning k c.args.operator c.args.first c.args.right.now values bindings forest ≡ gives answer forest = rw c.in-Some.is at (c.in_ok-answer.ensures.value k later x) in
     ap (λ (v : Items). resume k c.args.self.now.work v (stacks_of later c.args.self.now) bindings forest) (c.in_ok-put.ensures later ∙ ap (λ (v : Items). v ++ answer) (c.cut_off.ensures later))
     ∙ right_at_once k forest c.args.operator c.args.right.now c.args.self.now.work values answer c.args.first (stacks_of later c.args.self.now) bindings e
 
 pub returns-clause-value : goal.returns-clause-value
-returns-clause-value c = λ k forest later.
+returns-clause-value c = λ k later x.
+    let forest = c.args.store.now in
     let values : Items = items_in later c.args.self.now.values.items in
     let bindings : Bindings = items_of later c.args.self.now.scope in
     ap (λ (work : List Pending). resume k work values (stacks_of later c.args.self.now) bindings forest) (c.in_ok-push-2.ensures.ok ∙ ap (λ (work : List Pending). Evaluate c.args.right ∷ work) c.in_ok-push.ensures.ok)

@@ -16,9 +16,9 @@ returns-in-Some-clause-value c = λ later x.
     let k : Context = context_over c.args.schemas.now in
     let forest = c.args.store.now in
     let bindings : Bindings = items_of later c.args.self.now.scope in
-    let e : denoted k (single_operator c.args.operator) (meaning k c.args.operand.now ∷ []) bindings forest ≡ gives (answer_items c.in-Some.answer) forest = rw c.in-Some.is at (c.in_ok-answer.ensures.value later x) in
+    let e : denoted k (single_operator c.args.operator) (meaning k c.args.operand.now ∷ []) bindings forest ≡ gives (answer_items later c.in-Some.answer) forest = rw c.in-Some.is at (c.in_ok-answer.ensures.value later x) in
     ap (λ (v : Items). resume k c.args.self.now.work v (stacks_of later c.args.self.now) bindings forest) (c.in_ok-put.ensures later)
-    ∙ answer_behind (denoted k (single_operator c.args.operator) (meaning k c.args.operand.now ∷ []) bindings forest) forest (items_in later c.args.self.now.values.items) (answer_items c.in-Some.answer)
+    ∙ answer_behind (denoted k (single_operator c.args.operator) (meaning k c.args.operand.now ∷ []) bindings forest) forest (items_in later c.args.self.now.values.items) (answer_items later c.in-Some.answer)
     (λ vs left. resume k c.args.self.now.work vs (stacks_of later c.args.self.now) bindings left) e
 
 pub returns-clause-value : goal.returns-clause-value

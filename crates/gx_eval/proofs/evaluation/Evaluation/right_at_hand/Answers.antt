@@ -11,7 +11,8 @@ use Rattle.gx_eval.proofs.Resuming.{right_is, fails_also}
 use Rattle.gx_eval.proofs.evaluation.Evaluation.right_at_hand.Goals as goal
 
 pub returns-in_err-of_two-in-Some-clause-failed : goal.returns-in_err-of_two-in-Some-clause-failed
-returns-in_err-of_two-in-Some-clause-failed c = λ k forest later.
+returns-in_err-of_two-in-Some-clause-failed c = λ k later x.
+    let forest = c.args.store.now in
     let ys : Items = items_in later c.as_slice.result.now in
     let values : Items = items_in later c.args.self.now.values.items in
     let bindings : Bindings = items_of later c.args.self.now.scope in
@@ -21,10 +22,11 @@ returns-in_err-of_two-in-Some-clause-failed c = λ k forest later.
     ∙ ap (λ (class : BinaryClass). binary_meaning class (drop c.args.first values) ys forest) (sym c.class.ensures)
     ∙ ap (λ (xs : Items). binary_meaning c.class.result xs ys forest) (sym (c.values_from-left.ensures later)) in
     let p = err_from_is_err_and c.from_residual-in_err-of_two-in-Some.result c.from_residual-in_err-of_two-in-Some.ensures.1 in
-    rw (p.1, p.2) (fails_also _ _ _ o (c.in_err-of_two-in-Some.ensures.failed forest later))
+    rw (p.1, p.2) (fails_also _ _ _ o (c.in_err-of_two-in-Some.ensures.failed later x))
 
 pub returns-in_ok-of_two-in-Some-clause-value : goal.returns-in_ok-of_two-in-Some-clause-value
-returns-in_ok-of_two-in-Some-clause-value c = λ k forest later.
+returns-in_ok-of_two-in-Some-clause-value c = λ k later x.
+    let forest = c.args.store.now in
     let ys : Items = items_in later c.as_slice.result.now in
     let values : Items = items_in later c.args.self.now.values.items in
     let bindings : Bindings = items_of later c.args.self.now.scope in
@@ -33,4 +35,4 @@ returns-in_ok-of_two-in-Some-clause-value c = λ k forest later.
     right_is k forest c.args.operator c.args.right.now values ys c.args.first bindings (e ∙ ap (λ (v : Items). gives v forest) (sym (c.as_slice.ensures later)))
     ∙ ap (λ (class : BinaryClass). binary_meaning class (drop c.args.first values) ys forest) (sym c.class.ensures)
     ∙ ap (λ (xs : Items). binary_meaning c.class.result xs ys forest) (sym (c.values_from-left.ensures later)) in
-    o ∙ c.in_ok-of_two-in-Some.ensures.value forest later
+    o ∙ c.in_ok-of_two-in-Some.ensures.value later x

@@ -1,4 +1,4 @@
-use Rattle.std.proofs.Common.{◌≡◌, ◌+◌, ◌∷◌, [], ◌++◌, not, List, length, take, drop, arith, rules, ap, sym, ◌∙◌}
+use Rattle.std.proofs.Common.{◌≡◌, ◌+◌, ◌∷◌, [], ◌++◌, not, List, length, take, drop, arith, rules, ap, ◌∙◌}
 use Rattle.std.proofs.lemmas.List.{drop-map, drop_all}
 use Rattle.gx_facets.specs.declared.Atomic.{Atomic}
 use Rattle.gx_model.specs.Item.{Items, atom}

@@ -25,5 +25,5 @@ returns-in_ok-of_one-in-Some-clause-value c = λ later x.
     let k : Context = context_over c.args.schemas.now in
     let forest = c.args.store.now in
     let e : meaning k c.args.operand.now (items_of later c.args.self.now.scope) forest ≡ gives (hand_items later c.in-Some.hand) forest = rw c.in-Some.is at (c.in_ok-hand.ensures k forest later) in
-    one_at_hand k c.args.operator (meaning k c.args.operand.now) (items_of later c.args.self.now.scope) forest (items_in later c.as_slice.result.now) (answer_items c.in_ok-of_one-in-Some.field-0)
+    one_at_hand k c.args.operator (meaning k c.args.operand.now) (items_of later c.args.self.now.scope) forest (items_in later c.as_slice.result.now) (answer_items later c.in_ok-of_one-in-Some.field-0)
     (e ∙ ap (λ (v : Items). gives v forest) (sym (c.as_slice.ensures later))) (c.in_ok-of_one-in-Some.ensures.value later x)

@@ -22,16 +22,16 @@ pub returns-in-Single-clause-failed : goal.returns-in-Single-clause-failed
 returns-in-Single-clause-failed c = λ later x. rw c.in-Single.is (c.apply_single.ensures.failed later x)
 
 pub returns-in-Right-clause-value : goal.returns-in-Right-clause-value
-returns-in-Right-clause-value c = λ later x. rw c.in-Right.is (c.open_right.ensures.value (context_over c.args.schemas.now) c.args.store.now later)
+returns-in-Right-clause-value c = λ later x. rw c.in-Right.is (c.open_right.ensures.value (context_over c.args.schemas.now) later x)
 
 pub returns-in-Right-clause-failed : goal.returns-in-Right-clause-failed
-returns-in-Right-clause-failed c = λ later x. rw c.in-Right.is (c.open_right.ensures.failed (context_over c.args.schemas.now) c.args.store.now later)
+returns-in-Right-clause-failed c = λ later x. rw c.in-Right.is (c.open_right.ensures.failed (context_over c.args.schemas.now) later x)
 
 pub returns-in-Binary-clause-value : goal.returns-in-Binary-clause-value
-returns-in-Binary-clause-value c = λ later x. rw c.in-Binary.is (c.apply_binary.ensures.value (context_over c.args.schemas.now) c.args.store.now later)
+returns-in-Binary-clause-value c = λ later x. rw c.in-Binary.is (c.apply_binary.ensures.value (context_over c.args.schemas.now) later x)
 
 pub returns-in-Binary-clause-failed : goal.returns-in-Binary-clause-failed
-returns-in-Binary-clause-failed c = λ later x. rw c.in-Binary.is (c.apply_binary.ensures.failed (context_over c.args.schemas.now) c.args.store.now later)
+returns-in-Binary-clause-failed c = λ later x. rw c.in-Binary.is (c.apply_binary.ensures.failed (context_over c.args.schemas.now) later x)
 
 pub returns-in-Choose-clause-value : goal.returns-in-Choose-clause-value
 returns-in-Choose-clause-value c = λ later x. rw c.in-Choose.is (c.choose.ensures.value (context_over c.args.schemas.now) c.args.store.now later)
@@ -74,3 +74,9 @@ returns-in-Decide-clause-value c = λ later x. rw c.in-Decide.is (c.decide.ensur
 
 pub returns-in-Decide-clause-failed : goal.returns-in-Decide-clause-failed
 returns-in-Decide-clause-failed c = λ later x. rw c.in-Decide.is (c.decide.ensures.failed (context_over c.args.schemas.now) c.args.store.now later)
+
+pub returns-in-Switch-clause-value : goal.returns-in-Switch-clause-value
+returns-in-Switch-clause-value c = λ later x. rw c.in-Switch.is (c.switch.ensures.value c.args.store.now later)
+
+pub returns-in-Switch-clause-failed : goal.returns-in-Switch-clause-failed
+returns-in-Switch-clause-failed c = λ later x. rw c.in-Switch.is (c.switch.ensures.failed c.args.store.now later)

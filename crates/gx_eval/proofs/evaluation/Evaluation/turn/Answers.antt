@@ -1,4 +1,4 @@
-use Rattle.std.proofs.Common.{◌≡◌, ℕ, ◌+◌, suc, add-one, ◌∷◌, [], ◌++◌, List, length, take, drop, arith, rules, ap, sym, ◌∙◌}
+use Rattle.std.proofs.Common.{◌≡◌, ◌+◌, suc, add-one, ◌∷◌, [], ◌++◌, List, length, take, drop, arith, rules, ap, sym, ◌∙◌}
 use Rattle.std.proofs.lemmas.List.{drop-map, drop_all}
 use Rattle.gx_model.specs.Item.{Items}
 use Rattle.gx_core.specs.Meaning.{Bindings, item_bound, meaning}
@@ -8,7 +8,7 @@ use Rattle.gx_store.specs.Items.{item_in, items_in}
 use Rattle.gx_eval.specs.declared.evaluation.Pending.{Pending}
 use Rattle.gx_eval.specs.declared.evaluation.Pending.TheVariants.{Evaluate}
 use Rattle.gx_eval.specs.declared.looping.Loop.TheVariants.{For}
-use Rattle.gx_eval.specs.Resume.{Stacks, with_sources, resume, items_of, stacks_of, looped, turn}
+use Rattle.gx_eval.specs.Resume.{Stacks, with_sources, resume, items_of, stacks_of, looped}
 use Rattle.gx_eval.proofs.LaterItems.{next_source}
 use Rattle.gx_eval.proofs.Resuming.{turn_goes_on}
 use Rattle.gx_eval.proofs.evaluation.Evaluation.turn.Goals as goal

@@ -1,4 +1,4 @@
-use Rattle.std.proofs.Common.{ℕ, List, ap, sym, ◌∙◌}
+use Rattle.std.proofs.Common.{ℕ, ap, sym, ◌∙◌}
 use Rattle.gx_core.specs.Expression.{CoreExpression}
 use Rattle.gx_normal.specs.Normalisation.{core_of}
 use Rattle.gx_normal.specs.Normalising.{Made, added, core_left}

@@ -1,6 +1,6 @@
-use Rattle.std.proofs.Common.{refl}
+use Rattle.std.proofs.Common.{refl, rules}
 use Rattle.gx_core.specs.declared.operator.Operator.TheVariants as operators
-use Rattle.gx_static.proofs.Continuing.{single_opens, pair_opens, conditional_opens, call_opens, for_opens, some_opens, every_opens, let_opens}
+use Rattle.gx_static.proofs.Continuing.{single_opens, pair_opens, conditional_opens, call_opens, for_opens, some_opens, every_opens, let_opens, switch_opens}
 use Rattle.gx_static.proofs.typing.Typing.open.Goals as goal
 
 pub returns-in-Seq : goal.returns-in-Seq
@@ -116,6 +116,34 @@ returns-in-EveryIn c = λ schemas.
       ← every_opens schemas c.args.self.now.tasks c.args.self.now.parts c.args.self.now.scope c.args.self.now.declared.items c.into_parts-kind.result.0 c.into_parts-kind.result.1 c.in-EveryIn.binder c.in-EveryIn.source.value c.in-EveryIn.test.value,
     )
     (c.open_loop-in-EveryIn.ensures schemas)
+
+pub returns-in-Switch : goal.returns-in-Switch
+returns-in-Switch c = λ schemas.
+    rw (
+      c.into_parts-kind.ensures,
+      c.in-Switch.is,
+      ← switch_opens schemas c.args.self.now.tasks c.args.self.now.parts c.args.self.now.scope c.args.self.now.declared.items c.into_parts-kind.result.0 c.into_parts-kind.result.1 c.in-Switch.cases c.in-Switch.default c.in-Switch.operand.value c.in-Switch.branches.items,
+    )
+    (c.open_switch.ensures schemas)
+
+pub returns-in-Nth : goal.returns-in-Nth
+returns-in-Nth c = λ schemas.
+    let opened = c.open_single-in-Nth.ensures schemas in
+    rw (
+      c.into_parts-kind.ensures,
+      c.in-Nth.is,
+      ← single_opens schemas (operators.Nth c.in-Nth.number c.in-Nth.reverse) (λ before. refl) refl c.args.self.now.tasks c.args.self.now.parts c.args.self.now.scope c.args.self.now.declared.items c.into_parts-kind.result.0 c.into_parts-kind.result.1 c.in-Nth.operand.value,
+    )
+    (search rules)
+
+pub returns-in-Final : goal.returns-in-Final
+returns-in-Final c = λ schemas.
+    rw (
+      c.into_parts-kind.ensures,
+      c.in-Final.is,
+      ← single_opens schemas (operators.Final c.in-Final.reverse) (λ before. refl) refl c.args.self.now.tasks c.args.self.now.parts c.args.self.now.scope c.args.self.now.declared.items c.into_parts-kind.result.0 c.into_parts-kind.result.1 c.in-Final.operand.value,
+    )
+    (c.open_single-in-Final.ensures schemas)
 
 pub returns-in-Step : goal.returns-in-Step
 returns-in-Step c = λ schemas. rw (c.into_parts-kind.ensures, c.in-Step.is) (c.open_leaf-in-Step.ensures schemas)
