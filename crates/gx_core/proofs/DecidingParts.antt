@@ -1,20 +1,26 @@
 -- Parts that come to the same in each evaluation that an operator asks for may stand for one another.
-use Rattle.std.proofs.Common.{◌≡◌, ℕ, suc, ◌+◌, Bool, true, false, List, [], ◌∷◌, ◌++◌, length, Option, Some, None, refl, sym, ◌∙◌, ap, subst, arith, if◌then◌else◌}
+use Rattle.std.proofs.Common.{◌≡◌, ℕ, zero, suc, ◌+◌, Bool, true, false, List, [], ◌∷◌, ◌++◌, map, drop, length, Option, Some, None, refl, sym, ◌∙◌, ap, subst, arith, if◌then◌else◌}
 use Rattle.std.specs.Prelude.{slice_get}
 use Rattle.std.specs.List.{AllByRecursion}
+use Rattle.gx_facets.specs.declared.Atomic.{Atomic}
 use Rattle.gx_types.specs.SchemaSet.{SchemaSet}
+use Rattle.gx_sorting.specs.declared.keys.KeyOrder.{KeyOrder}
 use Rattle.gx_model.specs.Forest.{Forest}
 use Rattle.gx_model.specs.Item.{Item, Items}
 use Rattle.gx_core.specs.declared.cases.TypeCase.{TypeCase}
 use Rattle.gx_core.specs.declared.expression.Binder.{Binder}
+use Rattle.gx_core.specs.declared.operator.ClauseKind.{ClauseKind}
+use Rattle.gx_core.specs.declared.operator.ClauseKind.TheVariants as clauses
 use Rattle.gx_core.specs.declared.operator.Operator.{Operator}
 use Rattle.gx_core.specs.declared.operator.Operator.TheVariants as operators
 use Rattle.gx_core.specs.Bindings.{position_bound}
 use Rattle.gx_core.specs.Instances.{is_instance}
 use Rattle.gx_core.specs.Outcome.{Outcome, gives, raises, wrong, after, given}
 use Rattle.gx_core.specs.Comparing.{truth_value, condition_of}
-use Rattle.gx_core.specs.Meaning.{Context, Bindings, Denotation, acts, all_of, for_each, item_bound, decides, any_decides, branch, switched, denoted}
-use Rattle.gx_core.specs.Calls.{Call, call_of_part, calls_after, calls_given, operand_calls, turn_calls, search_calls, chosen_part, branch_calls, calls, evaluated_as}
+use Rattle.gx_core.specs.Denotations.{Bindings, Denotation, item_bound}
+use Rattle.gx_core.specs.Blocks.{Tuple, key_of, tuple_keys, tuples_of_each, tuples_if, tuples_of, in_key_order, returned, block_returned}
+use Rattle.gx_core.specs.Meaning.{Context, acts, all_of, for_each, decides, any_decides, branch, switched, denoted}
+use Rattle.gx_core.specs.Calls.{Call, call_of_part, calls_after, calls_given, operand_calls, turn_calls, search_calls, chosen_part, branch_calls, key_calls, calls_of_each, tuple_calls, return_calls, returns_calls, calls, evaluated_as}
 use Rattle.gx_core.specs.Laws.{AgreeAt, PartsDecide}
 
 -- ---- what is the same behind an outcome
@@ -255,6 +261,163 @@ switch_decides context cases default a c ds es bindings forest n all =
     behind_head : (d : Denotation) (rest : List Denotation) (k : ℕ) → slice_get (d ∷ rest) (1 + k) ≡ slice_get rest k
     behind_head d rest k = let e : 1 + k ≡ suc k = omega arith in ap (λ (m : ℕ). slice_get (d ∷ rest) m) e
 
+-- ---- blocks
+
+all_in_front : (Holds : Call → Type 0) (a b : List Call) → AllByRecursion Holds (a ++ b) → AllByRecursion Holds a
+all_in_front Holds [] b h = tt
+all_in_front Holds (x ∷ a) b h = (h.0, all_in_front Holds a b h.1)
+
+all_behind : (Holds : Call → Type 0) (a b : List Call) → AllByRecursion Holds (a ++ b) → AllByRecursion Holds b
+all_behind Holds [] b h = h
+all_behind Holds (x ∷ a) b h = all_behind Holds a b h.1
+
+-- what follows an outcome whose own evaluations stand in front
+same_behind : {R S : Type 0} (Holds : Call → Type 0) (one other : Outcome R) (first second : List Call) (next following : R → Forest → Outcome S) (asked others : R → Forest → List Call)
+    → (AllByRecursion Holds first → Same one other first second) → AllByRecursion Holds (first ++ calls_after one asked)
+    → ((result : R) (left : Forest) → AllByRecursion Holds (asked result left) → Same (next result left) (following result left) (asked result left) (others result left))
+    → Same (after one next) (after other following) (first ++ calls_after one asked) (second ++ calls_after other others)
+same_behind Holds one other first second next following asked others own all h =
+    let p = own (all_in_front Holds first (calls_after one asked) all) in
+    let q = same_after Holds one other next following asked others p.0 (all_behind Holds first (calls_after one asked) all) h in
+    (q.0, λ i. p.1 i ++ q.1 i)
+
+same_keys : (parts others : List Denotation) (orders : List KeyOrder) (part : ℕ) (ds es : List Denotation) (bindings : Bindings) (forest : Forest) → length ds ≡ length es
+    → ((k : ℕ) → slice_get parts (part + k) ≡ slice_get ds k) → ((k : ℕ) → slice_get others (part + k) ≡ slice_get es k)
+    → AllByRecursion (AgreeAt parts others) (key_calls orders part ds bindings forest)
+    → Same (tuple_keys orders ds bindings forest) (tuple_keys orders es bindings forest) (key_calls orders part ds bindings forest) (key_calls orders part es bindings forest)
+same_keys parts others [] part ds es bindings forest n here there all = (refl, refl)
+same_keys parts others (order ∷ orders) part [] [] bindings forest n here there all = (refl, refl)
+same_keys parts others (order ∷ orders) part [] (e ∷ es) bindings forest n here there all = absurd (cc)
+same_keys parts others (order ∷ orders) part (d ∷ ds) [] bindings forest n here there all = absurd (cc)
+same_keys parts others (order ∷ orders) part (d ∷ ds) (e ∷ es) bindings forest n here there all =
+    let found = λ (ps : List Denotation) (left : Forest) (key : Option Atomic). after (tuple_keys orders ps bindings left) (λ keys last. gives (key ∷ keys) last) in
+    let asked = λ (ps : List Denotation) (left : Forest) (key : Option Atomic). key_calls orders (suc part) ps bindings left in
+    same_first (call_of_part part bindings forest) (tuple_keys (order ∷ orders) (d ∷ ds) bindings forest) (tuple_keys (order ∷ orders) (e ∷ es) bindings forest)
+    (calls_after (d bindings forest) (λ xs left. calls_given (key_of xs) (asked ds left))) (calls_after (e bindings forest) (λ xs left. calls_given (key_of xs) (asked es left)))
+    (same_after (AgreeAt parts others) (d bindings forest) (e bindings forest) (λ xs left. given (key_of xs) (found ds left)) (λ xs left. given (key_of xs) (found es left))
+    (λ xs left. calls_given (key_of xs) (asked ds left)) (λ xs left. calls_given (key_of xs) (asked es left))
+    (found_there parts others part d e (this_place parts ds d part here) (this_place others es e part there) bindings forest all.0) all.1
+    (λ xs left k. same_given (AgreeAt parts others) (key_of xs) (found ds left) (found es left) (asked ds left) (asked es left) k
+    (λ key m. let p = same_keys parts others orders (suc part) ds es bindings left (let l : length ds ≡ length es = omega (arith, n) in l) (next_place parts ds d part here) (next_place others es e part there) m in
+    (ap (λ o. after o (λ keys last. gives (key ∷ keys) last)) p.0, p.1))))
+
+same_each : (Holds : Call → Type 0) (found other : ℕ → Item → Forest → Outcome (List Tuple)) (asked others : ℕ → Item → Forest → List Call)
+    → ((number : ℕ) (x : Item) (now : Forest) → AllByRecursion Holds (asked number x now) → Same (found number x now) (other number x now) (asked number x now) (others number x now))
+    → (number : ℕ) (xs : Items) (forest : Forest) → AllByRecursion Holds (calls_of_each found asked number xs forest)
+    → Same (tuples_of_each found number xs forest) (tuples_of_each other number xs forest) (calls_of_each found asked number xs forest) (calls_of_each other others number xs forest)
+same_each Holds found other asked others h number [] forest all = (refl, refl)
+same_each Holds found other asked others h number (x ∷ xs) forest all =
+    same_behind Holds (found number x forest) (other number x forest) (asked number x forest) (others number x forest)
+    (λ tuples left. after (tuples_of_each found (suc number) xs left) (λ more last. gives (tuples ++ more) last)) (λ tuples left. after (tuples_of_each other (suc number) xs left) (λ more last. gives (tuples ++ more) last))
+    (λ tuples left. calls_of_each found asked (suc number) xs left) (λ tuples left. calls_of_each other others (suc number) xs left) (h number x forest) all
+    (λ tuples left k. let p = same_each Holds found other asked others h (suc number) xs left k in (ap (λ o. after o (λ more last. gives (tuples ++ more) last)) p.0, p.1))
+
+same_tuples : (parts others : List Denotation) (kinds : List ClauseKind) (orders : List KeyOrder) (part : ℕ) (ds es : List Denotation) (bound outer : Bindings) (forest : Forest) → length ds ≡ length es
+    → ((k : ℕ) → slice_get parts (part + k) ≡ slice_get ds k) → ((k : ℕ) → slice_get others (part + k) ≡ slice_get es k)
+    → AllByRecursion (AgreeAt parts others) (tuple_calls kinds orders part ds bound outer forest)
+    → Same (tuples_of kinds orders ds bound outer forest) (tuples_of kinds orders es bound outer forest) (tuple_calls kinds orders part ds bound outer forest) (tuple_calls kinds orders part es bound outer forest)
+same_tuples parts others [] orders part ds es bound outer forest n here there all =
+    let p = same_keys parts others orders part ds es (bound ++ outer) forest n here there all in
+    (ap (λ o. after o (λ keys left. gives (record { keys = keys; bound = bound } ∷ []) left)) p.0, p.1)
+same_tuples parts others (kind ∷ kinds) orders part [] [] bound outer forest n here there all = (refl, refl)
+same_tuples parts others (kind ∷ kinds) orders part [] (e ∷ es) bound outer forest n here there all = absurd (cc)
+same_tuples parts others (kind ∷ kinds) orders part (d ∷ ds) [] bound outer forest n here there all = absurd (cc)
+same_tuples parts others (clauses.For binder position ∷ kinds) orders part (d ∷ ds) (e ∷ es) bound outer forest n here there all =
+    let found = λ (ps : List Denotation) (number : ℕ) (x : Item) (now : Forest). tuples_of kinds orders ps (item_bound binder.variable position number x ++ bound) outer now in
+    let asked = λ (ps : List Denotation) (number : ℕ) (x : Item) (now : Forest). tuple_calls kinds orders (suc part) ps (item_bound binder.variable position number x ++ bound) outer now in
+    let m : length ds ≡ length es = omega (arith, n) in
+    same_first (call_of_part part (bound ++ outer) forest) (tuples_of (clauses.For binder position ∷ kinds) orders (d ∷ ds) bound outer forest) (tuples_of (clauses.For binder position ∷ kinds) orders (e ∷ es) bound outer forest)
+    (calls_after (d (bound ++ outer) forest) (λ xs left. calls_of_each (found ds) (asked ds) 1 xs left)) (calls_after (e (bound ++ outer) forest) (λ xs left. calls_of_each (found es) (asked es) 1 xs left))
+    (same_after (AgreeAt parts others) (d (bound ++ outer) forest) (e (bound ++ outer) forest) (λ xs left. tuples_of_each (found ds) 1 xs left) (λ xs left. tuples_of_each (found es) 1 xs left)
+    (λ xs left. calls_of_each (found ds) (asked ds) 1 xs left) (λ xs left. calls_of_each (found es) (asked es) 1 xs left)
+    (found_there parts others part d e (this_place parts ds d part here) (this_place others es e part there) (bound ++ outer) forest all.0) all.1
+    (λ xs left k. same_each (AgreeAt parts others) (found ds) (found es) (asked ds) (asked es)
+    (λ number x now l. same_tuples parts others kinds orders (suc part) ds es (item_bound binder.variable position number x ++ bound) outer now m (next_place parts ds d part here) (next_place others es e part there) l)
+    1 xs left k))
+same_tuples parts others (clauses.Let binder ∷ kinds) orders part (d ∷ ds) (e ∷ es) bound outer forest n here there all =
+    let m : length ds ≡ length es = omega (arith, n) in
+    same_first (call_of_part part (bound ++ outer) forest) (tuples_of (clauses.Let binder ∷ kinds) orders (d ∷ ds) bound outer forest) (tuples_of (clauses.Let binder ∷ kinds) orders (e ∷ es) bound outer forest)
+    (calls_after (d (bound ++ outer) forest) (λ xs left. tuple_calls kinds orders (suc part) ds ((binder.variable, xs) ∷ bound) outer left))
+    (calls_after (e (bound ++ outer) forest) (λ xs left. tuple_calls kinds orders (suc part) es ((binder.variable, xs) ∷ bound) outer left))
+    (same_after (AgreeAt parts others) (d (bound ++ outer) forest) (e (bound ++ outer) forest)
+    (λ xs left. tuples_of kinds orders ds ((binder.variable, xs) ∷ bound) outer left) (λ xs left. tuples_of kinds orders es ((binder.variable, xs) ∷ bound) outer left)
+    (λ xs left. tuple_calls kinds orders (suc part) ds ((binder.variable, xs) ∷ bound) outer left) (λ xs left. tuple_calls kinds orders (suc part) es ((binder.variable, xs) ∷ bound) outer left)
+    (found_there parts others part d e (this_place parts ds d part here) (this_place others es e part there) (bound ++ outer) forest all.0) all.1
+    (λ xs left k. same_tuples parts others kinds orders (suc part) ds es ((binder.variable, xs) ∷ bound) outer left m (next_place parts ds d part here) (next_place others es e part there) k))
+same_tuples parts others (clauses.Where ∷ kinds) orders part (d ∷ ds) (e ∷ es) bound outer forest n here there all =
+    let m : length ds ≡ length es = omega (arith, n) in
+    let found = λ (ps : List Denotation) (left : Forest) (truth : Bool). tuples_if truth (λ now. tuples_of kinds orders ps bound outer now) left in
+    let asked = λ (ps : List Denotation) (left : Forest) (truth : Bool). if truth then tuple_calls kinds orders (suc part) ps bound outer left else [] in
+    let step : (left : Forest) (truth : Bool) → AllByRecursion (AgreeAt parts others) (asked ds left truth) → Same (found ds left truth) (found es left truth) (asked ds left truth) (asked es left truth) =
+    λ left truth. elim truth as (λ (b : Bool). AllByRecursion (AgreeAt parts others) (asked ds left b) → Same (found ds left b) (found es left b) (asked ds left b) (asked es left b)) [
+      | true ↦ λ k. same_tuples parts others kinds orders (suc part) ds es bound outer left m (next_place parts ds d part here) (next_place others es e part there) k
+      | false ↦ λ k. (refl, refl)
+    ] in
+    same_first (call_of_part part (bound ++ outer) forest) (tuples_of (clauses.Where ∷ kinds) orders (d ∷ ds) bound outer forest) (tuples_of (clauses.Where ∷ kinds) orders (e ∷ es) bound outer forest)
+    (calls_after (d (bound ++ outer) forest) (λ xs left. calls_given (condition_of xs) (asked ds left))) (calls_after (e (bound ++ outer) forest) (λ xs left. calls_given (condition_of xs) (asked es left)))
+    (same_after (AgreeAt parts others) (d (bound ++ outer) forest) (e (bound ++ outer) forest) (λ xs left. given (condition_of xs) (found ds left)) (λ xs left. given (condition_of xs) (found es left))
+    (λ xs left. calls_given (condition_of xs) (asked ds left)) (λ xs left. calls_given (condition_of xs) (asked es left))
+    (found_there parts others part d e (this_place parts ds d part here) (this_place others es e part there) (bound ++ outer) forest all.0) all.1
+    (λ xs left k. same_given (AgreeAt parts others) (condition_of xs) (found ds left) (found es left) (asked ds left) (asked es left) k (λ truth l. step left truth l)))
+
+same_returns : (parts others : List Denotation) (part : ℕ) (one other : Denotation) → AgreesAs parts others part one other → (outer : Bindings) (done : Items) (tuples : List Bindings) (forest : Forest)
+    → AllByRecursion (AgreeAt parts others) (return_calls part one outer tuples forest)
+    → Same (returned one outer done tuples forest) (returned other outer done tuples forest) (return_calls part one outer tuples forest) (return_calls part other outer tuples forest)
+same_returns parts others part one other agree outer done [] forest all = (refl, refl)
+same_returns parts others part one other agree outer done (bound ∷ tuples) forest all =
+    same_first (call_of_part part (bound ++ outer) forest) (returned one outer done (bound ∷ tuples) forest) (returned other outer done (bound ∷ tuples) forest)
+    (calls_after (one (bound ++ outer) forest) (λ more left. return_calls part one outer tuples left)) (calls_after (other (bound ++ outer) forest) (λ more left. return_calls part other outer tuples left))
+    (same_after (AgreeAt parts others) (one (bound ++ outer) forest) (other (bound ++ outer) forest) (λ more left. returned one outer (done ++ more) tuples left) (λ more left. returned other outer (done ++ more) tuples left)
+    (λ more left. return_calls part one outer tuples left) (λ more left. return_calls part other outer tuples left) (agree (bound ++ outer) forest all.0) all.1
+    (λ more left k. same_returns parts others part one other agree outer (done ++ more) tuples left k))
+
+found_behind : (n : ℕ) (ds : List Denotation) (k : ℕ) → slice_get (drop n ds) k ≡ slice_get ds (n + k)
+found_behind zero ds k = let e : k ≡ 0 + k = omega arith in ap (λ (m : ℕ). slice_get ds m) e
+found_behind (suc n) [] k = refl
+found_behind (suc n) (d ∷ ds) k = let e : suc (n + k) ≡ suc n + k = omega arith in found_behind n ds k ∙ ap (λ (m : ℕ). slice_get (d ∷ ds) m) e
+
+as_many_behind : (n : ℕ) (ds es : List Denotation) → length ds ≡ length es → length (drop n ds) ≡ length (drop n es)
+as_many_behind zero ds es h = h
+as_many_behind (suc n) [] [] h = refl
+as_many_behind (suc n) [] (e ∷ es) h = absurd (cc)
+as_many_behind (suc n) (d ∷ ds) [] h = absurd (cc)
+as_many_behind (suc n) (d ∷ ds) (e ∷ es) h = as_many_behind n ds es (let l : length ds ≡ length es = omega (arith, h) in l)
+
+same_returned : (parts others : List Denotation) (orders : List KeyOrder) (part : ℕ) (ds es : List Denotation) (bindings : Bindings) (tuples : List Tuple) (forest : Forest) → length ds ≡ length es
+    → ((k : ℕ) → slice_get parts (part + k) ≡ slice_get ds k) → ((k : ℕ) → slice_get others (part + k) ≡ slice_get es k)
+    → AllByRecursion (AgreeAt parts others) (returns_calls orders part ds bindings tuples forest)
+    → Same (block_returned orders ds bindings tuples forest) (block_returned orders es bindings tuples forest) (returns_calls orders part ds bindings tuples forest) (returns_calls orders part es bindings tuples forest)
+same_returned parts others orders part ds es bindings tuples forest n here there = by_two
+    (λ ps os. ((k : ℕ) → slice_get parts (part + k) ≡ slice_get ps k) → ((k : ℕ) → slice_get others (part + k) ≡ slice_get os k) → AllByRecursion (AgreeAt parts others) (returns_calls orders part ps bindings tuples forest)
+    → Same (block_returned orders ps bindings tuples forest) (block_returned orders os bindings tuples forest) (returns_calls orders part ps bindings tuples forest) (returns_calls orders part os bindings tuples forest))
+    (λ h k m. (refl, refl))
+    (λ a c h k m. same_returns parts others part a c (found_there parts others part a c (this_place parts [] a part h) (this_place others [] c part k)) bindings [] (map (λ t. t.bound) (in_key_order orders tuples)) forest m)
+    (λ a b c d h k m. (refl, refl)) (λ a b x c d y ps os l h k m. (refl, refl)) ds es n here there
+
+block_decides : (context : Context) (kinds : List ClauseKind) (orders : List KeyOrder) (parts others : List Denotation) (bindings : Bindings) (forest : Forest) → length parts ≡ length others
+    → Decides context (operators.Block kinds orders) parts others bindings forest
+block_decides context kinds orders parts others bindings forest n all =
+    same_behind (AgreeAt parts others) (tuples_of kinds orders parts [] bindings forest) (tuples_of kinds orders others [] bindings forest)
+    (tuple_calls kinds orders 0 parts [] bindings forest) (tuple_calls kinds orders 0 others [] bindings forest)
+    (block_returned orders (returns parts) bindings) (block_returned orders (returns others) bindings) (returns_calls orders place (returns parts) bindings) (returns_calls orders place (returns others) bindings)
+    (λ k. same_tuples parts others kinds orders 0 parts others [] bindings forest n (at_start parts) (at_start others) k) all
+    (λ tuples left k. same_returned parts others orders place (returns parts) (returns others) bindings tuples left
+    (as_many_behind (length orders) (drop (length kinds) parts) (drop (length kinds) others) (as_many_behind (length kinds) parts others n)) (at_returns parts) (at_returns others) k)
+  where
+    place : ℕ
+    place = length kinds + length orders
+
+    returns : List Denotation → List Denotation
+    returns ds = drop (length orders) (drop (length kinds) ds)
+
+    at_start : (ds : List Denotation) (k : ℕ) → slice_get ds (0 + k) ≡ slice_get ds k
+    at_start ds k = let e : 0 + k ≡ k = omega arith in ap (λ (m : ℕ). slice_get ds m) e
+
+    at_returns : (ds : List Denotation) (k : ℕ) → slice_get ds (place + k) ≡ slice_get (returns ds) k
+    at_returns ds k =
+        let e : place + k ≡ length kinds + (length orders + k) = omega arith in
+        ap (λ (m : ℕ). slice_get ds m) e ∙ sym (found_behind (length kinds) ds (length orders + k)) ∙ sym (found_behind (length orders) (drop (length kinds) ds) k)
+
 abbrev Decided : Context → Operator → Bindings → Forest → (parts others : List Denotation) → Type 0
 Decided context operator bindings forest parts others = length parts ≡ length others → Decides context operator parts others bindings forest
 
@@ -284,6 +447,7 @@ parts_decide context (operators.Switch cases default) [] (c ∷ others) bindings
 parts_decide context (operators.Switch cases default) (a ∷ parts) [] bindings forest n all = absurd (cc)
 parts_decide context (operators.Switch cases default) (a ∷ parts) (c ∷ others) bindings forest n all =
     switch_decides context cases default a c parts others bindings forest (let m : length parts ≡ length others = omega (arith, n) in m) all
+parts_decide context (operators.Block kinds orders) parts others bindings forest n all = block_decides context kinds orders parts others bindings forest n all
 parts_decide context operators.If parts others bindings forest n all =
     by_three (Decided context operators.If bindings forest) (λ m k. (refl, refl)) (λ a c m k. (refl, refl)) (λ a b c d m k. (refl, refl))
     (λ a b x c d y m. if_decides context a b x c d y bindings forest)

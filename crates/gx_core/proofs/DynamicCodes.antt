@@ -1,5 +1,5 @@
 -- An evaluation raises the codes of dynamic errors alone.
-use Rattle.std.proofs.Common.{◌≡◌, Bool, true, false, not, List, [], ◌∷◌, ◌++◌, map, Option, None, Some, Result, Ok, Err, refl, subst, if◌then◌else◌, ◌&&◌}
+use Rattle.std.proofs.Common.{◌≡◌, zero, length, drop, Bool, true, false, not, List, [], ◌∷◌, ◌++◌, map, Option, None, Some, Result, Ok, Err, refl, subst, if◌then◌else◌, ◌&&◌}
 use Rattle.std.specs.Prelude.{ℕ, suc, nat_le, option_map}
 use Rattle.std.specs.List.{list_all, list_any}
 use Rattle.gx_base.specs.declared.code.Code.{Code}
@@ -27,6 +27,10 @@ use Rattle.gx_model.specs.Forest.{Forest, PlainNode}
 use Rattle.gx_model.specs.Item.{Item, atom, node, Items, atoms}
 use Rattle.gx_model.specs.Atomization.{atomized}
 use Rattle.gx_model.specs.DocumentOrder.{in_document_order}
+use Rattle.gx_sorting.specs.declared.keys.KeyOrder.{KeyOrder}
+use Rattle.gx_core.specs.declared.operator.ClauseKind.{ClauseKind}
+use Rattle.gx_core.specs.declared.operator.ClauseKind.TheVariants as kinds
+use Rattle.gx_core.specs.Blocks.{Tuple, key_of, tuple_keys, tuples_of_each, tuples_if, tuples_of, in_key_order, returned, block_returned, block_denoted}
 use Rattle.gx_core.specs.declared.operator.Operator.{Operator}
 use Rattle.gx_core.specs.declared.operator.Operator.TheVariants as operators
 use Rattle.gx_core.specs.declared.expression.ArithmeticOp.{ArithmeticOp}
@@ -256,6 +260,63 @@ dynamic_switched schemas [] default [] xs bindings forest h = tt
 dynamic_switched schemas [] default (b ∷ d ∷ branches) xs bindings forest h = tt
 dynamic_switched schemas (c ∷ cases) default [] xs bindings forest h = tt
 
+-- ---- blocks
+
+dynamic_keys : (orders : List KeyOrder) (parts : List Denotation) (bindings : Bindings) (forest : Forest) → AreDynamic parts → IsDynamic (tuple_keys orders parts bindings forest)
+dynamic_keys [] parts bindings forest h = tt
+dynamic_keys (order ∷ orders) [] bindings forest h = tt
+dynamic_keys (order ∷ orders) (part ∷ parts) bindings forest h =
+    dynamic_after (part bindings forest) (λ xs left. given (key_of xs) (λ key. after (tuple_keys orders parts bindings left) (λ keys last. gives (key ∷ keys) last))) (h.0 bindings forest)
+    (λ xs left. dynamic_given (key_of xs) (λ key. after (tuple_keys orders parts bindings left) (λ keys last. gives (key ∷ keys) last))
+    (λ key. dynamic_after (tuple_keys orders parts bindings left) (λ keys last. gives (key ∷ keys) last) (dynamic_keys orders parts bindings left h.1) (λ keys last. tt)))
+
+dynamic_tuples_of_each : (next : ℕ → Item → Forest → Outcome (List Tuple)) (number : ℕ) (xs : Items) (forest : Forest) → ((n : ℕ) (x : Item) (now : Forest) → IsDynamic (next n x now)) → IsDynamic (tuples_of_each next number xs forest)
+dynamic_tuples_of_each next number [] forest k = tt
+dynamic_tuples_of_each next number (x ∷ xs) forest k =
+    dynamic_after (next number x forest) (λ found left. after (tuples_of_each next (suc number) xs left) (λ others last. gives (found ++ others) last)) (k number x forest)
+    (λ found left. dynamic_after (tuples_of_each next (suc number) xs left) (λ others last. gives (found ++ others) last) (dynamic_tuples_of_each next (suc number) xs left k) (λ others last. tt))
+
+dynamic_tuples_if : (truth : Bool) (found : Forest → Outcome (List Tuple)) (forest : Forest) → IsDynamic (found forest) → IsDynamic (tuples_if truth found forest)
+dynamic_tuples_if true found forest h = h
+dynamic_tuples_if false found forest h = tt
+
+dynamic_tuples : (kinds : List ClauseKind) (orders : List KeyOrder) (parts : List Denotation) (bound outer : Bindings) (forest : Forest) → AreDynamic parts → IsDynamic (tuples_of kinds orders parts bound outer forest)
+dynamic_tuples [] orders parts bound outer forest h =
+    dynamic_after (tuple_keys orders parts (bound ++ outer) forest) (λ keys left. gives (record { keys = keys; bound = bound } ∷ []) left) (dynamic_keys orders parts (bound ++ outer) forest h) (λ keys left. tt)
+dynamic_tuples (kind ∷ kinds) orders [] bound outer forest h = tt
+dynamic_tuples (kinds.For binder position ∷ others) orders (source ∷ parts) bound outer forest h =
+    dynamic_after (source (bound ++ outer) forest)
+    (λ xs left. tuples_of_each (λ number x now. tuples_of others orders parts (item_bound binder.variable position number x ++ bound) outer now) 1 xs left) (h.0 (bound ++ outer) forest)
+    (λ xs left. dynamic_tuples_of_each (λ number x now. tuples_of others orders parts (item_bound binder.variable position number x ++ bound) outer now) 1 xs left
+    (λ number x now. dynamic_tuples others orders parts (item_bound binder.variable position number x ++ bound) outer now h.1))
+dynamic_tuples (kinds.Let binder ∷ others) orders (value ∷ parts) bound outer forest h =
+    dynamic_after (value (bound ++ outer) forest) (λ xs left. tuples_of others orders parts ((binder.variable, xs) ∷ bound) outer left) (h.0 (bound ++ outer) forest)
+    (λ xs left. dynamic_tuples others orders parts ((binder.variable, xs) ∷ bound) outer left h.1)
+dynamic_tuples (kinds.Where ∷ others) orders (condition ∷ parts) bound outer forest h =
+    dynamic_after (condition (bound ++ outer) forest) (λ xs left. given (condition_of xs) (λ truth. tuples_if truth (λ now. tuples_of others orders parts bound outer now) left)) (h.0 (bound ++ outer) forest)
+    (λ xs left. dynamic_given (condition_of xs) (λ truth. tuples_if truth (λ now. tuples_of others orders parts bound outer now) left)
+    (λ truth. dynamic_tuples_if truth (λ now. tuples_of others orders parts bound outer now) left (dynamic_tuples others orders parts bound outer left h.1)))
+
+dynamic_returned : (body : Denotation) (outer : Bindings) (done : Items) (tuples : List Bindings) (forest : Forest) → ((bindings : Bindings) (now : Forest) → IsDynamic (body bindings now)) → IsDynamic (returned body outer done tuples forest)
+dynamic_returned body outer done [] forest k = tt
+dynamic_returned body outer done (bound ∷ tuples) forest k =
+    dynamic_after (body (bound ++ outer) forest) (λ more left. returned body outer (done ++ more) tuples left) (k (bound ++ outer) forest) (λ more left. dynamic_returned body outer (done ++ more) tuples left k)
+
+dynamic_block_returned : (orders : List KeyOrder) (returns : List Denotation) (bindings : Bindings) (tuples : List Tuple) (forest : Forest) → AreDynamic returns → IsDynamic (block_returned orders returns bindings tuples forest)
+dynamic_block_returned orders [] bindings tuples forest h = tt
+dynamic_block_returned orders (body ∷ []) bindings tuples forest h = dynamic_returned body bindings [] (map (λ t. t.bound) (in_key_order orders tuples)) forest h.0
+dynamic_block_returned orders (body ∷ other ∷ more) bindings tuples forest h = tt
+
+dynamic_dropped : (n : ℕ) (parts : List Denotation) → AreDynamic parts → AreDynamic (drop n parts)
+dynamic_dropped zero parts h = h
+dynamic_dropped (suc n) [] h = tt
+dynamic_dropped (suc n) (part ∷ parts) h = dynamic_dropped n parts h.1
+
+dynamic_block : (kinds : List ClauseKind) (orders : List KeyOrder) (parts : List Denotation) (bindings : Bindings) (forest : Forest) → AreDynamic parts → IsDynamic (block_denoted kinds orders parts bindings forest)
+dynamic_block kinds orders parts bindings forest h =
+    dynamic_after (tuples_of kinds orders parts [] bindings forest) (block_returned orders (drop (length orders) (drop (length kinds) parts)) bindings) (dynamic_tuples kinds orders parts [] bindings forest h)
+    (λ tuples left. dynamic_block_returned orders (drop (length orders) (drop (length kinds) parts)) bindings tuples left (dynamic_dropped (length orders) (drop (length kinds) parts) (dynamic_dropped (length kinds) parts h)))
+
 dynamic_operator : (context : Context) (operator : Operator) (parts : List Denotation) (bindings : Bindings) (forest : Forest) → AreDynamic parts → IsDynamic (denoted context operator parts bindings forest)
 dynamic_operator context (operators.Var number) [] bindings forest h = dynamic_given (look_up bindings number) (λ value. gives value forest) (λ value. tt)
 dynamic_operator context (operators.For binder position) (source ∷ body ∷ []) bindings forest h =
@@ -267,6 +328,7 @@ dynamic_operator context (operators.SomeIn binder) (source ∷ test ∷ []) bind
 dynamic_operator context (operators.EveryIn binder) (source ∷ test ∷ []) bindings forest h =
     dynamic_after (source bindings forest) (λ xs left. any_decides false (λ x now. test ((binder.variable, x ∷ []) ∷ bindings) now) xs left) (h.0 bindings forest)
     (λ xs left. dynamic_search false (λ x now. test ((binder.variable, x ∷ []) ∷ bindings) now) xs left (λ x now. h.1.0 ((binder.variable, x ∷ []) ∷ bindings) now))
+dynamic_operator context (operators.Block kinds orders) parts bindings forest h = dynamic_block kinds orders parts bindings forest h
 dynamic_operator context (operators.Step axis asks number) [] bindings forest h =
     dynamic_given (look_up bindings number) (λ value. stepped context.schemas axis asks value forest) (λ value. dynamic_step context.schemas axis asks value forest)
 dynamic_operator context (operators.Let binder) (value ∷ body ∷ []) bindings forest h =

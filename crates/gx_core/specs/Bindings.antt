@@ -1,11 +1,13 @@
 -- Variables, by their numbers, and which operators bind them.
-use Rattle.std.specs.Prelude.{ℕ, zero, suc, List, [], ◌∷◌, Option, Some, None, nat_eq, if◌then◌else◌}
+use Rattle.std.specs.Prelude.{ℕ, zero, suc, List, [], ◌∷◌, ◌++◌, Option, Some, None, nat_eq, if◌then◌else◌}
 use Rattle.gx_base.specs.declared.type_name.Builtin.TheVariants.{Integer}
 use Rattle.gx_base.specs.declared.type_name.TypeName.TheVariants.{Builtin}
 use Rattle.gx_types.specs.declared.item_type.ItemType.TheVariants.{Atom}
 use Rattle.gx_types.specs.SequenceType.{SequenceType, item}
 use Rattle.gx_types.specs.Prime.{prime_of}
 use Rattle.gx_core.specs.declared.cases.TypeCase.{TypeCase}
+use Rattle.gx_core.specs.declared.operator.ClauseKind.{ClauseKind}
+use Rattle.gx_core.specs.declared.operator.ClauseKind.TheVariants as kinds
 use Rattle.gx_core.specs.declared.operator.Operator.{Operator}
 use Rattle.gx_core.specs.declared.operator.Operator.TheVariants as operators
 
@@ -39,14 +41,44 @@ branch_numbers [] default branches = position_numbers default
 branch_numbers (case ∷ cases) default [] = position_numbers case.variable
 branch_numbers (case ∷ cases) default (branch ∷ branches) = branch_numbers cases default branches
 
+-- what a clause of a block binds, from the type of its part
+abbrev pub clause_types_bound : ClauseKind → SequenceType → Types
+clause_types_bound (kinds.For binder position) source = (binder.variable, prime_of source) ∷ position_bound position (item (Atom (Builtin Integer)))
+clause_types_bound (kinds.Let binder) value = (binder.variable, value) ∷ []
+clause_types_bound kinds.Where condition = []
+
+abbrev pub clause_numbers_bound : ClauseKind → List ℕ
+clause_numbers_bound (kinds.For binder position) = binder.variable ∷ position_numbers position
+clause_numbers_bound (kinds.Let binder) = binder.variable ∷ []
+clause_numbers_bound kinds.Where = []
+
+-- what the clauses of a block bind for its next part, of whose parts so many stand before that one: all clauses before it, the innermost first
+abbrev pub block_types_bound : List ClauseKind → (before : List SequenceType) → (bound : Types) → Types
+block_types_bound [] before bound = bound
+block_types_bound (kind ∷ kinds) [] bound = bound
+block_types_bound (kind ∷ kinds) (t ∷ before) bound = block_types_bound kinds before (clause_types_bound kind t ++ bound)
+
+abbrev pub block_numbers_bound : List ClauseKind → (before : List (Unit {0})) → (bound : List ℕ) → List ℕ
+block_numbers_bound [] before bound = bound
+block_numbers_bound (kind ∷ kinds) [] bound = bound
+block_numbers_bound (kind ∷ kinds) (one ∷ before) bound = block_numbers_bound kinds before (clause_numbers_bound kind ++ bound)
+
+-- what is bound for the next part and was not for the one before it: what the clause before it binds
+abbrev pub block_numbers_new : List ClauseKind → (before : List (Unit {0})) → List ℕ
+block_numbers_new [] before = []
+block_numbers_new (kind ∷ kinds) [] = []
+block_numbers_new (kind ∷ kinds) (one ∷ []) = clause_numbers_bound kind
+block_numbers_new (kind ∷ kinds) (one ∷ another ∷ before) = block_numbers_new kinds (another ∷ before)
+
 -- what an operator binds for its next part, from the types of the parts before that one: `for` and a quantifier an item of the operand
--- at a time, and `for` its position
+-- at a time, and `for` its position; a block all that the clauses before the part bind
 abbrev pub types_bound : Operator → (before : List SequenceType) → Types
 types_bound (operators.For binder position) (source ∷ []) = (binder.variable, prime_of source) ∷ position_bound position (item (Atom (Builtin Integer)))
 types_bound (operators.SomeIn binder) (source ∷ []) = (binder.variable, prime_of source) ∷ []
 types_bound (operators.EveryIn binder) (source ∷ []) = (binder.variable, prime_of source) ∷ []
 types_bound (operators.Let binder) (value ∷ []) = (binder.variable, value) ∷ []
 types_bound (operators.Switch cases default) (operand ∷ branches) = branch_types cases default operand branches
+types_bound (operators.Block clauses keys) before = block_types_bound clauses before []
 types_bound _ _ = []
 
 -- the numbers that an operator binds for its next part; of the parts before that one, only how many there are counts
@@ -56,4 +88,10 @@ numbers_bound_by (operators.SomeIn binder) (source ∷ []) = binder.variable ∷
 numbers_bound_by (operators.EveryIn binder) (source ∷ []) = binder.variable ∷ []
 numbers_bound_by (operators.Let binder) (value ∷ []) = binder.variable ∷ []
 numbers_bound_by (operators.Switch cases default) (operand ∷ branches) = branch_numbers cases default branches
+numbers_bound_by (operators.Block clauses keys) before = block_numbers_bound clauses before []
 numbers_bound_by _ _ = []
+
+-- those of them that it does not bind for the part before that one already
+abbrev pub numbers_new_in : Operator → (before : List (Unit {0})) → List ℕ
+numbers_new_in (operators.Block clauses keys) before = block_numbers_new clauses before
+numbers_new_in operator before = numbers_bound_by operator before

@@ -18,7 +18,7 @@ use Rattle.gx_core.specs.declared.operator.Operator.TheVariants as operators
 use Rattle.gx_core.specs.Queries.{Core, CoreDeclaration}
 use Rattle.gx_core.specs.declared.expression.Declaration.TheVariants.{Global}
 use Rattle.gx_core.specs.Expression.{Expression, At, Parts, no_parts, a_part, CoreExpression}
-use Rattle.gx_core.specs.Bindings.{numbers_bound_by}
+use Rattle.gx_core.specs.Bindings.{numbers_bound_by, numbers_new_in}
 use Rattle.gx_core.specs.Instances.{AreAtomicCases}
 
 abbrev pub is_among : List ℕ → ℕ → Bool
@@ -48,7 +48,7 @@ abbrev mutual
   pub numbers_bound_in : {A : Type 0} → Operator → (before : List (Unit {0})) → Parts A → List ℕ
   numbers_bound_in operator before no_parts = []
   numbers_bound_in operator before (a_part first others) =
-      numbers_bound_by operator before ++ numbers_bound first ++ numbers_bound_in operator (before ++ tt ∷ []) others
+      numbers_new_in operator before ++ numbers_bound first ++ numbers_bound_in operator (before ++ tt ∷ []) others
 
 -- none of the numbers stands twice
 abbrev pub AreDistinct : List ℕ → Type 0

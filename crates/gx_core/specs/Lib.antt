@@ -19,6 +19,8 @@ pub mod ComparingNodes
 pub mod NodeSets
 pub mod Filtering
 pub mod Instances
+pub mod Denotations
+pub mod Blocks
 pub mod Meaning
 pub mod Calls
 pub mod Soundness

@@ -1,7 +1,6 @@
 -- What a Core expression means (XQuery 1.0 and XPath 2.0 Formal Semantics, section 4; XQuery 1.0, section 3).
-use Rattle.std.specs.Prelude.{ℕ, suc, Bool, true, false, not, pos, List, [], ◌∷◌, ◌++◌, if◌then◌else◌}
+use Rattle.std.specs.Prelude.{ℕ, suc, Bool, true, false, not, List, [], ◌∷◌, ◌++◌, if◌then◌else◌}
 use Rattle.gx_types.specs.SchemaSet.{SchemaSet}
-use Rattle.gx_funcs.specs.Function.{integer_atom}
 use Rattle.gx_model.specs.Forest.{Forest}
 use Rattle.gx_model.specs.Item.{Item, atom, Items}
 use Rattle.gx_model.specs.Atomization.{atomized}
@@ -24,17 +23,12 @@ use Rattle.gx_core.specs.NodeSets.{sets_combined}
 use Rattle.gx_core.specs.Filtering.{nth_of, final_of}
 use Rattle.gx_core.specs.Instances.{is_instance}
 use Rattle.gx_core.specs.declared.cases.TypeCase.{TypeCase}
+pub use Rattle.gx_core.specs.Denotations.{Bindings, Denotation, item_bound}
+use Rattle.gx_core.specs.Blocks.{block_denoted}
 
 -- what an expression stands in
 pub record Context : Type 0 where
   pub schemas : SchemaSet
-
-abbrev pub Bindings : Type 0
-Bindings = List (ℕ × Items)
-
--- what a part comes to, under bindings and in a forest
-abbrev pub Denotation : Type 0
-Denotation = Bindings → Forest → Outcome Items
 
 -- what an operator makes of its two operands
 abbrev pub binary_meaning : BinaryClass → Items → Items → Forest → Outcome Items
@@ -73,10 +67,6 @@ abbrev pub for_each : (ℕ → Item → Forest → Outcome Items) → (number : 
 for_each next number done [] forest = gives done forest
 for_each next number done (x ∷ xs) forest = after (next number x forest) (λ more left. for_each next (suc number) (done ++ more) xs left)
 
--- what a loop binds in a turn: an item, and the number of the item where its position has a variable
-abbrev pub item_bound : (variable position number : ℕ) → Item → Bindings
-item_bound variable position number x = (variable, x ∷ []) ∷ position_bound position (atom (integer_atom (pos number)) ∷ [])
-
 -- a truth ends a search for one that decides: `some` ends at a true one, `every` at a false one
 abbrev pub decides : (decisive truth : Bool) → Bool
 decides true truth = truth
@@ -113,6 +103,7 @@ denoted context (operators.SomeIn binder) _ bindings forest = wrong
 denoted context (operators.EveryIn binder) (source ∷ test ∷ []) bindings forest =
     after (source bindings forest) (λ xs left. any_decides false (λ x now. test ((binder.variable, x ∷ []) ∷ bindings) now) xs left)
 denoted context (operators.EveryIn binder) _ bindings forest = wrong
+denoted context (operators.Block kinds orders) parts bindings forest = block_denoted kinds orders parts bindings forest
 denoted context (operators.Step axis asks number) [] bindings forest = given (look_up bindings number) (λ value. stepped context.schemas axis asks value forest)
 denoted context (operators.Let binder) (value ∷ body ∷ []) bindings forest =
     after (value bindings forest) (λ xs left. body ((binder.variable, xs) ∷ bindings) left)

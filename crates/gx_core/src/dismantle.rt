@@ -1,6 +1,6 @@
 // Trees taken apart by a loop, so that dropping one takes no stack in proportion to its depth.
 
-use crate::expression::{Declaration, Expr, Form, Part, Query};
+use crate::expression::{Clause, Declaration, Expr, Form, Part, Query, SortKey};
 use std::alloc::Global;
 
 /// Drops an expression part by part. What finds no memory is dropped as it is.
@@ -78,6 +78,11 @@ fn set_aside<K: Drop>(alloc: Global, form: Form<K>, parts: &mut Vec<Part<K>>) {
             let _chosen_kept = parts.push(chosen);
             let _otherwise_kept = parts.push(otherwise);
         }
+        Form::Block(clauses, keys, body) => {
+            set_clauses_aside(alloc, clauses, parts);
+            set_keys_aside(alloc, keys, parts);
+            let _kept = parts.push(body);
+        }
         Form::Call(_, arguments) => set_arguments_aside(alloc, arguments, parts),
     }
 }
@@ -89,9 +94,38 @@ fn set_arguments_aside<K: Drop>(
 ) {
     for _ in 0..arguments.len() {
         if let Some(argument) = arguments.pop() {
-            if let Ok(part) = Box::new(alloc, argument) {
-                let _kept = parts.push(part);
+            set_part_aside(alloc, argument, parts);
+        }
+    }
+}
+
+fn set_clauses_aside<K: Drop>(
+    alloc: Global,
+    mut clauses: Vec<Clause<K>>,
+    parts: &mut Vec<Part<K>>,
+) {
+    for _ in 0..clauses.len() {
+        if let Some(clause) = clauses.pop() {
+            match clause {
+                Clause::For(_binder, _, part) | Clause::Let(_binder, part) => {
+                    set_part_aside(alloc, part, parts);
+                }
+                Clause::Where(part) => set_part_aside(alloc, part, parts),
             }
         }
+    }
+}
+
+fn set_keys_aside<K: Drop>(alloc: Global, mut keys: Vec<SortKey<K>>, parts: &mut Vec<Part<K>>) {
+    for _ in 0..keys.len() {
+        if let Some(key) = keys.pop() {
+            set_part_aside(alloc, key.value, parts);
+        }
+    }
+}
+
+fn set_part_aside<K: Drop>(alloc: Global, part: Expr<K>, parts: &mut Vec<Part<K>>) {
+    if let Ok(part) = Box::new(alloc, part) {
+        let _kept = parts.push(part);
     }
 }

@@ -4,13 +4,14 @@ ghost use Rattle.std.specs.Prelude.{◌≡◌};
 ghost use Rattle.gx_core.specs.BinaryOperators.{class_of};
 
 use crate::cases::Cases;
-use crate::declarations::Declarations;
+use crate::listed::Listed;
 use gx_atomic::Op;
 use gx_base::name::Name;
 use gx_base::place::Place;
 use gx_base::type_name::TypeName;
 use gx_facets::Atomic;
 use gx_funcs::function::Function;
+use gx_sorting::KeyOrder;
 use gx_types::sequence_type::Ty;
 use gx_types::step::{Axis, Test};
 use std::marker::Model;
@@ -19,7 +20,7 @@ use std::marker::Model;
 /// Each expression carries a `K`.
 #[derive(Drop)]
 pub struct Query<K> {
-    pub declarations: Declarations<Declaration<K>>,
+    pub declarations: Listed<Declaration<K>>,
     pub body: Expr<K>,
 }
 
@@ -195,7 +196,8 @@ pub type Part<K> = Box<Expr<K>>;
 /// of the variable that has the position of the item, or 0 where there is none, a `let`, a conditional, a cast or a test whether there is one, to a type and of an empty operand where that is true, a step along
 /// an axis with a test from the node of a variable, an operand of nodes alone, an operand in document order, whether a test holds
 /// of some item or of every item of an operand, the branch of the first case whose type an operand is of, or of the default, an item
-/// by its number, and the last one, counted from the end where that is true, the atomization of its operand, what looks at a context where there is none, a call of a built-in function, the negation of a number, or an operator of two operands.
+/// by its number, and the last one, counted from the end where that is true, clauses with the keys of their tuples and what is returned for
+/// each tuple in the order of the keys, the atomization of its operand, what looks at a context where there is none, a call of a built-in function, the negation of a number, or an operator of two operands.
 #[cycle(core_tree)]
 #[derive(Drop)]
 pub enum Form<K> {
@@ -216,12 +218,43 @@ pub enum Form<K> {
     Switch(Part<K>, Cases, u32, Vec<Expr<K>>),
     Nth(Part<K>, i128, bool),
     Final(Part<K>, bool),
+    Block(Vec<Clause<K>>, Vec<SortKey<K>>, Part<K>),
     DataOf(Part<K>),
     NoContext,
     Call(Function, Vec<Expr<K>>),
     Neg(Part<K>),
     Binary(BinaryOp, Part<K>, Part<K>),
 }
+
+/// A clause of a block: for each item of an operand, with the number of the variable that has the position of the item, or 0 where there
+/// is none; a value; or a condition on the tuples (XQuery 1.0, sections 3.8.1 and 3.8.2).
+#[cycle(core_tree)]
+#[derive(Drop)]
+pub enum Clause<K> {
+    For(Binder, u32, Expr<K>),
+    Let(Binder, Expr<K>),
+    Where(Expr<K>),
+}
+
+/// A clause as it is normalised.
+pub type CoreClause = Clause<()>;
+
+/// A clause whose expressions have their types.
+pub type TypedClause = Clause<Ty>;
+
+/// A key of the tuples of a block (XQuery 1.0, section 3.8.3).
+#[cycle(core_tree)]
+#[derive(Drop)]
+pub struct SortKey<K> {
+    pub value: Expr<K>,
+    pub order: KeyOrder,
+}
+
+/// A key as it is normalised.
+pub type CoreKey = SortKey<()>;
+
+/// A key whose expressions have their types.
+pub type TypedKey = SortKey<Ty>;
 
 impl<K> Model for Expr<K> {
     ghost use Rattle.gx_core.specs.Expression.{Expression, expression_size};

@@ -2,10 +2,10 @@
 #![tactic(auto)]
 
 pub mod cases;
-pub mod declarations;
 pub mod dismantle;
 pub mod dyn_error;
 pub mod expression;
 pub mod laws;
+pub mod listed;
 pub mod operator;
 pub mod scope;

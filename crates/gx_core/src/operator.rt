@@ -2,9 +2,11 @@
 
 use crate::cases::Cases;
 use crate::expression::{BinaryOp, Binder};
+use crate::listed::Listed;
 use gx_base::type_name::TypeName;
 use gx_facets::Atomic;
 use gx_funcs::function::Function;
+use gx_sorting::KeyOrder;
 use gx_types::step::{Axis, Test};
 
 /// One operator of Core, with what it has beside its parts: one variant for each form of an expression. The parts of an
@@ -28,9 +30,18 @@ pub enum Operator {
     Switch(Cases, u32),
     Nth(i128, bool),
     Final(bool),
+    Block(Listed<ClauseKind>, Listed<KeyOrder>),
     DataOf,
     NoContext,
     Call(Function),
     Neg,
     Binary(BinaryOp),
+}
+
+/// What a clause of a block has beside its part.
+#[derive(Drop)]
+pub enum ClauseKind {
+    For(Binder, u32),
+    Let(Binder),
+    Where,
 }

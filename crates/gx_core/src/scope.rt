@@ -1,6 +1,6 @@
 // The variables in scope, each with what is bound to it.
 
-ghost use Rattle.std.specs.Prelude.{◌≡◌, [], ◌∷◌, OnOk, OnErr, IfSome, IfNone, None, Some, option_copied, drop, get_or, length, ◌<◌, ℕ};
+ghost use Rattle.std.specs.Prelude.{◌≡◌, [], ◌∷◌, OnOk, OnErr, IfSome, IfNone, None, Some, option_copied, drop, get_or, length, slice_get, ◌<◌, ◌≤◌, ℕ, IsNone};
 ghost use Rattle.gx_core.specs.Bindings.{look_up};
 
 use std::alloc::{AllocError, Global};
@@ -79,6 +79,18 @@ impl<T> Scope<T> {
     {
         let slot = kept_slot(&self.innermost, variable)?;
         Some(&self.bindings[slot].bound)
+    }
+
+    /// The binding inside which so many stand, with what is bound there.
+    pub fn at_depth(&self, depth: usize) -> Option<(u32, &T)>
+        ensures there { IfSome result (λ found. slice_get self.now depth ≡ Some (found.0, found.1.now)) }
+        ensures none { IsNone result → length self.now ≤ depth }
+    {
+        if depth >= self.bindings.len() {
+            return None;
+        }
+        let binding = &self.bindings[self.bindings.len() - 1 - depth];
+        Some((binding.variable, &binding.bound))
     }
 }
 

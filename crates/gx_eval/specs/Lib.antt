@@ -4,4 +4,5 @@ pub mod OrderedItems
 pub mod BoundItems
 pub mod Answering
 pub mod Operators
+pub mod FoundTuples
 pub mod Resume

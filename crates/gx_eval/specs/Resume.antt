@@ -15,11 +15,12 @@ use Rattle.gx_core.specs.Meaning.{Context, Bindings, Denotation, acts, branch, s
 use Rattle.gx_core.specs.Soundness.{TypedExpression}
 use Rattle.gx_store.specs.Items.{items_in}
 use Rattle.gx_store.specs.Places.{node_places}
-use Rattle.gx_eval.specs.BoundItems.{bound_items}
+pub use Rattle.gx_eval.specs.BoundItems.{items_of}
+pub use Rattle.gx_eval.specs.FoundTuples.{Stacks, with_sources}
+use Rattle.gx_eval.specs.FoundTuples.{found_in, none_found, block_resumed}
 use Rattle.gx_eval.specs.Operators.{single_operator, changing_operator}
-use Rattle.gx_eval.specs.declared.bound.Bound.{Bound}
 use Rattle.gx_eval.specs.declared.evaluation.Pending.{Pending}
-use Rattle.gx_eval.specs.declared.evaluation.Pending.TheVariants.{Evaluate, Change, Single as Operate, Right, Binary, Choose, Switch, Mark, Call, Gather, Each, Decide, Bind, Unbind, Declare, External}
+use Rattle.gx_eval.specs.declared.evaluation.Pending.TheVariants.{Evaluate, Change, Single as Operate, Right, Binary, Choose, Switch, Mark, Call, Gather, Each, Decide, Bind, Unbind, Declare, External, Block, UnbindAll}
 use Rattle.gx_eval.specs.declared.evaluation.Evaluation.{Evaluation}
 use Rattle.gx_eval.specs.declared.looping.Loop.{Loop}
 use Rattle.gx_eval.specs.declared.looping.Loop.TheVariants.{For, Search}
@@ -28,29 +29,15 @@ use Rattle.gx_eval.specs.declared.looping.Loop.TheVariants.{For, Search}
 abbrev pub context_over : SchemaSet → Context
 context_over schemas = record { schemas = schemas }
 
--- the values of each binding, in a forest in which numbers stand for nodes
-abbrev pub items_of : Forest → List (ℕ × Bound) → Bindings
-items_of later = map (λ binding. (binding.0, bound_items later binding.1))
-
--- what stands beside the values: the marks of operands, the items that loops go over, and the documents that no variable is
--- bound to as yet
-pub record Stacks : Type 0 where
-  pub marks : List ℕ
-  pub sources : Items
-  pub documents : List PlainNode
-
 abbrev pub with_marks : Stacks → List ℕ → Stacks
-with_marks stacks marks = record { marks = marks; sources = stacks.sources; documents = stacks.documents }
-
-abbrev pub with_sources : Stacks → Items → Stacks
-with_sources stacks sources = record { marks = stacks.marks; sources = sources; documents = stacks.documents }
+with_marks stacks marks = record { marks = marks; sources = stacks.sources; documents = stacks.documents; found = stacks.found }
 
 abbrev pub with_documents : Stacks → List PlainNode → Stacks
-with_documents stacks documents = record { marks = stacks.marks; sources = stacks.sources; documents = documents }
+with_documents stacks documents = record { marks = stacks.marks; sources = stacks.sources; documents = documents; found = stacks.found }
 
 -- nothing but documents
 abbrev pub only_documents : List PlainNode → Stacks
-only_documents documents = record { marks = []; sources = []; documents = documents }
+only_documents documents = record { marks = []; sources = []; documents = documents; found = none_found }
 
 -- what an operator makes of the operands goes behind the values
 abbrev pub operated : Context → Operator → (operands : List Items) → (values : Items) → Forest → (Items → Forest → Outcome Items) → Outcome Items
@@ -143,7 +130,9 @@ resume k (Decide variable decisive first next start test ∷ work) values stacks
     (λ more left. resume k work (take first values ++ more) (with_sources stacks (take start stacks.sources)) bindings left))
 resume k (Bind variable first body ∷ work) values stacks bindings forest =
     after (meaning k body.now ((variable, drop first values) ∷ bindings) forest) (λ more left. resume k work (take first values ++ more) stacks bindings left)
+resume k (Block step tail ∷ work) values stacks bindings forest = block_resumed k step tail values stacks bindings forest (λ vs beside left. resume k work vs beside bindings left)
 resume k (Unbind ∷ work) values stacks bindings forest = resume k work values stacks (drop 1 bindings) forest
+resume k (UnbindAll count ∷ work) values stacks bindings forest = resume k work values stacks (drop count bindings) forest
 resume k (Declare variable ∷ work) values stacks bindings forest = resume k work [] stacks ((variable, values) ∷ bindings) forest
 resume k (External variable ∷ work) values stacks bindings forest =
     next_document stacks.documents (λ document rest. resume k work values (with_documents stacks rest) ((variable, node document ∷ []) ∷ bindings) forest)
@@ -152,7 +141,7 @@ resume k (External variable ∷ work) values stacks bindings forest =
 
 abbrev pub stacks_of : (later : Forest) → Evaluation → Stacks
 stacks_of later evaluation =
-    record { marks = evaluation.marks; sources = items_in later evaluation.sources.items; documents = node_places later evaluation.documents.now }
+    record { marks = evaluation.marks; sources = items_in later evaluation.sources.items; documents = node_places later evaluation.documents.now; found = found_in later evaluation.tuples }
 
 abbrev pub outcome_of : Context → (forest later : Forest) → Evaluation → Outcome Items
 outcome_of k forest later evaluation =

@@ -1,18 +1,20 @@
 // What a variable is bound to.
 
-ghost use Rattle.std.specs.Prelude.{◌≡◌};
+ghost use Rattle.std.specs.Prelude.{◌≡◌, IfOk};
 ghost use Rattle.gx_model.specs.Forest.{Forest as PlainForest};
 ghost use Rattle.gx_store.specs.Items.{items_in};
 ghost use Rattle.gx_eval.specs.BoundItems.{bound_items};
 
 use gx_store::item::Item;
+use std::alloc::AllocError;
+use std::rc::Rc;
 use std::slice;
 
-// One item, or any number of them. One takes no memory.
+// One item, or any number of them. One takes no memory, and copies share any number.
 #[derive(Drop)]
 pub(crate) enum Bound {
     One(Item),
-    Many(Vec<Item>),
+    Many(Rc<Vec<Item>>),
 }
 
 impl Bound {
@@ -22,6 +24,15 @@ impl Bound {
         match self {
             Bound::One(item) => slice::from_ref(item),
             Bound::Many(items) => items.as_slice(),
+        }
+    }
+
+    pub(crate) fn copy(&self) -> Result<Bound, AllocError>
+        ensures { (later : PlainForest) → IfOk result (λ copied. bound_items later copied ≡ bound_items later self.now) }
+    {
+        match self {
+            Bound::One(item) => Ok(Bound::One(item.clone()?)),
+            Bound::Many(items) => Ok(Bound::Many(items.clone()?)),
         }
     }
 }

@@ -18,6 +18,7 @@ ghost use Rattle.gx_eval.specs.declared.evaluation.Pending.TheVariants as work;
 ghost use Rattle.gx_eval.specs.declared.looping.Loop.TheVariants as loops;
 
 use crate::answer::{Answer, of_two, put};
+use crate::blocks::{Step, Tail};
 use crate::bound::Bound;
 use crate::calling::called_with_none;
 use crate::change::{Change, change_values};
@@ -31,6 +32,7 @@ use crate::operand::{
 };
 use crate::single::{Single, of_one};
 use crate::switching::is_instance;
+use crate::tuples::{Tuples, unbind_all};
 use gx_base::stack::Stack;
 use gx_core::cases::TypeCase;
 use gx_core::expression::{BinaryOp, Form, TypedCore, TypedDeclaration, TypedExpr};
@@ -43,6 +45,7 @@ use gx_types::schemas::Schemas;
 use gx_types::step::{Axis, Test};
 use std::alloc::{AllocError, Global};
 use std::mem;
+use std::rc::Rc;
 
 // A piece of work. A number is that of the values before an operand: to evaluate an expression, behind the values that are
 // there; to change an operand where it stands; to apply an operator of one operand; to evaluate the right operand of an operator,
@@ -50,8 +53,8 @@ use std::mem;
 // and else the second; to choose the branch of the first case whose type the operand is of, or of the default; to mark where an argument begins; to call a function of two arguments and so many more, behind the last
 // marks; to put the items of an operand aside for a loop; to repeat the body of a loop for each item that was put aside from the
 // first number on, where the items of this loop begin at the second; to end a search where the value of its test decides, and else to
-// go on; to bind a variable to an operand in the body of a `let`; to take
-// the innermost binding away; to bind a global variable to all values that are there; or to bind an external variable to the next
+// go on; to do a piece of the work of a block; to bind a variable to an operand in the body of a `let`; to take
+// the innermost binding away, or so many of them; to bind a global variable to all values that are there; or to bind an external variable to the next
 // document.
 #[derive(Drop)]
 pub(crate) enum Pending<'a> {
@@ -79,8 +82,10 @@ pub(crate) enum Pending<'a> {
         start: usize,
         test: &'a TypedExpr,
     },
+    Block(Step, Tail<'a>),
     Bind(u32, usize, &'a TypedExpr),
     Unbind,
+    UnbindAll(usize),
     Declare(u32),
     External(u32),
 }
@@ -90,9 +95,10 @@ pub(crate) struct Evaluation<'a> {
     pub(crate) work: Stack<Pending<'a>>,
     pub(crate) values: Vec<Item>,
     marks: Stack<usize>,
-    sources: Vec<Item>,
+    pub(crate) sources: Vec<Item>,
     documents: &'a [NodeId],
-    scope: Scope<Bound>,
+    pub(crate) scope: Scope<Bound>,
+    pub(crate) tuples: Tuples,
 }
 
 impl<'a> Evaluation<'a> {
@@ -112,6 +118,7 @@ impl<'a> Evaluation<'a> {
             sources: Vec::new(alloc),
             documents,
             scope: Scope::new(alloc),
+            tuples: Tuples::new(alloc),
         })
     }
 
@@ -168,6 +175,11 @@ impl<'a> Evaluation<'a> {
                 self.scope.unbind();
                 Ok(())
             }
+            Pending::UnbindAll(count) => {
+                unbind_all(&mut self.scope, count);
+                Ok(())
+            }
+            Pending::Block(step, tail) => self.step_block(alloc, step, tail),
             Pending::Declare(variable) => Ok(self.declare(alloc, variable)?),
             Pending::External(variable) => self.bind_document(variable),
         }
@@ -212,6 +224,7 @@ impl<'a> Evaluation<'a> {
                 };
                 Ok(self.open_part(source, Pending::Gather(repeated, first, test))?)
             }
+            Form::Block(clauses, keys, body) => Ok(self.open_block(clauses, keys, body)?),
             Form::Let(binder, value, body) => {
                 Ok(self.open_part(value, Pending::Bind(binder.variable, first, body))?)
             }
@@ -259,7 +272,11 @@ impl<'a> Evaluation<'a> {
     }
 
     // A part that is evaluated first, and what is done behind it.
-    fn open_part(&mut self, part: &'a TypedExpr, behind: Pending<'a>) -> Result<(), AllocError>
+    pub(crate) fn open_part(
+        &mut self,
+        part: &'a TypedExpr,
+        behind: Pending<'a>,
+    ) -> Result<(), AllocError>
         ensures { (k : Context) (forest later : PlainForest) → OnOk result (outcome_of k forest later self.new ≡ outcome_then k forest later part.now behind.entry self.old) }
     {
         self.work.push(behind)?;
@@ -608,7 +625,8 @@ impl<'a> Evaluation<'a> {
         ensures { (k : Context) (forest later : PlainForest) → OnOk result (outcome_of k forest later self.new ≡ outcome_with k forest later (work.Bind variable first body.entry) self.old) }
     {
         let value = split_at(alloc, &mut self.values, first)?;
-        self.scope.bind(variable, Bound::Many(value))?;
+        let shared = Rc::new(alloc, value)?;
+        self.scope.bind(variable, Bound::Many(shared))?;
         self.work.push(Pending::Unbind)?;
         self.work.push(Pending::Evaluate(body))?;
         Ok(())
@@ -619,7 +637,8 @@ impl<'a> Evaluation<'a> {
         ensures { (k : Context) (forest later : PlainForest) → OnOk result (outcome_of k forest later self.new ≡ outcome_with k forest later (work.Declare variable) self.old) }
     {
         let value = mem::replace(&mut self.values, Vec::new(alloc));
-        self.scope.bind(variable, Bound::Many(value))
+        let shared = Rc::new(alloc, value)?;
+        self.scope.bind(variable, Bound::Many(shared))
     }
 
     // Puts the branch to the work that the values from the number on choose.

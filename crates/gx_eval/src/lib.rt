@@ -3,6 +3,7 @@
 
 mod answer;
 mod arithmetic;
+mod blocks;
 mod bound;
 mod calling;
 mod change;
@@ -19,3 +20,4 @@ mod range;
 mod sets;
 mod single;
 mod switching;
+mod tuples;

@@ -8,9 +8,9 @@ use Rattle.gx_resolved.specs.declared.tree.Construct.TheVariants as written
 use Rattle.gx_resolved.specs.ResolvedTree.{ResolvedTree, ResolvedTrees, resolved_at, no_resolved, a_resolved}
 use Rattle.gx_resolved.specs.ResolvedView.{resolved_parts}
 use Rattle.gx_core.specs.Expression.{CoreExpression}
+use Rattle.gx_normal.specs.declared.focus.Focus.{Focus}
 use Rattle.gx_normal.specs.declared.clauses.Ending.{Ending}
 use Rattle.gx_normal.specs.Clauses.{Numbers, clause_part, clause_numbers, behind_clause, clause_at, ended}
-use Rattle.gx_normal.specs.declared.contexts.Focus.{Focus}
 use Rattle.gx_normal.specs.declared.contexts.ContextUse.{ContextUse}
 use Rattle.gx_normal.specs.declared.filters.Predicate.TheVariants.{Condition}
 use Rattle.gx_normal.specs.Filters.{predicate_of, filter_at}
@@ -64,6 +64,8 @@ clause_opens ending place there written.Where (a_resolved first more) others par
 clause_opens ending place there written.Where no_resolved others part numbers focus free h = absurd (cc)
 clause_opens ending place there (written.In bound) (a_resolved first more) others part numbers focus free h = let same : first ≡ part = cc in subst (λ (t : ResolvedTree). OpensTo ending place there (written.In bound) (a_resolved first more) others t numbers focus free) same refl
 clause_opens ending place there (written.In bound) no_resolved others part numbers focus free h = absurd (cc)
+clause_opens ending place there (written.Key order) (a_resolved first more) others part numbers focus free h = let same : first ≡ part = cc in subst (λ (t : ResolvedTree). OpensTo ending place there (written.Key order) (a_resolved first more) others t numbers focus free) same refl
+clause_opens ending place there (written.Key order) no_resolved others part numbers focus free h = absurd (cc)
 clause_opens ending place there _ parts others part numbers focus free h = absurd (cc)
 
 -- what is no clause ends the clauses
@@ -79,6 +81,8 @@ last_ends ending place there written.Where (a_resolved first more) others number
 last_ends ending place there written.Where no_resolved others numbers focus free h = refl
 last_ends ending place there (written.In bound) (a_resolved first more) others numbers focus free h = absurd (cc)
 last_ends ending place there (written.In bound) no_resolved others numbers focus free h = refl
+last_ends ending place there (written.Key order) (a_resolved first more) others numbers focus free h = absurd (cc)
+last_ends ending place there (written.Key order) no_resolved others numbers focus free h = refl
 last_ends ending place there _ parts others numbers focus free h = refl
 
 pub first_ends : (ending : Ending) (place : Place) (clause : ResolvedTree) (others all : List ResolvedTree) (numbers : Numbers) (focus : Focus) (free : ℕ) → all ≡ clause ∷ others → clause_part clause ≡ None

@@ -1,5 +1,5 @@
 -- Variables stand in the scopes of their binders, and are numbered once each.
-use Rattle.std.proofs.Common.{◌≡◌, ℕ, zero, suc, add-one, ◌+◌, ◌<◌, ◌≤◌, ◌==◌, length, Bool, true, false, ◌||◌, List, [], ◌∷◌, ◌++◌, map, Option, Some, None, Result, Ok, Err, IfOk, All, refl, sym, ◌∙◌, ap, subst, arith, nat_eq, if◌then◌else◌}
+use Rattle.std.proofs.Common.{◌≡◌, ℕ, zero, suc, add-one, ◌+◌, ◌<◌, ◌≤◌, ◌==◌, length, Bool, true, false, ◌||◌, List, [], ◌∷◌, ◌++◌, map, Option, Some, None, Result, Ok, Err, IfOk, All, refl, sym, ◌∙◌, ap, subst, arith, nat_eq, if◌then◌else◌, append_assoc}
 use Rattle.std.proofs.lemmas.Bool.{ne_eqb, eq-eqb}
 use Rattle.std.proofs.lemmas.List.Elements.{All-nil, All-cons}
 use Rattle.gx_base.specs.declared.place.Place.{Place}
@@ -25,20 +25,25 @@ use Rattle.gx_core.specs.declared.expression.BinaryClass.TheVariants.{Nodes, Set
 use Rattle.gx_core.specs.BinaryOperators.{class_of}
 use Rattle.gx_core.specs.Queries.{Core, CoreDeclaration}
 use Rattle.gx_core.specs.declared.expression.Declaration.TheVariants.{Global}
+use Rattle.gx_sorting.specs.declared.keys.KeyOrder.{KeyOrder}
+use Rattle.gx_core.specs.declared.operator.ClauseKind.{ClauseKind}
+use Rattle.gx_core.specs.declared.operator.ClauseKind.TheVariants as kinds
+use Rattle.gx_core.specs.Bindings.{clause_numbers_bound, block_numbers_bound, block_numbers_new}
 use Rattle.gx_core.specs.declared.operator.Operator.TheVariants as operators
-use Rattle.gx_core.specs.Expression.{CoreExpression, At, no_parts, one_part, three_parts, all_parts, core_at, outer_of}
+use Rattle.gx_core.specs.Expression.{CoreExpression, At, no_parts, one_part, three_parts, all_parts, core_at, outer_of, Parts, a_part}
 use Rattle.gx_core.specs.Invariant.{is_among, IsScoped, ArePartsScoped, numbers_bound, numbers_bound_in, AreDistinct, scope_behind, AreValuesScoped, declared_numbers, HasValueOrType, HasQueryVariablesInOrder}
 use Rattle.gx_normal.specs.Constructs.{within, data_around, boolean_around, core_sequence, operator_at, call_at, call_of, empty_at, of_one, data_at, conditional_at, counted_call, and_at, or_at, signed_at, cast_at, castable_at, for_at, let_at, quantifier_at, operator_in_core, joined_by, joining, context_item_at, step_at, nodes_at, operand_of}
+use Rattle.gx_normal.specs.declared.focus.Focus.{Focus}
 use Rattle.gx_normal.specs.declared.clauses.Ending.{Ending}
-use Rattle.gx_normal.specs.declared.clauses.Ending.TheVariants.{Returned, Condition}
-use Rattle.gx_normal.specs.Clauses.{Numbers, numbered_binder, ending_of_clauses}
+use Rattle.gx_normal.specs.declared.clauses.Ending.TheVariants.{Returned, Condition, Sorted}
+use Rattle.gx_normal.specs.Clauses.{Numbers, numbered_binder, clause_in_front, key_in_front, key_order, ended, ending_of_clauses}
 use Rattle.gx_normal.specs.declared.contexts.Asked.TheVariants as asked
 use Rattle.gx_normal.specs.declared.contexts.ContextUse.{ContextUse}
 use Rattle.gx_normal.specs.declared.contexts.ContextUse.TheVariants as uses
-use Rattle.gx_normal.specs.declared.contexts.Focus.{Focus}
+use Rattle.gx_normal.specs.declared.contexts.ContextNumbers.{ContextNumbers}
 use Rattle.gx_normal.specs.declared.filters.Predicate.{Predicate}
 use Rattle.gx_normal.specs.declared.filters.Predicate.TheVariants as predicates
-use Rattle.gx_normal.specs.Contexts.{asks_context, path_use, predicate_use, no_focus, focus_with, behind_context, hidden_variable, hidden_let, hidden_for, ordered_if, with_size, position_from_end, loop_at, path_with}
+use Rattle.gx_normal.specs.Contexts.{asks_context, path_use, predicate_use, no_focus, focus_with, behind_context, hidden_variable, hidden_let, hidden_for, ordered_if, with_size, position_from_end, loop_at, path_with, context_numbers}
 use Rattle.gx_normal.specs.Filters.{decimal_case, predicate_of, is_reverse_step, position_is, holds_at, kept_at, filtered_by}
 use Rattle.gx_normal.specs.Normalisation.{same_place, number_at, variable_at, of_two, of_three, joined_at, constructed, is_to_descendants, left_of_path, core_of, construct_core, cores_of, clauses_core, path_core, predicates_core, filtered_core, external_binder, declarations_of, behind_declarations, main_core}
 
@@ -311,6 +316,87 @@ quantifier_numbered false place bound scope free middle next source test h k =
       rising = rise_joined free middle next (numbers_bound source) (middle ∷ (numbers_bound test ++ [])) h.rising (omega arith, rise_alone (middle + 1) next (numbers_bound test) k.rising);
     }
 
+-- ---- a clause in front of a block
+
+bound_behind : (kinds : List ClauseKind) (before : List (Unit {0})) (a b : List ℕ) → block_numbers_bound kinds before (a ++ b) ≡ block_numbers_bound kinds before a ++ b
+bound_behind [] before a b = refl
+bound_behind (kind ∷ kinds) [] a b = refl
+bound_behind (kind ∷ kinds) (one ∷ before) a b =
+    ap (block_numbers_bound kinds before) (sym (append_assoc (clause_numbers_bound kind) a b)) ∙ bound_behind kinds before (clause_numbers_bound kind ++ a) b
+
+bound_outside : (kind : ClauseKind) (kinds : List ClauseKind) (before : List (Unit {0})) (scope : List ℕ)
+    → block_numbers_bound kinds before [] ++ (clause_numbers_bound kind ++ scope) ≡ block_numbers_bound (kind ∷ kinds) (tt ∷ before) [] ++ scope
+bound_outside kind kinds before scope =
+    let own = clause_numbers_bound kind in
+    ap (λ (l : List ℕ). block_numbers_bound kinds before [] ++ (l ++ scope)) (sym (nothing_behind own))
+    ∙ sym (append_assoc (block_numbers_bound kinds before []) (own ++ []) scope)
+    ∙ ap (λ (l : List ℕ). l ++ scope) (sym (bound_behind kinds before [] (own ++ [])))
+
+parts_scoped_behind : (kind : ClauseKind) (kinds : List ClauseKind) (orders : List KeyOrder) (scope : List ℕ) (before : List (Unit {0})) (parts : Parts (Unit {0}))
+    → ArePartsScoped (clause_numbers_bound kind ++ scope) (operators.Block kinds orders) before parts → ArePartsScoped scope (operators.Block (kind ∷ kinds) orders) (tt ∷ before) parts
+parts_scoped_behind kind kinds orders scope before no_parts h = tt
+parts_scoped_behind kind kinds orders scope before (a_part first others) h =
+    (subst (λ (l : List ℕ). IsScoped l first) (bound_outside kind kinds before scope) h.0, parts_scoped_behind kind kinds orders scope (before ++ tt ∷ []) others h.1)
+
+numbers_further : (kind : ClauseKind) (kinds : List ClauseKind) (orders : List KeyOrder) (before : List (Unit {0})) (parts : Parts (Unit {0}))
+    → numbers_bound_in (operators.Block (kind ∷ kinds) orders) (tt ∷ tt ∷ before) parts ≡ numbers_bound_in (operators.Block kinds orders) (tt ∷ before) parts
+numbers_further kind kinds orders before no_parts = refl
+numbers_further kind kinds orders before (a_part first others) =
+    ap (λ (l : List ℕ). block_numbers_new kinds (tt ∷ before) ++ numbers_bound first ++ l) (numbers_further kind kinds orders (before ++ tt ∷ []) others)
+
+none_new : (kinds : List ClauseKind) → block_numbers_new kinds [] ≡ []
+none_new [] = refl
+none_new (kind ∷ kinds) = refl
+
+rising_behind : (kind : ClauseKind) (kinds : List ClauseKind) (orders : List KeyOrder) (parts : Parts (Unit {0})) (middle behind next : ℕ) → Rise middle behind (clause_numbers_bound kind)
+    → Rise behind next (numbers_bound_in (operators.Block kinds orders) [] parts) → Rise middle next (numbers_bound_in (operators.Block (kind ∷ kinds) orders) (tt ∷ []) parts)
+rising_behind kind kinds orders no_parts middle behind next own h = omega (arith, rising_order middle behind (clause_numbers_bound kind) own, h)
+rising_behind kind kinds orders (a_part first others) middle behind next own h =
+    let more : List ℕ = numbers_bound_in (operators.Block (kind ∷ kinds) orders) (tt ∷ tt ∷ []) others in
+    let rest : Rise behind next (numbers_bound first ++ more) =
+    subst (Rise behind next) (ap (λ (l : List ℕ). l ++ numbers_bound first ++ numbers_bound_in (operators.Block kinds orders) (tt ∷ []) others) (none_new kinds)
+    ∙ ap (λ (l : List ℕ). numbers_bound first ++ l) (sym (numbers_further kind kinds orders [] others))) h in
+    subst (Rise middle next) (sym (append_assoc (clause_numbers_bound kind) (numbers_bound first) more)) (rise_joined middle behind next (clause_numbers_bound kind) (numbers_bound first ++ more) own rest)
+
+clause_in_front_numbered : (place : Place) (kind : ClauseKind) (scope : List ℕ) (free middle behind next : ℕ) (part block : CoreExpression)
+    → IsNumbered scope free middle part → Rise middle behind (clause_numbers_bound kind) → IsNumbered (clause_numbers_bound kind ++ scope) behind next block → IsNumbered scope free next (clause_in_front place kind part block)
+clause_in_front_numbered place kind scope free middle behind next part (At there outer tt (operators.Block kinds orders) parts) h own k =
+    record {
+      scoped = (tt, (h.scoped, parts_scoped_behind kind kinds orders scope [] parts k.scoped.1));
+      rising = rise_joined free middle next (numbers_bound part) (numbers_bound_in (operators.Block (kind ∷ kinds) orders) (tt ∷ []) parts) h.rising (rising_behind kind kinds orders parts middle behind next own k.rising);
+    }
+clause_in_front_numbered place kind scope free middle behind next part (At there outer tt operator parts) h own k =
+    empty_numbered place scope free next (omega (
+      arith,
+      rising_order free middle (numbers_bound part) h.rising,
+      rising_order middle behind (clause_numbers_bound kind) own,
+      rising_order behind next (numbers_bound (At there outer tt operator parts)) k.rising,
+    ))
+
+key_parts_scoped : (order : KeyOrder) (orders : List KeyOrder) (scope : List ℕ) (before : List (Unit {0})) (parts : Parts (Unit {0}))
+    → ArePartsScoped scope (operators.Block [] orders) before parts → ArePartsScoped scope (operators.Block [] (order ∷ orders)) (tt ∷ before) parts
+key_parts_scoped order orders scope before no_parts h = tt
+key_parts_scoped order orders scope before (a_part first others) h = (h.0, key_parts_scoped order orders scope (before ++ tt ∷ []) others h.1)
+
+key_numbers : (order : KeyOrder) (orders : List KeyOrder) (before : List (Unit {0})) (parts : Parts (Unit {0}))
+    → numbers_bound_in (operators.Block [] orders) before parts ≡ numbers_bound_in (operators.Block [] (order ∷ orders)) (tt ∷ before) parts
+key_numbers order orders before no_parts = refl
+key_numbers order orders before (a_part first others) = ap (λ (l : List ℕ). numbers_bound first ++ l) (key_numbers order orders (before ++ tt ∷ []) others)
+
+key_in_front_numbered : (place : Place) (order : KeyOrder) (scope : List ℕ) (free middle next : ℕ) (part block : CoreExpression)
+    → IsNumbered scope free middle part → IsNumbered scope middle next block → IsNumbered scope free next (key_in_front place order part block)
+key_in_front_numbered place order scope free middle next part (At there outer tt (operators.Block [] orders) parts) h k =
+    record {
+      scoped = (tt, (h.scoped, key_parts_scoped order orders scope [] parts k.scoped.1));
+      rising = rise_joined free middle next (numbers_bound part) (numbers_bound_in (operators.Block [] (order ∷ orders)) (tt ∷ []) parts) h.rising (subst (Rise middle next) (key_numbers order orders [] parts) k.rising);
+    }
+key_in_front_numbered place order scope free middle next part (At there outer tt operator parts) h k =
+    empty_numbered place scope free next (omega (arith, rising_order free middle (numbers_bound part) h.rising, rising_order middle next (numbers_bound (At there outer tt operator parts)) k.rising))
+
+-- what is returned for sorted tuples
+sorted_numbered : (greatest : Bool) → JoinsOne (ended (Sorted greatest))
+sorted_numbered greatest scope free next e h = record { scoped = (tt, (h.scoped, tt)); rising = rise_alone free next (numbers_bound e) h.rising }
+
 -- a number is among these, where there is one
 abbrev AreAmong : List ℕ → Option ℕ → Type 0
 AreAmong scope found = (k : ℕ) → found ≡ Some k → is_among scope k ≡ true
@@ -318,9 +404,9 @@ AreAmong scope found = (k : ℕ) → found ≡ Some k → is_among scope k ≡ t
 -- the variables of a scope, and those of the context, are among these numbers
 record IsCovered (scope : List ℕ) (numbers : Numbers) (focus : Focus) : Type 0 where
   bound : (binder : Place) (k : ℕ) → number_at numbers binder ≡ Some k → is_among scope k ≡ true
-  item : AreAmong scope focus.item
-  position : AreAmong scope focus.position
-  size : AreAmong scope focus.size
+  item : AreAmong scope focus.context.item
+  position : AreAmong scope focus.context.position
+  size : AreAmong scope focus.context.size
 
 among_itself : (k : ℕ) (ns : List ℕ) → is_among (k ∷ ns) k ≡ true
 among_itself k ns = ap (λ (b : Bool). b || is_among ns k) (eq-eqb k k refl)
@@ -380,7 +466,7 @@ second_among m n scope = among_more m n (n ∷ scope) (among_itself n scope)
 third_among : (l m n : ℕ) (scope : List ℕ) → is_among (l ∷ m ∷ n ∷ scope) n ≡ true
 third_among l m n scope = among_more l n (m ∷ n ∷ scope) (second_among m n scope)
 
-covered_with : (use' : ContextUse) (scope : List ℕ) (numbers : Numbers) (focus : Focus) (n : ℕ) → IsCovered scope numbers focus → IsCovered (scope_with use' n scope) numbers (focus_with use' n)
+covered_with : (use' : ContextUse) (scope : List ℕ) (numbers : Numbers) (focus : Focus) (n : ℕ) → IsCovered scope numbers focus → IsCovered (scope_with use' n scope) numbers (focus_with focus use' n)
 covered_with uses.Item scope numbers focus n h = record {
   bound = λ binder k e. among_wider uses.Item n k scope (h.bound binder k e);
   item = there (n ∷ scope) n (among_itself n scope);
@@ -412,13 +498,8 @@ covered_with uses.Backwards scope numbers focus n h = record {
   size = there (scope_with uses.Backwards n scope) (n + 1) (among_more (n + 4) (n + 1) ((n + 2) ∷ (n + 3) ∷ (n + 1) ∷ n ∷ scope) (third_among (n + 2) (n + 3) (n + 1) (n ∷ scope)));
 }
 
-covered_without : (numbers : Numbers) → IsCovered (numbers_of numbers) numbers no_focus
-covered_without numbers = record {
-  bound = found_among numbers;
-  item = nowhere (numbers_of numbers);
-  position = nowhere (numbers_of numbers);
-  size = nowhere (numbers_of numbers);
-}
+covered_without : (numbers : Numbers) (greatest : Bool) → IsCovered (numbers_of numbers) numbers (no_focus greatest)
+covered_without numbers greatest = record { bound = found_among numbers; item = nowhere (numbers_of numbers); position = nowhere (numbers_of numbers); size = nowhere (numbers_of numbers) }
 
 found_numbered : (place : Place) (scope : List ℕ) (free : ℕ) (found : Option ℕ) → ((k : ℕ) → found ≡ Some k → is_among scope k ≡ true) → IsNumbered scope free free (variable_at place found)
 found_numbered place scope free None h = empty_numbered place scope free free (omega arith)
@@ -512,18 +593,18 @@ path_numbered use' place scope free n next first second h k =
 
 -- ---- predicates
 
-position_is_numbered : (place : Place) (scope : List ℕ) (focus : Focus) (free n : ℕ) → is_among scope n ≡ true → AreAmong scope focus.position → IsNumbered scope free free (position_is place focus n)
+position_is_numbered : (place : Place) (scope : List ℕ) (focus : ContextNumbers) (free n : ℕ) → is_among scope n ≡ true → AreAmong scope focus.position → IsNumbered scope free free (position_is place focus n)
 position_is_numbered place scope focus free n h c =
     let position = context_item_numbered place scope free focus.position c in
     record { scoped = (tt, ((h, tt), (position.scoped, tt))); rising = rise_alone free free (numbers_bound (context_item_at place focus.position)) position.rising }
 
 -- whether a condition holds, with these variables of the cases
-abbrev holds_with : Place → Focus → (number other : ℕ) → (condition : CoreExpression) → CoreExpression
+abbrev holds_with : Place → ContextNumbers → (number other : ℕ) → (condition : CoreExpression) → CoreExpression
 holds_with place focus number other condition =
     core_at place place (operators.Switch (decimal_case number ∷ []) other)
     (three_parts condition (position_is place focus number) (call_at place functions.Boolean (one_part (hidden_variable place other))))
 
-cases_numbered : (place : Place) (scope : List ℕ) (focus : Focus) (free n : ℕ) (condition : CoreExpression) → AreAmong scope focus.position → IsNumbered scope free (suc n) condition
+cases_numbered : (place : Place) (scope : List ℕ) (focus : ContextNumbers) (free n : ℕ) (condition : CoreExpression) → AreAmong scope focus.position → IsNumbered scope free (suc n) condition
     → IsNumbered scope free (suc n + 2) (holds_with place focus (suc n) (suc (suc n)) condition)
 cases_numbered place scope focus free n condition c h =
     let tested = position_is_numbered place (suc n ∷ scope) focus (suc n + 1) (suc n) (among_itself (suc n) scope) (λ k e. among_more (suc n) k scope (c k e)) in
@@ -534,14 +615,14 @@ cases_numbered place scope focus free n condition c h =
           (omega arith, rise_joined (suc n + 1) (suc n + 1) (suc n + 2) (numbers_bound (position_is place focus (suc n))) behind_test tested.rising (omega arith, omega arith));
     }
 
-holds_numbered : (place : Place) (scope : List ℕ) (focus : Focus) (free n : ℕ) (condition : CoreExpression) → 1 ≤ n → AreAmong scope focus.position → IsNumbered scope free n condition
+holds_numbered : (place : Place) (scope : List ℕ) (focus : ContextNumbers) (free n : ℕ) (condition : CoreExpression) → 1 ≤ n → AreAmong scope focus.position → IsNumbered scope free n condition
     → IsNumbered scope free (n + 2) (holds_at place focus n condition)
 holds_numbered place scope focus free zero condition p c h = absurd (omega (arith, p))
 holds_numbered place scope focus free (suc n) condition p c h =
     let behind : suc (suc n) ≡ suc n + 1 = omega arith in
     subst (λ (m : ℕ). IsNumbered scope free (suc n + 2) (holds_with place focus (suc n) m condition)) behind (cases_numbered place scope focus free n condition c h)
 
-kept_numbered : (place : Place) (scope : List ℕ) (focus : Focus) (free n : ℕ) (condition : CoreExpression) → 1 ≤ n → AreAmong scope focus.item → AreAmong scope focus.position → IsNumbered scope free n condition
+kept_numbered : (place : Place) (scope : List ℕ) (focus : ContextNumbers) (free n : ℕ) (condition : CoreExpression) → 1 ≤ n → AreAmong scope focus.item → AreAmong scope focus.position → IsNumbered scope free n condition
     → IsNumbered scope free (n + 2) (kept_at place focus n condition)
 kept_numbered place scope focus free n condition p i c h =
     let holds = holds_numbered place scope focus free n condition p c h in
@@ -568,8 +649,8 @@ filtered_by_numbered predicates.Condition reverse use' place scope numbers focus
     let inner = covered_with use' scope numbers focus n c in
     let some = behind_some use' n in
     let order = rising_order (behind_context use' n) condition.1 (numbers_bound condition.0) k.rising in
-    loop_numbered use' false place scope free n (condition.1 + 2) e (kept_at (outer_of condition.0) (focus_with use' n) condition.1 condition.0) h
-    (kept_numbered (outer_of condition.0) (scope_with use' n scope) (focus_with use' n) (behind_context use' n) condition.1 condition.0 (omega (arith, some, order)) inner.item inner.position k)
+    loop_numbered use' false place scope free n (condition.1 + 2) e (kept_at (outer_of condition.0) (context_numbers use' n) condition.1 condition.0) h
+    (kept_numbered (outer_of condition.0) (scope_with use' n scope) (context_numbers use' n) (behind_context use' n) condition.1 condition.0 (omega (arith, some, order)) inner.item inner.position k)
 
 -- ---- trees
 
@@ -585,11 +666,11 @@ construct_numbered : (place : Place) (construct : Construct) (scope : List ℕ) 
     → IsCovered scope numbers focus → AreNumbered scope free parts.1 parts.0 → IsNumberedCore scope free clauses → IsNumberedCore scope free path → IsNumberedCore scope free filtered
     → IsNumberedCore scope free (construct_core place construct numbers focus free parts clauses path filtered)
 construct_numbered place (written.Variable name binder) scope numbers focus free parts clauses path filtered c h k l m = found_numbered place scope free (number_at numbers binder) (c.bound binder)
-construct_numbered place written.Context scope numbers focus free parts clauses path filtered c h k l m = context_item_numbered place scope free focus.item c.item
-construct_numbered place (written.Call functions.Position) scope numbers focus free parts clauses path filtered c h k l m = context_item_numbered place scope free focus.position c.position
-construct_numbered place (written.Call functions.Last) scope numbers focus free parts clauses path filtered c h k l m = context_item_numbered place scope free focus.size c.size
-construct_numbered place (written.Step axis asks) scope numbers focus free parts clauses path filtered c h k l m = step_numbered place scope free focus.item axis asks c.item
-construct_numbered place written.ParentStep scope numbers focus free parts clauses path filtered c h k l m = step_numbered place scope free focus.item axes.Parent tests.Node c.item
+construct_numbered place written.Context scope numbers focus free parts clauses path filtered c h k l m = context_item_numbered place scope free focus.context.item c.item
+construct_numbered place (written.Call functions.Position) scope numbers focus free parts clauses path filtered c h k l m = context_item_numbered place scope free focus.context.position c.position
+construct_numbered place (written.Call functions.Last) scope numbers focus free parts clauses path filtered c h k l m = context_item_numbered place scope free focus.context.size c.size
+construct_numbered place (written.Step axis asks) scope numbers focus free parts clauses path filtered c h k l m = step_numbered place scope free focus.context.item axis asks c.item
+construct_numbered place written.ParentStep scope numbers focus free parts clauses path filtered c h k l m = step_numbered place scope free focus.context.item axes.Parent tests.Node c.item
 construct_numbered place written.Flwor scope numbers focus free parts clauses path filtered c h k l m = k
 construct_numbered place (written.Quantified every) scope numbers focus free parts clauses path filtered c h k l m = k
 construct_numbered place (written.Path descendants) scope numbers focus free parts clauses path filtered c h k l m = l
@@ -599,9 +680,9 @@ construct_numbered place construct scope numbers focus free parts clauses path f
 mutual
   core_numbered : (tree : ResolvedTree) (scope : List ℕ) (numbers : Numbers) (focus : Focus) (free : ℕ) → IsCovered scope numbers focus → IsNumberedCore scope free (core_of tree numbers focus free)
   core_numbered (resolved_at place construct parts) scope numbers focus free c =
-      construct_numbered place construct scope numbers focus free (cores_of parts numbers focus free) (clauses_core (ending_of_clauses construct) place parts numbers focus free) (path_core (is_to_descendants construct) place parts numbers focus free)
+      construct_numbered place construct scope numbers focus free (cores_of parts numbers focus free) (clauses_core (ending_of_clauses construct parts focus.greatest) place parts numbers focus free) (path_core (is_to_descendants construct) place parts numbers focus free)
       (predicates_core place parts numbers focus free) c
-      (cores_numbered parts scope numbers focus free c) (clauses_numbered (ending_of_clauses construct) place parts scope numbers focus free c) (path_parts_numbered (is_to_descendants construct) place parts scope numbers focus free c)
+      (cores_numbered parts scope numbers focus free c) (clauses_numbered (ending_of_clauses construct parts focus.greatest) place parts scope numbers focus free c) (path_parts_numbered (is_to_descendants construct) place parts scope numbers focus free c)
       (predicates_numbered place parts scope numbers focus free c)
 
   cores_numbered : (parts : ResolvedTrees) (scope : List ℕ) (numbers : Numbers) (focus : Focus) (free : ℕ) → IsCovered scope numbers focus
@@ -613,6 +694,43 @@ mutual
   clauses_numbered : (ending : Ending) (place : Place) (parts : ResolvedTrees) (scope : List ℕ) (numbers : Numbers) (focus : Focus) (free : ℕ) → IsCovered scope numbers focus
       → IsNumberedCore scope free (clauses_core ending place parts numbers focus free)
   clauses_numbered ending place no_resolved scope numbers focus free c = empty_numbered place scope free free (omega arith)
+  clauses_numbered (Sorted greatest) place (a_resolved (resolved_at there (written.For bound None) (a_resolved source more)) others) scope numbers focus free c =
+      let middle = (core_of source numbers focus free).1 in
+      let rest = clauses_core (Sorted greatest) place others ((bound.place, middle) ∷ numbers) focus (middle + 1) in
+      clause_in_front_numbered place (kinds.For (numbered_binder bound middle) 0) scope free middle (middle + 1) rest.1 (core_of source numbers focus free).0 rest.0 (core_numbered source scope numbers focus free c) (omega arith, omega arith)
+      (clauses_numbered (Sorted greatest) place others (middle ∷ scope) ((bound.place, middle) ∷ numbers) focus (middle + 1) (covered_more scope numbers focus bound.place middle c))
+  clauses_numbered (Sorted greatest) place (a_resolved (resolved_at there (written.For bound (Some position)) (a_resolved source more)) others) scope numbers focus free c =
+      let middle = (core_of source numbers focus free).1 in
+      let inner : Numbers = (position.place, middle + 1) ∷ (bound.place, middle) ∷ numbers in
+      let rest = clauses_core (Sorted greatest) place others inner focus (middle + 2) in
+      let r = clauses_numbered (Sorted greatest) place others (middle ∷ (middle + 1) ∷ scope) inner focus (middle + 2)
+      (covered_turned middle (middle + 1) scope inner focus
+      (covered_more (middle ∷ scope) ((bound.place, middle) ∷ numbers) focus position.place (middle + 1) (covered_more scope numbers focus bound.place middle c))) in
+      subst (λ (number : ℕ). IsNumbered scope free rest.1 (clause_in_front place (kinds.For (numbered_binder bound middle) number) (core_of source numbers focus free).0 rest.0)) (sym (add-one middle))
+      (clause_in_front_numbered place (kinds.For (numbered_binder bound middle) (suc middle)) scope free middle (middle + 2) rest.1 (core_of source numbers focus free).0 rest.0 (core_numbered source scope numbers focus free c)
+      (omega arith, (omega arith, omega arith)) (subst (λ (number : ℕ). IsNumbered (middle ∷ number ∷ scope) (middle + 2) rest.1 rest.0) (add-one middle) r))
+  clauses_numbered (Sorted greatest) place (a_resolved (resolved_at there (written.Let bound) (a_resolved value more)) others) scope numbers focus free c =
+      let middle = (core_of value numbers focus free).1 in
+      let rest = clauses_core (Sorted greatest) place others ((bound.place, middle) ∷ numbers) focus (middle + 1) in
+      clause_in_front_numbered place (kinds.Let (numbered_binder bound middle)) scope free middle (middle + 1) rest.1 (core_of value numbers focus free).0 rest.0 (core_numbered value scope numbers focus free c) (omega arith, omega arith)
+      (clauses_numbered (Sorted greatest) place others (middle ∷ scope) ((bound.place, middle) ∷ numbers) focus (middle + 1) (covered_more scope numbers focus bound.place middle c))
+  clauses_numbered (Sorted greatest) place (a_resolved (resolved_at there written.Where (a_resolved condition more)) others) scope numbers focus free c =
+      let middle = (core_of condition numbers focus free).1 in
+      let rest = clauses_core (Sorted greatest) place others numbers focus middle in
+      clause_in_front_numbered place kinds.Where scope free middle middle rest.1 (boolean_around (core_of condition numbers focus free).0) rest.0
+      (boolean_numbered scope free middle (core_of condition numbers focus free).0 (core_numbered condition scope numbers focus free c)) (omega arith)
+      (clauses_numbered (Sorted greatest) place others scope numbers focus middle c)
+  clauses_numbered (Sorted greatest) place (a_resolved (resolved_at there (written.Key order) (a_resolved key more)) others) scope numbers focus free c =
+      let middle = (core_of key numbers focus free).1 in
+      let rest = clauses_core (Sorted greatest) place others numbers focus middle in
+      key_in_front_numbered place (key_order greatest order) scope free middle rest.1 (data_around (core_of key numbers focus free).0) rest.0
+      (data_numbered scope free middle (core_of key numbers focus free).0 (core_numbered key scope numbers focus free c)) (clauses_numbered (Sorted greatest) place others scope numbers focus middle c)
+  clauses_numbered ending place (a_resolved (resolved_at there (written.Key order) (a_resolved key more)) others) scope numbers focus free c =
+      let middle = (core_of key numbers focus free).1 in
+      let rest = clauses_numbered ending place others scope numbers focus middle c in
+      let l = rising_order free middle (numbers_bound (core_of key numbers focus free).0) (core_numbered key scope numbers focus free c).rising in
+      let m = rising_order middle (clauses_core ending place others numbers focus middle).1 (numbers_bound (clauses_core ending place others numbers focus middle).0) rest.rising in
+      empty_numbered place scope free (clauses_core ending place others numbers focus middle).1 (omega (arith, l, m))
   clauses_numbered ending place (a_resolved (resolved_at there (written.For bound None) (a_resolved source more)) others) scope numbers focus free c =
       let middle = (core_of source numbers focus free).1 in
       let rest = clauses_core ending place others ((bound.place, middle) ∷ numbers) focus (middle + 1) in
@@ -644,12 +762,21 @@ mutual
       let l = rising_order free middle (numbers_bound (core_of source numbers focus free).0) s.rising in
       let m = rising_order (middle + 1) (clauses_core Returned place others ((bound.place, middle) ∷ numbers) focus (middle + 1)).1 (numbers_bound (clauses_core Returned place others ((bound.place, middle) ∷ numbers) focus (middle + 1)).0) rest.rising in
       empty_numbered place scope free (clauses_core Returned place others ((bound.place, middle) ∷ numbers) focus (middle + 1)).1 (omega (arith, l, m))
+  clauses_numbered (Sorted greatest) place (a_resolved (resolved_at there (written.In bound) (a_resolved source more)) others) scope numbers focus free c =
+      let middle = (core_of source numbers focus free).1 in
+      let rest = clauses_numbered (Sorted greatest) place others (middle ∷ scope) ((bound.place, middle) ∷ numbers) focus (middle + 1) (covered_more scope numbers focus bound.place middle c) in
+      let s = core_numbered source scope numbers focus free c in
+      let l = rising_order free middle (numbers_bound (core_of source numbers focus free).0) s.rising in
+      let m = rising_order (middle + 1) (clauses_core (Sorted greatest) place others ((bound.place, middle) ∷ numbers) focus (middle + 1)).1 (numbers_bound (clauses_core (Sorted greatest) place others ((bound.place, middle) ∷ numbers) focus (middle + 1)).0) rest.rising in
+      empty_numbered place scope free (clauses_core (Sorted greatest) place others ((bound.place, middle) ∷ numbers) focus (middle + 1)).1 (omega (arith, l, m))
   clauses_numbered (Condition every) place (a_resolved (resolved_at there (written.In bound) (a_resolved source more)) others) scope numbers focus free c =
       let middle = (core_of source numbers focus free).1 in
       let rest = clauses_core (Condition every) place others ((bound.place, middle) ∷ numbers) focus (middle + 1) in
       quantifier_numbered every place bound scope free middle rest.1 (core_of source numbers focus free).0 rest.0 (core_numbered source scope numbers focus free c)
       (clauses_numbered (Condition every) place others (middle ∷ scope) ((bound.place, middle) ∷ numbers) focus (middle + 1) (covered_more scope numbers focus bound.place middle c))
   clauses_numbered Returned place (a_resolved last others) scope numbers focus free c = core_numbered last scope numbers focus free c
+  clauses_numbered (Sorted greatest) place (a_resolved last others) scope numbers focus free c =
+      sorted_numbered greatest scope free (core_of last numbers focus free).1 (core_of last numbers focus free).0 (core_numbered last scope numbers focus free c)
   clauses_numbered (Condition every) place (a_resolved last others) scope numbers focus free c =
       boolean_numbered scope free (core_of last numbers focus free).1 (core_of last numbers focus free).0 (core_numbered last scope numbers focus free c)
 
@@ -658,9 +785,9 @@ mutual
   path_parts_numbered descendants place (a_resolved first (a_resolved second no_resolved)) scope numbers focus free c =
       let a = left_of_path descendants place (core_of first numbers focus free) in
       let use' = path_use (asks_context asked.Position second) (asks_context asked.Last second) in
-      let b = core_of second numbers (focus_with use' a.1) (behind_context use' a.1) in
+      let b = core_of second numbers (focus_with focus use' a.1) (behind_context use' a.1) in
       path_numbered use' place scope free a.1 b.1 a.0 b.0 (left_numbered descendants place scope free (core_of first numbers focus free) (core_numbered first scope numbers focus free c))
-      (core_numbered second (scope_with use' a.1 scope) numbers (focus_with use' a.1) (behind_context use' a.1) (covered_with use' scope numbers focus a.1 c))
+      (core_numbered second (scope_with use' a.1 scope) numbers (focus_with focus use' a.1) (behind_context use' a.1) (covered_with use' scope numbers focus a.1 c))
   path_parts_numbered descendants place _ scope numbers focus free c = empty_numbered place scope free free (omega arith)
 
   predicates_numbered : (place : Place) (parts : ResolvedTrees) (scope : List ℕ) (numbers : Numbers) (focus : Focus) (free : ℕ) → IsCovered scope numbers focus → IsNumberedCore scope free (predicates_core place parts numbers focus free)
@@ -674,66 +801,66 @@ mutual
   filtered_numbered reverse place e no_resolved scope numbers focus free n c h = h
   filtered_numbered reverse place e (a_resolved predicate others) scope numbers focus free n c h =
       let use' = predicate_use reverse (asks_context asked.Last predicate) in
-      let condition = core_of predicate numbers (focus_with use' n) (behind_context use' n) in
+      let condition = core_of predicate numbers (focus_with focus use' n) (behind_context use' n) in
       let f = filtered_by (predicate_of predicate) reverse use' place n e condition in
       filtered_numbered reverse place f.0 others scope numbers focus free f.1 c
       (filtered_by_numbered (predicate_of predicate) reverse use' place scope numbers focus free n e condition c h
-      (core_numbered predicate (scope_with use' n scope) numbers (focus_with use' n) (behind_context use' n) (covered_with use' scope numbers focus n c)))
+      (core_numbered predicate (scope_with use' n scope) numbers (focus_with focus use' n) (behind_context use' n) (covered_with use' scope numbers focus n c)))
 
 -- ---- whole queries
 
-abbrev scope_of : List Declaration → Numbers → ℕ → List ℕ
-scope_of declarations numbers free = numbers_of (behind_declarations declarations numbers free).0
+abbrev scope_of : (greatest : Bool) → List Declaration → Numbers → ℕ → List ℕ
+scope_of greatest declarations numbers free = numbers_of (behind_declarations (no_focus greatest) declarations numbers free).0
 
-scope_is : (ds : List Declaration) (numbers : Numbers) (free : ℕ) → scope_behind (declarations_of ds numbers free) (numbers_of numbers) ≡ scope_of ds numbers free
-scope_is [] numbers free = refl
-scope_is (declared.Global g ∷ ds) numbers free =
-    let middle = (core_of g.value numbers no_focus free).1 in scope_is ds ((g.bound.place, middle) ∷ numbers) (middle + 1)
-scope_is (declared.External e ∷ ds) numbers free = scope_is ds ((e.bound.place, free) ∷ numbers) (free + 1)
-scope_is (declared.Function f ∷ ds) numbers free = scope_is ds numbers free
+scope_is : (greatest : Bool) (ds : List Declaration) (numbers : Numbers) (free : ℕ) → scope_behind (declarations_of (no_focus greatest) ds numbers free) (numbers_of numbers) ≡ scope_of greatest ds numbers free
+scope_is greatest [] numbers free = refl
+scope_is greatest (declared.Global g ∷ ds) numbers free =
+    let middle = (core_of g.value numbers (no_focus greatest) free).1 in scope_is greatest ds ((g.bound.place, middle) ∷ numbers) (middle + 1)
+scope_is greatest (declared.External e ∷ ds) numbers free = scope_is greatest ds ((e.bound.place, free) ∷ numbers) (free + 1)
+scope_is greatest (declared.Function f ∷ ds) numbers free = scope_is greatest ds numbers free
 
-values_scoped : (ds : List Declaration) (numbers : Numbers) (free : ℕ) → AreValuesScoped (numbers_of numbers) (declarations_of ds numbers free)
-values_scoped [] numbers free = tt
-values_scoped (declared.Global g ∷ ds) numbers free =
-    let middle = (core_of g.value numbers no_focus free).1 in
-    ((core_numbered g.value (numbers_of numbers) numbers no_focus free (covered_without numbers)).scoped, values_scoped ds ((g.bound.place, middle) ∷ numbers) (middle + 1))
-values_scoped (declared.External e ∷ ds) numbers free = (tt, values_scoped ds ((e.bound.place, free) ∷ numbers) (free + 1))
-values_scoped (declared.Function f ∷ ds) numbers free = values_scoped ds numbers free
+values_scoped : (greatest : Bool) (ds : List Declaration) (numbers : Numbers) (free : ℕ) → AreValuesScoped (numbers_of numbers) (declarations_of (no_focus greatest) ds numbers free)
+values_scoped greatest [] numbers free = tt
+values_scoped greatest (declared.Global g ∷ ds) numbers free =
+    let middle = (core_of g.value numbers (no_focus greatest) free).1 in
+    ((core_numbered g.value (numbers_of numbers) numbers (no_focus greatest) free (covered_without numbers greatest)).scoped, values_scoped greatest ds ((g.bound.place, middle) ∷ numbers) (middle + 1))
+values_scoped greatest (declared.External e ∷ ds) numbers free = (tt, values_scoped greatest ds ((e.bound.place, free) ∷ numbers) (free + 1))
+values_scoped greatest (declared.Function f ∷ ds) numbers free = values_scoped greatest ds numbers free
 
-variables_rising : (ds : List Declaration) (numbers : Numbers) (free : ℕ) → Rise free (behind_declarations ds numbers free).1 (declared_numbers (declarations_of ds numbers free))
-variables_rising [] numbers free = omega arith
-variables_rising (declared.Global g ∷ ds) numbers free =
-    let middle = (core_of g.value numbers no_focus free).1 in
-    let next = (behind_declarations ds ((g.bound.place, middle) ∷ numbers) (middle + 1)).1 in
-    rise_joined free middle next (numbers_bound (core_of g.value numbers no_focus free).0) (middle ∷ declared_numbers (declarations_of ds ((g.bound.place, middle) ∷ numbers) (middle + 1)))
-    (core_numbered g.value (numbers_of numbers) numbers no_focus free (covered_without numbers)).rising (omega arith, variables_rising ds ((g.bound.place, middle) ∷ numbers) (middle + 1))
-variables_rising (declared.External e ∷ ds) numbers free = (omega arith, variables_rising ds ((e.bound.place, free) ∷ numbers) (free + 1))
-variables_rising (declared.Function f ∷ ds) numbers free = variables_rising ds numbers free
+variables_rising : (greatest : Bool) (ds : List Declaration) (numbers : Numbers) (free : ℕ) → Rise free (behind_declarations (no_focus greatest) ds numbers free).1 (declared_numbers (declarations_of (no_focus greatest) ds numbers free))
+variables_rising greatest [] numbers free = omega arith
+variables_rising greatest (declared.Global g ∷ ds) numbers free =
+    let middle = (core_of g.value numbers (no_focus greatest) free).1 in
+    let next = (behind_declarations (no_focus greatest) ds ((g.bound.place, middle) ∷ numbers) (middle + 1)).1 in
+    rise_joined free middle next (numbers_bound (core_of g.value numbers (no_focus greatest) free).0) (middle ∷ declared_numbers (declarations_of (no_focus greatest) ds ((g.bound.place, middle) ∷ numbers) (middle + 1)))
+    (core_numbered g.value (numbers_of numbers) numbers (no_focus greatest) free (covered_without numbers greatest)).rising (omega arith, variables_rising greatest ds ((g.bound.place, middle) ∷ numbers) (middle + 1))
+variables_rising greatest (declared.External e ∷ ds) numbers free = (omega arith, variables_rising greatest ds ((e.bound.place, free) ∷ numbers) (free + 1))
+variables_rising greatest (declared.Function f ∷ ds) numbers free = variables_rising greatest ds numbers free
 
-have_values : (ds : List Declaration) (numbers : Numbers) (free : ℕ) → All HasValueOrType (declarations_of ds numbers free)
-have_values [] numbers free = All-nil HasValueOrType
-have_values (declared.Global g ∷ ds) numbers free =
-    let v = core_of g.value numbers no_focus free in
+have_values : (greatest : Bool) (ds : List Declaration) (numbers : Numbers) (free : ℕ) → All HasValueOrType (declarations_of (no_focus greatest) ds numbers free)
+have_values greatest [] numbers free = All-nil HasValueOrType
+have_values greatest (declared.Global g ∷ ds) numbers free =
+    let v = core_of g.value numbers (no_focus greatest) free in
     let d : CoreDeclaration = Global g.bound.name (numbered_binder g.bound v.1) (Some v.0) in
-    All-cons HasValueOrType d (declarations_of ds ((g.bound.place, v.1) ∷ numbers) (v.1 + 1)) tt (have_values ds ((g.bound.place, v.1) ∷ numbers) (v.1 + 1))
-have_values (declared.External e ∷ ds) numbers free =
+    All-cons HasValueOrType d (declarations_of (no_focus greatest) ds ((g.bound.place, v.1) ∷ numbers) (v.1 + 1)) tt (have_values greatest ds ((g.bound.place, v.1) ∷ numbers) (v.1 + 1))
+have_values greatest (declared.External e ∷ ds) numbers free =
     let d : CoreDeclaration = Global e.bound.name (external_binder e.bound free) None in
-    All-cons HasValueOrType d (declarations_of ds ((e.bound.place, free) ∷ numbers) (free + 1)) refl (have_values ds ((e.bound.place, free) ∷ numbers) (free + 1))
-have_values (declared.Function f ∷ ds) numbers free = have_values ds numbers free
+    All-cons HasValueOrType d (declarations_of (no_focus greatest) ds ((e.bound.place, free) ∷ numbers) (free + 1)) refl (have_values greatest ds ((e.bound.place, free) ∷ numbers) (free + 1))
+have_values greatest (declared.Function f ∷ ds) numbers free = have_values greatest ds numbers free
 
-query_in_order : (ds : List Declaration) (tree : ResolvedTree) → HasQueryVariablesInOrder (main_core ds tree)
-query_in_order ds tree =
-    let behind = behind_declarations ds [] 1 in
-    let body = core_of tree behind.0 no_focus behind.1 in
-    let numbered = core_numbered tree (numbers_of behind.0) behind.0 no_focus behind.1 (covered_without behind.0) in
+query_in_order : (greatest : Bool) (ds : List Declaration) (tree : ResolvedTree) → HasQueryVariablesInOrder (main_core (no_focus greatest) ds tree)
+query_in_order greatest ds tree =
+    let behind = behind_declarations (no_focus greatest) ds [] 1 in
+    let body = core_of tree behind.0 (no_focus greatest) behind.1 in
+    let numbered = core_numbered tree (numbers_of behind.0) behind.0 (no_focus greatest) behind.1 (covered_without behind.0 greatest) in
     record {
-      values = values_scoped ds [] 1;
-      body = subst (λ (scope : List ℕ). IsScoped scope body.0) (sym (scope_is ds [] 1)) numbered.scoped;
-      once = rising_distinct 1 body.1 (declared_numbers (declarations_of ds [] 1) ++ numbers_bound body.0)
-          (rise_joined 1 behind.1 body.1 (declared_numbers (declarations_of ds [] 1)) (numbers_bound body.0) (variables_rising ds [] 1) numbered.rising);
-      externals = have_values ds [] 1;
+      values = values_scoped greatest ds [] 1;
+      body = subst (λ (scope : List ℕ). IsScoped scope body.0) (sym (scope_is greatest ds [] 1)) numbered.scoped;
+      once = rising_distinct 1 body.1 (declared_numbers (declarations_of (no_focus greatest) ds [] 1) ++ numbers_bound body.0)
+          (rise_joined 1 behind.1 body.1 (declared_numbers (declarations_of (no_focus greatest) ds [] 1)) (numbers_bound body.0) (variables_rising greatest ds [] 1) numbered.rising);
+      externals = have_values greatest ds [] 1;
     }
 
-pub made_in_order : {E : Type 0} (ds : List Declaration) (tree : ResolvedTree) (made : Result Core E) → IfOk made (λ core. core ≡ main_core ds tree) → IfOk made (λ core. HasQueryVariablesInOrder core)
-made_in_order ds tree (Ok core) h = subst (λ (c : Core). HasQueryVariablesInOrder c) (sym h) (query_in_order ds tree)
-made_in_order ds tree (Err error) h = tt
+pub made_in_order : {E : Type 0} (greatest : Bool) (ds : List Declaration) (tree : ResolvedTree) (made : Result Core E) → IfOk made (λ core. core ≡ main_core (no_focus greatest) ds tree) → IfOk made (λ core. HasQueryVariablesInOrder core)
+made_in_order greatest ds tree (Ok core) h = subst (λ (c : Core). HasQueryVariablesInOrder c) (sym h) (query_in_order greatest ds tree)
+made_in_order greatest ds tree (Err error) h = tt

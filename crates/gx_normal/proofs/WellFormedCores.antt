@@ -22,21 +22,26 @@ use Rattle.gx_core.specs.declared.expression.BinaryOp.{BinaryOp}
 use Rattle.gx_core.specs.declared.expression.BinaryClass.{BinaryClass}
 use Rattle.gx_core.specs.declared.expression.BinaryClass.TheVariants.{Nodes, Sets}
 use Rattle.gx_core.specs.BinaryOperators.{class_of}
+use Rattle.gx_sorting.specs.declared.keys.KeyOrder.{KeyOrder}
+use Rattle.gx_core.specs.declared.operator.ClauseKind.{ClauseKind}
+use Rattle.gx_core.specs.declared.operator.ClauseKind.TheVariants as kinds
+use Rattle.gx_core.specs.declared.operator.Operator.TheVariants as operators
 use Rattle.gx_core.specs.Arithmetic.{number_atom}
 use Rattle.gx_core.specs.Queries.{Core}
 use Rattle.gx_core.specs.Expression.{CoreExpression, At, one_part, all_parts, outer_of}
 use Rattle.gx_core.specs.Invariant.{IsCoreLiteral, number_of_parts, IsWellFormedExpression, ArePartsWellFormed, AreValuesWellFormed, IsWellFormedQuery}
-use Rattle.gx_normal.specs.Constructs.{within, boolean_around, core_sequence, operator_at, call_at, counted_call, call_of, empty_at, of_one, data_at, conditional_at, and_at, or_at, signed_at, cast_at, castable_at, operator_in_core, joined_by, joining, context_item_at, step_at, operand_of, nodes_at}
+use Rattle.gx_normal.specs.Constructs.{within, boolean_around, core_sequence, operator_at, call_at, counted_call, call_of, empty_at, of_one, data_at, conditional_at, and_at, or_at, signed_at, cast_at, castable_at, operator_in_core, joined_by, joining, context_item_at, step_at, operand_of, nodes_at, data_around}
+use Rattle.gx_normal.specs.declared.focus.Focus.{Focus}
 use Rattle.gx_normal.specs.declared.clauses.Ending.{Ending}
-use Rattle.gx_normal.specs.declared.clauses.Ending.TheVariants.{Returned, Condition}
-use Rattle.gx_normal.specs.Clauses.{Numbers, ending_of_clauses}
+use Rattle.gx_normal.specs.declared.clauses.Ending.TheVariants.{Returned, Condition, Sorted}
+use Rattle.gx_normal.specs.Clauses.{Numbers, numbered_binder, clause_in_front, key_in_front, key_order, ending_of_clauses}
 use Rattle.gx_normal.specs.declared.contexts.Asked.TheVariants as asked
 use Rattle.gx_normal.specs.declared.contexts.ContextUse.{ContextUse}
 use Rattle.gx_normal.specs.declared.contexts.ContextUse.TheVariants as uses
-use Rattle.gx_normal.specs.declared.contexts.Focus.{Focus}
+use Rattle.gx_normal.specs.declared.contexts.ContextNumbers.{ContextNumbers}
 use Rattle.gx_normal.specs.declared.filters.Predicate.{Predicate}
 use Rattle.gx_normal.specs.declared.filters.Predicate.TheVariants as predicates
-use Rattle.gx_normal.specs.Contexts.{asks_context, path_use, predicate_use, no_focus, focus_with, behind_context, hidden_variable, hidden_let, hidden_for, ordered_if, with_size, position_from_end, loop_at}
+use Rattle.gx_normal.specs.Contexts.{asks_context, path_use, predicate_use, no_focus, focus_with, behind_context, hidden_variable, hidden_let, hidden_for, ordered_if, with_size, position_from_end, loop_at, context_numbers}
 use Rattle.gx_normal.specs.Filters.{predicate_of, is_reverse_step, position_is, kept_at, filtered_by}
 use Rattle.gx_normal.specs.Normalisation.{number_at, variable_at, of_two, of_three, joined_at, constructed, is_to_descendants, left_of_path, core_of, construct_core, cores_of, clauses_core, path_core, predicates_core, filtered_core, declarations_of, behind_declarations, main_core}
 
@@ -186,7 +191,7 @@ loop_formed uses.Backwards ordered place free source body h k =
     size_formed place free source (ordered_if ordered place each) h (ordered_formed ordered place each (for_formed place (free + 2) (free + 3) (hidden_variable place free) turned (tt, tt)
     (tt, ((tt, ((tt, ((tt, tt), ((tt, tt), tt))), ((refl, tt), tt))), (k, tt)))))
 
-kept_formed : (place : Place) (focus : Focus) (free : ℕ) → KeepsOne (kept_at place focus free)
+kept_formed : (place : Place) (focus : ContextNumbers) (free : ℕ) → KeepsOne (kept_at place focus free)
 kept_formed place focus free condition h =
     let tested : IsWellFormedExpression (position_is place focus free) = (tt, ((tt, tt), (context_formed place focus.position, tt))) in
     let truth : IsWellFormedExpression (call_at place functions.Boolean (one_part (hidden_variable place (free + 1)))) =
@@ -198,8 +203,8 @@ filtered_by_formed : (predicate : Predicate) (reverse : Bool) (use' : ContextUse
 filtered_by_formed (predicates.Numbered number) reverse use' place free e condition h k = (tt, (h, tt))
 filtered_by_formed predicates.Last reverse use' place free e condition h k = (tt, (h, tt))
 filtered_by_formed predicates.Condition reverse use' place free e condition h k =
-    loop_formed use' false place free e (kept_at (outer_of condition.0) (focus_with use' free) condition.1 condition.0) h
-    (kept_formed (outer_of condition.0) (focus_with use' free) condition.1 condition.0 k)
+    loop_formed use' false place free e (kept_at (outer_of condition.0) (context_numbers use' free) condition.1 condition.0) h
+    (kept_formed (outer_of condition.0) (context_numbers use' free) condition.1 condition.0 k)
 
 abbrev IsFormed : CoreExpression × ℕ → Type 0
 IsFormed made = IsWellFormedExpression made.0
@@ -211,22 +216,32 @@ left_formed true place left h = (tt, ((tt, ((tt, (h, tt)), ((tt, tt), tt))), tt)
 construct_formed : (place : Place) (construct : Construct) (numbers : Numbers) (focus : Focus) (free : ℕ) (parts : List CoreExpression × ℕ) (clauses path filtered : CoreExpression × ℕ)
     → AreWellFormed parts.0 → IsFormed clauses → IsFormed path → IsFormed filtered → IsFormed (construct_core place construct numbers focus free parts clauses path filtered)
 construct_formed place (written.Variable name binder) numbers focus free parts clauses path filtered h k l m = variable_formed place (number_at numbers binder)
-construct_formed place written.Context numbers focus free parts clauses path filtered h k l m = context_formed place focus.item
-construct_formed place (written.Call functions.Position) numbers focus free parts clauses path filtered h k l m = context_formed place focus.position
-construct_formed place (written.Call functions.Last) numbers focus free parts clauses path filtered h k l m = context_formed place focus.size
-construct_formed place (written.Step axis asks) numbers focus free parts clauses path filtered h k l m = step_formed place focus.item axis asks
-construct_formed place written.ParentStep numbers focus free parts clauses path filtered h k l m = step_formed place focus.item axes.Parent tests.Node
+construct_formed place written.Context numbers focus free parts clauses path filtered h k l m = context_formed place focus.context.item
+construct_formed place (written.Call functions.Position) numbers focus free parts clauses path filtered h k l m = context_formed place focus.context.position
+construct_formed place (written.Call functions.Last) numbers focus free parts clauses path filtered h k l m = context_formed place focus.context.size
+construct_formed place (written.Step axis asks) numbers focus free parts clauses path filtered h k l m = step_formed place focus.context.item axis asks
+construct_formed place written.ParentStep numbers focus free parts clauses path filtered h k l m = step_formed place focus.context.item axes.Parent tests.Node
 construct_formed place written.Flwor numbers focus free parts clauses path filtered h k l m = k
 construct_formed place (written.Quantified every) numbers focus free parts clauses path filtered h k l m = k
 construct_formed place (written.Path descendants) numbers focus free parts clauses path filtered h k l m = l
 construct_formed place written.Filtered numbers focus free parts clauses path filtered h k l m = m
 construct_formed place construct numbers focus free parts clauses path filtered h k l m = constructed_formed place construct parts.0 h
 
+-- ---- a clause in front of a block
+
+clause_in_front_formed : (place : Place) (kind : ClauseKind) (part block : CoreExpression) → IsWellFormedExpression part → IsWellFormedExpression block → IsWellFormedExpression (clause_in_front place kind part block)
+clause_in_front_formed place kind part (At there outer tt (operators.Block kinds orders) parts) h k = (tt, (h, k.1))
+clause_in_front_formed place kind part (At there outer tt operator parts) h k = (tt, tt)
+
+key_in_front_formed : (place : Place) (order : KeyOrder) (part block : CoreExpression) → IsWellFormedExpression part → IsWellFormedExpression block → IsWellFormedExpression (key_in_front place order part block)
+key_in_front_formed place order part (At there outer tt (operators.Block [] orders) parts) h k = (tt, (h, k.1))
+key_in_front_formed place order part (At there outer tt operator parts) h k = (tt, tt)
+
 mutual
   core_formed : (tree : ResolvedTree) (numbers : Numbers) (focus : Focus) (free : ℕ) → IsFormed (core_of tree numbers focus free)
   core_formed (resolved_at place construct parts) numbers focus free =
-      construct_formed place construct numbers focus free (cores_of parts numbers focus free) (clauses_core (ending_of_clauses construct) place parts numbers focus free) (path_core (is_to_descendants construct) place parts numbers focus free) (predicates_core place parts numbers focus free)
-      (cores_formed parts numbers focus free) (clauses_formed (ending_of_clauses construct) place parts numbers focus free) (path_formed (is_to_descendants construct) place parts numbers focus free)
+      construct_formed place construct numbers focus free (cores_of parts numbers focus free) (clauses_core (ending_of_clauses construct parts focus.greatest) place parts numbers focus free) (path_core (is_to_descendants construct) place parts numbers focus free) (predicates_core place parts numbers focus free)
+      (cores_formed parts numbers focus free) (clauses_formed (ending_of_clauses construct parts focus.greatest) place parts numbers focus free) (path_formed (is_to_descendants construct) place parts numbers focus free)
       (predicates_formed place parts numbers focus free)
 
   cores_formed : (parts : ResolvedTrees) (numbers : Numbers) (focus : Focus) (free : ℕ) → AreWellFormed (cores_of parts numbers focus free).0
@@ -235,6 +250,30 @@ mutual
 
   clauses_formed : (ending : Ending) (place : Place) (parts : ResolvedTrees) (numbers : Numbers) (focus : Focus) (free : ℕ) → IsFormed (clauses_core ending place parts numbers focus free)
   clauses_formed ending place no_resolved numbers focus free = (tt, tt)
+  clauses_formed (Sorted greatest) place (a_resolved (resolved_at there (written.For bound None) (a_resolved source more)) others) numbers focus free =
+      let middle = (core_of source numbers focus free).1 in
+      let inner : Numbers = (bound.place, middle) ∷ numbers in
+      clause_in_front_formed place (kinds.For (numbered_binder bound middle) 0) (core_of source numbers focus free).0 (clauses_core (Sorted greatest) place others inner focus (middle + 1)).0 (core_formed source numbers focus free)
+      (clauses_formed (Sorted greatest) place others inner focus (middle + 1))
+  clauses_formed (Sorted greatest) place (a_resolved (resolved_at there (written.For bound (Some position)) (a_resolved source more)) others) numbers focus free =
+      let middle = (core_of source numbers focus free).1 in
+      let inner : Numbers = (position.place, middle + 1) ∷ (bound.place, middle) ∷ numbers in
+      clause_in_front_formed place (kinds.For (numbered_binder bound middle) (middle + 1)) (core_of source numbers focus free).0 (clauses_core (Sorted greatest) place others inner focus (middle + 2)).0 (core_formed source numbers focus free)
+      (clauses_formed (Sorted greatest) place others inner focus (middle + 2))
+  clauses_formed (Sorted greatest) place (a_resolved (resolved_at there (written.Let bound) (a_resolved value more)) others) numbers focus free =
+      let middle = (core_of value numbers focus free).1 in
+      let inner : Numbers = (bound.place, middle) ∷ numbers in
+      clause_in_front_formed place (kinds.Let (numbered_binder bound middle)) (core_of value numbers focus free).0 (clauses_core (Sorted greatest) place others inner focus (middle + 1)).0 (core_formed value numbers focus free)
+      (clauses_formed (Sorted greatest) place others inner focus (middle + 1))
+  clauses_formed (Sorted greatest) place (a_resolved (resolved_at there written.Where (a_resolved condition more)) others) numbers focus free =
+      let middle = (core_of condition numbers focus free).1 in
+      clause_in_front_formed place kinds.Where (boolean_around (core_of condition numbers focus free).0) (clauses_core (Sorted greatest) place others numbers focus middle).0
+      (boolean_formed (core_of condition numbers focus free).0 (core_formed condition numbers focus free)) (clauses_formed (Sorted greatest) place others numbers focus middle)
+  clauses_formed (Sorted greatest) place (a_resolved (resolved_at there (written.Key order) (a_resolved key more)) others) numbers focus free =
+      let middle = (core_of key numbers focus free).1 in
+      key_in_front_formed place (key_order greatest order) (data_around (core_of key numbers focus free).0) (clauses_core (Sorted greatest) place others numbers focus middle).0
+      (tt, (core_formed key numbers focus free, tt)) (clauses_formed (Sorted greatest) place others numbers focus middle)
+  clauses_formed ending place (a_resolved (resolved_at there (written.Key order) (a_resolved key more)) others) numbers focus free = (tt, tt)
   clauses_formed ending place (a_resolved (resolved_at there (written.For bound None) (a_resolved source more)) others) numbers focus free =
       let middle = (core_of source numbers focus free).1 in
       (tt, (core_formed source numbers focus free, (clauses_formed ending place others ((bound.place, middle) ∷ numbers) focus (middle + 1), tt)))
@@ -249,6 +288,7 @@ mutual
       conditional_formed place (core_of condition numbers focus free).0 (clauses_core ending place others numbers focus middle).0 (empty_at place) (core_formed condition numbers focus free)
       (clauses_formed ending place others numbers focus middle) (tt, tt)
   clauses_formed Returned place (a_resolved (resolved_at there (written.In bound) (a_resolved source more)) others) numbers focus free = (tt, tt)
+  clauses_formed (Sorted greatest) place (a_resolved (resolved_at there (written.In bound) (a_resolved source more)) others) numbers focus free = (tt, tt)
   clauses_formed (Condition true) place (a_resolved (resolved_at there (written.In bound) (a_resolved source more)) others) numbers focus free =
       let middle = (core_of source numbers focus free).1 in
       (tt, (core_formed source numbers focus free, (clauses_formed (Condition true) place others ((bound.place, middle) ∷ numbers) focus (middle + 1), tt)))
@@ -256,15 +296,16 @@ mutual
       let middle = (core_of source numbers focus free).1 in
       (tt, (core_formed source numbers focus free, (clauses_formed (Condition false) place others ((bound.place, middle) ∷ numbers) focus (middle + 1), tt)))
   clauses_formed Returned place (a_resolved last others) numbers focus free = core_formed last numbers focus free
+  clauses_formed (Sorted greatest) place (a_resolved last others) numbers focus free = (tt, (core_formed last numbers focus free, tt))
   clauses_formed (Condition every) place (a_resolved last others) numbers focus free = boolean_formed (core_of last numbers focus free).0 (core_formed last numbers focus free)
 
   path_formed : (descendants : Bool) (place : Place) (parts : ResolvedTrees) (numbers : Numbers) (focus : Focus) (free : ℕ) → IsFormed (path_core descendants place parts numbers focus free)
   path_formed descendants place (a_resolved first (a_resolved second no_resolved)) numbers focus free =
       let a = left_of_path descendants place (core_of first numbers focus free) in
       let use' = path_use (asks_context asked.Position second) (asks_context asked.Last second) in
-      let b = core_of second numbers (focus_with use' a.1) (behind_context use' a.1) in
+      let b = core_of second numbers (focus_with focus use' a.1) (behind_context use' a.1) in
       loop_formed use' true place a.1 (nodes_at place a.0) b.0 (tt, (left_formed descendants place (core_of first numbers focus free) (core_formed first numbers focus free), tt))
-      (core_formed second numbers (focus_with use' a.1) (behind_context use' a.1))
+      (core_formed second numbers (focus_with focus use' a.1) (behind_context use' a.1))
   path_formed descendants place _ numbers focus free = (tt, tt)
 
   predicates_formed : (place : Place) (parts : ResolvedTrees) (numbers : Numbers) (focus : Focus) (free : ℕ) → IsFormed (predicates_core place parts numbers focus free)
@@ -278,26 +319,26 @@ mutual
   filtered_formed reverse place e no_resolved numbers focus free h = h
   filtered_formed reverse place e (a_resolved predicate others) numbers focus free h =
       let use' = predicate_use reverse (asks_context asked.Last predicate) in
-      let condition = core_of predicate numbers (focus_with use' free) (behind_context use' free) in
+      let condition = core_of predicate numbers (focus_with focus use' free) (behind_context use' free) in
       let f = filtered_by (predicate_of predicate) reverse use' place free e condition in
       filtered_formed reverse place f.0 others numbers focus f.1
-      (filtered_by_formed (predicate_of predicate) reverse use' place free e condition h (core_formed predicate numbers (focus_with use' free) (behind_context use' free)))
+      (filtered_by_formed (predicate_of predicate) reverse use' place free e condition h (core_formed predicate numbers (focus_with focus use' free) (behind_context use' free)))
 
 -- ---- whole queries
 
-values_formed : (ds : List Declaration) (numbers : Numbers) (free : ℕ) → AreValuesWellFormed (declarations_of ds numbers free)
-values_formed [] numbers free = tt
-values_formed (declared.Global g ∷ ds) numbers free =
-    let middle = (core_of g.value numbers no_focus free).1 in
-    (core_formed g.value numbers no_focus free, values_formed ds ((g.bound.place, middle) ∷ numbers) (middle + 1))
-values_formed (declared.External e ∷ ds) numbers free = values_formed ds ((e.bound.place, free) ∷ numbers) (free + 1)
-values_formed (declared.Function f ∷ ds) numbers free = values_formed ds numbers free
+values_formed : (greatest : Bool) (ds : List Declaration) (numbers : Numbers) (free : ℕ) → AreValuesWellFormed (declarations_of (no_focus greatest) ds numbers free)
+values_formed greatest [] numbers free = tt
+values_formed greatest (declared.Global g ∷ ds) numbers free =
+    let middle = (core_of g.value numbers (no_focus greatest) free).1 in
+    (core_formed g.value numbers (no_focus greatest) free, values_formed greatest ds ((g.bound.place, middle) ∷ numbers) (middle + 1))
+values_formed greatest (declared.External e ∷ ds) numbers free = values_formed greatest ds ((e.bound.place, free) ∷ numbers) (free + 1)
+values_formed greatest (declared.Function f ∷ ds) numbers free = values_formed greatest ds numbers free
 
-query_formed : (ds : List Declaration) (tree : ResolvedTree) → IsWellFormedQuery (main_core ds tree)
-query_formed ds tree =
-    let behind = behind_declarations ds [] 1 in
-    record { values = values_formed ds [] 1; body = core_formed tree behind.0 no_focus behind.1 }
+query_formed : (greatest : Bool) (ds : List Declaration) (tree : ResolvedTree) → IsWellFormedQuery (main_core (no_focus greatest) ds tree)
+query_formed greatest ds tree =
+    let behind = behind_declarations (no_focus greatest) ds [] 1 in
+    record { values = values_formed greatest ds [] 1; body = core_formed tree behind.0 (no_focus greatest) behind.1 }
 
-pub made_well_formed : {E : Type 0} (ds : List Declaration) (tree : ResolvedTree) (made : Result Core E) → IfOk made (λ core. core ≡ main_core ds tree) → IfOk made (λ core. IsWellFormedQuery core)
-made_well_formed ds tree (Ok core) h = subst (λ (c : Core). IsWellFormedQuery c) (sym h) (query_formed ds tree)
-made_well_formed ds tree (Err error) h = tt
+pub made_well_formed : {E : Type 0} (greatest : Bool) (ds : List Declaration) (tree : ResolvedTree) (made : Result Core E) → IfOk made (λ core. core ≡ main_core (no_focus greatest) ds tree) → IfOk made (λ core. IsWellFormedQuery core)
+made_well_formed greatest ds tree (Ok core) h = subst (λ (c : Core). IsWellFormedQuery c) (sym h) (query_formed greatest ds tree)
+made_well_formed greatest ds tree (Err error) h = tt

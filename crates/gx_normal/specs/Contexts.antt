@@ -11,7 +11,8 @@ use Rattle.gx_core.specs.declared.expression.BinaryOp.TheVariants as core
 use Rattle.gx_core.specs.declared.operator.Operator.TheVariants as operators
 use Rattle.gx_core.specs.Arithmetic.{number_atom}
 use Rattle.gx_core.specs.Expression.{CoreExpression, one_part, two_parts, core_at}
-use Rattle.gx_normal.specs.declared.contexts.Focus.{Focus}
+use Rattle.gx_normal.specs.declared.contexts.ContextNumbers.{ContextNumbers}
+use Rattle.gx_normal.specs.declared.focus.Focus.{Focus}
 use Rattle.gx_normal.specs.declared.contexts.Asked.{Asked}
 use Rattle.gx_normal.specs.declared.contexts.Asked.TheVariants as asked
 use Rattle.gx_normal.specs.declared.contexts.ContextUse.{ContextUse}
@@ -57,18 +58,25 @@ predicate_use false true = PositionAndSize
 predicate_use true size = Backwards
 
 -- where there is no context
-abbrev pub no_focus : Focus
-no_focus = record { item = None; position = None; size = None }
+abbrev pub no_context : ContextNumbers
+no_context = record { item = None; position = None; size = None }
 
 -- their numbers, from the free number on: those of the source and of its size come first, where they are used
-abbrev pub focus_with : ContextUse → (free : ℕ) → Focus
-focus_with Item free = record { item = Some free; position = None; size = None }
-focus_with Position free = record { item = Some free; position = Some (free + 1); size = None }
-focus_with Size free = record { item = Some (free + 2); position = None; size = Some (free + 1) }
-focus_with PositionAndSize free = record { item = Some (free + 2); position = Some (free + 3); size = Some (free + 1) }
-focus_with Backwards free = record { item = Some (free + 2); position = Some (free + 4); size = Some (free + 1) }
+abbrev pub context_numbers : ContextUse → (free : ℕ) → ContextNumbers
+context_numbers Item free = record { item = Some free; position = None; size = None }
+context_numbers Position free = record { item = Some free; position = Some (free + 1); size = None }
+context_numbers Size free = record { item = Some (free + 2); position = None; size = Some (free + 1) }
+context_numbers PositionAndSize free = record { item = Some (free + 2); position = Some (free + 3); size = Some (free + 1) }
+context_numbers Backwards free = record { item = Some (free + 2); position = Some (free + 4); size = Some (free + 1) }
 
--- the number that is free behind them
+-- what a query begins in, and another context in it
+abbrev pub no_focus : (greatest : Bool) → Focus
+no_focus greatest = record { context = no_context; greatest = greatest }
+
+abbrev pub focus_with : Focus → ContextUse → (free : ℕ) → Focus
+focus_with focus use' free = record { context = context_numbers use' free; greatest = focus.greatest }
+
+-- the number that is free behind the variables of a context
 abbrev pub behind_context : ContextUse → (free : ℕ) → ℕ
 behind_context Item free = free + 1
 behind_context Position free = free + 2

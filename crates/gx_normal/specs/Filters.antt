@@ -15,12 +15,12 @@ use Rattle.gx_core.specs.declared.cases.TypeCase.{TypeCase}
 use Rattle.gx_core.specs.declared.expression.BinaryOp.TheVariants as core
 use Rattle.gx_core.specs.declared.operator.Operator.TheVariants as operators
 use Rattle.gx_core.specs.Expression.{CoreExpression, one_part, two_parts, three_parts, core_at, outer_of}
-use Rattle.gx_normal.specs.declared.contexts.Focus.{Focus}
+use Rattle.gx_normal.specs.declared.contexts.ContextNumbers.{ContextNumbers}
 use Rattle.gx_normal.specs.declared.contexts.ContextUse.{ContextUse}
 use Rattle.gx_normal.specs.declared.filters.Predicate.{Predicate}
 use Rattle.gx_normal.specs.declared.filters.Predicate.TheVariants.{Numbered, Last, Condition}
 use Rattle.gx_normal.specs.Constructs.{call_at, context_item_at, empty_at}
-use Rattle.gx_normal.specs.Contexts.{focus_with, hidden_variable, loop_at}
+use Rattle.gx_normal.specs.Contexts.{context_numbers, hidden_variable, loop_at}
 
 -- what a predicate is: an integer literal, `last()`, either in parentheses too, or anything else
 abbrev pub predicate_of : ResolvedTree → Predicate
@@ -53,23 +53,23 @@ abbrev pub decimal_case : (variable : ℕ) → TypeCase
 decimal_case variable = record { kind = item (Atom (Builtin Decimal)); variable = variable }
 
 -- whether a number is the position
-abbrev pub position_is : Place → Focus → (number : ℕ) → CoreExpression
+abbrev pub position_is : Place → ContextNumbers → (number : ℕ) → CoreExpression
 position_is place focus number = core_at place place (operators.Binary core.Eq) (two_parts (hidden_variable place number) (context_item_at place focus.position))
 
 -- whether a condition holds: a number where it is the position, and anything else by its effective boolean value
-abbrev pub holds_at : Place → Focus → (free : ℕ) → (condition : CoreExpression) → CoreExpression
+abbrev pub holds_at : Place → ContextNumbers → (free : ℕ) → (condition : CoreExpression) → CoreExpression
 holds_at place focus free condition =
     core_at place place (operators.Switch (decimal_case free ∷ []) (free + 1))
     (three_parts condition (position_is place focus free) (call_at place functions.Boolean (one_part (hidden_variable place (free + 1)))))
 
 -- the context item, where a condition holds of it
-abbrev pub kept_at : Place → Focus → (free : ℕ) → (condition : CoreExpression) → CoreExpression
+abbrev pub kept_at : Place → ContextNumbers → (free : ℕ) → (condition : CoreExpression) → CoreExpression
 kept_at place focus free condition =
     core_at place place operators.If (three_parts (holds_at place focus free condition) (context_item_at place focus.item) (empty_at place))
 
 -- the items of which a condition holds; the variables of the context are numbered from one on, and those of the cases from another
 abbrev pub filter_at : ContextUse → Place → (number free : ℕ) → (e condition : CoreExpression) → CoreExpression
-filter_at use' place number free e condition = loop_at use' false place number e (kept_at (outer_of condition) (focus_with use' number) free condition)
+filter_at use' place number free e condition = loop_at use' false place number e (kept_at (outer_of condition) (context_numbers use' number) free condition)
 
 -- a predicate over what it filters, and over its condition, which has the context variables from the free number on
 abbrev pub filtered_by : Predicate → (reverse : Bool) → ContextUse → Place → (free : ℕ) → (e : CoreExpression) → (condition : CoreExpression × ℕ) → CoreExpression × ℕ

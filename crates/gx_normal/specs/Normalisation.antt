@@ -23,11 +23,11 @@ use Rattle.gx_core.specs.Arithmetic.{number_atom}
 use Rattle.gx_core.specs.Expression.{CoreExpression, no_parts, core_at}
 use Rattle.gx_normal.specs.Constructs.{within, literal_at, core_sequence, call_of, empty_at, of_one, conditional_at, signed_at, cast_at, castable_at, joining, context_item_at, step_at}
 use Rattle.gx_normal.specs.declared.contexts.Asked.TheVariants as asked
-use Rattle.gx_normal.specs.declared.contexts.Focus.{Focus}
 use Rattle.gx_normal.specs.declared.contexts.ContextUse.TheVariants.{Item}
 use Rattle.gx_normal.specs.Contexts.{asks_context, path_use, predicate_use, no_focus, focus_with, behind_context, path_with}
+use Rattle.gx_normal.specs.declared.focus.Focus.{Focus}
 use Rattle.gx_normal.specs.Filters.{predicate_of, is_reverse_step, filtered_by}
-use Rattle.gx_normal.specs.Clauses.{Numbers, numbered_binder, clause_numbers, behind_clause, clause_at, ended, ending_of_clauses}
+use Rattle.gx_normal.specs.Clauses.{Numbers, numbered_binder, clause_numbers, behind_clause, clause_at, ended, ending_of_clauses, is_empty_greatest}
 use Rattle.gx_normal.specs.declared.clauses.Ending.{Ending}
 
 -- ---- variables
@@ -84,11 +84,11 @@ constructed place _ parts = empty_at place
 -- is left of its first part where it has predicates; with the number that is free behind it
 abbrev pub construct_core : Place → Construct → Numbers → Focus → (free : ℕ) → (parts : List CoreExpression × ℕ) → (clauses path filtered : CoreExpression × ℕ) → CoreExpression × ℕ
 construct_core place (written.Variable name binder) numbers focus free parts clauses path filtered = (variable_at place (number_at numbers binder), free)
-construct_core place written.Context numbers focus free parts clauses path filtered = (context_item_at place focus.item, free)
-construct_core place (written.Call functions.Position) numbers focus free parts clauses path filtered = (context_item_at place focus.position, free)
-construct_core place (written.Call functions.Last) numbers focus free parts clauses path filtered = (context_item_at place focus.size, free)
-construct_core place (written.Step axis asks) numbers focus free parts clauses path filtered = (step_at place focus.item axis asks, free)
-construct_core place written.ParentStep numbers focus free parts clauses path filtered = (step_at place focus.item axes.Parent tests.Node, free)
+construct_core place written.Context numbers focus free parts clauses path filtered = (context_item_at place focus.context.item, free)
+construct_core place (written.Call functions.Position) numbers focus free parts clauses path filtered = (context_item_at place focus.context.position, free)
+construct_core place (written.Call functions.Last) numbers focus free parts clauses path filtered = (context_item_at place focus.context.size, free)
+construct_core place (written.Step axis asks) numbers focus free parts clauses path filtered = (step_at place focus.context.item axis asks, free)
+construct_core place written.ParentStep numbers focus free parts clauses path filtered = (step_at place focus.context.item axes.Parent tests.Node, free)
 construct_core place written.Flwor numbers focus free parts clauses path filtered = clauses
 construct_core place (written.Quantified every) numbers focus free parts clauses path filtered = clauses
 construct_core place (written.Path descendants) numbers focus free parts clauses path filtered = path
@@ -109,7 +109,7 @@ left_of_path true place left = (path_with Item place left.1 left.0 (step_at plac
 abbrev mutual
   pub core_of : ResolvedTree → Numbers → Focus → (free : ℕ) → CoreExpression × ℕ
   core_of (resolved_at place construct parts) numbers focus free =
-      construct_core place construct numbers focus free (cores_of parts numbers focus free) (clauses_core (ending_of_clauses construct) place parts numbers focus free) (path_core (is_to_descendants construct) place parts numbers focus free) (predicates_core place parts numbers focus free)
+      construct_core place construct numbers focus free (cores_of parts numbers focus free) (clauses_core (ending_of_clauses construct parts focus.greatest) place parts numbers focus free) (path_core (is_to_descendants construct) place parts numbers focus free) (predicates_core place parts numbers focus free)
 
   pub cores_of : ResolvedTrees → Numbers → Focus → (free : ℕ) → List CoreExpression × ℕ
   cores_of no_resolved numbers focus free = ([], free)
@@ -137,6 +137,10 @@ abbrev mutual
       let p = core_of part numbers focus free in
       let rest = clauses_core ending place others (clause_numbers (written.In bound) p.1 ++ numbers) focus (behind_clause (written.In bound) p.1) in
       (clause_at ending place (written.In bound) p.1 p.0 rest.0, rest.1)
+  clauses_core ending place (a_resolved (resolved_at there (written.Key order) (a_resolved part more)) others) numbers focus free =
+      let p = core_of part numbers focus free in
+      let rest = clauses_core ending place others numbers focus p.1 in
+      (clause_at ending place (written.Key order) p.1 p.0 rest.0, rest.1)
   clauses_core ending place (a_resolved last others) numbers focus free = let e = core_of last numbers focus free in (ended ending e.0, e.1)
 
   -- the two parts of a path; the variables of the context of the right one are numbered behind the left one
@@ -144,7 +148,7 @@ abbrev mutual
   path_core descendants place (a_resolved first (a_resolved second no_resolved)) numbers focus free =
       let a = left_of_path descendants place (core_of first numbers focus free) in
       let use' = path_use (asks_context asked.Position second) (asks_context asked.Last second) in
-      let b = core_of second numbers (focus_with use' a.1) (behind_context use' a.1) in
+      let b = core_of second numbers (focus_with focus use' a.1) (behind_context use' a.1) in
       (path_with use' place a.1 a.0 b.0, b.1)
   path_core descendants place _ numbers focus free = (empty_at place, free)
 
@@ -160,36 +164,37 @@ abbrev mutual
   filtered_core reverse place e no_resolved numbers focus free = (e, free)
   filtered_core reverse place e (a_resolved predicate others) numbers focus free =
       let use' = predicate_use reverse (asks_context asked.Last predicate) in
-      let condition = core_of predicate numbers (focus_with use' free) (behind_context use' free) in
+      let condition = core_of predicate numbers (focus_with focus use' free) (behind_context use' free) in
       let f = filtered_by (predicate_of predicate) reverse use' place free e condition in
       filtered_core reverse place f.0 others numbers focus f.1
 
 -- ---- whole queries
 
 -- global variables, an external one without a value; the scope of one begins behind its declaration
-abbrev pub declarations_of : List Declaration → Numbers → (free : ℕ) → List CoreDeclaration
-declarations_of [] numbers free = []
-declarations_of (declared.Global g ∷ others) numbers free =
-    let v = core_of g.value numbers no_focus free in
-    Global g.bound.name (numbered_binder g.bound v.1) (Some v.0) ∷ declarations_of others ((g.bound.place, v.1) ∷ numbers) (v.1 + 1)
-declarations_of (declared.External e ∷ others) numbers free =
-    Global e.bound.name (external_binder e.bound free) None ∷ declarations_of others ((e.bound.place, free) ∷ numbers) (free + 1)
-declarations_of (declared.Function f ∷ others) numbers free = declarations_of others numbers free
+abbrev pub declarations_of : Focus → List Declaration → Numbers → (free : ℕ) → List CoreDeclaration
+declarations_of focus [] numbers free = []
+declarations_of focus (declared.Global g ∷ others) numbers free =
+    let v = core_of g.value numbers focus free in
+    Global g.bound.name (numbered_binder g.bound v.1) (Some v.0) ∷ declarations_of focus others ((g.bound.place, v.1) ∷ numbers) (v.1 + 1)
+declarations_of focus (declared.External e ∷ others) numbers free =
+    Global e.bound.name (external_binder e.bound free) None ∷ declarations_of focus others ((e.bound.place, free) ∷ numbers) (free + 1)
+declarations_of focus (declared.Function f ∷ others) numbers free = declarations_of focus others numbers free
 
 -- the numbers in scope behind them, and the number that is free
-abbrev pub behind_declarations : List Declaration → Numbers → (free : ℕ) → Numbers × ℕ
-behind_declarations [] numbers free = (numbers, free)
-behind_declarations (declared.Global g ∷ others) numbers free =
-    let v = core_of g.value numbers no_focus free in
-    behind_declarations others ((g.bound.place, v.1) ∷ numbers) (v.1 + 1)
-behind_declarations (declared.External e ∷ others) numbers free = behind_declarations others ((e.bound.place, free) ∷ numbers) (free + 1)
-behind_declarations (declared.Function f ∷ others) numbers free = behind_declarations others numbers free
+abbrev pub behind_declarations : Focus → List Declaration → Numbers → (free : ℕ) → Numbers × ℕ
+behind_declarations focus [] numbers free = (numbers, free)
+behind_declarations focus (declared.Global g ∷ others) numbers free =
+    let v = core_of g.value numbers focus free in
+    behind_declarations focus others ((g.bound.place, v.1) ∷ numbers) (v.1 + 1)
+behind_declarations focus (declared.External e ∷ others) numbers free = behind_declarations focus others ((e.bound.place, free) ∷ numbers) (free + 1)
+behind_declarations focus (declared.Function f ∷ others) numbers free = behind_declarations focus others numbers free
 
 -- the Core of a query, whose variables are numbered from 1
-abbrev pub main_core : List Declaration → ResolvedTree → Core
-main_core declarations body =
-    let behind = behind_declarations declarations [] 1 in
-    record { declarations = declarations_of declarations [] 1; body = (core_of body behind.0 no_focus behind.1).0 }
+abbrev pub main_core : Focus → List Declaration → ResolvedTree → Core
+main_core focus declarations body =
+    let behind = behind_declarations focus declarations [] 1 in
+    record { declarations = declarations_of focus declarations [] 1; body = (core_of body behind.0 focus behind.1).0 }
 
+-- where the prolog says nothing, empty keys are the least
 abbrev pub query_core : Resolved → Core
-query_core query = main_core query.declarations query.body
+query_core query = main_core (no_focus (is_empty_greatest false query.settings.empty_order)) query.declarations query.body

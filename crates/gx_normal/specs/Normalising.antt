@@ -9,10 +9,10 @@ use Rattle.gx_normal.specs.declared.normalising.Task.{Task}
 use Rattle.gx_normal.specs.declared.normalising.Task.TheVariants.{Normalise, Parts, Clauses, Bind, Unbind, FinishClause, End, Enter, Filter, FinishPredicate, Leave, FinishPath, Finish, Descend}
 use Rattle.gx_normal.specs.declared.normalising.Normalising.{Normalising}
 use Rattle.gx_normal.specs.declared.clauses.Ending.{Ending}
+use Rattle.gx_normal.specs.declared.focus.Focus.{Focus}
 use Rattle.gx_normal.specs.Clauses.{Numbers, clause_numbers, behind_clause, clause_at, ended}
 use Rattle.gx_normal.specs.declared.contexts.Asked.TheVariants as asked
 use Rattle.gx_normal.specs.declared.contexts.ContextUse.{ContextUse}
-use Rattle.gx_normal.specs.declared.contexts.Focus.{Focus}
 use Rattle.gx_normal.specs.Contexts.{asks_context, path_use, predicate_use, focus_with, behind_context, path_with}
 use Rattle.gx_normal.specs.Filters.{filter_at}
 use Rattle.gx_normal.specs.Normalisation.{constructed, left_of_path, core_of, cores_of, clauses_core, filtered_core}
@@ -88,7 +88,7 @@ core_left (End ending ∷ tasks) made numbers focus free = core_left tasks (last
 core_left (Descend place ∷ tasks) made numbers focus free = core_left tasks (left_descended place free made) numbers focus (free + 1)
 core_left (Enter place second ∷ tasks) made numbers focus free =
     let use' = path_use (asks_context asked.Position second.now) (asks_context asked.Last second.now) in
-    let e = core_of second.now numbers (focus_with use' free) (behind_context use' free) in
+    let e = core_of second.now numbers (focus_with focus use' free) (behind_context use' free) in
     core_left tasks (path_finished use' place free (added e.0 made)) numbers focus e.1
 core_left (Filter reverse place predicates ∷ tasks) made numbers focus free =
     let m = last_filtered reverse place (resolved_parts predicates.now) made numbers focus free in core_left tasks m.0 numbers focus m.1
@@ -113,7 +113,7 @@ left_behind e n = core_left n.tasks (added e n.made) n.numbers n.focus n.free
 abbrev pub condition_left : (reverse : Bool) → Place → ResolvedTree → Normalising → Left
 condition_left reverse place condition n =
     let use' = predicate_use reverse (asks_context asked.Last condition) in
-    let c = core_of condition n.numbers (focus_with use' n.free) (behind_context use' n.free) in
+    let c = core_of condition n.numbers (focus_with n.focus use' n.free) (behind_context use' n.free) in
     let m = predicate_finished use' place n.free (added c.0 n.made) c.1 in
     core_left n.tasks m.0 n.numbers n.focus m.1
 

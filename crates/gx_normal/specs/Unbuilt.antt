@@ -13,11 +13,6 @@ abbrev pub earlier_place : Option Place → Option Place → Option Place
 earlier_place None later = later
 earlier_place (Some place) later = Some place
 
--- a clause that orders, at its first word
-abbrev pub unbuilt_keys : Keys → Place → Option Place
-unbuilt_keys no_key place = None
-unbuilt_keys (a_key value order others) place = Some place
-
 abbrev mutual
   pub first_unbuilt : SyntaxTree → Option Place
   first_unbuilt (at place form) = unbuilt_form place form
@@ -30,7 +25,7 @@ abbrev mutual
   unbuilt_form place (parenthesised inner) = first_unbuilt inner
   unbuilt_form place (call name arguments) = unbuilt_trees arguments
   unbuilt_form place (comma first second) = earlier_place (first_unbuilt first) (first_unbuilt second)
-  unbuilt_form place (flwor clauses order stable keys returned) = earlier_place (unbuilt_clauses clauses) (earlier_place (unbuilt_keys keys order) (first_unbuilt returned))
+  unbuilt_form place (flwor clauses order stable keys returned) = earlier_place (unbuilt_clauses clauses) (earlier_place (unbuilt_keys keys) (first_unbuilt returned))
   unbuilt_form place (quantified every bindings condition) = earlier_place (unbuilt_bindings bindings) (first_unbuilt condition)
   unbuilt_form place (conditional test chosen otherwise) = earlier_place (first_unbuilt test) (earlier_place (first_unbuilt chosen) (first_unbuilt otherwise))
   unbuilt_form place (binary operator left right) = earlier_place (first_unbuilt left) (first_unbuilt right)
@@ -59,6 +54,10 @@ abbrev mutual
   unbuilt_clauses (for_clause place bindings others) = earlier_place (unbuilt_bindings bindings) (unbuilt_clauses others)
   unbuilt_clauses (let_clause place bindings others) = earlier_place (unbuilt_bindings bindings) (unbuilt_clauses others)
   unbuilt_clauses (where_clause place condition others) = earlier_place (first_unbuilt condition) (unbuilt_clauses others)
+
+  pub unbuilt_keys : Keys → Option Place
+  unbuilt_keys no_key = None
+  unbuilt_keys (a_key value order others) = earlier_place (first_unbuilt value) (unbuilt_keys others)
 
 -- a function, at `declare`; a variable with a value is built where the value is
 abbrev pub unbuilt_definition : Place → DefinitionNode → Option Place

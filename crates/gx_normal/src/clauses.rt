@@ -1,24 +1,60 @@
 // The clauses of a FLWOR and of a quantified expression.
 
-ghost use Rattle.std.specs.Prelude.{◌≡◌, ◌++◌, ◌+◌, ◌∷◌, ℕ, IfOk, OnOk, option_copied};
+ghost use Rattle.std.specs.Prelude.{◌≡◌, ◌++◌, ◌+◌, ◌∷◌, ℕ, IfOk, OnOk, if◌then◌else◌, option_copied};
 ghost use Rattle.gx_resolved.specs.ResolvedView.{resolved_parts};
-ghost use Rattle.gx_normal.specs.Clauses.{Numbers as PlainNumbers, behind_clause, clause_at, clause_numbers, clause_part, leading_part, is_clause, numbered_binder, position_number, test_at};
-ghost use Rattle.gx_normal.specs.declared.contexts.Focus.{Focus as PlainFocus};
+ghost use Rattle.gx_normal.specs.Clauses.{Numbers as PlainNumbers, behind_clause, clause_at, clause_in_front, clause_numbers, clause_part, have_key, is_clause, is_empty_greatest, is_key, key_in_front, key_order, leading_part, nested_clause_at, numbered_binder, position_number, sorted_clause_at, test_at};
+ghost use Rattle.gx_core.specs.ExpressionView.{kind_of_clause, part_of_clause};
+ghost use Rattle.gx_normal.specs.declared.focus.Focus.{Focus as PlainFocus};
+ghost use Rattle.gx_normal.specs.declared.clauses.Ending.TheVariants as endings;
 ghost use Rattle.gx_normal.specs.Normalising.{Made, core_left};
 
-use crate::construct::{at, conditional, empty};
+use crate::construct::{at, boolean_around, conditional, data_around, empty};
 use crate::normalising::{Numbers, Task};
+use gx_ast::sequence_type::{EmptyOrder, KeyOrder as WrittenOrder};
 use gx_base::place::Place;
 use gx_base::stack::Stack;
-use gx_core::expression::{Binder, CoreExpr, Form};
+use gx_core::expression::{Binder, CoreClause, CoreExpr, CoreKey, Form};
 use gx_resolved::tree::{BoundName, Construct, ResolvedExpr};
+use gx_sorting::KeyOrder;
 use std::alloc::{AllocError, Global};
 
-/// What clauses end in: what a FLWOR returns, or the condition of a quantified expression, of `every` where that is true.
+/// What clauses end in: what a FLWOR returns; the condition of a quantified expression, of `every` where that is true; or what a FLWOR
+/// returns for sorted tuples, whose empty keys are the greatest where that is true and they do not say.
 #[derive(Clone, Copy)]
 pub enum Ending {
     Returned,
     Condition(bool),
+    Sorted(bool),
+}
+
+/// How the clauses of a FLWOR end.
+pub(crate) fn flwor_ending(parts: &[ResolvedExpr], greatest: bool) -> Ending
+    ensures { result ≡ (if have_key (resolved_parts parts.now) then endings.Sorted greatest else endings.Returned) }
+{
+    if have_key(parts) {
+        Ending::Sorted(greatest)
+    } else {
+        Ending::Returned
+    }
+}
+
+fn have_key(parts: &[ResolvedExpr]) -> bool
+    ensures { result ≡ have_key (resolved_parts parts.now) }
+{
+    let mut rest = parts;
+    while let Some((part, others)) = rest.split_first() {
+        if is_key(&part.construct) {
+            return true;
+        }
+        rest = others;
+    }
+    false
+}
+
+fn is_key(construct: &Construct) -> bool
+    ensures { result ≡ is_key construct.now }
+{
+    matches!(construct, Construct::Key(_))
 }
 
 /// The binder of a variable with its number, and the type that is written at it.
@@ -53,7 +89,11 @@ fn is_clause(construct: &Construct) -> bool
 {
     matches!(
         construct,
-        Construct::For(_, _) | Construct::Let(_) | Construct::Where | Construct::In(_)
+        Construct::For(_, _)
+            | Construct::Let(_)
+            | Construct::Where
+            | Construct::In(_)
+            | Construct::Key(_)
     )
 }
 
@@ -129,6 +169,28 @@ pub(crate) fn clause(
 ) -> Result<CoreExpr, AllocError>
     ensures { IfOk result (λ e. e ≡ clause_at ending place clause.now number part.value rest.value) }
 {
+    match ending {
+        Ending::Sorted(greatest) => {
+            sorted_clause(alloc, greatest, place, clause, number, part, rest)
+        }
+        Ending::Returned | Ending::Condition(_) => {
+            nested_clause(alloc, ending, place, clause, number, part, rest)
+        }
+    }
+}
+
+// A clause around what the clauses behind it stand for.
+fn nested_clause(
+    alloc: Global,
+    ending: Ending,
+    place: Place,
+    clause: &Construct,
+    number: u32,
+    part: Box<CoreExpr>,
+    rest: Box<CoreExpr>,
+) -> Result<CoreExpr, AllocError>
+    ensures { IfOk result (λ e. e ≡ nested_clause_at ending place clause.now number part.value rest.value) }
+{
     match clause {
         Construct::For(bound, position) => {
             let position = position_number(position, number)?;
@@ -175,8 +237,111 @@ fn test(
     ensures { result ≡ test_at ending place binder source.value test.value }
 {
     match ending {
-        Ending::Returned => empty(place),
+        Ending::Returned | Ending::Sorted(_) => empty(place),
         Ending::Condition(true) => at(place, Form::EveryIn(binder, source, test)),
         Ending::Condition(false) => at(place, Form::SomeIn(binder, source, test)),
+    }
+}
+
+// A clause, or a sort key, in front of a block.
+fn sorted_clause(
+    alloc: Global,
+    greatest: bool,
+    place: Place,
+    clause: &Construct,
+    number: u32,
+    part: Box<CoreExpr>,
+    block: Box<CoreExpr>,
+) -> Result<CoreExpr, AllocError>
+    ensures { IfOk result (λ e. e ≡ sorted_clause_at greatest place clause.now number part.value block.value) }
+{
+    match clause {
+        Construct::For(bound, position) => {
+            let position = position_number(position, number)?;
+            let binder = numbered_binder(bound, number)?;
+            clause_in_front(
+                place,
+                CoreClause::For(binder, position, Box::into_inner(part)),
+                block,
+            )
+        }
+        Construct::Let(bound) => {
+            let binder = numbered_binder(bound, number)?;
+            clause_in_front(place, CoreClause::Let(binder, Box::into_inner(part)), block)
+        }
+        Construct::Where => {
+            let condition = boolean_around(alloc, part)?;
+            clause_in_front(place, CoreClause::Where(Box::into_inner(condition)), block)
+        }
+        Construct::Key(order) => {
+            let value = Box::into_inner(data_around(alloc, part)?);
+            let order = key_order(greatest, *order);
+            key_in_front(place, CoreKey { value, order }, block)
+        }
+        _ => Ok(empty(place)),
+    }
+}
+
+fn clause_in_front(
+    place: Place,
+    clause: CoreClause,
+    block: Box<CoreExpr>,
+) -> Result<CoreExpr, AllocError>
+    ensures { IfOk result (λ e. e ≡ clause_in_front place (kind_of_clause clause) (part_of_clause clause) block.value) }
+{
+    let (_place, _outer, _kind, form) = Box::into_inner(block).into_parts();
+    match form {
+        Form::Block(mut clauses, keys, body) => {
+            clauses.insert(0, clause)?;
+            Ok(at(place, Form::Block(clauses, keys, body)))
+        }
+        other => {
+            drop(other);
+            drop(clause);
+            Ok(empty(place))
+        }
+    }
+}
+
+fn key_in_front(place: Place, key: CoreKey, block: Box<CoreExpr>) -> Result<CoreExpr, AllocError>
+    ensures { IfOk result (λ e. e ≡ key_in_front place key.order key.value block.value) }
+{
+    let (_place, _outer, _kind, form) = Box::into_inner(block).into_parts();
+    match form {
+        Form::Block(clauses, mut keys, body) => {
+            if clauses.is_empty() {
+                keys.insert(0, key)?;
+                Ok(at(place, Form::Block(clauses, keys, body)))
+            } else {
+                drop(key);
+                Ok(empty(place))
+            }
+        }
+        other => {
+            drop(other);
+            drop(key);
+            Ok(empty(place))
+        }
+    }
+}
+
+// Where a key says nothing of the empty sequence, the prolog decides.
+fn key_order(greatest: bool, order: WrittenOrder) -> KeyOrder
+    ensures { result ≡ key_order greatest order }
+{
+    KeyOrder {
+        descending: order.descending,
+        greatest: is_empty_greatest(greatest, order.empty),
+    }
+}
+
+/// Whether the empty key is the greatest one, where it is so if nothing is said.
+pub(crate) fn is_empty_greatest(greatest: bool, order: EmptyOrder) -> bool
+    ensures { result ≡ is_empty_greatest greatest order }
+{
+    match order {
+        EmptyOrder::Default => greatest,
+        EmptyOrder::Greatest => true,
+        EmptyOrder::Least => false,
     }
 }

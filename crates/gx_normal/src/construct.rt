@@ -455,7 +455,10 @@ pub(crate) fn boolean_around(
     Ok(Box::new(alloc, call(alloc, place, Function::Boolean, operand)?)?)
 }
 
-fn data_around(alloc: Global, operand: Box<CoreExpr>) -> Result<Box<CoreExpr>, AllocError>
+pub(crate) fn data_around(
+    alloc: Global,
+    operand: Box<CoreExpr>,
+) -> Result<Box<CoreExpr>, AllocError>
     ensures { IfOk result (λ e. e.value ≡ data_around operand.value) }
 {
     let data = at(operand.outer, Form::DataOf(operand));

@@ -3,7 +3,7 @@
 ghost use Rattle.std.specs.Prelude.{◌≡◌, ◌∷◌, ◌+◌, true, false, IfOk};
 ghost use Rattle.gx_resolved.specs.ResolvedView.{resolved_parts};
 ghost use Rattle.gx_normal.specs.Asking.{any_asks, searched_asks};
-ghost use Rattle.gx_normal.specs.Contexts.{asks_context, behind_context, focus_with, has_own_context, hidden_for, hidden_let, hidden_variable, is_question, loop_at, no_focus, ordered_if, parts_ask, path_use, path_with, position_from_end, predicate_use, with_size};
+ghost use Rattle.gx_normal.specs.Contexts.{asks_context, behind_context, has_own_context, hidden_for, hidden_let, hidden_variable, is_question, loop_at, ordered_if, parts_ask, path_use, path_with, position_from_end, predicate_use, with_size, context_numbers, no_context};
 ghost use Rattle.gx_normal.specs.Constructs.{hidden_binder};
 ghost use Rattle.gx_normal.specs.Normalisation.{left_of_path};
 ghost use Rattle.gx_normal.specs.declared.contexts.Searched.TheVariants as searches;
@@ -20,18 +20,18 @@ use std::alloc::{AllocError, Global};
 
 /// The numbers of the variables of a context: of its item, of the position of the item, and of the size of the context.
 #[derive(Clone, Copy)]
-pub struct Focus {
+pub struct ContextNumbers {
     pub item: Option<u32>,
     pub position: Option<u32>,
     pub size: Option<u32>,
 }
 
-impl Focus {
+impl ContextNumbers {
     /// Where there is no context.
-    pub(crate) fn none() -> Focus
-        ensures { result ≡ no_focus }
+    pub(crate) fn none() -> ContextNumbers
+        ensures { result ≡ no_context }
     {
-        Focus {
+        ContextNumbers {
             item: None,
             position: None,
             size: None,
@@ -157,8 +157,8 @@ pub(crate) fn predicate_use(reverse: bool, size: bool) -> ContextUse
 }
 
 /// The numbers of the variables of a context, from the free number on.
-pub(crate) fn focus_with(context: ContextUse, free: u32) -> Result<Focus, AllocError>
-    ensures { IfOk result (λ focus. focus ≡ focus_with context free) }
+pub(crate) fn context_numbers(context: ContextUse, free: u32) -> Result<ContextNumbers, AllocError>
+    ensures { IfOk result (λ numbers. numbers ≡ context_numbers context free) }
 {
     let one = behind(free, 1)?;
     let two = behind(free, 2)?;
@@ -172,7 +172,7 @@ pub(crate) fn focus_with(context: ContextUse, free: u32) -> Result<Focus, AllocE
         ContextUse::Backwards => (two, Some(four), Some(one)),
     };
     let item = Some(item);
-    Ok(Focus {
+    Ok(ContextNumbers {
         item,
         position,
         size,

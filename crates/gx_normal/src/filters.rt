@@ -4,7 +4,7 @@ ghost use Rattle.std.specs.Prelude.{◌≡◌, ◌∷◌, [], IfOk};
 ghost use Rattle.gx_normal.specs.Filters.{decimal_case, filter_at, holds_at, is_reverse_axis, is_reverse_step, kept_at, last_at, numbered_at, position_is, predicate_of};
 
 use crate::construct::{at, call, context_item, empty};
-use crate::contexts::{ContextUse, Focus, behind, focus_with, loop_at, variable};
+use crate::contexts::{ContextNumbers, ContextUse, behind, context_numbers, loop_at, variable};
 use gx_base::place::Place;
 use gx_base::type_name::{Builtin, TypeName};
 use gx_core::cases::{Cases, TypeCase};
@@ -99,7 +99,7 @@ pub(crate) fn filter(
 ) -> Result<CoreExpr, AllocError>
     ensures { IfOk result (λ r. r ≡ filter_at context place number free e.value condition.value) }
 {
-    let focus = focus_with(context, number)?;
+    let focus = context_numbers(context, number)?;
     let body = kept(alloc, condition.outer, focus, free, condition)?;
     loop_at(alloc, context, false, place, number, e, body)
 }
@@ -108,7 +108,7 @@ pub(crate) fn filter(
 fn kept(
     alloc: Global,
     place: Place,
-    focus: Focus,
+    focus: ContextNumbers,
     free: u32,
     condition: Box<CoreExpr>,
 ) -> Result<Box<CoreExpr>, AllocError>
@@ -124,7 +124,7 @@ fn kept(
 fn holds(
     alloc: Global,
     place: Place,
-    focus: Focus,
+    focus: ContextNumbers,
     free: u32,
     condition: Box<CoreExpr>,
 ) -> Result<Box<CoreExpr>, AllocError>
@@ -146,7 +146,7 @@ fn holds(
 fn is_position(
     alloc: Global,
     place: Place,
-    focus: Focus,
+    focus: ContextNumbers,
     number: u32,
 ) -> Result<CoreExpr, AllocError>
     ensures { IfOk result (λ r. r ≡ position_is place focus number) }

@@ -5,6 +5,7 @@ pub mod clauses;
 mod construct;
 pub mod contexts;
 pub mod filters;
+pub mod focus;
 pub mod normalise;
 mod normalising;
 pub mod unbuilt;

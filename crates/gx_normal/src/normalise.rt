@@ -3,13 +3,13 @@
 ghost use Rattle.std.specs.Prelude.{◌≡◌, [], ◌++◌, ◌∷◌, ◌+◌, None, IfOk, OnOk};
 ghost use Rattle.gx_core.specs.Invariant.{HasQueryVariablesInOrder, IsWellFormedQuery};
 ghost use Rattle.gx_core.specs.declared.expression.Declaration.TheVariants as declarations;
-ghost use Rattle.gx_normal.specs.Contexts.{no_focus};
 ghost use Rattle.gx_normal.specs.Normalisation.{behind_declarations, core_of, declarations_of, external_binder, main_core, query_core};
 
-use crate::clauses::numbered_binder;
+use crate::clauses::{is_empty_greatest, numbered_binder};
+use crate::focus::Focus;
 use crate::normalising::{Normalising, Numbers};
-use gx_core::declarations::Declarations;
 use gx_core::expression::{Binder, Core, CoreDeclaration, CoreExpr};
+use gx_core::listed::Listed;
 use gx_resolved::dismantle::dismantle;
 use gx_resolved::nested_map::NestedMap;
 use gx_resolved::tree::{BoundName, Declaration, Resolved, ResolvedExpr};
@@ -25,7 +25,9 @@ pub fn normalise(alloc: Global, query: Resolved) -> Result<Core, AllocError>
     ensures variables { IfOk result (λ core. HasQueryVariablesInOrder core) }
     ensures well_formed { IfOk result (λ core. IsWellFormedQuery core) }
 {
-    let core = core_of_query(alloc, query.declarations.as_slice(), &query.body);
+    let greatest = is_empty_greatest(false, query.settings.empty_order);
+    let focus = Focus::without_context(greatest);
+    let core = core_of_query(alloc, focus, query.declarations.as_slice(), &query.body);
     drop_query(alloc, query);
     core
 }
@@ -49,33 +51,35 @@ fn drop_declaration(alloc: Global, declaration: Declaration) {
 // The Core of a query with these declarations and this body.
 fn core_of_query(
     alloc: Global,
+    focus: Focus,
     declarations: &[Declaration],
     body: &ResolvedExpr,
 ) -> Result<Core, AllocError>
-    ensures { IfOk result (λ core. core ≡ main_core declarations.now body.now) }
+    ensures { IfOk result (λ core. core ≡ main_core focus declarations.now body.now) }
 {
     let mut made = Vec::new(alloc);
-    let (numbers, free) = declare_all(alloc, declarations, &mut made)?;
-    let (body, _numbers, _free) = expression(alloc, body, numbers, free)?;
-    let declarations = Declarations::from_vec(made);
+    let (numbers, free) = declare_all(alloc, focus, declarations, &mut made)?;
+    let (body, _numbers, _free) = expression(alloc, body, numbers, focus, free)?;
+    let declarations = Listed::from_vec(made);
     Ok(Core { declarations, body })
 }
 
 // The declarations of variables, with the numbers in scope behind them and the one that is free.
 fn declare_all(
     alloc: Global,
+    focus: Focus,
     declarations: &[Declaration],
     made: &mut Vec<CoreDeclaration>,
 ) -> Result<(Numbers, u32), AllocError>
-    ensures declarations { OnOk result (made.new.items ≡ made.old.items ++ declarations_of declarations.now [] 1) }
-    ensures numbers { IfOk result (λ r. r.0 ≡ (behind_declarations declarations.now [] 1).0) }
-    ensures free { IfOk result (λ r. r.1 ≡ (behind_declarations declarations.now [] 1).1) }
+    ensures declarations { OnOk result (made.new.items ≡ made.old.items ++ declarations_of focus declarations.now [] 1) }
+    ensures numbers { IfOk result (λ r. r.0 ≡ (behind_declarations focus declarations.now [] 1).0) }
+    ensures free { IfOk result (λ r. r.1 ≡ (behind_declarations focus declarations.now [] 1).1) }
 {
     let mut numbers = NestedMap::new(alloc);
     let mut free = 1;
     let mut left = declarations;
     while let Some((declaration, others)) = left.split_first() {
-        let (inner, next) = declare(alloc, declaration, numbers, free, made)?;
+        let (inner, next) = declare(alloc, focus, declaration, numbers, free, made)?;
         numbers = inner;
         free = next;
         left = others;
@@ -86,17 +90,18 @@ fn declare_all(
 // The declaration of a variable; no other declaration is one of Core.
 fn declare(
     alloc: Global,
+    focus: Focus,
     declaration: &Declaration,
     numbers: Numbers,
     free: u32,
     made: &mut Vec<CoreDeclaration>,
 ) -> Result<(Numbers, u32), AllocError>
-    ensures declared { OnOk result (made.new.items ≡ made.old.items ++ declarations_of (declaration.now ∷ []) numbers free) }
-    ensures behind { IfOk result (λ r. r ≡ behind_declarations (declaration.now ∷ []) numbers free) }
+    ensures declared { OnOk result (made.new.items ≡ made.old.items ++ declarations_of focus (declaration.now ∷ []) numbers free) }
+    ensures behind { IfOk result (λ r. r ≡ behind_declarations focus (declaration.now ∷ []) numbers free) }
 {
     match declaration {
         Declaration::Global(global) => {
-            let (value, inner, number) = expression(alloc, &global.value, numbers, free)?;
+            let (value, inner, number) = expression(alloc, &global.value, numbers, focus, free)?;
             let binder = numbered_binder(&global.bound, number)?;
             bind(&global.bound, binder, Some(value), inner, made)
         }
@@ -155,13 +160,14 @@ fn expression(
     alloc: Global,
     tree: &ResolvedExpr,
     numbers: Numbers,
+    focus: Focus,
     free: u32,
 ) -> Result<(CoreExpr, Numbers, u32), AllocError>
-    ensures core { IfOk result (λ r. r.0 ≡ (core_of tree.now numbers no_focus free).0) }
+    ensures core { IfOk result (λ r. r.0 ≡ (core_of tree.now numbers focus free).0) }
     ensures numbers { IfOk result (λ r. r.1 ≡ numbers) }
-    ensures free { IfOk result (λ r. r.2 ≡ (core_of tree.now numbers no_focus free).1) }
+    ensures free { IfOk result (λ r. r.2 ≡ (core_of tree.now numbers focus free).1) }
 {
-    let mut normalising = Normalising::new(alloc, tree, numbers, free)?;
+    let mut normalising = Normalising::new(alloc, tree, numbers, focus, free)?;
     for _ in 0..u64::MAX {
         match normalising.tasks.pop() {
             None => return Ok(normalising.result()),

@@ -3,20 +3,21 @@
 ghost use Rattle.std.specs.Prelude.{◌≡◌, ◌≢◌, ℕ, List, [], ◌∷◌, length, None, IfOk, IfSome, IsNone, OnOk};
 ghost use Rattle.gx_resolved.specs.ResolvedView.{resolved_parts};
 ghost use Rattle.gx_normal.specs.Clauses.{ended, Numbers as PlainNumbers};
-ghost use Rattle.gx_normal.specs.Contexts.{behind_context, focus_with, no_focus};
+ghost use Rattle.gx_normal.specs.Contexts.{behind_context, focus_with};
 ghost use Rattle.gx_normal.specs.Normalisation.{constructed, core_of, cores_of, left_of_path, number_at, path_core, predicates_core, variable_at};
-ghost use Rattle.gx_normal.specs.declared.contexts.Focus.{Focus as PlainFocus};
+ghost use Rattle.gx_normal.specs.declared.focus.Focus.{Focus as PlainFocus};
 ghost use Rattle.gx_normal.specs.Normalising.{added, core_left, IsOnePart, left_behind, core_to_make, left_with, condition_left, Made};
 ghost use Rattle.gx_core.specs.Expression.{CoreExpression};
 ghost use Rattle.gx_normal.specs.declared.normalising.Task.TheVariants as tasks;
 
-use crate::clauses::{Ending, bind_clause, clause, clause_part, unbind_clause};
+use crate::clauses::{Ending, bind_clause, clause, clause_part, flwor_ending, unbind_clause};
 use crate::construct::{at, boolean_around, construct, context_item, empty, step};
 use crate::contexts::{
-    Asked, ContextUse, Focus, asks_context, behind, behind_context, focus_with, path, path_use,
-    predicate_use, with_descendants,
+    Asked, ContextUse, asks_context, behind, behind_context, path, path_use, predicate_use,
+    with_descendants,
 };
 use crate::filters::{Predicate, filter, is_reverse_step, last, numbered, predicate_of};
+use crate::focus::Focus;
 use gx_base::place::Place;
 use gx_base::stack::Stack;
 use gx_core::dismantle::dismantle;
@@ -82,10 +83,11 @@ impl<'a> Normalising<'a> {
         alloc: Global,
         tree: &'a ResolvedExpr,
         numbers: Numbers,
+        focus: Focus,
         free: u32,
     ) -> Result<Normalising<'a>, AllocError>
         ensures { IfOk result (λ n. core_to_make n
-            ≡ record { made = ((core_of tree.now numbers no_focus free).0 ∷ []) ∷ []; numbers = numbers; focus = no_focus; free = (core_of tree.now numbers no_focus free).1 }) }
+            ≡ record { made = ((core_of tree.now numbers focus free).0 ∷ []) ∷ []; numbers = numbers; focus = focus; free = (core_of tree.now numbers focus free).1 }) }
     {
         let mut tasks = Stack::new(alloc);
         tasks.push(Task::Normalise(tree))?;
@@ -93,7 +95,7 @@ impl<'a> Normalising<'a> {
             tasks,
             made: Stack::new(alloc),
             numbers,
-            focus: Focus::none(),
+            focus,
             free,
         })
     }
@@ -169,28 +171,34 @@ impl<'a> Normalising<'a> {
         match &tree.construct {
             Construct::Variable(_, binder) => self.variable(alloc, tree.place, *binder),
             Construct::Context => {
-                let item = context_item(tree.place, self.focus.item);
+                let item = context_item(tree.place, self.focus.context.item);
                 self.add(alloc, item)
             }
             Construct::Call(Function::Position) => {
-                let position = context_item(tree.place, self.focus.position);
+                let position = context_item(tree.place, self.focus.context.position);
                 self.add(alloc, position)
             }
             Construct::Call(Function::Last) => {
-                let size = context_item(tree.place, self.focus.size);
+                let size = context_item(tree.place, self.focus.context.size);
                 self.add(alloc, size)
             }
             Construct::Step(axis, test) => {
-                let step = step(tree.place, self.focus.item, *axis, test)?;
+                let step = step(tree.place, self.focus.context.item, *axis, test)?;
                 self.add(alloc, step)
             }
             Construct::ParentStep => {
-                let step = step(tree.place, self.focus.item, Axis::Parent, &Test::Node)?;
+                let step = step(
+                    tree.place,
+                    self.focus.context.item,
+                    Axis::Parent,
+                    &Test::Node,
+                )?;
                 self.add(alloc, step)
             }
             Construct::Flwor => {
                 let parts = tree.parts.as_slice();
-                self.open_clauses(alloc, Ending::Returned, tree.place, parts)
+                let ending = flwor_ending(parts, self.focus.greatest);
+                self.open_clauses(alloc, ending, tree.place, parts)
             }
             Construct::Quantified(every) => {
                 let parts = tree.parts.as_slice();
@@ -382,10 +390,10 @@ impl<'a> Normalising<'a> {
         context: ContextUse,
         inner: &'a ResolvedExpr,
     ) -> Result<(), AllocError>
-        ensures { OnOk result (core_to_make self.new ≡ (let e = core_of inner.now self.old.numbers (focus_with context self.old.free) (behind_context context self.old.free) in
+        ensures { OnOk result (core_to_make self.new ≡ (let e = core_of inner.now self.old.numbers (focus_with self.old.focus context self.old.free) (behind_context context self.old.free) in
             core_left self.old.tasks (added e.0 self.old.made) self.old.numbers self.old.focus e.1)) }
     {
-        let focus = focus_with(context, self.free)?;
+        let focus = self.focus.with_context(context, self.free)?;
         let free = behind_context(context, self.free)?;
         self.tasks.push(Task::Leave(self.focus))?;
         self.tasks.push(Task::Normalise(inner))?;
@@ -578,6 +586,12 @@ fn ended(alloc: Global, ending: Ending, last: CoreExpr) -> Result<CoreExpr, Allo
         Ending::Condition(_) => {
             let last = Box::new(alloc, last)?;
             Ok(Box::into_inner(boolean_around(alloc, last)?))
+        }
+        Ending::Sorted(_) => {
+            let place = last.outer;
+            let returned = Box::new(alloc, last)?;
+            let form = Form::Block(Vec::new(alloc), Vec::new(alloc), returned);
+            Ok(at(place, form))
         }
     }
 }

@@ -1,10 +1,10 @@
 // The first production of a query that is not built yet.
 
 ghost use Rattle.std.specs.Prelude.{◌≡◌, ◌∷◌, IfOk, OnOk};
-ghost use Rattle.gx_ast.specs.SyntaxView.{keys_of, trees_of};
+ghost use Rattle.gx_ast.specs.SyntaxView.{trees_of};
 ghost use Rattle.gx_normal.specs.declared.unbuilt.Pending.TheVariants as pendings;
 ghost use Rattle.gx_normal.specs.Searching.{first_of_all};
-ghost use Rattle.gx_normal.specs.Unbuilt.{first_unbuilt, earlier_place, unbuilt_definition, unbuilt_definitions, unbuilt_keys, unbuilt_query};
+ghost use Rattle.gx_normal.specs.Unbuilt.{first_unbuilt, earlier_place, unbuilt_definition, unbuilt_definitions, unbuilt_query};
 
 use gx_ast::expression::{Binding, Clause, Expr, ExprNode, Key};
 use gx_ast::query::{Definition, DefinitionNode, Initialiser, Query};
@@ -12,13 +12,14 @@ use gx_base::place::Place;
 use gx_base::stack::Stack;
 use std::alloc::{AllocError, Global};
 
-// A part of a query that is left to be searched: a tree, trees, bindings, clauses, or a place that was found, if it was.
+// A part of a query that is left to be searched: a tree, trees, bindings, clauses, sort keys, or a place that was found, if it was.
 #[derive(Clone, Copy)]
 pub(crate) enum Pending<'a> {
     Tree(&'a Expr),
     Trees(&'a [Expr]),
     Bindings(&'a [Binding]),
     Clauses(&'a [Clause]),
+    Keys(&'a [Key]),
     Found(Option<Place>),
 }
 
@@ -90,6 +91,7 @@ fn open<'a>(part: Pending<'a>, pending: &mut Stack<Pending<'a>>) -> Result<(), A
         Pending::Trees(trees) => open_trees(trees, pending),
         Pending::Bindings(bindings) => open_bindings(bindings, pending),
         Pending::Clauses(clauses) => open_clauses(clauses, pending),
+        Pending::Keys(keys) => open_keys(keys, pending),
         Pending::Found(None) => Ok(()),
         Pending::Found(Some(place)) => pending.push(Pending::Found(Some(place))),
     }
@@ -141,6 +143,17 @@ fn open_clauses<'a>(
 }
 
 #[tactic(auto, using(crate::proofs::SearchLemmas::or_else_nests))]
+fn open_keys<'a>(keys: &'a [Key], pending: &mut Stack<Pending<'a>>) -> Result<(), AllocError>
+    ensures { OnOk result (first_of_all pending.new ≡ first_of_all (pendings.Keys keys.entry ∷ pending.old)) }
+{
+    let Some((first, others)) = keys.split_first() else {
+        return Ok(());
+    };
+    pending.push(Pending::Keys(others))?;
+    pending.push(Pending::Tree(&first.value))
+}
+
+#[tactic(auto, using(crate::proofs::SearchLemmas::or_else_nests))]
 fn open_tree<'a>(tree: &'a Expr, pending: &mut Stack<Pending<'a>>) -> Result<(), AllocError>
     ensures { OnOk result (first_of_all pending.new ≡ first_of_all (pendings.Tree tree.entry ∷ pending.old)) }
 {
@@ -167,7 +180,7 @@ fn open_tree<'a>(tree: &'a Expr, pending: &mut Stack<Pending<'a>>) -> Result<(),
         }
         ExprNode::Flwor(flwor) => {
             pending.push(Pending::Tree(&flwor.returned))?;
-            pending.push(Pending::Found(unbuilt_keys(&flwor.keys, flwor.order)))?;
+            pending.push(Pending::Keys(flwor.keys.as_slice()))?;
             pending.push(Pending::Clauses(flwor.clauses.as_slice()))
         }
         ExprNode::Quantified(quantified) => {
@@ -209,13 +222,4 @@ fn open_front<'a>(
 {
     pending.push(Pending::Found(Some(behind)))?;
     pending.push(Pending::Tree(operand))
-}
-
-fn unbuilt_keys(keys: &[Key], order: Place) -> Option<Place>
-    ensures { result ≡ unbuilt_keys (keys_of keys.now) order }
-{
-    match keys {
-        [] => None,
-        [_key, ..] => Some(order),
-    }
 }

@@ -53,19 +53,24 @@ use Rattle.gx_core.specs.declared.expression.BinaryOp.{BinaryOp}
 use Rattle.gx_core.specs.declared.expression.BinaryClass.{BinaryClass}
 use Rattle.gx_core.specs.declared.expression.BinaryClass.TheVariants.{Nodes, Sets}
 use Rattle.gx_core.specs.BinaryOperators.{class_of}
+use Rattle.gx_sorting.specs.declared.keys.KeyOrder.{KeyOrder}
+use Rattle.gx_core.specs.declared.operator.ClauseKind.{ClauseKind}
+use Rattle.gx_core.specs.declared.operator.ClauseKind.TheVariants as kinds
+use Rattle.gx_core.specs.declared.operator.Operator.TheVariants as operators
 use Rattle.gx_core.specs.Queries.{Core}
 use Rattle.gx_core.specs.Expression.{CoreExpression, At, all_parts, outer_of}
-use Rattle.gx_normal.specs.Constructs.{within, core_sequence, operator_at, call_at, counted_call, call_of, empty_at, of_one, data_at, conditional_at, and_at, or_at, signed_at, cast_at, castable_at, operator_in_core, joined_by, joining, context_item_at, step_at, nodes_at, operand_of}
+use Rattle.gx_normal.specs.Constructs.{within, core_sequence, operator_at, call_at, counted_call, call_of, empty_at, of_one, data_at, conditional_at, and_at, or_at, signed_at, cast_at, castable_at, operator_in_core, joined_by, joining, context_item_at, step_at, nodes_at, operand_of, boolean_around, data_around}
+use Rattle.gx_normal.specs.declared.focus.Focus.{Focus}
 use Rattle.gx_normal.specs.declared.clauses.Ending.{Ending}
-use Rattle.gx_normal.specs.declared.clauses.Ending.TheVariants.{Returned, Condition}
-use Rattle.gx_normal.specs.Clauses.{Numbers, ending_of_clauses}
+use Rattle.gx_normal.specs.declared.clauses.Ending.TheVariants.{Returned, Condition, Sorted}
+use Rattle.gx_normal.specs.Clauses.{Numbers, numbered_binder, clause_in_front, key_in_front, key_order, is_empty_greatest, ending_of_clauses}
 use Rattle.gx_normal.specs.declared.contexts.Asked.TheVariants as asked
 use Rattle.gx_normal.specs.declared.contexts.ContextUse.{ContextUse}
 use Rattle.gx_normal.specs.declared.contexts.ContextUse.TheVariants as uses
-use Rattle.gx_normal.specs.declared.contexts.Focus.{Focus}
+use Rattle.gx_normal.specs.declared.contexts.ContextNumbers.{ContextNumbers}
 use Rattle.gx_normal.specs.declared.filters.Predicate.{Predicate}
 use Rattle.gx_normal.specs.declared.filters.Predicate.TheVariants as predicates
-use Rattle.gx_normal.specs.Contexts.{asks_context, path_use, predicate_use, no_focus, focus_with, behind_context, hidden_variable, hidden_let, hidden_for, ordered_if, with_size, position_from_end, loop_at}
+use Rattle.gx_normal.specs.Contexts.{asks_context, path_use, predicate_use, no_focus, focus_with, behind_context, hidden_variable, hidden_let, hidden_for, ordered_if, with_size, position_from_end, loop_at, context_numbers}
 use Rattle.gx_normal.specs.Filters.{predicate_of, is_reverse_step, kept_at, filtered_by}
 use Rattle.gx_normal.specs.Normalisation.{number_at, variable_at, of_two, of_three, joined_at, constructed, construct_core, is_to_descendants, left_of_path, core_of, cores_of, clauses_core, path_core, predicates_core, filtered_core, declared_type, declarations_of, behind_declarations, query_core}
 use Rattle.gx_static.specs.NormalTypes.{CastsToAtomicTypes, PartsCastToAtomicTypes}
@@ -383,7 +388,7 @@ module _ (s : SchemaSet) (is : IsSchemaSet s) where
       size_casts place free source (ordered_if ordered place each) h (ordered_casts ordered place each (for_casts place (free + 2) (free + 3) (hidden_variable place free) turned (tt, tt)
       (tt, ((tt, ((tt, ((tt, tt), ((tt, tt), tt))), ((tt, tt), tt))), (k, tt)))))
 
-  kept_casts : (place : Place) (focus : Focus) (free : ℕ) (condition : CoreExpression) → Casts condition → Casts (kept_at place focus free condition)
+  kept_casts : (place : Place) (focus : ContextNumbers) (free : ℕ) (condition : CoreExpression) → Casts condition → Casts (kept_at place focus free condition)
   kept_casts place focus free condition h =
       (tt, (((nameable_is_atomic s Decimal refl, tt), (h, ((tt, ((tt, tt), (context_casts place focus.position, tt))), ((tt, ((tt, tt), tt)), tt)))), (context_casts place focus.item, ((tt, tt), tt))))
 
@@ -392,7 +397,7 @@ module _ (s : SchemaSet) (is : IsSchemaSet s) where
   filtered_by_casts (predicates.Numbered chosen) reverse use' place free e condition h k = (tt, (h, tt))
   filtered_by_casts predicates.Last reverse use' place free e condition h k = (tt, (h, tt))
   filtered_by_casts predicates.Condition reverse use' place free e condition h k =
-      loop_casts use' false place free e (kept_at (outer_of condition.0) (focus_with use' free) condition.1 condition.0) h (kept_casts (outer_of condition.0) (focus_with use' free) condition.1 condition.0 k)
+      loop_casts use' false place free e (kept_at (outer_of condition.0) (context_numbers use' free) condition.1 condition.0) h (kept_casts (outer_of condition.0) (context_numbers use' free) condition.1 condition.0 k)
 
   left_casts : (descendants : Bool) (place : Place) (left : CoreExpression × ℕ) → Casts left.0 → Casts (left_of_path descendants place left).0
   left_casts false place left h = h
@@ -401,23 +406,31 @@ module _ (s : SchemaSet) (is : IsSchemaSet s) where
   construct_casts : (place : Place) (construct : Construct) (numbers : Numbers) (focus : Focus) (free : ℕ) (parts : List CoreExpression × ℕ) (clauses steps picked : CoreExpression × ℕ)
       → CastsAtomically s construct → AllCast parts.0 → Casts clauses.0 → Casts steps.0 → Casts picked.0 → Casts (construct_core place construct numbers focus free parts clauses steps picked).0
   construct_casts place (constructs.Variable name binder) numbers focus free parts clauses steps picked c h k l m = variable_casts place (number_at numbers binder)
-  construct_casts place constructs.Context numbers focus free parts clauses steps picked c h k l m = context_casts place focus.item
-  construct_casts place (constructs.Call functions.Position) numbers focus free parts clauses steps picked c h k l m = context_casts place focus.position
-  construct_casts place (constructs.Call functions.Last) numbers focus free parts clauses steps picked c h k l m = context_casts place focus.size
-  construct_casts place (constructs.Step axis asks) numbers focus free parts clauses steps picked c h k l m = step_casts place focus.item axis asks
-  construct_casts place constructs.ParentStep numbers focus free parts clauses steps picked c h k l m = step_casts place focus.item axes.Parent tests.Node
+  construct_casts place constructs.Context numbers focus free parts clauses steps picked c h k l m = context_casts place focus.context.item
+  construct_casts place (constructs.Call functions.Position) numbers focus free parts clauses steps picked c h k l m = context_casts place focus.context.position
+  construct_casts place (constructs.Call functions.Last) numbers focus free parts clauses steps picked c h k l m = context_casts place focus.context.size
+  construct_casts place (constructs.Step axis asks) numbers focus free parts clauses steps picked c h k l m = step_casts place focus.context.item axis asks
+  construct_casts place constructs.ParentStep numbers focus free parts clauses steps picked c h k l m = step_casts place focus.context.item axes.Parent tests.Node
   construct_casts place constructs.Flwor numbers focus free parts clauses steps picked c h k l m = k
   construct_casts place (constructs.Quantified every) numbers focus free parts clauses steps picked c h k l m = k
   construct_casts place (constructs.Path descendants) numbers focus free parts clauses steps picked c h k l m = l
   construct_casts place constructs.Filtered numbers focus free parts clauses steps picked c h k l m = m
   construct_casts place construct numbers focus free parts clauses steps picked c h k l m = constructed_casts place construct parts.0 c h
 
+  clause_in_front_casts : (place : Place) (kind : ClauseKind) (part block : CoreExpression) → Casts part → Casts block → Casts (clause_in_front place kind part block)
+  clause_in_front_casts place kind part (At there outer tt (operators.Block kinds orders) parts) h k = (tt, (h, k.1))
+  clause_in_front_casts place kind part (At there outer tt operator parts) h k = (tt, tt)
+
+  key_in_front_casts : (place : Place) (order : KeyOrder) (part block : CoreExpression) → Casts part → Casts block → Casts (key_in_front place order part block)
+  key_in_front_casts place order part (At there outer tt (operators.Block [] orders) parts) h k = (tt, (h, k.1))
+  key_in_front_casts place order part (At there outer tt operator parts) h k = (tt, tt)
+
   mutual
     core_casts : (tree : ResolvedTree) (numbers : Numbers) (focus : Focus) (free : ℕ) → AreCastsAtomic s tree → Casts (core_of tree numbers focus free).0
     core_casts (resolved_at place construct parts) numbers focus free c =
-        construct_casts place construct numbers focus free (cores_of parts numbers focus free) (clauses_core (ending_of_clauses construct) place parts numbers focus free) (path_core (is_to_descendants construct) place parts numbers focus free)
+        construct_casts place construct numbers focus free (cores_of parts numbers focus free) (clauses_core (ending_of_clauses construct parts focus.greatest) place parts numbers focus free) (path_core (is_to_descendants construct) place parts numbers focus free)
         (predicates_core place parts numbers focus free) c.0
-        (cores_cast parts numbers focus free c.1) (clauses_cast (ending_of_clauses construct) place parts numbers focus free c.1) (path_casts (is_to_descendants construct) place parts numbers focus free c.1)
+        (cores_cast parts numbers focus free c.1) (clauses_cast (ending_of_clauses construct parts focus.greatest) place parts numbers focus free c.1) (path_casts (is_to_descendants construct) place parts numbers focus free c.1)
         (predicates_cast place parts numbers focus free c.1)
 
     cores_cast : (parts : ResolvedTrees) (numbers : Numbers) (focus : Focus) (free : ℕ) → AreAllCastsAtomic s parts → AllCast (cores_of parts numbers focus free).0
@@ -426,6 +439,30 @@ module _ (s : SchemaSet) (is : IsSchemaSet s) where
 
     clauses_cast : (ending : Ending) (place : Place) (parts : ResolvedTrees) (numbers : Numbers) (focus : Focus) (free : ℕ) → AreAllCastsAtomic s parts → Casts (clauses_core ending place parts numbers focus free).0
     clauses_cast ending place no_resolved numbers focus free c = (tt, tt)
+    clauses_cast (Sorted greatest) place (a_resolved (resolved_at there (constructs.For bound None) (a_resolved source more)) others) numbers focus free c =
+        let middle = (core_of source numbers focus free).1 in
+        let inner : Numbers = (bound.place, middle) ∷ numbers in
+        clause_in_front_casts place (kinds.For (numbered_binder bound middle) 0) (core_of source numbers focus free).0 (clauses_core (Sorted greatest) place others inner focus (middle + 1)).0
+        (core_casts source numbers focus free c.0.1.0) (clauses_cast (Sorted greatest) place others inner focus (middle + 1) c.1)
+    clauses_cast (Sorted greatest) place (a_resolved (resolved_at there (constructs.For bound (Some position)) (a_resolved source more)) others) numbers focus free c =
+        let middle = (core_of source numbers focus free).1 in
+        let inner : Numbers = (position.place, middle + 1) ∷ (bound.place, middle) ∷ numbers in
+        clause_in_front_casts place (kinds.For (numbered_binder bound middle) (middle + 1)) (core_of source numbers focus free).0 (clauses_core (Sorted greatest) place others inner focus (middle + 2)).0
+        (core_casts source numbers focus free c.0.1.0) (clauses_cast (Sorted greatest) place others inner focus (middle + 2) c.1)
+    clauses_cast (Sorted greatest) place (a_resolved (resolved_at there (constructs.Let bound) (a_resolved value more)) others) numbers focus free c =
+        let middle = (core_of value numbers focus free).1 in
+        let inner : Numbers = (bound.place, middle) ∷ numbers in
+        clause_in_front_casts place (kinds.Let (numbered_binder bound middle)) (core_of value numbers focus free).0 (clauses_core (Sorted greatest) place others inner focus (middle + 1)).0
+        (core_casts value numbers focus free c.0.1.0) (clauses_cast (Sorted greatest) place others inner focus (middle + 1) c.1)
+    clauses_cast (Sorted greatest) place (a_resolved (resolved_at there constructs.Where (a_resolved condition more)) others) numbers focus free c =
+        let middle = (core_of condition numbers focus free).1 in
+        clause_in_front_casts place kinds.Where (boolean_around (core_of condition numbers focus free).0) (clauses_core (Sorted greatest) place others numbers focus middle).0
+        (tt, (core_casts condition numbers focus free c.0.1.0, tt)) (clauses_cast (Sorted greatest) place others numbers focus middle c.1)
+    clauses_cast (Sorted greatest) place (a_resolved (resolved_at there (constructs.Key order) (a_resolved key more)) others) numbers focus free c =
+        let middle = (core_of key numbers focus free).1 in
+        key_in_front_casts place (key_order greatest order) (data_around (core_of key numbers focus free).0) (clauses_core (Sorted greatest) place others numbers focus middle).0
+        (tt, (core_casts key numbers focus free c.0.1.0, tt)) (clauses_cast (Sorted greatest) place others numbers focus middle c.1)
+    clauses_cast ending place (a_resolved (resolved_at there (constructs.Key order) (a_resolved key more)) others) numbers focus free c = (tt, tt)
     clauses_cast ending place (a_resolved (resolved_at there (constructs.For bound None) (a_resolved source more)) others) numbers focus free c =
         let middle = (core_of source numbers focus free).1 in
         (tt, (core_casts source numbers focus free c.0.1.0, (clauses_cast ending place others ((bound.place, middle) ∷ numbers) focus (middle + 1) c.1, tt)))
@@ -439,6 +476,7 @@ module _ (s : SchemaSet) (is : IsSchemaSet s) where
         let middle = (core_of condition numbers focus free).1 in
         (tt, ((tt, (core_casts condition numbers focus free c.0.1.0, tt)), (clauses_cast ending place others numbers focus middle c.1, ((tt, tt), tt))))
     clauses_cast Returned place (a_resolved (resolved_at there (constructs.In bound) (a_resolved source more)) others) numbers focus free c = (tt, tt)
+    clauses_cast (Sorted greatest) place (a_resolved (resolved_at there (constructs.In bound) (a_resolved source more)) others) numbers focus free c = (tt, tt)
     clauses_cast (Condition true) place (a_resolved (resolved_at there (constructs.In bound) (a_resolved source more)) others) numbers focus free c =
         let middle = (core_of source numbers focus free).1 in
         (tt, (core_casts source numbers focus free c.0.1.0, (clauses_cast (Condition true) place others ((bound.place, middle) ∷ numbers) focus (middle + 1) c.1, tt)))
@@ -446,15 +484,16 @@ module _ (s : SchemaSet) (is : IsSchemaSet s) where
         let middle = (core_of source numbers focus free).1 in
         (tt, (core_casts source numbers focus free c.0.1.0, (clauses_cast (Condition false) place others ((bound.place, middle) ∷ numbers) focus (middle + 1) c.1, tt)))
     clauses_cast Returned place (a_resolved last others) numbers focus free c = core_casts last numbers focus free c.0
+    clauses_cast (Sorted greatest) place (a_resolved last others) numbers focus free c = (tt, (core_casts last numbers focus free c.0, tt))
     clauses_cast (Condition every) place (a_resolved last others) numbers focus free c = (tt, (core_casts last numbers focus free c.0, tt))
 
     path_casts : (descendants : Bool) (place : Place) (parts : ResolvedTrees) (numbers : Numbers) (focus : Focus) (free : ℕ) → AreAllCastsAtomic s parts → Casts (path_core descendants place parts numbers focus free).0
     path_casts descendants place (a_resolved first (a_resolved second no_resolved)) numbers focus free c =
         let a = left_of_path descendants place (core_of first numbers focus free) in
         let use' = path_use (asks_context asked.Position second) (asks_context asked.Last second) in
-        let b = core_of second numbers (focus_with use' a.1) (behind_context use' a.1) in
+        let b = core_of second numbers (focus_with focus use' a.1) (behind_context use' a.1) in
         loop_casts use' true place a.1 (nodes_at place a.0) b.0 (tt, (left_casts descendants place (core_of first numbers focus free) (core_casts first numbers focus free c.0), tt))
-        (core_casts second numbers (focus_with use' a.1) (behind_context use' a.1) c.1.0)
+        (core_casts second numbers (focus_with focus use' a.1) (behind_context use' a.1) c.1.0)
     path_casts descendants place _ numbers focus free c = (tt, tt)
 
     predicates_cast : (place : Place) (parts : ResolvedTrees) (numbers : Numbers) (focus : Focus) (free : ℕ) → AreAllCastsAtomic s parts → Casts (predicates_core place parts numbers focus free).0
@@ -468,10 +507,10 @@ module _ (s : SchemaSet) (is : IsSchemaSet s) where
     filtered_cast reverse place e no_resolved numbers focus free h c = h
     filtered_cast reverse place e (a_resolved predicate others) numbers focus free h c =
         let use' = predicate_use reverse (asks_context asked.Last predicate) in
-        let condition = core_of predicate numbers (focus_with use' free) (behind_context use' free) in
+        let condition = core_of predicate numbers (focus_with focus use' free) (behind_context use' free) in
         let f = filtered_by (predicate_of predicate) reverse use' place free e condition in
         filtered_cast reverse place f.0 others numbers focus f.1
-        (filtered_by_casts (predicate_of predicate) reverse use' place free e condition h (core_casts predicate numbers (focus_with use' free) (behind_context use' free) c.0)) c.1
+        (filtered_by_casts (predicate_of predicate) reverse use' place free e condition h (core_casts predicate numbers (focus_with focus use' free) (behind_context use' free) c.0)) c.1
 
   -- ---- types of external variables
 
@@ -494,20 +533,20 @@ module _ (s : SchemaSet) (is : IsSchemaSet s) where
   -- ---- declarations
 
   abbrev AllKnown : List Declaration → Type 0
-  AllKnown declarations = (numbers : Numbers) (free : ℕ) → ExternalsAreDocuments s (declarations_of declarations numbers free) → NameKnownTypes s (declarations_of declarations numbers free)
+  AllKnown declarations = (focus : Focus) (numbers : Numbers) (free : ℕ) → ExternalsAreDocuments s (declarations_of focus declarations numbers free) → NameKnownTypes s (declarations_of focus declarations numbers free)
 
   one_known : (environment : Environment) (place : Place) (node : DefinitionNode) (others : List Declaration) → Under environment → AllKnown others → AllKnown (declaration_resolved environment place node ∷ others)
-  one_known environment place (definitions.Variable binder kind (initial.Value value)) others e rest numbers free h =
-      (core_casts (tree_resolved environment value) numbers no_focus free (atomic_tree environment value e), rest _ _ h)
-  one_known environment place (definitions.Variable binder kind initial.External) others e rest numbers free h =
-      (document_is_normal (Some (declared_type (option_map (type_written environment) kind))) h.0, rest _ _ h.1)
-  one_known environment place (definitions.Function name parameters result body) others e rest numbers free h = rest numbers free h
+  one_known environment place (definitions.Variable binder kind (initial.Value value)) others e rest focus numbers free h =
+      (core_casts (tree_resolved environment value) numbers focus free (atomic_tree environment value e), rest focus _ _ h)
+  one_known environment place (definitions.Variable binder kind initial.External) others e rest focus numbers free h =
+      (document_is_normal (Some (declared_type (option_map (type_written environment) kind))) h.0, rest focus _ _ h.1)
+  one_known environment place (definitions.Function name parameters result body) others e rest focus numbers free h = rest focus numbers free h
 
   declarations_known : (ds : List Definition) (environment : Environment) → Under environment → AllKnown (declarations_resolved ds environment)
-  declarations_known [] environment e numbers free h = tt
-  declarations_known (d ∷ ds) environment e numbers free h =
+  declarations_known [] environment e focus numbers free h = tt
+  declarations_known (d ∷ ds) environment e focus numbers free h =
       let inner = definition_scope d.node environment in
-      one_known environment d.place d.node (declarations_resolved ds inner) e (declarations_known ds inner (same_schemas d.node environment ∙ e)) numbers free h
+      one_known environment d.place d.node (declarations_resolved ds inner) e (declarations_known ds inner (same_schemas d.node environment ∙ e)) focus numbers free h
 
 -- ---- whole queries
 
@@ -519,13 +558,14 @@ pub named_queries_are_judged_by_inclusion : NamedQueriesAreJudgedByInclusion
 named_queries_are_judged_by_inclusion s query core is e =
     let environment : Environment = with_functions query.definitions (prolog_environment s query.settings) in
     let resolved = query_resolved s query in
-    let behind = behind_declarations resolved.declarations [] 1 in
+    let focus = no_focus (is_empty_greatest false resolved.settings.empty_order) in
+    let behind = behind_declarations focus resolved.declarations [] 1 in
     let whole = query_core resolved in
     let same = whole_named (query_refusals s query) whole core e in
     let documents : ExternalsAreDocuments s whole.declarations = subst (λ (c : Core). ExternalsAreDocuments s c.declarations) (sym same) (named_queries_have_documents s query core e) in
     let body = atomic_tree s is (scope_after query.definitions environment) query.body (scope_same query.definitions environment) in
     let known : NamesKnownTypes s whole = record {
-      declarations = declarations_known s is query.definitions environment refl [] 1 documents;
-      body = core_casts s is (tree_resolved (scope_after query.definitions environment) query.body) behind.0 no_focus behind.1 body;
+      declarations = declarations_known s is query.definitions environment refl focus [] 1 documents;
+      body = core_casts s is (tree_resolved (scope_after query.definitions environment) query.body) behind.0 focus behind.1 body;
     } in
     queries_are_judged_by_inclusion s core is (subst (λ (c : Core). NamesKnownTypes s c) same known)

@@ -21,7 +21,7 @@ use Rattle.gx_static.specs.declared.typing.Task.TheVariants.{Finish, FinishCall,
 use Rattle.gx_static.specs.Typing.{Awaited, part_count, then_typed, item_type_bound, branches_in_order, finished, typed_in_order, last_parts, continued}
 
 -- what is made of all parts, made of each
-made_typed : {R : Type 0} (j : Judged R) (make : R → Judgement) (next : TypedExpression → Awaited) → then_typed j (λ x. then_typed (make x) next) ≡ then_typed (with_typed j make) next
+pub made_typed : {R : Type 0} (j : Judged R) (make : R → Judgement) (next : TypedExpression → Awaited) → then_typed j (λ x. then_typed (make x) next) ≡ then_typed (with_typed j make) next
 made_typed (typed x) make next = refl
 made_typed (rejected place code) make next = refl
 
@@ -30,7 +30,7 @@ put_in_front : (t : TypedExpression) (j : Judged (Parts SequenceType)) (next : P
 put_in_front t (typed ts) next = refl
 put_in_front t (rejected place code) next = refl
 
-one_more : (j : Judgement) (others : TypedExpression → Judged (Parts SequenceType)) (rest : TypedExpression → Awaited) (next : Parts SequenceType → Awaited)
+pub one_more : (j : Judgement) (others : TypedExpression → Judged (Parts SequenceType)) (rest : TypedExpression → Awaited) (next : Parts SequenceType → Awaited)
     → ((t : TypedExpression) → rest t ≡ then_typed (others t) (λ ts. next (a_part t ts)))
     → then_typed j rest ≡ then_typed (with_typed j (λ t. with_typed (others t) (λ ts. typed (a_part t ts)))) next
 one_more (typed t) others rest next h = h t ∙ put_in_front t (others t) next

@@ -8,7 +8,7 @@ use Rattle.gx_core.specs.declared.operator.Operator.{Operator}
 use Rattle.gx_core.specs.Expression.{CoreExpression, At, Parts, no_parts, a_part, each_of, annotation_of, outer_of}
 use Rattle.gx_core.specs.Bindings.{Types, types_bound}
 use Rattle.gx_static.specs.Rule.{Ruling, has_type, has_none, ruling}
-use Rattle.gx_static.specs.Judgement.{Judged, typed, rejected, with_typed, code_place, own_place, concluded, judged, parts_judged}
+use Rattle.gx_static.specs.Judgement.{Judged, typed, rejected, with_typed, code_place, own_place, part_places, concluded, judged, parts_judged}
 use Rattle.gx_static.specs.Failure.{FailsFirst, PartFailsFirst}
 use Rattle.gx_static.specs.Laws.{RejectionNamesFailure}
 
@@ -25,7 +25,7 @@ made_fails (rejected place code) next P Q h f g = f place code h
 
 -- the expression itself
 pub own_fails : (own outer : Place) (operator : Operator) (ts : Parts SequenceType) (r : Ruling) (Q : Place → Code → Type 0)
-    → ((code : Code) (part : Option ℕ) → r ≡ has_none code part → Q (code_place (own_place operator own) (each_of outer_of ts) part) code) → IfRejected Q (concluded own outer operator ts r)
+    → ((code : Code) (part : Option ℕ) → r ≡ has_none code part → Q (code_place (own_place operator own) (part_places operator (each_of outer_of ts)) part) code) → IfRejected Q (concluded own outer operator ts r)
 own_fails own outer operator ts (has_type t) Q f = tt
 own_fails own outer operator ts (has_none code part) Q f = f code part refl
 

@@ -30,6 +30,10 @@ use Rattle.gx_core.specs.declared.expression.BinaryClass.{BinaryClass}
 use Rattle.gx_core.specs.declared.expression.BinaryClass.TheVariants as classes
 use Rattle.gx_core.specs.declared.expression.Binder.{Binder}
 use Rattle.gx_core.specs.declared.expression.Declaration.TheVariants.{Global}
+use Rattle.gx_sorting.specs.declared.keys.KeyOrder.{KeyOrder}
+use Rattle.gx_core.specs.declared.operator.ClauseKind.{ClauseKind}
+use Rattle.gx_core.specs.declared.operator.ClauseKind.TheVariants as kinds
+use Rattle.gx_types.specs.Occurs.{Occurs}
 use Rattle.gx_core.specs.declared.operator.Operator.{Operator}
 use Rattle.gx_core.specs.declared.operator.Operator.TheVariants as operators
 use Rattle.gx_core.specs.BinaryOperators.{class_of}
@@ -40,12 +44,12 @@ use Rattle.gx_core.specs.QueryMeaning.{external_types, global_types, types_decla
 use Rattle.gx_core.specs.Soundness.{TypedExpression}
 use Rattle.gx_static.specs.declared.comparison.Family.{Family}
 use Rattle.gx_static.specs.declared.comparison.Family.TheVariants as families
-use Rattle.gx_static.specs.Rule.{called_type, Ruling, has_type, has_none, type_if, atomic, all_items, is_atomic_in, is_of_family, is_at_most_one, is_at_least_one, is_all_in, is_optional_in, are_of_one_family, are_comparable_items, integer_if, both_occur, number_type, arithmetic_rule, negation_rule, range_rule, value_comparison_type, value_comparison_rule, general_comparison_rule, binary_rule, conditional_rule, quantifier_rule, order_rule, cast_rule, castable_rule, nodes_type, is_as_written, takes_argument, arguments_rule, answer_rule, call_rule, rule, ruling}
+use Rattle.gx_static.specs.Rule.{called_type, Ruling, has_type, has_none, type_if, atomic, all_items, is_atomic_in, is_of_family, is_at_most_one, is_at_least_one, is_all_in, is_optional_in, are_of_one_family, are_comparable_items, integer_if, both_occur, number_type, arithmetic_rule, negation_rule, range_rule, value_comparison_type, value_comparison_rule, general_comparison_rule, binary_rule, conditional_rule, quantifier_rule, order_rule, cast_rule, castable_rule, nodes_type, is_as_written, takes_argument, arguments_rule, answer_rule, call_rule, rule, ruling, allows_clause, allows_key, tuples_occur, returned_rule, clauses_rule}
 use Rattle.gx_static.specs.Judgement.{typed, rejected, with_typed, judged}
 use Rattle.gx_static.specs.QueryJudgement.{declared_as, declaration_judged, declarations_judged}
 use Rattle.gx_static.specs.NormalTypes.{CastsToAtomicType, IsOfKnownType, IsMadeOfItems, IsNormalType, HaveNormalTypes, CastsToAtomicTypes, PartsCastToAtomicTypes, IsNormalThroughout, AreNormalThroughout}
 use Rattle.gx_static.specs.Demands.{Demand, of_type, of_family, of_atomic, of_any, meets_demand, demanded_type, family_type, AreOfOneFamily}
-use Rattle.gx_static.specs.ByInclusion.{is_optional_value, are_values, number_included, arithmetic_included, negation_included, range_included, are_optional_in, value_comparison_included, is_item_of, are_comparable_kinds, general_comparison_included, binary_included, conditional_included, quantifier_included, order_included, cast_included, castable_included, parameter_type, arguments_included, call_included, rule_included, ruling_included, IsJudgedByInclusion, PartsAreJudgedByInclusion, ValuesAreJudgedByInclusion, IsNormalIfWritten, NameKnownTypes, QueriesAreJudgedByInclusion}
+use Rattle.gx_static.specs.ByInclusion.{includes_clause, includes_key, is_optional_value, are_values, number_included, arithmetic_included, negation_included, range_included, are_optional_in, value_comparison_included, is_item_of, are_comparable_kinds, general_comparison_included, binary_included, conditional_included, quantifier_included, order_included, cast_included, castable_included, parameter_type, arguments_included, call_included, rule_included, ruling_included, IsJudgedByInclusion, PartsAreJudgedByInclusion, ValuesAreJudgedByInclusion, IsNormalIfWritten, NameKnownTypes, QueriesAreJudgedByInclusion}
 use Rattle.gx_static.proofs.DemandLaws.{demands_are_inclusion}
 use Rattle.gx_static.proofs.DemandRules.{gives_if, all_pass, all_rules_demand_inclusion}
 use Rattle.gx_type_laws.proofs.Items.{both_hold}
@@ -150,13 +154,15 @@ module _ (s : SchemaSet) (g : Grounded (bases_of s)) where
       (and_from (is_included s left (optional (family_type h.0))) (is_included s right (optional (family_type h.0)))
       ((inclusion_is_decided s left (optional (family_type h.0)) g).1 h.1) ((inclusion_is_decided s right (optional (family_type h.0)) g).1 h.2))
 
-  value_comparison_same : (left right : SequenceType) → IsNormalType s left → IsNormalType s right → value_comparison_rule s left right ≡ value_comparison_included s left right
-  value_comparison_same left right m n =
+  compared_same : (left right : SequenceType) → IsNormalType s left → IsNormalType s right → (is_at_most_one left && is_at_most_one right && are_of_one_family s left right) ≡ one_family left right
+  compared_same left right m n =
       let test : Bool = is_at_most_one left && is_at_most_one right && are_of_one_family s left right in
       let t : SequenceType = value_comparison_type left right in
       let c = (all_rules_demand_inclusion s g).comparison left right m n in
-      ap (λ (b : Bool). type_if b t)
-      (same_tests test (one_family left right) (λ e. is_family left right (c.0 ((gives_if test t).1 e))) (λ e. (gives_if test t).0 (c.1 (some_family left right e))))
+      same_tests test (one_family left right) (λ e. is_family left right (c.0 ((gives_if test t).1 e))) (λ e. (gives_if test t).0 (c.1 (some_family left right e)))
+
+  value_comparison_same : (left right : SequenceType) → IsNormalType s left → IsNormalType s right → value_comparison_rule s left right ≡ value_comparison_included s left right
+  value_comparison_same left right m n = ap (λ (b : Bool). type_if b (value_comparison_type left right)) (compared_same left right m n)
 
   -- a test of each item type of a normal type
   made_same : (f h : ItemType → Bool) (t : SequenceType) → IsMadeOfItems s t → ((kind : ItemType) → IsOfKnownType s kind → f kind ≡ h kind) → all_items f t ≡ all_items h t
@@ -226,6 +232,39 @@ module _ (s : SchemaSet) (g : Grounded (bases_of s)) where
       grouped true b c = refl
       grouped false b c = refl
 
+  -- ---- blocks
+
+  clause_same : (kind : ClauseKind) (t : SequenceType) → IsNormalType s t → allows_clause s kind t ≡ includes_clause s kind t
+  clause_same (kinds.For binder position) t n = refl
+  clause_same (kinds.Let binder) t n = refl
+  clause_same kinds.Where t n = regrouped (is_at_least_one t) (is_at_most_one t) (is_all_in s Boolean t) ∙ one_same (of_type Boolean) t n
+
+  key_same : (t : SequenceType) → IsNormalType s t → allows_key s t ≡ includes_key s t
+  key_same t n = twice (is_at_most_one t) (are_of_one_family s t t) ∙ compared_same t t n n
+    where
+      twice : (a b : Bool) → (a && b) ≡ (a && a && b)
+      twice true b = refl
+      twice false b = refl
+
+  returned_same : (orders : List KeyOrder) (tuples : Occurs) (ts : List SequenceType) → HoldsOfEach (IsNormalType s) ts → returned_rule (allows_key s) orders tuples ts ≡ returned_rule (includes_key s) orders tuples ts
+  returned_same [] tuples [] n = refl
+  returned_same [] tuples (t ∷ []) n = refl
+  returned_same [] tuples (t ∷ u ∷ ts) n = refl
+  returned_same (order ∷ orders) tuples [] n = refl
+  returned_same (order ∷ orders) tuples (t ∷ ts) n =
+      let test = key_same t n.0 in
+      let others = returned_same orders tuples ts n.1 in
+      λ i. if test i then others i else has_none XPTY0004 None
+
+  clauses_same : (clauses : List ClauseKind) (orders : List KeyOrder) (tuples : Occurs) (number : ℕ) (ts : List SequenceType) → HoldsOfEach (IsNormalType s) ts
+      → clauses_rule (allows_clause s) clauses number (returned_rule (allows_key s) orders tuples) ts ≡ clauses_rule (includes_clause s) clauses number (returned_rule (includes_key s) orders tuples) ts
+  clauses_same [] orders tuples number ts n = returned_same orders tuples ts n
+  clauses_same (kind ∷ clauses) orders tuples number [] n = refl
+  clauses_same (kind ∷ clauses) orders tuples number (t ∷ ts) n =
+      let test = clause_same kind t n.0 in
+      let others = clauses_same clauses orders tuples (number + 1) ts n.1 in
+      λ i. if test i then others i else has_none XPTY0004 (Some number)
+
   order_same : (t : SequenceType) → IsNormalType s t → order_rule s t ≡ order_included s t
   order_same t n =
       ap (λ (b : Bool). if is_included s t nodes_type then has_type (times_of (prime_of t) (occurrence_of t)) else (if b then has_type t else has_none XPTY0018 None)) (any_same of_atomic t n)
@@ -266,6 +305,7 @@ module _ (s : SchemaSet) (g : Grounded (bases_of s)) where
   rule_same operators.Order (t ∷ []) n = order_same t n.0
   rule_same (operators.SomeIn binder) (source ∷ test ∷ []) n = quantifier_same binder source test n.1.0
   rule_same (operators.EveryIn binder) (source ∷ test ∷ []) n = quantifier_same binder source test n.1.0
+  rule_same (operators.Block clauses keys) ts n = clauses_same clauses keys (tuples_occur clauses ts) 0 ts n
   rule_same operators.If (condition ∷ chosen ∷ otherwise ∷ []) n = conditional_same condition chosen otherwise n.0
   rule_same (operators.Cast kind allows_empty) (t ∷ []) n = cast_same kind allows_empty t n.0
   rule_same (operators.Castable kind allows_empty) (t ∷ []) n = castable_same t n.0

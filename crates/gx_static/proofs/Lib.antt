@@ -16,6 +16,10 @@ pub mod Conditionals
 pub mod Quantifiers
 pub mod Picking
 pub mod Switches
+pub mod Blocks
+pub mod TupleOccurrence
+pub mod BlockPlaces
+pub mod ListLemmas
 pub mod Casts
 pub mod CallLemmas
 pub mod BooleanTypes
@@ -27,6 +31,7 @@ pub mod Refusals
 pub mod QueryLaws
 pub mod StaticCodes
 pub mod Continuing
+pub mod BlockTyping
 pub mod Declaring
 pub mod AtomicTypes
 pub mod SomeItems

@@ -36,7 +36,7 @@ use Rattle.gx_static.proofs.Keeping.{type_so, have_joined}
 -- ---- values made of several
 
 -- a type so many times
-abbrev copies : ℕ → SequenceType → SequenceType
+abbrev pub copies : ℕ → SequenceType → SequenceType
 copies zero t = nothing
 copies (suc n) t = both (copies n t) t
 
@@ -59,7 +59,7 @@ one_more_part : (parts : List (List Shape)) (rest : List Shape) → length (part
 one_more_part [] rest = refl
 one_more_part (part ∷ parts) rest = ap suc (one_more_part parts rest)
 
-copies_joined : (s : SchemaSet) (t : SequenceType) (n : ℕ) (ss : List Shape) → Takes s (copies n t) ss → JoinedLists s t n ss
+pub copies_joined : (s : SchemaSet) (t : SequenceType) (n : ℕ) (ss : List Shape) → Takes s (copies n t) ss → JoinedLists s t n ss
 copies_joined s t zero ss h = record { parts = []; joined = h; each = tt; count = refl }
 copies_joined s t (suc n) ss (front, rest, is, f, r) =
     let j = copies_joined s t n front f in record {
@@ -108,10 +108,10 @@ items_belong s forest t xs b = in_prime s forest t xs b.seen b.shaped (items_tak
 -- ---- loops
 
 -- a value that is made of so many of a type
-abbrev Made : SchemaSet → SequenceType → ℕ → Forest → Items → Type 0
+abbrev pub Made : SchemaSet → SequenceType → ℕ → Forest → Items → Type 0
 Made s t n forest xs = Belongs s forest xs (copies n t)
 
-one_more_made : (s : SchemaSet) (forest : Forest) (t : SequenceType) (n : ℕ) (xs ys : Items) → Made s t n forest xs → Belongs s forest ys t → Made s t (suc n) forest (xs ++ ys)
+pub one_more_made : (s : SchemaSet) (forest : Forest) (t : SequenceType) (n : ℕ) (xs ys : Items) → Made s t n forest xs → Belongs s forest ys t → Made s t (suc n) forest (xs ++ ys)
 one_more_made s forest t n xs ys b c = record {
   seen = b.seen ++ c.seen;
   shaped = have_joined s forest xs ys b.seen c.seen b.shaped c.shaped;
@@ -136,7 +136,7 @@ loop_keeps setting first p t next body (x ∷ xs) number n m done forest e grown
     (one_more_made setting.schemas now t n done more (values_stay setting.schemas forest now done (copies n t) more_grown made) b))
 
 -- what holds of each result holds of the outcome
-fact_so : (setting : Setting) (before : Forest) (P Q : Forest → Items → Type 0) (o : Outcome Items) → ((now : Forest) (xs : Items) → P now xs → Q now xs) → KeepsFact setting before P o → KeepsFact setting before Q o
+pub fact_so : (setting : Setting) (before : Forest) (P Q : Forest → Items → Type 0) (o : Outcome Items) → ((now : Forest) (xs : Items) → P now xs → Q now xs) → KeepsFact setting before P o → KeepsFact setting before Q o
 fact_so setting before P Q (gives xs now) h k = record { grown = k.grown; honest = k.honest; fact = h now xs k.fact }
 fact_so setting before P Q (raises code) h k = tt
 fact_so setting before P Q wrong h k = absurd k
@@ -151,7 +151,7 @@ all_loop setting a t next xs forest honest b body =
     (loop_keeps setting forest (prime_of a) t next body xs 1 0 (length xs) [] forest (omega arith) (growth_is_an_order.reflexive forest) honest (items_belong setting.schemas forest a xs b) none)
 
 -- an item and its position are of the types that a loop binds
-item_fits : (setting : Setting) (binder : Binder) (position number : ℕ) (p : SequenceType) (x : Item) (types : Types) (bindings : Bindings) (forest : Forest)
+pub item_fits : (setting : Setting) (binder : Binder) (position number : ℕ) (p : SequenceType) (x : Item) (types : Types) (bindings : Bindings) (forest : Forest)
     → Fits setting.schemas forest types bindings → Belongs setting.schemas forest (x ∷ []) p
     → Fits setting.schemas forest (((binder.variable, p) ∷ position_bound position (atomic Integer)) ++ types) (item_bound binder.variable position number x ++ bindings)
 item_fits setting binder zero number p x types bindings forest fits one = binding_fits setting binder p (x ∷ []) types bindings forest fits one

@@ -13,7 +13,7 @@ use Rattle.gx_types.specs.declared.item_type.ItemType.TheVariants as items
 use Rattle.gx_types.specs.SameItemType.{same_type_name}
 use Rattle.gx_types.specs.SameType.{same_type}
 use Rattle.gx_types.specs.SchemaSet.{SchemaSet}
-use Rattle.gx_types.specs.SchemaInvariant.{IsSchemaSet}
+use Rattle.gx_types.specs.SchemaInvariant.{HoldsOfEach, IsSchemaSet}
 use Rattle.gx_types.specs.Occurrence.{occurrence_of, occurs}
 use Rattle.gx_types.specs.Prime.{prime_of}
 use Rattle.gx_types.specs.SequenceType.{SequenceType, never, item, star}
@@ -33,9 +33,12 @@ use Rattle.gx_core.specs.declared.expression.BinaryClass.{BinaryClass}
 use Rattle.gx_core.specs.declared.expression.BinaryClass.TheVariants.{Arithmetic, Value, General, Nodes, Range, Sets}
 use Rattle.gx_core.specs.declared.expression.SetOperator.{SetOperator}
 use Rattle.gx_core.specs.declared.expression.SetOperator.TheVariants as sets
+use Rattle.gx_sorting.specs.declared.keys.KeyOrder.{KeyOrder}
+use Rattle.gx_core.specs.declared.operator.ClauseKind.{ClauseKind}
+use Rattle.gx_types.specs.Occurs.{Occurs}
 use Rattle.gx_core.specs.declared.operator.Operator.TheVariants as operators
 use Rattle.gx_core.specs.BinaryOperators.{class_of}
-use Rattle.gx_static.specs.Rule.{called_type, Ruling, has_type, has_none, type_if, atomic, all_items, is_atomic, is_all_in, is_optional_in, is_at_most_one, is_at_least_one, both_occur, integer_if, number_type, arithmetic_type, compared_occur, are_of_one_family, value_comparison_type, are_comparable_types, shown_type, literal_rule, is_as_written, data_rule, optional_node, nodes_type, set_type, order_rule, takes_argument, arguments_rule, answer_rule, call_rule, binary_rule, is_first}
+use Rattle.gx_static.specs.Rule.{called_type, Ruling, has_type, has_none, type_if, atomic, all_items, is_atomic, is_all_in, is_optional_in, is_at_most_one, is_at_least_one, both_occur, integer_if, number_type, arithmetic_type, compared_occur, are_of_one_family, value_comparison_type, are_comparable_types, shown_type, literal_rule, is_as_written, data_rule, optional_node, nodes_type, set_type, order_rule, takes_argument, arguments_rule, answer_rule, call_rule, binary_rule, is_first, allows_clause, allows_key, tuples_occur, returned_rule, clauses_rule}
 use Rattle.gx_static.specs.NormalTypes.{IsNormalType, GivesNormalType, RulesGiveNormalTypes}
 use Rattle.gx_static.proofs.NormalTypes.{times_is_normal, prime_is_normal, sequence_is_normal, choice_of_two_is_normal, limited_is_normal, choice_of_normal}
 use Rattle.gx_static.proofs.AtomicTypes.{untyped_is_atomic, boolean_is_atomic, integer_is_atomic, nameable_is_atomic}
@@ -141,6 +144,24 @@ call_is_normal : (s : SchemaSet) (function : Function) (arguments : List Sequenc
 unfolding call_rule
 call_is_normal s function arguments = arguments_are_normal s (parameters_of function) arguments 0 (answer_rule (called_type function)) (answer_is_normal s function)
 
+-- ---- blocks
+
+returned_is_normal : (s : SchemaSet) (orders : List KeyOrder) (tuples : Occurs) (types : List SequenceType) → HoldsOfEach (IsNormalType s) types → GivesNormalType s (returned_rule (allows_key s) orders tuples types)
+returned_is_normal s [] tuples [] n = tt
+returned_is_normal s [] tuples (body ∷ []) n = times_is_normal s body tuples n.0
+returned_is_normal s [] tuples (t ∷ u ∷ types) n = tt
+returned_is_normal s (order ∷ orders) tuples [] n = tt
+returned_is_normal s (order ∷ orders) tuples (key ∷ types) n =
+    if_taken s (allows_key s key) (returned_rule (allows_key s) orders tuples types) (has_none XPTY0004 None) (returned_is_normal s orders tuples types n.1) tt
+
+clauses_are_normal : (s : SchemaSet) (clauses : List ClauseKind) (orders : List KeyOrder) (tuples : Occurs) (number : ℕ) (types : List SequenceType) → HoldsOfEach (IsNormalType s) types
+    → GivesNormalType s (clauses_rule (allows_clause s) clauses number (returned_rule (allows_key s) orders tuples) types)
+clauses_are_normal s [] orders tuples number types n = returned_is_normal s orders tuples types n
+clauses_are_normal s (kind ∷ clauses) orders tuples number [] n = tt
+clauses_are_normal s (kind ∷ clauses) orders tuples number (t ∷ types) n =
+    if_taken s (allows_clause s kind t) (clauses_rule (allows_clause s) clauses (number + 1) (returned_rule (allows_key s) orders tuples) types) (has_none XPTY0004 (Some number))
+    (clauses_are_normal s clauses orders tuples (number + 1) types n.1) tt
+
 -- ---- operators
 
 pub rules_give_normal_types : RulesGiveNormalTypes
@@ -154,6 +175,7 @@ rules_give_normal_types s (operators.EveryIn binder) (source ∷ test ∷ []) is
     type_if_normal s (is_as_written s binder.kind (prime_of source) && is_at_least_one test && is_optional_in s Boolean test) (atomic Boolean) (boolean_is_atomic s)
 rules_give_normal_types s (operators.For binder position) (source ∷ body ∷ []) is c n =
     type_if_normal s (is_as_written s binder.kind (prime_of source)) (times_of body (occurrence_of source)) (times_is_normal s body (occurrence_of source) n.1.0)
+rules_give_normal_types s (operators.Block clauses keys) parts is c n = clauses_are_normal s clauses keys (tuples_occur clauses parts) 0 parts n
 rules_give_normal_types s (operators.Step axis asks number) (context ∷ []) is c n =
     either_given s (is_included s context node_type) (step_type s axis asks context) (has_none XPTY0020 None) (step_is_normal s axis asks context is n.0) tt
 rules_give_normal_types s operators.Nodes (operand ∷ []) is c n = either_given s (is_included s operand nodes_type) operand (has_none XPTY0019 None) n.0 tt

@@ -8,10 +8,12 @@ use Rattle.gx_types.specs.SameType.{same_type}
 use Rattle.gx_types.specs.SequenceType.{SequenceType, never, nothing}
 use Rattle.gx_types.specs.declared.step.Axis.{Axis}
 use Rattle.gx_types.specs.declared.step.Test.{Test}
+use Rattle.gx_core.specs.declared.operator.ClauseKind.{ClauseKind}
+use Rattle.gx_core.specs.declared.operator.ClauseKind.TheVariants as kinds
 use Rattle.gx_core.specs.declared.operator.Operator.{Operator}
 use Rattle.gx_core.specs.declared.operator.Operator.TheVariants as operators
 use Rattle.gx_core.specs.declared.cases.TypeCase.{TypeCase}
-use Rattle.gx_core.specs.Bindings.{Types, look_up, types_bound, position_bound, branch_types}
+use Rattle.gx_core.specs.Bindings.{Types, look_up, types_bound, position_bound, branch_types, clause_types_bound, block_types_bound}
 use Rattle.gx_core.specs.Expression.{CoreExpression, At, Parts, no_parts, a_part, each_of, annotation_of}
 use Rattle.gx_core.specs.Soundness.{TypedExpression}
 use Rattle.gx_static.specs.Rule.{Ruling, has_type, has_none, rule, variable_ruling, reaching, step_ruling, ruling}
@@ -37,6 +39,18 @@ found_is_normal : (s : SchemaSet) (types : Types) (number : ℕ) → HaveNormalT
 found_is_normal s [] number n = tt
 found_is_normal s (binding ∷ types) number n = found_or s (nat_eq binding.0 number) binding.1 (look_up types number) n.0 (found_is_normal s types number n.1)
 
+clause_bound_are_normal : (s : SchemaSet) (kind : ClauseKind) (t : SequenceType) (bound : Types) → IsNormalType s t → HaveNormalTypes s bound → HaveNormalTypes s (clause_types_bound kind t ++ bound)
+clause_bound_are_normal s (kinds.For binder zero) source bound n b = (prime_is_normal s source n, b)
+clause_bound_are_normal s (kinds.For binder (suc position)) source bound n b = (prime_is_normal s source n, (integer_is_atomic s, b))
+clause_bound_are_normal s (kinds.Let binder) value bound n b = (n, b)
+clause_bound_are_normal s kinds.Where condition bound n b = b
+
+block_bound_are_normal : (s : SchemaSet) (clauses : List ClauseKind) (before : List SequenceType) (bound : Types) → HoldsOfEach (IsNormalType s) before → HaveNormalTypes s bound
+    → HaveNormalTypes s (block_types_bound clauses before bound)
+block_bound_are_normal s [] before bound n b = b
+block_bound_are_normal s (kind ∷ clauses) [] bound n b = b
+block_bound_are_normal s (kind ∷ clauses) (t ∷ before) bound n b = block_bound_are_normal s clauses before (clause_types_bound kind t ++ bound) n.1 (clause_bound_are_normal s kind t bound n.0 b)
+
 one_bound_is_normal : (s : SchemaSet) (number : ℕ) (t : SequenceType) → IsNormalType s t → HaveNormalTypes s (position_bound number t)
 one_bound_is_normal s zero t n = tt
 one_bound_is_normal s (suc number) t n = (n, tt)
@@ -48,6 +62,7 @@ branch_is_normal s (t ∷ cases) default operand [] c n = one_bound_is_normal s 
 branch_is_normal s (t ∷ cases) default operand (branch ∷ branches) c n = branch_is_normal s cases default operand branches c.1 n
 
 pub bound_are_normal : (s : SchemaSet) (operator : Operator) (before : List SequenceType) → CastsToAtomicType s operator → HoldsOfEach (IsNormalType s) before → HaveNormalTypes s (types_bound operator before)
+bound_are_normal s (operators.Block clauses keys) before c n = block_bound_are_normal s clauses before [] n tt
 bound_are_normal s (operators.For binder zero) (source ∷ []) c n = (prime_is_normal s source n.0, tt)
 bound_are_normal s (operators.For binder (suc position)) (source ∷ []) c n = (prime_is_normal s source n.0, (integer_is_atomic s, tt))
 bound_are_normal s (operators.SomeIn binder) (source ∷ []) c n = (prime_is_normal s source n.0, tt)

@@ -24,12 +24,16 @@ use Rattle.gx_funcs.specs.Function.{parameters_of}
 use Rattle.gx_core.specs.declared.expression.BinaryClass.{BinaryClass}
 use Rattle.gx_core.specs.declared.expression.BinaryClass.TheVariants as classes
 use Rattle.gx_core.specs.BinaryOperators.{class_of}
+use Rattle.gx_types.specs.Occurs.{Occurs}
+use Rattle.gx_sorting.specs.declared.keys.KeyOrder.{KeyOrder}
+use Rattle.gx_core.specs.declared.operator.ClauseKind.{ClauseKind}
+use Rattle.gx_core.specs.declared.operator.ClauseKind.TheVariants as kinds
 use Rattle.gx_core.specs.declared.operator.Operator.{Operator}
 use Rattle.gx_core.specs.declared.operator.Operator.TheVariants as operators
 use Rattle.gx_core.specs.Expression.{CoreExpression, At, Parts, no_parts, a_part, each_of, annotation_of}
-use Rattle.gx_core.specs.Bindings.{look_up, Types, types_bound, numbers_bound_by, branch_numbers, branch_types, position_bound, position_numbers}
+use Rattle.gx_core.specs.Bindings.{look_up, Types, types_bound, numbers_bound_by, branch_numbers, branch_types, position_bound, position_numbers, clause_types_bound, clause_numbers_bound, block_types_bound, block_numbers_bound}
 use Rattle.gx_core.specs.Invariant.{is_among, IsInScope, IsScoped, ArePartsScoped}
-use Rattle.gx_static.specs.Rule.{called_type, has_type, has_none, all_items, is_atomic, nodes_type, step_rule, reaching, step_ruling, order_rule, data_rule, binary_rule, takes_argument, arguments_rule, answer_rule, call_rule, ruling, variable_ruling}
+use Rattle.gx_static.specs.Rule.{called_type, has_type, has_none, all_items, is_atomic, nodes_type, step_rule, reaching, step_ruling, order_rule, data_rule, binary_rule, takes_argument, arguments_rule, answer_rule, call_rule, ruling, variable_ruling, allows_clause, allows_key, tuples_occur, returned_rule, clauses_rule}
 use Rattle.gx_static.specs.Judgement.{typed, with_typed, concluded, judged, parts_judged}
 use Rattle.gx_static.specs.Laws.{ScopedVariablesHaveTypes}
 use Rattle.gx_static.proofs.Failing.{IfRejected, made_fails, own_fails}
@@ -138,6 +142,29 @@ data_code : (s : SchemaSet) (t : SequenceType) (code : Code) (part : Option ℕ)
 unfolding data_rule
 data_code s t code part e = tested_code (has_data s t) (type_of_data s t) FOTY0012 code part (λ x. cc) e
 
+-- ---- blocks
+
+returned_code : (s : SchemaSet) (orders : List KeyOrder) (tuples : Occurs) (ts : List SequenceType) (code : Code) (part : Option ℕ) → returned_rule (allows_key s) orders tuples ts ≡ has_none code part → code ≢ XPST0008
+returned_code s [] tuples [] code part e = other_code code part e
+returned_code s [] tuples (t ∷ []) code part e = absurd (cc)
+returned_code s [] tuples (t ∷ u ∷ ts) code part e = other_code code part e
+returned_code s (order ∷ orders) tuples [] code part e = other_code code part e
+returned_code s (order ∷ orders) tuples (t ∷ ts) code part e =
+    elim (allows_key s t) as (λ (b : Bool). (if b then returned_rule (allows_key s) orders tuples ts else has_none XPTY0004 None) ≡ has_none code part → code ≢ XPST0008) [
+      | true ↦ λ k. returned_code s orders tuples ts code part k
+      | false ↦ λ k. other_code code part k
+    ] e
+
+clauses_code : (s : SchemaSet) (clauses : List ClauseKind) (orders : List KeyOrder) (tuples : Occurs) (number : ℕ) (ts : List SequenceType) (code : Code) (part : Option ℕ)
+    → clauses_rule (allows_clause s) clauses number (returned_rule (allows_key s) orders tuples) ts ≡ has_none code part → code ≢ XPST0008
+clauses_code s [] orders tuples number ts code part e = returned_code s orders tuples ts code part e
+clauses_code s (kind ∷ clauses) orders tuples number [] code part e = other_code code part e
+clauses_code s (kind ∷ clauses) orders tuples number (t ∷ ts) code part e =
+    elim (allows_clause s kind t) as (λ (b : Bool). (if b then clauses_rule (allows_clause s) clauses (number + 1) (returned_rule (allows_key s) orders tuples) ts else has_none XPTY0004 (Some number)) ≡ has_none code part → code ≢ XPST0008) [
+      | true ↦ λ k. clauses_code s clauses orders tuples (number + 1) ts code part k
+      | false ↦ λ k. another_code XPTY0004 code (Some number) part (λ x. cc) k
+    ] e
+
 -- no rule but that of a variable has the code
 ruling_code : (s : SchemaSet) (operator : Operator) (ts : List SequenceType) (types : Types) (code : Code) (part : Option ℕ) → IsInScope (in_scope types) operator → ruling s operator ts types ≡ has_none code part → code ≢ XPST0008
 ruling_code s (operators.Var number) [] types code part h e = variable_code s number types (look_up types number) code part refl h e
@@ -162,6 +189,7 @@ ruling_code s operators.Order (t ∷ []) types code part h e = order_code s t co
 ruling_code s operators.Order _ types code part h e = other_code code part e
 ruling_code s operators.NoContext [] types code part h e = let same : XPDY0002 ≡ code = cc in subst (λ (c : Code). c ≢ XPST0008) same (λ x. cc)
 ruling_code s operators.NoContext (t ∷ ts) types code part h e = other_code code part e
+ruling_code s (operators.Block clauses keys) ts types code part h e = clauses_code s clauses keys (tuples_occur clauses ts) 0 ts code part e
 ruling_code s (operators.Let binder) (t ∷ u ∷ []) types code part h e = tested_code _ _ XPTY0004 code part (λ x. cc) e
 ruling_code s (operators.Let binder) _ types code part h e = other_code code part e
 ruling_code s (operators.Switch cases default) (t ∷ ts) types code part h e = tested_code _ _ XPTY0004 code part (λ x. cc) e
@@ -197,7 +225,20 @@ branches_agree [] default operand branches = bound_agree default operand
 branches_agree (c ∷ cases) default operand [] = bound_agree c.variable c.kind
 branches_agree (c ∷ cases) default operand (t ∷ branches) = branches_agree cases default operand branches
 
+clause_numbers_agree : (kind : ClauseKind) (t : SequenceType) (bound : Types) → in_scope (clause_types_bound kind t ++ bound) ≡ clause_numbers_bound kind ++ in_scope bound
+clause_numbers_agree (kinds.For binder zero) t bound = refl
+clause_numbers_agree (kinds.For binder (suc number)) t bound = refl
+clause_numbers_agree (kinds.Let binder) t bound = refl
+clause_numbers_agree kinds.Where t bound = refl
+
+block_numbers_agree : (clauses : List ClauseKind) (before : List SequenceType) (bound : Types) → in_scope (block_types_bound clauses before bound) ≡ block_numbers_bound clauses (places_of before) (in_scope bound)
+block_numbers_agree [] before bound = refl
+block_numbers_agree (kind ∷ clauses) [] bound = refl
+block_numbers_agree (kind ∷ clauses) (t ∷ before) bound =
+    block_numbers_agree clauses before (clause_types_bound kind t ++ bound) ∙ ap (block_numbers_bound clauses (places_of before)) (clause_numbers_agree kind t bound)
+
 pub numbers_agree : (operator : Operator) (before : List SequenceType) → in_scope (types_bound operator before) ≡ numbers_bound_by operator (places_of before)
+numbers_agree (operators.Block clauses keys) before = block_numbers_agree clauses before []
 numbers_agree (operators.For binder zero) [] = refl
 numbers_agree (operators.For binder zero) (t ∷ []) = refl
 numbers_agree (operators.For binder zero) (t ∷ u ∷ ts) = refl

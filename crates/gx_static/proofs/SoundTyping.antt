@@ -22,6 +22,7 @@ use Rattle.gx_static.specs.Laws.{ActsKeepType, PartsKeepTypes, OperatorKeepsType
 use Rattle.gx_static.proofs.Keeping.{literal_keeps, variable_keeps, empty_keeps, sequence_keeps, let_keeps, data_keeps, strict_keeps}
 use Rattle.gx_static.proofs.Loops.{for_keeps}
 use Rattle.gx_static.proofs.Quantifiers.{some_keeps, every_keeps}
+use Rattle.gx_static.proofs.Blocks.{block_keeps}
 use Rattle.gx_static.proofs.Paths.{step_keeps, nodes_keep, no_context_keeps}
 use Rattle.gx_static.proofs.Orders.{order_keeps}
 use Rattle.gx_static.proofs.Arithmetic.{arithmetic_keeps, negation_keeps}
@@ -49,6 +50,7 @@ operator_keeps s is (operators.Var number) = variable_keeps s number
 operator_keeps s is (operators.For binder position) = for_keeps s binder position
 operator_keeps s is (operators.SomeIn binder) = some_keeps s binder
 operator_keeps s is (operators.EveryIn binder) = every_keeps s binder
+operator_keeps s is (operators.Block clauses keys) = block_keeps s clauses keys
 operator_keeps s is (operators.Let binder) = let_keeps s binder
 operator_keeps s is (operators.Step axis asks number) = step_keeps s axis asks number is
 operator_keeps s is operators.Nodes =

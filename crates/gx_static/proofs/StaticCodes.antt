@@ -27,6 +27,9 @@ use Rattle.gx_core.specs.declared.expression.BinaryClass.TheVariants as classes
 use Rattle.gx_core.specs.declared.expression.Binder.{Binder}
 use Rattle.gx_core.specs.declared.expression.Declaration.TheVariants.{Global}
 use Rattle.gx_core.specs.BinaryOperators.{class_of}
+use Rattle.gx_types.specs.Occurs.{Occurs}
+use Rattle.gx_sorting.specs.declared.keys.KeyOrder.{KeyOrder}
+use Rattle.gx_core.specs.declared.operator.ClauseKind.{ClauseKind}
 use Rattle.gx_core.specs.declared.operator.Operator.{Operator}
 use Rattle.gx_core.specs.declared.operator.Operator.TheVariants as operators
 use Rattle.gx_core.specs.Queries.{Core, CoreDeclaration}
@@ -34,7 +37,7 @@ use Rattle.gx_core.specs.Expression.{CoreExpression, At, Parts, no_parts, a_part
 use Rattle.gx_core.specs.Bindings.{look_up, Types, types_bound}
 use Rattle.gx_core.specs.QueryMeaning.{global_types, types_declared}
 use Rattle.gx_core.specs.Soundness.{TypedExpression}
-use Rattle.gx_static.specs.Rule.{called_type, Ruling, has_type, has_none, all_items, is_atomic, is_as_written, nodes_type, step_rule, reaching, step_ruling, order_rule, data_rule, binary_rule, takes_argument, arguments_rule, answer_rule, call_rule, ruling, variable_ruling}
+use Rattle.gx_static.specs.Rule.{called_type, Ruling, has_type, has_none, all_items, is_atomic, is_as_written, nodes_type, step_rule, reaching, step_ruling, order_rule, data_rule, binary_rule, takes_argument, arguments_rule, answer_rule, call_rule, ruling, variable_ruling, allows_clause, allows_key, tuples_occur, returned_rule, clauses_rule}
 use Rattle.gx_static.specs.Judgement.{typed, rejected, with_typed, concluded, judged, parts_judged}
 use Rattle.gx_static.specs.QueryJudgement.{declared_as, declaration_judged, declarations_judged, core_judged, QueriesAreRejectedWithStaticCodes}
 use Rattle.gx_static.specs.Laws.{ExpressionsAreRejectedWithStaticCodes}
@@ -126,6 +129,24 @@ static_call : (s : SchemaSet) (function : Function) (ts : List SequenceType) →
 unfolding call_rule
 static_call s function ts = static_arguments s (parameters_of function) ts 0 (answer_rule (called_type function)) (parameters_static function) (static_answer (called_type function))
 
+-- ---- blocks
+
+static_returned : (s : SchemaSet) (orders : List KeyOrder) (tuples : Occurs) (ts : List SequenceType) → RulesStatically (returned_rule (allows_key s) orders tuples ts)
+static_returned s [] tuples [] = refl
+static_returned s [] tuples (t ∷ []) = tt
+static_returned s [] tuples (t ∷ u ∷ ts) = refl
+static_returned s (order ∷ orders) tuples [] = refl
+static_returned s (order ∷ orders) tuples (t ∷ ts) =
+    static_choice (allows_key s t) (returned_rule (allows_key s) orders tuples ts) (has_none XPTY0004 None) (static_returned s orders tuples ts) refl
+
+static_clauses : (s : SchemaSet) (clauses : List ClauseKind) (orders : List KeyOrder) (tuples : Occurs) (number : ℕ) (ts : List SequenceType)
+    → RulesStatically (clauses_rule (allows_clause s) clauses number (returned_rule (allows_key s) orders tuples) ts)
+static_clauses s [] orders tuples number ts = static_returned s orders tuples ts
+static_clauses s (kind ∷ clauses) orders tuples number [] = refl
+static_clauses s (kind ∷ clauses) orders tuples number (t ∷ ts) =
+    static_choice (allows_clause s kind t) (clauses_rule (allows_clause s) clauses (number + 1) (returned_rule (allows_key s) orders tuples) ts) (has_none XPTY0004 (Some number))
+    (static_clauses s clauses orders tuples (number + 1) ts) refl
+
 -- ---- each operator
 
 static_ruling : (s : SchemaSet) (operator : Operator) (ts : List SequenceType) (types : Types) → RulesStatically (ruling s operator ts types)
@@ -139,6 +160,7 @@ static_ruling s (operators.EveryIn binder) (t ∷ u ∷ []) types = static_test 
 static_ruling s (operators.Step axis asks number) [] types = static_step s axis asks number (look_up types number)
 static_ruling s operators.Nodes (t ∷ []) types = static_test _ _ XPTY0019 refl
 static_ruling s operators.Order (t ∷ []) types = static_order s t
+static_ruling s (operators.Block clauses keys) ts types = static_clauses s clauses keys (tuples_occur clauses ts) 0 ts
 static_ruling s (operators.Let binder) (t ∷ u ∷ []) types = static_test _ _ XPTY0004 refl
 static_ruling s (operators.Switch cases default) (t ∷ ts) types = static_test _ _ XPTY0004 refl
 static_ruling s (operators.Nth number backwards) (t ∷ []) types = tt

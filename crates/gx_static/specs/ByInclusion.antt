@@ -26,6 +26,9 @@ use Rattle.gx_core.specs.declared.expression.BinaryClass.{BinaryClass}
 use Rattle.gx_core.specs.declared.expression.BinaryClass.TheVariants.{Arithmetic, Value, General, Range, Nodes, Sets}
 use Rattle.gx_core.specs.declared.expression.Binder.{Binder}
 use Rattle.gx_core.specs.declared.expression.Declaration.TheVariants.{Global}
+use Rattle.gx_sorting.specs.declared.keys.KeyOrder.{KeyOrder}
+use Rattle.gx_core.specs.declared.operator.ClauseKind.{ClauseKind}
+use Rattle.gx_core.specs.declared.operator.ClauseKind.TheVariants as kinds
 use Rattle.gx_core.specs.declared.operator.Operator.{Operator}
 use Rattle.gx_core.specs.declared.operator.Operator.TheVariants as operators
 use Rattle.gx_core.specs.BinaryOperators.{class_of}
@@ -36,7 +39,7 @@ use Rattle.gx_core.specs.QueryMeaning.{global_types, types_declared}
 use Rattle.gx_core.specs.Soundness.{TypedExpression}
 use Rattle.gx_static.specs.declared.comparison.Family.{Family}
 use Rattle.gx_static.specs.declared.comparison.Family.TheVariants as families
-use Rattle.gx_static.specs.Rule.{Ruling, has_type, has_none, type_if, atomic, all_items, integer_if, both_occur, value_comparison_type, boolean_types, nodes_type, answer_rule, called_type, rule, ruling, is_as_written, node_comparison_rule, set_rule}
+use Rattle.gx_static.specs.Rule.{Ruling, has_type, has_none, type_if, atomic, all_items, integer_if, both_occur, value_comparison_type, boolean_types, nodes_type, answer_rule, called_type, rule, ruling, is_as_written, node_comparison_rule, set_rule, tuples_occur, returned_rule, clauses_rule}
 use Rattle.gx_static.specs.Demands.{family_type}
 use Rattle.gx_static.specs.Judgement.{typed, judged, parts_judged}
 use Rattle.gx_static.specs.NormalTypes.{IsNormalType, CastsToAtomicTypes}
@@ -117,6 +120,19 @@ abbrev pub quantifier_included : SchemaSet → Binder → (source test : Sequenc
 quantifier_included schemas binder source test =
     type_if (is_as_written schemas binder.kind (prime_of source) && is_included schemas test (atomic Boolean)) (atomic Boolean)
 
+-- a block: a condition is one boolean, and a key at most one value of one family
+abbrev pub includes_clause : SchemaSet → ClauseKind → SequenceType → Bool
+includes_clause schemas (kinds.For binder position) source = is_as_written schemas binder.kind (prime_of source)
+includes_clause schemas (kinds.Let binder) value = is_as_written schemas binder.kind value
+includes_clause schemas kinds.Where condition = is_included schemas condition (atomic Boolean)
+
+abbrev pub includes_key : SchemaSet → SequenceType → Bool
+includes_key schemas key =
+    are_optional_in schemas key key families.Number || are_optional_in schemas key key families.Text || are_optional_in schemas key key families.Truth
+
+abbrev pub block_included : SchemaSet → List ClauseKind → List KeyOrder → List SequenceType → Ruling
+block_included schemas clauses keys types = clauses_rule (includes_clause schemas) clauses 0 (returned_rule (includes_key schemas) keys (tuples_occur clauses types)) types
+
 abbrev pub order_included : SchemaSet → SequenceType → Ruling
 order_included schemas operand =
     if is_included schemas operand nodes_type then has_type (times_of (prime_of operand) (occurrence_of operand)) else (if are_values schemas AnyAtomic operand then has_type operand else has_none XPTY0018 None)
@@ -155,6 +171,7 @@ abbrev pub rule_included : SchemaSet → Operator → List SequenceType → Ruli
 rule_included schemas operators.Order (operand ∷ []) = order_included schemas operand
 rule_included schemas (operators.SomeIn binder) (source ∷ test ∷ []) = quantifier_included schemas binder source test
 rule_included schemas (operators.EveryIn binder) (source ∷ test ∷ []) = quantifier_included schemas binder source test
+rule_included schemas (operators.Block clauses keys) parts = block_included schemas clauses keys parts
 rule_included schemas operators.If (condition ∷ chosen ∷ otherwise ∷ []) = conditional_included schemas condition chosen otherwise
 rule_included schemas (operators.Cast kind allows_empty) (operand ∷ []) = cast_included schemas kind allows_empty operand
 rule_included schemas (operators.Castable kind allows_empty) (operand ∷ []) = castable_included schemas operand

@@ -9,7 +9,7 @@ use Rattle.gx_core.specs.Expression.{CoreExpression, At, Parts, no_parts, a_part
 use Rattle.gx_core.specs.Bindings.{Types, types_bound}
 use Rattle.gx_core.specs.Soundness.{TypedExpression}
 use Rattle.gx_static.specs.Rule.{has_none, ruling}
-use Rattle.gx_static.specs.Judgement.{typed, code_place, own_place, judged, parts_judged}
+use Rattle.gx_static.specs.Judgement.{typed, code_place, own_place, part_places, judged, parts_judged}
 
 -- an expression fails itself: its parts have types, its rule gives none, and this is the place of the code
 pub record FailsItself (schemas : SchemaSet) (own : Place) (operator : Operator) (parts : Parts (Unit {0})) (types : Types) (place : Place) (code : Code) : Type 0 where
@@ -17,7 +17,7 @@ pub record FailsItself (schemas : SchemaSet) (own : Place) (operator : Operator)
   pub part : Option ℕ
   pub judged_parts : parts_judged schemas operator [] parts types ≡ typed typing
   pub ruled : ruling schemas operator (each_of annotation_of typing) types ≡ has_none code part
-  pub there : place ≡ code_place (own_place operator own) (each_of outer_of typing) part
+  pub there : place ≡ code_place (own_place operator own) (part_places operator (each_of outer_of typing)) part
 
 -- the first expression that fails, where parts come before the expression and left parts before right parts: all that come before it have types
 abbrev mutual

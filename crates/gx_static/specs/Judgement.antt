@@ -4,6 +4,8 @@ use Rattle.gx_base.specs.declared.place.Place.{Place}
 use Rattle.gx_base.specs.declared.code.Code.{Code}
 use Rattle.gx_types.specs.SchemaSet.{SchemaSet}
 use Rattle.gx_types.specs.SequenceType.{SequenceType}
+use Rattle.gx_core.specs.declared.operator.ClauseKind.{ClauseKind}
+use Rattle.gx_core.specs.declared.operator.ClauseKind.TheVariants as kinds
 use Rattle.gx_core.specs.declared.operator.Operator.{Operator}
 use Rattle.gx_core.specs.declared.operator.Operator.TheVariants as operators
 use Rattle.gx_core.specs.Expression.{CoreExpression, At, Parts, no_parts, a_part, each_of, annotation_of, outer_of}
@@ -37,10 +39,23 @@ own_place (operators.EveryIn binder) place = binder.place
 own_place (operators.Let binder) place = binder.place
 own_place _ place = place
 
+-- where the codes of clauses stand: at the variable that a clause binds, or at the condition of a `where`
+abbrev pub clause_places : List ClauseKind → (parts : List Place) → List Place
+clause_places [] parts = parts
+clause_places (kind ∷ kinds) [] = []
+clause_places (kinds.For binder position ∷ others) (part ∷ parts) = binder.place ∷ clause_places others parts
+clause_places (kinds.Let binder ∷ others) (part ∷ parts) = binder.place ∷ clause_places others parts
+clause_places (kinds.Where ∷ others) (part ∷ parts) = part ∷ clause_places others parts
+
+-- where the codes at parts stand: at the part, or at the clause of a block
+abbrev pub part_places : Operator → (parts : List Place) → List Place
+part_places (operators.Block clauses keys) parts = clause_places clauses parts
+part_places _ parts = parts
+
 -- what the ruling says of an expression with these parts
 abbrev pub concluded : (place outer : Place) → Operator → Parts SequenceType → Ruling → Judgement
 concluded place outer operator parts (has_type t) = typed (At place outer t operator parts)
-concluded place outer operator parts (has_none code part) = rejected (code_place (own_place operator place) (each_of outer_of parts) part) code
+concluded place outer operator parts (has_none code part) = rejected (code_place (own_place operator place) (part_places operator (each_of outer_of parts)) part) code
 
 abbrev mutual
   pub judged : SchemaSet → CoreExpression → Types → Judgement

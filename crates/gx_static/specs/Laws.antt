@@ -27,6 +27,8 @@ use Rattle.gx_core.specs.declared.expression.BinaryClass.TheVariants as classes
 use Rattle.gx_core.specs.declared.expression.NodeComparison.{NodeComparison}
 use Rattle.gx_core.specs.declared.expression.SetOperator.{SetOperator}
 use Rattle.gx_core.specs.BinaryOperators.{class_of}
+use Rattle.gx_sorting.specs.declared.keys.KeyOrder.{KeyOrder}
+use Rattle.gx_core.specs.declared.operator.ClauseKind.{ClauseKind}
 use Rattle.gx_core.specs.declared.operator.Operator.{Operator}
 use Rattle.gx_core.specs.declared.operator.Operator.TheVariants as operators
 use Rattle.gx_core.specs.Expression.{CoreExpression, At, Parts, no_parts, a_part, each_of, annotation_of, plain}
@@ -92,6 +94,9 @@ FinalKeepsType = (schemas : SchemaSet) (reverse : Bool) → ActsKeepType schemas
 
 abbrev pub SwitchKeepsType : Type 0
 SwitchKeepsType = (schemas : SchemaSet) (cases : List TypeCase) (default : ℕ) → OperatorKeepsType schemas (operators.Switch cases default)
+
+abbrev pub BlockKeepsType : Type 0
+BlockKeepsType = (schemas : SchemaSet) (clauses : List ClauseKind) (keys : List KeyOrder) → OperatorKeepsType schemas (operators.Block clauses keys)
 
 abbrev pub StepKeepsType : Type 0
 StepKeepsType = (schemas : SchemaSet) (axis : Axis) (asks : Test) (number : ℕ) → IsSchemaSet schemas → OperatorKeepsType schemas (operators.Step axis asks number)

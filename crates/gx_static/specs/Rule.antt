@@ -1,5 +1,5 @@
 -- The static rules: the type that an operator has, from the types of its parts (XQuery 1.0 and XPath 2.0 Formal Semantics, section 4).
-use Rattle.std.specs.Prelude.{ℕ, zero, suc, ◌+◌, ℤ, pos, min, nat_le, ◌==◌, Bool, true, false, ◌&&◌, ◌||◌, not, List, [], ◌∷◌, length, Option, None, Some, if◌then◌else◌}
+use Rattle.std.specs.Prelude.{ℕ, zero, suc, ◌+◌, ℤ, pos, min, nat_le, ◌==◌, Bool, true, false, ◌&&◌, ◌||◌, not, List, [], ◌∷◌, length, Option, None, Some, if◌then◌else◌, ◌*◌}
 use Rattle.gx_base.specs.declared.code.Code.{Code}
 use Rattle.gx_base.specs.declared.code.Code.TheVariants.{XPTY0004, XPST0005, XPST0008, XPTY0018, XPTY0019, XPTY0020, XPDY0002, FOTY0012}
 use Rattle.gx_base.specs.declared.type_name.Builtin.{Builtin}
@@ -40,6 +40,9 @@ use Rattle.gx_core.specs.declared.expression.BinaryClass.TheVariants.{Arithmetic
 use Rattle.gx_core.specs.declared.expression.SetOperator.{SetOperator}
 use Rattle.gx_core.specs.declared.expression.SetOperator.TheVariants as sets
 use Rattle.gx_core.specs.declared.cases.TypeCase.{TypeCase}
+use Rattle.gx_sorting.specs.declared.keys.KeyOrder.{KeyOrder}
+use Rattle.gx_core.specs.declared.operator.ClauseKind.{ClauseKind}
+use Rattle.gx_core.specs.declared.operator.ClauseKind.TheVariants as kinds
 use Rattle.gx_core.specs.declared.operator.Operator.{Operator}
 use Rattle.gx_core.specs.declared.operator.Operator.TheVariants as operators
 use Rattle.gx_core.specs.Arithmetic.{type_of_number}
@@ -334,6 +337,51 @@ answer_rule (Some builtin) = has_type (atomic builtin)
 unfoldable pub call_rule : SchemaSet → Function → List SequenceType → Ruling
 call_rule schemas function arguments = arguments_rule schemas (parameters_of function) arguments 0 (answer_rule (called_type function))
 
+-- ---- blocks
+
+-- a clause whose part has this type: the variable has an item of it, or the value, and a condition is one boolean
+abbrev pub allows_clause : SchemaSet → ClauseKind → SequenceType → Bool
+allows_clause schemas (kinds.For binder position) source = is_as_written schemas binder.kind (prime_of source)
+allows_clause schemas (kinds.Let binder) value = is_as_written schemas binder.kind value
+allows_clause schemas kinds.Where condition = is_at_least_one condition && is_optional_in schemas Boolean condition
+
+-- a key is at most one value, of one family
+abbrev pub allows_key : SchemaSet → SequenceType → Bool
+allows_key schemas key = is_at_most_one key && are_of_one_family schemas key key
+
+-- as often as one thing for each of another
+abbrev pub product : Occurs → Occurs → Occurs
+product o p = occurs (o.least * p.least) (min 2 (o.greatest * p.greatest))
+
+-- how often a clause has tuples, where those behind it have them so often
+abbrev pub clause_occurs : ClauseKind → SequenceType → Occurs → Occurs
+clause_occurs (kinds.For binder position) source behind = product (occurrence_of source) behind
+clause_occurs (kinds.Let binder) value behind = behind
+clause_occurs kinds.Where condition behind = occurs 0 behind.greatest
+
+-- how often tuples occur
+abbrev pub tuples_occur : List ClauseKind → List SequenceType → Occurs
+tuples_occur [] types = occurs 1 1
+tuples_occur (kind ∷ kinds) [] = occurs 1 1
+tuples_occur (kind ∷ kinds) (t ∷ types) = clause_occurs kind t (tuples_occur kinds types)
+
+-- the keys, which are to be allowed, and behind them what is returned for each tuple
+abbrev pub returned_rule : (allows : SequenceType → Bool) → List KeyOrder → Occurs → List SequenceType → Ruling
+returned_rule allows [] tuples (body ∷ []) = has_type (times_of body tuples)
+returned_rule allows [] tuples _ = has_none XPTY0004 None
+returned_rule allows (order ∷ orders) tuples [] = has_none XPTY0004 None
+returned_rule allows (order ∷ orders) tuples (key ∷ types) = if allows key then returned_rule allows orders tuples types else has_none XPTY0004 None
+
+-- the clauses, which are to be allowed and are numbered from this number on, and what follows them; the code of a clause stands at it
+abbrev pub clauses_rule : (allows : ClauseKind → SequenceType → Bool) → List ClauseKind → (number : ℕ) → (List SequenceType → Ruling) → List SequenceType → Ruling
+clauses_rule allows [] number next types = next types
+clauses_rule allows (kind ∷ kinds) number next [] = has_none XPTY0004 None
+clauses_rule allows (kind ∷ kinds) number next (t ∷ types) = if allows kind t then clauses_rule allows kinds (number + 1) next types else has_none XPTY0004 (Some number)
+
+-- what is returned, as often as there are tuples
+abbrev pub block_rule : SchemaSet → List ClauseKind → List KeyOrder → List SequenceType → Ruling
+block_rule schemas kinds orders types = clauses_rule (allows_clause schemas) kinds 0 (returned_rule (allows_key schemas) orders (tuples_occur kinds types)) types
+
 -- how many parts an operator has
 abbrev pub arity : Operator → ℕ
 arity (operators.Lit value) = 0
@@ -344,6 +392,7 @@ arity (operators.For binder position) = 2
 arity (operators.SomeIn binder) = 2
 arity (operators.EveryIn binder) = 2
 arity (operators.Let binder) = 2
+arity (operators.Block clauses keys) = length clauses + length keys + 1
 arity operators.If = 3
 arity (operators.Cast kind allows_empty) = 1
 arity (operators.Castable kind allows_empty) = 1
@@ -368,6 +417,7 @@ rule schemas operators.Seq (first ∷ second ∷ []) = has_type (sequence_of fir
 rule schemas (operators.For binder position) (source ∷ body ∷ []) = for_rule schemas binder source body
 rule schemas (operators.SomeIn binder) (source ∷ test ∷ []) = quantifier_rule schemas binder source test
 rule schemas (operators.EveryIn binder) (source ∷ test ∷ []) = quantifier_rule schemas binder source test
+rule schemas (operators.Block clauses keys) parts = block_rule schemas clauses keys parts
 rule schemas (operators.Step axis asks number) (context ∷ []) = step_rule schemas axis asks context
 rule schemas operators.Nodes (operand ∷ []) = nodes_rule schemas operand
 rule schemas operators.Order (operand ∷ []) = order_rule schemas operand

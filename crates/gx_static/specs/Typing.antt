@@ -1,16 +1,22 @@
 -- What a typing in its midst comes to.
-use Rattle.std.specs.Prelude.{◌≡◌, ℕ, zero, suc, List, [], ◌∷◌, ◌++◌, ◌+◌, length, Option, None, Some, drop}
+use Rattle.std.specs.Prelude.{◌≡◌, ℕ, zero, suc, List, [], ◌∷◌, ◌++◌, ◌+◌, length, Option, None, Some, drop, map, flat_map}
 use Rattle.gx_base.specs.declared.place.Place.{Place}
 use Rattle.gx_types.specs.SchemaSet.{SchemaSet}
 use Rattle.gx_types.specs.SequenceType.{SequenceType}
 use Rattle.gx_base.specs.declared.type_name.Builtin.TheVariants.{Integer}
 use Rattle.gx_types.specs.Prime.{prime_of}
 use Rattle.gx_funcs.specs.Function.{arity_of}
+use Rattle.gx_core.specs.declared.expression.Clause.TheVariants as clauses
+use Rattle.gx_core.specs.declared.operator.ClauseKind.{ClauseKind}
+use Rattle.gx_core.specs.declared.operator.ClauseKind.TheVariants as kinds
 use Rattle.gx_core.specs.declared.operator.Operator.{Operator}
 use Rattle.gx_core.specs.declared.operator.Operator.TheVariants as operators
 use Rattle.gx_core.specs.Expression.{CoreExpression, Parts, no_parts, a_part, each_of, annotation_of}
 use Rattle.gx_core.specs.Bindings.{Types, position_bound, branch_types}
 use Rattle.gx_core.specs.declared.cases.TypeCase.{TypeCase}
+use Rattle.gx_core.specs.ExpressionView.{part_of_key}
+use Rattle.gx_core.specs.declared.expression.Clause.{Clause}
+use Rattle.gx_core.specs.declared.expression.SortKey.{SortKey}
 use Rattle.gx_core.specs.Soundness.{TypedExpression}
 use Rattle.gx_core.specs.Queries.{TypedCore, CoreDeclaration, TypedDeclaration}
 use Rattle.gx_core.specs.declared.expression.Declaration.TheVariants.{Global}
@@ -43,6 +49,7 @@ part_count (operators.For binder position) = 2
 part_count (operators.SomeIn binder) = 2
 part_count (operators.EveryIn binder) = 2
 part_count (operators.Let binder) = 2
+part_count (operators.Block clauses keys) = length clauses + length keys + 1
 part_count operators.If = 3
 part_count (operators.Cast kind allows_empty) = 1
 part_count (operators.Castable kind allows_empty) = 1
@@ -77,6 +84,23 @@ finished schemas place outer operator types next parts below =
 abbrev pub typed_in_order : SchemaSet → List CoreExpression → Types → (List TypedExpression → Awaited) → (parts : List TypedExpression) → Awaited
 typed_in_order schemas [] types next parts = next parts
 typed_in_order schemas (e ∷ es) types next parts = then_typed (judged schemas e types) (λ t. typed_in_order schemas es types next (t ∷ parts))
+
+-- the tasks of a clause of a block: to type its part, and to bind what it binds
+abbrev pub clause_tasks : Clause (Unit {0}) → List Task
+clause_tasks (clauses.For binder position source) = Infer source ∷ BindItem binder.variable position ∷ []
+clause_tasks (clauses.Let binder value) = Infer value ∷ Bind binder.variable ∷ []
+clause_tasks (clauses.Where condition) = Infer condition ∷ []
+
+-- and those of all parts of the block
+abbrev pub block_tasks : List (Clause (Unit {0})) → List (SortKey (Unit {0})) → CoreExpression → List Task
+block_tasks cs ks body = flat_map clause_tasks cs ++ (map (λ k. Infer (part_of_key k)) ks ++ Infer body ∷ [])
+
+-- to take away what the clauses bind
+abbrev pub clause_unbinding : ClauseKind → List Task
+clause_unbinding (kinds.For binder zero) = Unbind ∷ []
+clause_unbinding (kinds.For binder (suc position)) = Unbind ∷ Unbind ∷ []
+clause_unbinding (kinds.Let binder) = Unbind ∷ []
+clause_unbinding kinds.Where = []
 
 -- the tasks of declarations, each with its value first, and what is left to do behind them
 abbrev pub tasks_of : List CoreDeclaration → (behind : List Task) → List Task

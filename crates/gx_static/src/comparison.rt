@@ -58,7 +58,7 @@ fn are_of_family(schemas: &Schemas, left: &Ty, right: &Ty, family: Family) -> bo
     is_all_of_family(schemas, family, left) && is_all_of_family(schemas, family, right)
 }
 
-fn are_of_one_family(schemas: &Schemas, left: &Ty, right: &Ty) -> bool
+pub(crate) fn are_of_one_family(schemas: &Schemas, left: &Ty, right: &Ty) -> bool
     ensures { result ≡ are_of_one_family schemas.now left.now right.now }
 {
     are_of_family(schemas, left, right, Family::Number)

@@ -51,3 +51,14 @@ impl From<AllocError> for RuleError {
         RuleError::Memory
     }
 }
+
+impl<T: Drop> From<AllocFailed<T>> for RuleError {
+    ghost use Rattle.std.specs.Prelude.{◌≡◌};
+    ghost use Rattle.gx_static.specs.declared.error.RuleError.TheVariants.{Memory};
+
+    ghost from_gives = { λ _ e. e ≡ Memory };
+
+    fn from(_error: AllocFailed<T>) -> RuleError {
+        RuleError::Memory
+    }
+}

@@ -1,6 +1,8 @@
 //! Static typing: the type of each expression of a Core, and why typing is sound.
 #![tactic(auto)]
 
+mod block;
+mod block_parts;
 mod call;
 mod comparison;
 pub mod error;

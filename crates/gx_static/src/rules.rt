@@ -8,6 +8,7 @@ ghost use Rattle.gx_core.specs.BinaryOperators.{class_of};
 ghost use Rattle.gx_static.specs.Rule.{rule, arity, has_type, binary_rule, literal_rule, shown_type, data_rule, conditional_rule, cast_rule, castable_rule, is_as_written, for_rule, let_rule, quantifier_rule};
 ghost use Rattle.gx_static.specs.Refusal.{RefusesType};
 
+use crate::block::block_type;
 use crate::call::call_type;
 use crate::comparison::{general_comparison_type, value_comparison_type};
 use crate::error::RuleError;
@@ -58,6 +59,9 @@ pub fn operator_type(
         }
         (Operator::SomeIn(binder) | Operator::EveryIn(binder), [source, test]) => {
             quantifier_type(alloc, schemas, binder, source, test)
+        }
+        (Operator::Block(clauses, keys), parts) => {
+            block_type(alloc, schemas, clauses.as_slice(), keys.as_slice(), parts)
         }
         (Operator::Let(binder), [value, body]) => let_type(alloc, schemas, binder, value, body),
         (Operator::If, [condition, chosen, otherwise]) => {
@@ -175,7 +179,7 @@ pub(crate) fn quantifier_type(
 }
 
 // Whether the type of an item of a type is included in the one that is written at a binder.
-fn is_item_as_written(
+pub(crate) fn is_item_as_written(
     alloc: Global,
     schemas: &Schemas,
     binder: &Binder,

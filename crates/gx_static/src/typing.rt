@@ -1,21 +1,24 @@
 // A typing in its midst: the tasks that are left, and the typed parts that are there.
 
-ghost use Rattle.std.specs.Prelude.{◌≡◌, ◌≢◌, ◌≤◌, ◌+◌, ◌++◌, suc, List, [], ◌∷◌, length, map, None, Some, IfOk, IfErr, OnOk};
+ghost use Rattle.std.specs.Prelude.{◌≡◌, ◌≢◌, ◌≤◌, ◌+◌, ◌++◌, suc, List, [], ◌∷◌, length, map, None, Some, IfOk, IfErr, OnOk, flat_map};
 ghost use Rattle.gx_types.specs.SchemaSet.{SchemaSet};
 ghost use Rattle.gx_types.specs.SequenceType.{SequenceType};
 ghost use Rattle.gx_core.specs.declared.operator.Operator.TheVariants as operators;
 ghost use Rattle.gx_core.specs.Expression.{Parts, no_parts, all_parts, each_of, annotation_of, outer_of};
 ghost use Rattle.gx_core.specs.Bindings.{look_up};
 ghost use Rattle.gx_core.specs.Soundness.{TypedExpression};
-ghost use Rattle.gx_core.specs.ExpressionView.{operator_of, parts_of};
-ghost use Rattle.gx_static.specs.Judgement.{judged, typed, code_place, own_place};
+ghost use Rattle.gx_core.specs.ExpressionView.{kind_of_clause, operator_of, order_of_key, parts_of};
+ghost use Rattle.gx_static.specs.Judgement.{judged, typed, code_place, own_place, part_places};
 ghost use Rattle.gx_static.specs.Refusal.{RefusesType, refusal_at};
 ghost use Rattle.gx_static.specs.Rule.{has_type, ruling, variable_ruling};
 ghost use Rattle.gx_core.specs.declared.expression.Declaration.TheVariants as globals;
 ghost use Rattle.gx_static.specs.QueryJudgement.{core_judged};
-ghost use Rattle.gx_static.specs.Typing.{Awaited, continued, tasks_of, then_typed, typed_in_order, finished, part_count, last_parts, judgement_of, judgement_with, EndsRejected, item_type_bound, branches_in_order};
+ghost use Rattle.gx_static.specs.Typing.{Awaited, continued, tasks_of, then_typed, typed_in_order, finished, part_count, last_parts, judgement_of, judgement_with, EndsRejected, item_type_bound, branches_in_order, block_tasks, clause_unbinding};
 ghost use Rattle.gx_static.specs.declared.typing.Task.TheVariants as tasks;
 
+use crate::block_parts::{
+    block_form, block_form_type, block_place, open_clauses, open_keys, unbind_clauses,
+};
 use crate::call::call_type;
 use crate::error::{InferError, RuleError};
 use crate::filtering::{is_first, one_of_type, switch_type};
@@ -32,11 +35,12 @@ use gx_base::place::Place;
 use gx_base::stack::Stack;
 use gx_base::type_name::Builtin;
 use gx_core::cases::{Cases, TypeCase};
-use gx_core::declarations::Declarations;
 use gx_core::dismantle::{dismantle, dismantle_declarations, dismantle_form};
 use gx_core::expression::{
-    Binder, Core, CoreDeclaration, CoreExpr, Form, TypedCore, TypedDeclaration, TypedExpr,
+    Binder, Core, CoreClause, CoreDeclaration, CoreExpr, CoreKey, Form, TypedCore,
+    TypedDeclaration, TypedExpr,
 };
+use gx_core::listed::Listed;
 use gx_core::operator::Operator;
 use gx_core::scope::Scope;
 use gx_funcs::function::Function;
@@ -95,7 +99,7 @@ impl Typing {
     {
         match self.parts.pop() {
             Some(body) => TypedCore {
-                declarations: Declarations::from_vec(self.declared),
+                declarations: Listed::from_vec(self.declared),
                 body,
             },
             None => unreachable!(),
@@ -192,6 +196,9 @@ impl Typing {
                 )
             }
             Form::Let(binder, value, body) => self.open_let(place, outer, binder, value, body),
+            Form::Block(clauses, keys, body) => {
+                self.open_block(alloc, place, outer, clauses, keys, body)
+            }
             Form::If(condition, chosen, otherwise) => {
                 self.open_conditional(place, outer, condition, chosen, otherwise)
             }
@@ -427,6 +434,33 @@ impl Typing {
         self.tasks.push(Task::Infer(branch))
     }
 
+    // The keys and what is returned are typed with all variables of the clauses in scope.
+    fn open_block(
+        &mut self,
+        alloc: Global,
+        place: Place,
+        outer: Place,
+        clauses: Vec<CoreClause>,
+        keys: Vec<CoreKey>,
+        body: Box<CoreExpr>,
+    ) -> Result<(), AllocError>
+        ensures { (schemas : SchemaSet) → OnOk result (judgement_of schemas self.new
+            ≡ continued schemas (block_tasks clauses.items keys.items body.value ++ (flat_map clause_unbinding (map kind_of_clause clauses.items)
+            ++ tasks.Finish place outer (operators.Block (map kind_of_clause clauses.items) (map order_of_key keys.items)) ∷ self.old.tasks)) self.old.parts self.old.scope self.old.declared.items) }
+    {
+        let mut steps = Vec::new(alloc);
+        let kinds = open_clauses(alloc, clauses, &mut steps)?;
+        let orders = open_keys(alloc, keys, &mut steps)?;
+        steps.push(Task::Infer(Box::into_inner(body)))?;
+        unbind_clauses(&kinds, &mut steps)?;
+        let operator = Operator::Block(Listed::from_vec(kinds), Listed::from_vec(orders));
+        self.tasks.push(Task::Finish(place, outer, operator))?;
+        while let Some(step) = steps.pop() {
+            self.tasks.push(step)?;
+        }
+        Ok(())
+    }
+
     // Binds a variable to the type of the part on top.
     fn bind(&mut self, variable: u32) -> Result<(), AllocError>
         requires { self.now.parts ≢ [] }
@@ -657,6 +691,12 @@ fn form(
             let test = part(alloc, parts)?;
             Ok(Form::EveryIn(binder, part(alloc, parts)?, test))
         }
+        Operator::Block(clauses, keys) => {
+            let kinds = clauses.into_vec();
+            let orders = keys.into_vec();
+            let taken = last(alloc, kinds.len() + orders.len() + 1, parts)?;
+            block_form(alloc, kinds, orders, taken)
+        }
         Operator::Let(binder) => {
             let body = part(alloc, parts)?;
             Ok(Form::Let(binder, part(alloc, parts)?, body))
@@ -722,6 +762,7 @@ fn last(
     ensures taken { (next : Parts SequenceType → List TypedExpression → Awaited)
         → IfOk result (λ taken. last_parts count parts.old no_parts next ≡ next (all_parts taken.items) parts.new) }
     ensures left { OnOk result (length parts.old ≡ count + length parts.new) }
+    ensures number { IfOk result (λ taken. length taken.items ≡ count) }
 {
     let mut taken = Vec::new(alloc);
     for _ in 0..count {
@@ -838,6 +879,7 @@ fn form_type(
         Form::SomeIn(binder, source, test) | Form::EveryIn(binder, source, test) => {
             quantifier_type(alloc, schemas, binder, &source.kind, &test.kind)
         }
+        Form::Block(clauses, keys, body) => { block_form_type(alloc, schemas, clauses, keys, body) }
         Form::Let(binder, value, body) => {
             let_type(alloc, schemas, binder, &value.kind, &body.kind)
         }
@@ -889,7 +931,7 @@ fn variable_type(number: u32, scope: &Scope<Ty>) -> Result<Ty, RuleError>
 
 // Why the operator of a form has no type.
 fn refusal(place: Place, form: &Form<Ty>, error: RuleError) -> InferError
-    ensures { result ≡ refusal_at (own_place (operator_of form.now) place) (each_of outer_of (parts_of form.now)) error }
+    ensures { result ≡ refusal_at (own_place (operator_of form.now) place) (part_places (operator_of form.now) (each_of outer_of (parts_of form.now))) error }
 {
     match error {
         RuleError::NoType { code, part } => InferError::NoType {
@@ -903,7 +945,7 @@ fn refusal(place: Place, form: &Form<Ty>, error: RuleError) -> InferError
 // Where the code of an operator stands: at a part, at the variable that it binds, or at the operator itself.
 #[tactic(auto, using(crate::proofs::Continuing::each_of_arguments))]
 fn form_place(place: Place, form: &Form<Ty>, part: Option<u32>) -> Place
-    ensures { result ≡ code_place (own_place (operator_of form.now) place) (each_of outer_of (parts_of form.now)) part }
+    ensures { result ≡ code_place (own_place (operator_of form.now) place) (part_places (operator_of form.now) (each_of outer_of (parts_of form.now))) part }
 {
     match form {
         Form::Lit(_) | Form::Var(_) | Form::Empty | Form::Step(_, _, _) | Form::NoContext =>
@@ -928,6 +970,7 @@ fn form_place(place: Place, form: &Form<Ty>, part: Option<u32>) -> Place
         | Form::EveryIn(binder, first, body) => {
             code_place(binder.place, &[first.outer, body.outer], part)
         }
+        Form::Block(clauses, keys, body) => block_place(place, clauses, keys, body, part),
         Form::If(condition, chosen, otherwise) => code_place(
             place,
             &[condition.outer, chosen.outer, otherwise.outer],

@@ -1,4 +1,4 @@
-//! Worked values of texts, names, numbers and atomic values, and of casts and comparisons of these: each line of standard
+//! Worked values of texts, names, numbers and atomic values, and of casts, comparisons and sorting of these: each line of standard
 //! input is a call with its arguments, and is written again with its answer.
 #![tactic(auto)]
 
@@ -6,6 +6,7 @@ mod casts;
 mod comparisons;
 mod names;
 mod numbers;
+mod sorting;
 mod values;
 
 use casts::{cast_row, effective_row, fits_row};
@@ -14,6 +15,7 @@ use names::{build_row, code_row, names_row, texts_row, type_names_row};
 use numbers::{number, one_number, two_numbers};
 use rows_words::not_a_row;
 use rows_words::words::words;
+use sorting::{keys_row, sort_row};
 use std::alloc::{AllocError, Global};
 use std::io;
 use values::{admits_list_row, admits_row, order_row, value_row};
@@ -56,6 +58,8 @@ fn answer(alloc: Global, words: &[&str]) -> Result<String, AllocError> {
         ["effective", kind, text] => effective_row(alloc, kind, text),
         ["single", op, t, a, u, b] => single_row(alloc, op, (t, a), (u, b)),
         ["any", op, lists @ ..] => any_row(alloc, op, lists),
+        ["sort", words @ ..] => sort_row(alloc, words),
+        ["compare_keys", words @ ..] => keys_row(alloc, words),
         [call, a] => one_number(alloc, call, a),
         [call, a, b] => two_numbers(alloc, call, number(a), number(b)),
         _ => not_a_row(alloc),

@@ -1,9 +1,20 @@
+use Rattle.std.proofs.Common.{◌≡◌, IfOk, subst}
+use Rattle.gx_normal.specs.declared.focus.Focus.{Focus}
+use Rattle.gx_normal.specs.Normalisation.{main_core}
 use Rattle.gx_normal.proofs.NumberedVariables.{made_in_order}
 use Rattle.gx_normal.proofs.WellFormedCores.{made_well_formed}
 use Rattle.gx_normal.proofs.normalise.normalise.Goals as goal
 
 pub returns-clause-variables : goal.returns-clause-variables
-returns-clause-variables c = made_in_order c.as_slice.result.now c.args.query.body c.core_of_query-core.result c.core_of_query-core.ensures
+returns-clause-variables c =
+    let made = c.core_of_query-core.result in
+    let ds = c.as_slice.result.now in
+    made_in_order c.is_empty_greatest-greatest.result ds c.args.query.body made
+    (subst (λ (focus : Focus). IfOk made (λ core. core ≡ main_core focus ds c.args.query.body)) c.without_context-focus.ensures c.core_of_query-core.ensures)
 
 pub returns-clause-well_formed : goal.returns-clause-well_formed
-returns-clause-well_formed c = made_well_formed c.as_slice.result.now c.args.query.body c.core_of_query-core.result c.core_of_query-core.ensures
+returns-clause-well_formed c =
+    let made = c.core_of_query-core.result in
+    let ds = c.as_slice.result.now in
+    made_well_formed c.is_empty_greatest-greatest.result ds c.args.query.body made
+    (subst (λ (focus : Focus). IfOk made (λ core. core ≡ main_core focus ds c.args.query.body)) c.without_context-focus.ensures c.core_of_query-core.ensures)

@@ -14,5 +14,6 @@ returns c = λ k forest later.
     let work : List Pending = Evaluate c.args.body ∷ Unbind ∷ c.args.self.now.work in
     ap (λ (w : List Pending). resume k w (items_in later c.split_at.new.values.items) stacks (items_of later c.bind.new.self) forest) (c.in_ok-push-2.ensures.ok ∙ ap (λ (w : List Pending). Evaluate c.args.body ∷ w) c.in_ok-push.ensures.ok)
     ∙ ap (λ scope. resume k work (items_in later c.split_at.new.values.items) stacks (items_of later scope) forest) c.in_ok-bind.ensures
+    ∙ ap (λ shared. resume k work (items_in later c.split_at.new.values.items) stacks ((c.args.variable, items_in later shared.items) ∷ bindings) forest) c.in_ok-shared.ensures.ok
     ∙ ap (λ (v : Items). resume k work v stacks ((c.args.variable, items_in later c.in_ok-value.value.items) ∷ bindings) forest) (c.in_ok-value.ensures.front later)
     ∙ ap (λ (v : Items). resume k work (take c.args.first (items_in later c.args.self.now.values.items)) stacks ((c.args.variable, v) ∷ bindings) forest) (c.in_ok-value.ensures.rest later)

@@ -4,9 +4,13 @@ use Rattle.gx_model.specs.Item.{Items, atom}
 use Rattle.std.specs.Prelude.{OnOk, IfErr}
 use Rattle.gx_core.specs.declared.operator.Operator.TheVariants as operators
 use Rattle.gx_core.specs.declared.cases.TypeCase.{TypeCase}
+use Rattle.gx_core.specs.declared.expression.Clause.{Clause}
+use Rattle.gx_core.specs.declared.expression.SortKey.{SortKey}
+use Rattle.gx_types.specs.SequenceType.{SequenceType}
 use Rattle.gx_core.specs.Outcome.{after}
 use Rattle.gx_core.specs.Soundness.{TypedExpression}
 use Rattle.gx_core.specs.Meaning.{Context, Bindings, Denotation, denoted, switched, meaning}
+use Rattle.gx_core.specs.ExpressionView.{kind_of_clause, order_of_key, parts_of_block}
 use Rattle.gx_store.specs.Items.{items_in}
 use Rattle.gx_eval.specs.Failing.{FailsSo}
 use Rattle.gx_eval.specs.declared.evaluation.Pending.{Pending}
@@ -150,3 +154,13 @@ returns-in_ok-open_part-in-Switch-clause-value c = λ later x.
     (λ xs f. after (switched k.schemas cases c.in-Switch.default (map (meaning k) branches) (drop first (values ++ xs)) bindings f) (λ more left. resume k work (take first (values ++ xs) ++ more) stacks bindings left))
     ≡ after (after (operand bindings c.args.store.now) (λ xs f. switched k.schemas cases c.in-Switch.default parts xs bindings f)) (λ more left. resume k work (values ++ more) stacks bindings left)) (sym (each_argument k branches))
     (switch_opens k c.args.store.now operand (λ xs f. switched k.schemas cases c.in-Switch.default (map (meaning k) branches) xs bindings f) work values first stacks bindings (c.count_of-first.ensures later)))
+
+pub returns-in_ok-open_block-in-Block-clause-value : goal.returns-in_ok-open_block-in-Block-clause-value
+returns-in_ok-open_block-in-Block-clause-value c = λ later x.
+    let k : Context = context_over c.args.schemas.now in
+    let clauses : List (Clause SequenceType) = c.deref-in-Block.result.now in
+    let keys : List (SortKey SequenceType) = c.deref-in-Block-2.result.now in
+    rw (← c.expression.view_is, c.in-Block.is, ← c.deref-in-Block.ensures.value, ← c.deref-in-Block-2.ensures.value, ← c.deref-in-Block-3.ensures)
+    (c.in_ok-open_block-in-Block.ensures k c.args.store.now later
+    ∙ ap (λ (parts : List Denotation). outcome_behind k later (denoted k (operators.Block (map kind_of_clause clauses) (map order_of_key keys)) parts (items_of later c.args.self.now.scope) c.args.store.now) c.args.self.now)
+    (sym (each_argument k (parts_of_block clauses keys c.deref-in-Block-3.result.now))))

@@ -7,6 +7,7 @@ use Rattle.gx_store.specs.Items.{items_in}
 use Rattle.gx_store.specs.Places.{node_places}
 use Rattle.gx_eval.specs.declared.evaluation.Pending.{Pending}
 use Rattle.gx_eval.specs.declared.evaluation.Pending.TheVariants.{Mark}
+use Rattle.gx_eval.specs.FoundTuples.{found_in}
 use Rattle.gx_eval.specs.Resume.{Stacks, items_of, stacks_of, in_order}
 use Rattle.gx_eval.proofs.Resuming.{last_in_order, call_opens, resume_marked}
 use Rattle.gx_eval.proofs.evaluation.Evaluation.open_arguments.Goals as goal
@@ -23,6 +24,7 @@ loop-argument-preserved c = record {
   same_marks = c.loop-argument.invariant.same_marks;
   same_sources = c.loop-argument.invariant.same_sources;
   same_documents = c.loop-argument.invariant.same_documents;
+  same_tuples = c.loop-argument.invariant.same_tuples;
   same_scope = c.loop-argument.invariant.same_scope;
 }
 
@@ -35,9 +37,10 @@ returns c = λ k forest later.
     let arguments : List TypedExpression = c.args.arguments.now in
     let all : (length arguments - 2) + 2 ≡ length (map (meaning k) arguments) = omega (arith, c.requires, length-map arguments (meaning k)) in
     ap (λ v. resume_marked k work (stacks_of later c.loop-argument.self) (items_in later v.items) c.loop-argument.self.marks (items_of later c.loop-argument.self.scope) forest) c.loop-argument.invariant.same_values
-    ∙ ap (λ v. resume_marked k work (record { marks = c.loop-argument.self.marks; sources = items_in later v.items; documents = node_places later c.loop-argument.self.documents.now }) values c.loop-argument.self.marks (items_of later c.loop-argument.self.scope) forest) c.loop-argument.invariant.same_sources
-    ∙ ap (λ v. resume_marked k work (record { marks = c.loop-argument.self.marks; sources = items_in later c.args.self.now.sources.items; documents = node_places later v.now }) values c.loop-argument.self.marks (items_of later c.loop-argument.self.scope) forest) c.loop-argument.invariant.same_documents
-    ∙ ap (λ (ms : List ℕ). resume_marked k work (record { marks = ms; sources = items_in later c.args.self.now.sources.items; documents = node_places later c.args.self.now.documents.now }) values ms (items_of later c.loop-argument.self.scope) forest) c.loop-argument.invariant.same_marks
+    ∙ ap (λ v. resume_marked k work (record { marks = c.loop-argument.self.marks; sources = items_in later v.items; documents = node_places later c.loop-argument.self.documents.now; found = found_in later c.loop-argument.self.tuples }) values c.loop-argument.self.marks (items_of later c.loop-argument.self.scope) forest) c.loop-argument.invariant.same_sources
+    ∙ ap (λ v. resume_marked k work (record { marks = c.loop-argument.self.marks; sources = items_in later c.args.self.now.sources.items; documents = node_places later v.now; found = found_in later c.loop-argument.self.tuples }) values c.loop-argument.self.marks (items_of later c.loop-argument.self.scope) forest) c.loop-argument.invariant.same_documents
+    ∙ ap (λ v. resume_marked k work (record { marks = c.loop-argument.self.marks; sources = items_in later c.args.self.now.sources.items; documents = node_places later c.args.self.now.documents.now; found = found_in later v }) values c.loop-argument.self.marks (items_of later c.loop-argument.self.scope) forest) c.loop-argument.invariant.same_tuples
+    ∙ ap (λ (ms : List ℕ). resume_marked k work (record { marks = ms; sources = items_in later c.args.self.now.sources.items; documents = node_places later c.args.self.now.documents.now; found = found_in later c.args.self.now.tuples }) values ms (items_of later c.loop-argument.self.scope) forest) c.loop-argument.invariant.same_marks
     ∙ ap (λ s. resume_marked k work stacks values stacks.marks (items_of later s) forest) c.loop-argument.invariant.same_scope
     ∙ ap (λ (es : List TypedExpression). in_order (map (meaning k) es) (resume_marked k work stacks) values stacks.marks bindings forest) (sym (nil_from_length c.loop-argument.rest.now c.in_default.ensures.cases))
     ∙ c.loop-argument.invariant.same k stacks values stacks.marks bindings forest

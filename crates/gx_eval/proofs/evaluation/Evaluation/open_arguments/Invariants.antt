@@ -17,6 +17,7 @@ invariant-loop-argument l = record {
   same_marks : l.self.marks ≡ l.fn.self.marks;
   same_sources : l.self.sources ≡ l.fn.self.sources;
   same_documents : l.self.documents ≡ l.fn.self.documents;
+  same_tuples : l.self.tuples ≡ l.fn.self.tuples;
   same_scope : l.self.scope ≡ l.fn.self.scope;
 }
 

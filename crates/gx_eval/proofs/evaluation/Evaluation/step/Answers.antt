@@ -1,5 +1,11 @@
-use Rattle.std.proofs.Common.{◌∷◌, ℕ, List, ap, ◌∙◌}
+use Rattle.std.proofs.Common.{◌∷◌, ℕ, List, sym, ap, ◌∙◌}
+use Rattle.std.proofs.lemmas.List.{drop-map}
+use Rattle.gx_model.specs.Item.{Items}
+use Rattle.gx_core.specs.Outcome.{Outcome}
+use Rattle.gx_core.specs.Meaning.{Bindings}
 use Rattle.gx_store.specs.Items.{items_in}
+use Rattle.gx_eval.specs.declared.bound.Bound.{Bound}
+use Rattle.gx_eval.specs.BoundItems.{bound_items}
 use Rattle.gx_eval.specs.Resume.{context_over, resume, with_marks, items_of, stacks_of}
 use Rattle.gx_eval.proofs.evaluation.Evaluation.step.Goals as goal
 
@@ -80,3 +86,16 @@ returns-in-Switch-clause-value c = λ later x. rw c.in-Switch.is (c.switch.ensur
 
 pub returns-in-Switch-clause-failed : goal.returns-in-Switch-clause-failed
 returns-in-Switch-clause-failed c = λ later x. rw c.in-Switch.is (c.switch.ensures.failed c.args.store.now later)
+
+pub returns-in-Block-clause-value : goal.returns-in-Block-clause-value
+returns-in-Block-clause-value c = λ later x. rw c.in-Block.is (c.step_block.ensures.value (context_over c.args.schemas.now) c.args.store.now later)
+
+pub returns-in-Block-clause-failed : goal.returns-in-Block-clause-failed
+returns-in-Block-clause-failed c = λ later x. rw c.in-Block.is (c.step_block.ensures.failed (context_over c.args.schemas.now) c.args.store.now later)
+
+pub returns-in-UnbindAll-clause-value : goal.returns-in-UnbindAll-clause-value
+returns-in-UnbindAll-clause-value c = λ later x.
+    let values : Items = items_in later c.args.self.now.values.items in
+    let run : Bindings → Outcome Items = λ bindings. resume (context_over c.args.schemas.now) c.args.self.now.work values (stacks_of later c.args.self.now) bindings c.args.store.now in
+    rw c.in-UnbindAll.is
+    (ap (λ scope. run (items_of later scope)) c.unbind_all.ensures ∙ ap run (sym (drop-map (λ (binding : ℕ × Bound). (binding.0, bound_items later binding.1)) c.in-UnbindAll.count c.args.self.now.scope)))

@@ -1,6 +1,7 @@
 use Rattle.std.proofs.Common.{refl, rules}
 use Rattle.gx_core.specs.declared.operator.Operator.TheVariants as operators
 use Rattle.gx_static.proofs.Continuing.{single_opens, pair_opens, conditional_opens, call_opens, for_opens, some_opens, every_opens, let_opens, switch_opens}
+use Rattle.gx_static.proofs.BlockTyping.{block_opens}
 use Rattle.gx_static.proofs.typing.Typing.open.Goals as goal
 
 pub returns-in-Seq : goal.returns-in-Seq
@@ -165,3 +166,12 @@ returns-in-Order c = λ schemas.
       ← single_opens schemas (operators.Order) (λ before. refl) refl c.args.self.now.tasks c.args.self.now.parts c.args.self.now.scope c.args.self.now.declared.items c.into_parts-kind.result.0 c.into_parts-kind.result.1 c.in-Order.operand.value,
     )
     (c.open_single-in-Order.ensures schemas)
+
+pub returns-in-Block : goal.returns-in-Block
+returns-in-Block c = λ schemas.
+    rw (
+      c.into_parts-kind.ensures,
+      c.in-Block.is,
+      ← block_opens schemas c.args.self.now.tasks c.args.self.now.parts c.args.self.now.scope c.args.self.now.declared.items c.into_parts-kind.result.0 c.into_parts-kind.result.1 c.in-Block.clauses.items c.in-Block.keys.items c.in-Block.body.value,
+    )
+    (c.open_block.ensures schemas)
