@@ -1,6 +1,6 @@
 -- Types that are derived from a type.
-use Rattle.std.proofs.Common.{◌≡◌, ℕ, Bool, true, false, ◌&&◌, List, ◌++◌, map, refl, sym, ◌∙◌, ap, subst, if◌then◌else◌}
-use Rattle.std.specs.List.{list_all}
+use Rattle.std.proofs.Common.{◌≡◌, ℕ, Bool, true, false, ◌&&◌, ◌||◌, List, [], ◌∷◌, ◌++◌, map, filter, cond, None, refl, sym, ◌∙◌, ap, subst, if◌then◌else◌}
+use Rattle.std.specs.List.{list_all, flat_map}
 use Rattle.std.proofs.lemmas.List.{map-append}
 use Rattle.std.proofs.lemmas.List.Elements.{filter-append}
 use Rattle.std.proofs.lemmas.List.Folds.{list_all-append}
@@ -9,13 +9,17 @@ use Rattle.gx_base.specs.declared.type_name.Builtin.{Builtin}
 use Rattle.gx_base.specs.declared.type_name.Builtin.TheVariants.{AnyType, Untyped, AnySimple, AnyAtomic, UntypedAtomic, Str, NormalizedStr, Token, Boolean, Decimal, Integer, NonPositive, Negative, Long, Int, Short, Byte, NonNegative, UnsignedLong, UnsignedInt, UnsignedShort, UnsignedByte, Positive}
 use Rattle.gx_base.specs.declared.type_name.TypeName.{TypeName}
 use Rattle.gx_base.specs.declared.type_name.TypeName.TheVariants as names
+use Rattle.gx_types.specs.declared.declaration.Declared.{Declared}
 use Rattle.gx_types.specs.declared.item_type.ItemType.{ItemType}
-use Rattle.gx_types.specs.SchemaSet.{SchemaSet, declared_types}
+use Rattle.gx_types.specs.declared.item_type.ItemType.TheVariants as items
+use Rattle.gx_types.specs.SchemaSet.{SchemaSet, declared_types, names_declared}
 use Rattle.gx_types.specs.Derivation.{is_derived}
 use Rattle.gx_types.specs.SequenceType.{SequenceType}
 use Rattle.gx_types.specs.Indicator.{star_of}
 use Rattle.gx_types.specs.TypeRules.{factored}
 use Rattle.gx_model.specs.NodeTest.{KindTest}
+use Rattle.gx_include_derivations.specs.Asked.{is_asked, types_asked}
+use Rattle.gx_include_derivations.specs.Derivations.{derived_types}
 use Rattle.gx_steptype.specs.Replaced.{replaced_items}
 use Rattle.gx_steptype.specs.DerivedTypes.{listed_builtins, listed_names, derived_among, over_derived}
 use Rattle.gx_steptype.specs.TestedType.{tested_item}
@@ -27,6 +31,26 @@ pub derived_all : (s : SchemaSet) (kind : TypeName) (f : TypeName → SequenceTy
     → map f (derived_among s kind first) ++ map f (derived_among s kind second) ≡ map f (derived_among s kind (first ++ second))
 derived_all s kind f first second =
     sym (map-append f (derived_among s kind first) (derived_among s kind second)) ∙ ap (map f) (sym (filter-append (λ u. is_derived s u kind) first second))
+
+-- the declared types of which an element of a type may have one are those that are derived from it
+
+asked_among : (s : SchemaSet) (kind : TypeName) (types : List Declared)
+    → flat_map (λ (declared : Declared). if is_asked s (items.Element None kind ∷ []) declared.name then declared.name ∷ [] else []) types ≡ filter (λ t. is_derived s t kind) (names_declared types)
+asked_among s kind [] = refl
+asked_among s kind (declared ∷ types) = by (is_derived s declared.name kind) (asked_among s kind types)
+  where
+    asked : List TypeName
+    asked = flat_map (λ (d : Declared). if is_asked s (items.Element None kind ∷ []) d.name then d.name ∷ [] else []) types
+
+    derived : List TypeName
+    derived = filter (λ t. is_derived s t kind) (names_declared types)
+
+    by : (b : Bool) → asked ≡ derived → (if b || false then declared.name ∷ [] else []) ++ asked ≡ cond b (declared.name ∷ derived) derived
+    by true e = ap (λ (ts : List TypeName). declared.name ∷ ts) e
+    by false e = e
+
+pub asked_are_derived : (s : SchemaSet) (kind : TypeName) → types_asked s (items.Element None kind ∷ []) ≡ derived_types s kind
+asked_are_derived s kind = asked_among s kind s.types
 
 -- typed values of all derived types
 

@@ -19,6 +19,7 @@ pub mod FarWays
 pub mod ChildTypes
 pub mod AttributeTypes
 pub mod NearSteps
+pub mod AskedTypes
 pub mod DescendantKinds
 pub mod FarSteps
 pub mod StepTypes

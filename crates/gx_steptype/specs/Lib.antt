@@ -3,6 +3,7 @@ pub mod DerivedTypes
 pub mod TestedType
 pub mod AskedView
 pub mod StepType
+pub mod Descent
 pub mod DataType
 pub mod StepAnswer
 pub mod StepLaws

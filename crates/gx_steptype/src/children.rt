@@ -6,9 +6,10 @@ ghost use Rattle.gx_types.specs.SchemaSet.{declaration_of};
 ghost use Rattle.gx_types.specs.declared.item_type.ItemType.TheVariants as items;
 ghost use Rattle.gx_steptype.specs.StepType.{any_element as any_element_type, any_document as any_document_type, text_item, optional_text as optional_text_type, mixed_with as mixed_with_kind, content_type as type_of_content, declared_content as content_of_declared, content_of as content_of_kind, is_ur_type as is_any, child_content as content_of_children, child_type as type_of_children, parent_type as type_of_parent};
 
-use crate::derived::{OfType, over_derived};
+use crate::derived::{OfType, derived_from, over_derived, over_types};
 use gx_base::name::Name;
 use gx_base::type_name::{Builtin, TypeName};
+use gx_include_derivations::derivations::Derivations;
 use gx_types::declaration::Content;
 use gx_types::item_type::ItemType;
 use gx_types::schemas::Schemas;
@@ -63,6 +64,29 @@ pub(crate) fn child_content(
     } else {
         over_derived(alloc, schemas, &ContentOf { schemas }, kind)
     }
+}
+
+// The same where it is asked for many types.
+pub(crate) fn content_of_derived(
+    alloc: Global,
+    derivations: &mut Derivations<'_>,
+    kind: &TypeName,
+) -> Result<Ty, AllocError>
+    ensures same { derivations.new ≡ derivations.old }
+    ensures content { IfOk result (λ t. t ≡ content_of_children derivations.old kind.now) }
+{
+    let schemas = derivations.schemas();
+    if is_any_type(kind) {
+        return content_of(alloc, schemas, kind);
+    }
+    let derived = derived_from(alloc, derivations, kind)?;
+    over_types(
+        alloc,
+        schemas,
+        &ContentOf { schemas },
+        kind,
+        derived.as_slice(),
+    )
 }
 
 pub(crate) fn is_any_type(kind: &TypeName) -> bool

@@ -6,13 +6,15 @@ ghost use Rattle.gx_types.specs.SameItemType.{same_item_type};
 ghost use Rattle.gx_types.specs.Prime.{items_of};
 ghost use Rattle.gx_steptype.specs.AskedView.{kind_asked};
 ghost use Rattle.gx_steptype.specs.TestedType.{tested_item as item_tested};
-ghost use Rattle.gx_steptype.specs.StepType.{grandchild_kinds, descendant_kinds as kinds_of_descendants, ancestor_kinds as kinds_of_ancestors, any_tested as any_of_tested, descendant_type as type_of_descendants, ancestor_type as type_of_ancestors};
+ghost use Rattle.gx_steptype.specs.Descent.{ArePut};
+ghost use Rattle.gx_steptype.specs.StepType.{child_content as content_of_children, descendant_kinds as kinds_of_descendants, ancestor_kinds as kinds_of_ancestors, any_tested as any_of_tested, descendant_type as type_of_descendants, ancestor_type as type_of_ancestors};
 
 use crate::asked::Asked;
-use crate::children::{child_content, child_type};
+use crate::children::{child_type, content_of_derived};
 use crate::tested::tested_type;
 use gx_base::type_name::{Builtin, TypeName};
 use gx_closure::close::{Step, close};
+use gx_include_derivations::derivations::Derivations;
 use gx_types::item_type::ItemType;
 use gx_types::schemas::Schemas;
 use gx_types::sequence_type::{Ty, TyNode};
@@ -96,7 +98,13 @@ fn descendant_kinds(
     let mut found = IndexSet::new(alloc);
     let children = child_type(alloc, schemas, item)?;
     add_items(&mut found, &children)?;
-    close(alloc, &mut Descent { schemas }, &mut found)?;
+    let mut descent = Descent {
+        derivations: Derivations::new(alloc, schemas)?,
+        asked: IndexSet::new(alloc),
+    };
+    let closed = close(alloc, &mut descent, &mut found);
+    drop(descent);
+    closed?;
     Ok(found)
 }
 
@@ -119,18 +127,20 @@ fn add_items(found: &mut IndexSet<ItemType>, t: &Ty) -> Result<(), AllocError>
     }
 }
 
-// The children of the nodes that are found.
-#[derive(Clone, Copy)]
+// The children of the nodes that are found. Those of the elements of a type are put once.
+#[derive(Drop)]
 struct Descent<'a> {
-    pub schemas: &'a Schemas,
+    pub derivations: Derivations<'a>,
+    pub asked: IndexSet<TypeName>,
 }
 
 impl Step<ItemType> for Descent<'_> {
     ghost use Rattle.gx_steptype.specs.StepType.{grandchild_kinds};
+    ghost use Rattle.gx_steptype.specs.Descent.{ArePut};
 
-    ghost next = { λ d kind. grandchild_kinds d.schemas.now kind };
+    ghost next = { λ d kind. grandchild_kinds d.derivations kind };
 
-    ghost fits = { λ d found. Unit {0} };
+    ghost fits = { λ d found. ArePut d.derivations d.asked.keys found };
 
     fn add_next(
         &mut self,
@@ -138,18 +148,33 @@ impl Step<ItemType> for Descent<'_> {
         at: usize,
         found: &mut IndexSet<ItemType>,
     ) -> Result<(), AllocError> {
-        let content = content_below(alloc, self.schemas, &found[at])?;
-        add_items(found, &content)
+        let ItemType::Element { name: _, kind } = &found[at] else {
+            return Ok(());
+        };
+        let kind = kind.clone()?;
+        add_children(alloc, &mut self.derivations, &kind, &mut self.asked, found)
     }
 }
 
-// The children of a node that is a child itself.
-fn content_below(alloc: Global, schemas: &Schemas, item: &ItemType) -> Result<Ty, AllocError>
-    ensures { IfOk result (λ t. items_of t ≡ grandchild_kinds schemas.now item.now) }
+// Puts the item types of the children of the elements of a type, unless that was done before.
+fn add_children(
+    alloc: Global,
+    derivations: &mut Derivations<'_>,
+    kind: &TypeName,
+    asked: &mut IndexSet<TypeName>,
+    found: &mut IndexSet<ItemType>,
+) -> Result<(), AllocError>
+    requires { ArePut derivations.old asked.old.keys found.old.keys }
+    ensures same { derivations.new ≡ derivations.old }
+    ensures added { OnOk result (found.new.keys ≡ insert_all same_item_type found.old.keys (items_of (content_of_children derivations.old kind.now))) }
+    ensures put { OnOk result (ArePut derivations.old asked.new.keys found.new.keys) }
 {
-    match item {
-        ItemType::Element { name: _, kind } => child_content(alloc, schemas, kind),
-        ItemType::Attribute { .. } | ItemType::Text | ItemType::Document(_) | ItemType::Atom(_) =>
-            Ok(Ty::empty()),
+    let _types = derivations.schemas().types();
+    if asked.contains(kind) {
+        return Ok(());
     }
+    let content = content_of_derived(alloc, derivations, kind)?;
+    add_items(found, &content)?;
+    asked.insert(kind.clone()?)?;
+    Ok(())
 }

@@ -5,13 +5,13 @@ use Rattle.gx_types.specs.SequenceType.{SequenceType}
 use Rattle.gx_types.specs.Choice.{choice_among}
 use Rattle.gx_steptype.specs.DerivedTypes.{listed_builtins, listed_names, derived_among}
 use Rattle.gx_steptype.proofs.DerivedLemmas.{derived_all}
-use Rattle.gx_steptype.proofs.derived.over_derived.Goals as goal
+use Rattle.gx_steptype.proofs.derived.over_types.Goals as goal
 
 pub returns : goal.returns
 returns g c =
     subst (λ (types : List SequenceType). IfOk c.choose.result (λ t. t ≡ choice_among types))
     (c.deref.ensures.value ∙ c.in_ok-add_each.ensures
-    ∙ ap (λ (kinds : List TypeName). c.add_builtins.new.types.items ++ map (g.T.OfType.of c.args.of.now) kinds) (c.as_slice.ensures.value ∙ c.in_ok-derived.ensures)
+    ∙ ap (λ (kinds : List TypeName). c.add_builtins.new.types.items ++ map (g.T.OfType.of c.args.of.now) kinds) c.requires
     ∙ ap (λ (types : List SequenceType). types ++ map (g.T.OfType.of c.args.of.now) (derived_among c.args.schemas.now c.args.kind.now (declared_types c.args.schemas.now))) c.in_ok-add_builtins.ensures
     ∙ ap (λ (types : List SequenceType).
     (types ++ map (g.T.OfType.of c.args.of.now) (derived_among c.args.schemas.now c.args.kind.now (listed_names listed_builtins)))
