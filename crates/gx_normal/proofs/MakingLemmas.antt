@@ -1,5 +1,5 @@
 -- Parts that are added one by one, the last first.
-use Rattle.std.proofs.Common.{◌≡◌, ◌≢◌, ℕ, Bool, None, Some, List, [], ◌∷◌, ◌++◌, length, reverse, Result, Ok, Err, OnOk, refl, sym, ap, subst, ◌∙◌, ◌+◌, arith, ◌≤◌}
+use Rattle.std.proofs.Common.{◌≡◌, ◌≢◌, ℕ, Bool, None, Some, List, [], ◌∷◌, ◌++◌, length, reverse, Result, Ok, Err, OnOk, refl, sym, ap, subst, ◌∙◌, arith, ◌≤◌}
 use Rattle.std.proofs.lemmas.List.{reverse-reverse}
 use mathlib.Core.List.{reverse_aux}
 use Rattle.gx_base.specs.declared.place.Place.{Place}
@@ -11,12 +11,11 @@ use Rattle.gx_core.specs.Expression.{CoreExpression}
 use Rattle.gx_normal.specs.declared.focus.Focus.{Focus}
 use Rattle.gx_normal.specs.declared.clauses.Ending.{Ending}
 use Rattle.gx_normal.specs.Clauses.{Numbers, clause_part, clause_numbers, behind_clause, clause_at, ended}
-use Rattle.gx_normal.specs.declared.contexts.ContextUse.{ContextUse}
 use Rattle.gx_normal.specs.declared.filters.Predicate.TheVariants.{Condition}
-use Rattle.gx_normal.specs.Filters.{predicate_of, filter_at}
-use Rattle.gx_normal.specs.Normalisation.{filtered_core, constructed, of_three, core_of, clauses_core, path_core}
+use Rattle.gx_normal.specs.Filters.{predicate_of}
+use Rattle.gx_normal.specs.Normalisation.{constructed, of_three, core_of, clauses_core, path_core}
 use Rattle.gx_normal.specs.Constructs.{empty_at}
-use Rattle.gx_normal.specs.Normalising.{Made, added, all_added, last_ended, construct_finished, last_filtered, predicate_finished}
+use Rattle.gx_normal.specs.Normalising.{Made, added, all_added, last_ended, construct_finished}
 
 added_in_turn : (cores parts : List CoreExpression) (outer : Made) → all_added cores (parts ∷ outer) ≡ reverse_aux cores parts ∷ outer
 added_in_turn [] parts outer = refl
@@ -125,19 +124,6 @@ not_two_parts descendants place (a ∷ b ∷ []) numbers focus free h = absurd (
 not_two_parts descendants place (a ∷ b ∷ c ∷ more) numbers focus free h = refl
 
 -- ---- predicates
-
--- predicates filter the expression that was added last
-pub filtered_last : (reverse : Bool) (place : Place) (predicates : ResolvedTrees) (e : CoreExpression) (made : Made) (numbers : Numbers) (focus : Focus) (free : ℕ)
-    → (let f = filtered_core reverse place e predicates numbers focus free in
-    let m : Made × ℕ = (added f.0 made, f.1) in m)
-    ≡ last_filtered reverse place predicates (added e made) numbers focus free
-filtered_last reverse place predicates e [] numbers focus free = refl
-filtered_last reverse place predicates e (parts ∷ outer) numbers focus free = refl
-
--- a condition is added behind what it filters
-pub condition_last : (use' : ContextUse) (place : Place) (number : ℕ) (condition e : CoreExpression) (parts : List CoreExpression) (outer : Made) (free : ℕ)
-    → predicate_finished use' place number (added condition ((e ∷ parts) ∷ outer)) free ≡ ((filter_at use' place number free e condition ∷ parts) ∷ outer, free + 2)
-condition_last use' place number condition e parts outer free = refl
 
 -- more than one part in parentheses stands for nothing that is counted
 pub condition_of_more : (place : Place) (parts : List ResolvedTree) → 2 ≤ length parts → Condition ≡ predicate_of (resolved_at place written.Parenthesised (resolved_parts parts))

@@ -54,18 +54,18 @@ decimal_case variable = record { kind = item (Atom (Builtin Decimal)); variable 
 
 -- whether a number is the position
 abbrev pub position_is : Place → ContextNumbers → (number : ℕ) → CoreExpression
-position_is place focus number = core_at place place (operators.Binary core.Eq) (two_parts (hidden_variable place number) (context_item_at place focus.position))
+position_is place numbers number = core_at place place (operators.Binary core.Eq) (two_parts (hidden_variable place number) (context_item_at place numbers.position))
 
 -- whether a condition holds: a number where it is the position, and anything else by its effective boolean value
 abbrev pub holds_at : Place → ContextNumbers → (free : ℕ) → (condition : CoreExpression) → CoreExpression
-holds_at place focus free condition =
+holds_at place numbers free condition =
     core_at place place (operators.Switch (decimal_case free ∷ []) (free + 1))
-    (three_parts condition (position_is place focus free) (call_at place functions.Boolean (one_part (hidden_variable place (free + 1)))))
+    (three_parts condition (position_is place numbers free) (call_at place functions.Boolean (one_part (hidden_variable place (free + 1)))))
 
 -- the context item, where a condition holds of it
 abbrev pub kept_at : Place → ContextNumbers → (free : ℕ) → (condition : CoreExpression) → CoreExpression
-kept_at place focus free condition =
-    core_at place place operators.If (three_parts (holds_at place focus free condition) (context_item_at place focus.item) (empty_at place))
+kept_at place numbers free condition =
+    core_at place place operators.If (three_parts (holds_at place numbers free condition) (context_item_at place numbers.item) (empty_at place))
 
 -- the items of which a condition holds; the variables of the context are numbered from one on, and those of the cases from another
 abbrev pub filter_at : ContextUse → Place → (number free : ℕ) → (e condition : CoreExpression) → CoreExpression

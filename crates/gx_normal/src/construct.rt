@@ -1,6 +1,6 @@
 // The Core of each construct, over its parts.
 
-ghost use Rattle.std.specs.Prelude.{◌≡◌, true, IfOk, MatchOption, Some, None};
+ghost use Rattle.std.specs.Prelude.{◌≡◌, IfOk, MatchOption, Some, None};
 ghost use Rattle.gx_core.specs.Arithmetic.{number_atom};
 ghost use Rattle.gx_funcs.specs.Function.{string_atom};
 ghost use Rattle.gx_core.specs.Expression.{CoreExpression, core_at, no_parts, one_part};
@@ -219,26 +219,26 @@ fn boxed(
     Ok((first, Box::new(alloc, second)?))
 }
 
-/// The context item, which is the value of the variable with this number.
-pub(crate) fn context_item(place: Place, focus: Option<u32>) -> CoreExpr
-    ensures { result ≡ context_item_at place focus }
+/// The context item, or its position or the size of the context: the value of the variable with this number.
+pub(crate) fn context_item(place: Place, number: Option<u32>) -> CoreExpr
+    ensures { result ≡ context_item_at place number }
 {
-    match focus {
+    match number {
         Some(number) => at(place, Form::Var(number)),
         None => at(place, Form::NoContext),
     }
 }
 
-/// A step from it.
+/// A step from the context item, whose variable has this number.
 pub(crate) fn step(
     place: Place,
-    focus: Option<u32>,
+    number: Option<u32>,
     axis: Axis,
     test: &Test,
 ) -> Result<CoreExpr, AllocError>
-    ensures { IfOk result (λ e. e ≡ step_at place focus axis test.now) }
+    ensures { IfOk result (λ e. e ≡ step_at place number axis test.now) }
 {
-    match focus {
+    match number {
         Some(number) => Ok(at(place, Form::Step(axis, test.clone()?, number))),
         None => Ok(at(place, Form::NoContext)),
     }

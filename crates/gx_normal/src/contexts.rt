@@ -1,12 +1,10 @@
 // Contexts: what is asked of them, the numbers of their variables, and loops over the items of a source.
 
 ghost use Rattle.std.specs.Prelude.{◌≡◌, ◌∷◌, ◌+◌, true, false, IfOk};
-ghost use Rattle.gx_resolved.specs.ResolvedView.{resolved_parts};
-ghost use Rattle.gx_normal.specs.Asking.{any_asks, searched_asks};
-ghost use Rattle.gx_normal.specs.Contexts.{asks_context, behind_context, has_own_context, hidden_for, hidden_let, hidden_variable, is_question, loop_at, ordered_if, parts_ask, path_use, path_with, position_from_end, predicate_use, with_size, context_numbers, no_context};
+ghost use Rattle.gx_normal.specs.Asking.{any_asks};
+ghost use Rattle.gx_normal.specs.Contexts.{asks_context, behind_context, has_own_context, hidden_for, hidden_let, hidden_variable, is_question, loop_at, ordered_if, path_use, path_with, position_from_end, predicate_use, with_size, context_numbers, no_context};
 ghost use Rattle.gx_normal.specs.Constructs.{hidden_binder};
 ghost use Rattle.gx_normal.specs.Normalisation.{left_of_path};
-ghost use Rattle.gx_normal.specs.declared.contexts.Searched.TheVariants as searches;
 
 use crate::construct::{at, call, context_item, number};
 use gx_base::place::Place;

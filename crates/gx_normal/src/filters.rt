@@ -99,8 +99,8 @@ pub(crate) fn filter(
 ) -> Result<CoreExpr, AllocError>
     ensures { IfOk result (λ r. r ≡ filter_at context place number free e.value condition.value) }
 {
-    let focus = context_numbers(context, number)?;
-    let body = kept(alloc, condition.outer, focus, free, condition)?;
+    let numbers = context_numbers(context, number)?;
+    let body = kept(alloc, condition.outer, numbers, free, condition)?;
     loop_at(alloc, context, false, place, number, e, body)
 }
 
@@ -108,14 +108,14 @@ pub(crate) fn filter(
 fn kept(
     alloc: Global,
     place: Place,
-    focus: ContextNumbers,
+    numbers: ContextNumbers,
     free: u32,
     condition: Box<CoreExpr>,
 ) -> Result<Box<CoreExpr>, AllocError>
-    ensures { IfOk result (λ r. r.value ≡ kept_at place focus free condition.value) }
+    ensures { IfOk result (λ r. r.value ≡ kept_at place numbers free condition.value) }
 {
-    let holds = holds(alloc, place, focus, free, condition)?;
-    let item = Box::new(alloc, context_item(place, focus.item))?;
+    let holds = holds(alloc, place, numbers, free, condition)?;
+    let item = Box::new(alloc, context_item(place, numbers.item))?;
     let otherwise = Box::new(alloc, empty(place))?;
     Ok(Box::new(alloc, at(place, Form::If(holds, item, otherwise)))?)
 }
@@ -124,16 +124,16 @@ fn kept(
 fn holds(
     alloc: Global,
     place: Place,
-    focus: ContextNumbers,
+    numbers: ContextNumbers,
     free: u32,
     condition: Box<CoreExpr>,
 ) -> Result<Box<CoreExpr>, AllocError>
-    ensures { IfOk result (λ r. r.value ≡ holds_at place focus free condition.value) }
+    ensures { IfOk result (λ r. r.value ≡ holds_at place numbers free condition.value) }
 {
     let default = behind(free, 1)?;
     let cases = decimal_case(alloc, free)?;
     let mut branches = Vec::new(alloc);
-    branches.push(is_position(alloc, place, focus, free)?)?;
+    branches.push(is_position(alloc, place, numbers, free)?)?;
     let value = Box::new(alloc, variable(place, default))?;
     branches.push(call(alloc, place, Function::Boolean, value)?)?;
     Ok(Box::new(
@@ -146,13 +146,13 @@ fn holds(
 fn is_position(
     alloc: Global,
     place: Place,
-    focus: ContextNumbers,
+    numbers: ContextNumbers,
     number: u32,
 ) -> Result<CoreExpr, AllocError>
-    ensures { IfOk result (λ r. r ≡ position_is place focus number) }
+    ensures { IfOk result (λ r. r ≡ position_is place numbers number) }
 {
     let number = Box::new(alloc, variable(place, number))?;
-    let position = Box::new(alloc, context_item(place, focus.position))?;
+    let position = Box::new(alloc, context_item(place, numbers.position))?;
     Ok(at(place, Form::Binary(BinaryOp::Eq, number, position)))
 }
 

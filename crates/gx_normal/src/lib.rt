@@ -8,4 +8,5 @@ pub mod filters;
 pub mod focus;
 pub mod normalise;
 mod normalising;
+mod path_tasks;
 pub mod unbuilt;

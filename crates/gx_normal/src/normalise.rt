@@ -18,8 +18,8 @@ use gx_types::sequence_type::Ty;
 use std::alloc::{AllocError, Global};
 
 /// The Core of a query: each variable has the number of its binder, and operands are atomized (XQuery 1.0 and XPath 2.0 Formal
-/// Semantics, section 4; XQuery 1.0, section 3). Each literal is a string or a number, and each call has the arguments of a function of
-/// the table.
+/// Semantics, section 4; XQuery 1.0, section 3). Each literal is a string or a number, each call has the arguments of a function of
+/// the table, and each switch has atomic cases and a branch for each and for the default.
 pub fn normalise(alloc: Global, query: Resolved) -> Result<Core, AllocError>
     ensures core { IfOk result (λ core. core ≡ query_core query) }
     ensures variables { IfOk result (λ core. HasQueryVariablesInOrder core) }

@@ -1,12 +1,12 @@
 // The first production of a query that is not built yet.
 
 ghost use Rattle.std.specs.Prelude.{◌≡◌, ◌∷◌, IfOk, OnOk};
-ghost use Rattle.gx_ast.specs.SyntaxView.{trees_of};
+ghost use Rattle.gx_ast.specs.SyntaxView.{clauses_of, keys_of};
 ghost use Rattle.gx_normal.specs.declared.unbuilt.Pending.TheVariants as pendings;
 ghost use Rattle.gx_normal.specs.Searching.{first_of_all};
-ghost use Rattle.gx_normal.specs.Unbuilt.{first_unbuilt, earlier_place, unbuilt_definition, unbuilt_definitions, unbuilt_query};
+ghost use Rattle.gx_normal.specs.Unbuilt.{first_unbuilt, earlier_place, unbuilt_clauses, unbuilt_keys, unbuilt_definition, unbuilt_definitions, unbuilt_query};
 
-use gx_ast::expression::{Binding, Clause, Expr, ExprNode, Key};
+use gx_ast::expression::{Binding, Clause, Expr, ExprNode, Flwor, Key};
 use gx_ast::query::{Definition, DefinitionNode, Initialiser, Query};
 use gx_base::place::Place;
 use gx_base::stack::Stack;
@@ -173,16 +173,8 @@ fn open_tree<'a>(tree: &'a Expr, pending: &mut Stack<Pending<'a>>) -> Result<(),
         ExprNode::Sequence(left, right)
         | ExprNode::Binary(_, left, right)
         | ExprNode::Path(_, left, right) => open_both(left, right, pending),
-        ExprNode::If(test, chosen, otherwise) => {
-            pending.push(Pending::Tree(otherwise))?;
-            pending.push(Pending::Tree(chosen))?;
-            pending.push(Pending::Tree(test))
-        }
-        ExprNode::Flwor(flwor) => {
-            pending.push(Pending::Tree(&flwor.returned))?;
-            pending.push(Pending::Keys(flwor.keys.as_slice()))?;
-            pending.push(Pending::Clauses(flwor.clauses.as_slice()))
-        }
+        ExprNode::If(test, chosen, otherwise) => open_conditional(test, chosen, otherwise, pending),
+        ExprNode::Flwor(flwor) => open_flwor(flwor, pending),
         ExprNode::Quantified(quantified) => {
             pending.push(Pending::Tree(&quantified.condition))?;
             pending.push(Pending::Bindings(quantified.bindings.as_slice()))
@@ -196,6 +188,32 @@ fn open_tree<'a>(tree: &'a Expr, pending: &mut Stack<Pending<'a>>) -> Result<(),
         }
         _ => pending.push(Pending::Found(Some(tree.place))),
     }
+}
+
+// A test, and both branches.
+#[tactic(auto, using(crate::proofs::SearchLemmas::or_else_nests))]
+fn open_conditional<'a>(
+    test: &'a Expr,
+    chosen: &'a Expr,
+    otherwise: &'a Expr,
+    pending: &mut Stack<Pending<'a>>,
+) -> Result<(), AllocError>
+    ensures { OnOk result (first_of_all pending.new ≡ earlier_place (earlier_place (first_unbuilt test.now) (earlier_place (first_unbuilt chosen.now) (first_unbuilt otherwise.now))) (first_of_all pending.old)) }
+{
+    pending.push(Pending::Tree(otherwise))?;
+    pending.push(Pending::Tree(chosen))?;
+    pending.push(Pending::Tree(test))
+}
+
+// Clauses, sort keys, and what is returned.
+#[tactic(auto, using(crate::proofs::SearchLemmas::or_else_nests))]
+fn open_flwor<'a>(flwor: &'a Flwor, pending: &mut Stack<Pending<'a>>) -> Result<(), AllocError>
+    ensures { OnOk result (first_of_all pending.new
+        ≡ earlier_place (earlier_place (unbuilt_clauses (clauses_of flwor.now.clauses.items)) (earlier_place (unbuilt_keys (keys_of flwor.now.keys.items)) (first_unbuilt flwor.now.returned))) (first_of_all pending.old)) }
+{
+    pending.push(Pending::Tree(&flwor.returned))?;
+    pending.push(Pending::Keys(flwor.keys.as_slice()))?;
+    pending.push(Pending::Clauses(flwor.clauses.as_slice()))
 }
 
 // Two operands.

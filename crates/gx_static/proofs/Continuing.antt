@@ -241,11 +241,6 @@ parts_are_there zero below parts next h = omega arith
 parts_are_there (suc n) [] parts next h = absurd (h refl)
 parts_are_there (suc n) (t ∷ below) parts next h = let e = parts_are_there n below (a_part t parts) next h in omega (arith, e)
 
--- a typing that is done has its result on top
-pub part_is_there : (schemas : SchemaSet) (parts : List TypedExpression) (types : Types) (declared : List TypedDeclaration) (j : Judged TypedCore) → continued schemas [] parts types declared ≡ Some j → parts ≢ []
-part_is_there schemas [] types declared j e h = cc
-part_is_there schemas (t ∷ parts) types declared j e h = cc
-
 pub judgement_is : (schemas : SchemaSet) (parts : List TypedExpression) (types : Types) (declared : List TypedDeclaration) (j : Judged TypedCore) (query : TypedCore)
     → continued schemas [] parts types declared ≡ Some j → continued schemas [] parts types declared ≡ Some (typed query) → j ≡ typed query
 judgement_is schemas parts types declared j query e f = cc

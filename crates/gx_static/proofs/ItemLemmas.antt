@@ -85,10 +85,6 @@ each_item s forest P Q [] (shape ∷ ss) f h k = absurd h
 each_item s forest P Q (x ∷ xs) [] f h k = absurd h
 each_item s forest P Q (x ∷ xs) (shape ∷ ss) f h k = (f x shape h.0 h.1 k.0, each_item s forest P Q xs ss f h.2 k.1)
 
--- an item of an atomic shape is an atomic value
-abbrev IsAtomOf : TypeName → Shape → Type 0
-IsAtomOf kind shape = shape ≡ shapes.Atom kind
-
 no_node_is_atomic : (t : PlainTree) (kind : TypeName) → shape_of t ≡ shapes.Atom kind → ⊥
 no_node_is_atomic (document ts) kind e = cc
 no_node_is_atomic (element name k list ts) kind e = cc

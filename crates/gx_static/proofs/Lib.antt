@@ -27,7 +27,6 @@ pub mod Calls
 pub mod SoundTyping
 pub mod Failing
 pub mod ScopedVariables
-pub mod Refusals
 pub mod QueryLaws
 pub mod StaticCodes
 pub mod Continuing

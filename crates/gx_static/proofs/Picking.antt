@@ -1,5 +1,5 @@
 -- The item of a number, and the last one, keep their types.
-use Rattle.std.proofs.Common.{◌≡◌, ◌≤◌, ◌<◌, min, not, ℕ, zero, suc, ◌+◌, ℤ, pos, Bool, true, false, List, [], ◌∷◌, ◌++◌, length, take, drop, reverse, refl, sym, subst, arith}
+use Rattle.std.proofs.Common.{◌≡◌, ◌≤◌, ◌<◌, min, not, ℕ, zero, suc, ℤ, pos, Bool, true, false, [], ◌∷◌, length, take, drop, refl, sym, arith}
 use Rattle.std.proofs.lemmas.List.{append-nil, length-reverse}
 use mathlib.Core.List.{reverse_aux}
 use Rattle.gx_types.specs.SchemaSet.{SchemaSet}

@@ -64,11 +64,6 @@ variable_code s number types (Some t) code part e h r = absurd (cc)
 other_code : (code : Code) (part : Option ℕ) → has_none XPTY0004 None ≡ has_none code part → code ≢ XPST0008
 other_code code part e h = cc
 
--- a test decides whether there is a type, with a code that may stand at a part
-tested_part_code : (test : Bool) (t : SequenceType) (given code : Code) (there part : Option ℕ) → given ≢ XPST0008 → (if test then has_type t else has_none given there) ≡ has_none code part → code ≢ XPST0008
-tested_part_code true t given code there part n e = absurd (cc)
-tested_part_code false t given code there part n e = let same : given ≡ code = cc in subst (λ (c : Code). c ≢ XPST0008) same n
-
 binary_code : (s : SchemaSet) (class : BinaryClass) (t u : SequenceType) (code : Code) (part : Option ℕ) → binary_rule s class t u ≡ has_none code part → code ≢ XPST0008
 binary_code s (classes.Arithmetic operation) t u code part e = tested_code _ _ XPTY0004 code part (λ x. cc) e
 binary_code s (classes.Value op) t u code part e = tested_code _ _ XPTY0004 code part (λ x. cc) e

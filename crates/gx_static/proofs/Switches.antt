@@ -1,8 +1,7 @@
 -- A switch keeps its type.
-use Rattle.std.proofs.Common.{◌≡◌, ◌≤◌, ◌+◌, ◌==◌, ℕ, zero, suc, Bool, true, false, List, [], ◌∷◌, ◌++◌, length, None, ◌⊎◌, inl, inr, refl, sym, ◌∙◌, ap, subst, append_assoc, arith, if◌then◌else◌}
+use Rattle.std.proofs.Common.{◌≡◌, ◌+◌, ◌==◌, ℕ, zero, suc, Bool, true, false, List, [], ◌∷◌, ◌++◌, length, None, inl, inr, refl, sym, ◌∙◌, ap, subst, append_assoc, arith, if◌then◌else◌}
 use Rattle.std.proofs.lemmas.Bool.{eqb-true}
 use Rattle.std.proofs.lemmas.List.{append-nil}
-use Rattle.gx_base.specs.declared.place.Place.{Place}
 use Rattle.gx_facets.specs.declared.Atomic.{Atomic}
 use Rattle.gx_types.specs.SchemaSet.{SchemaSet}
 use Rattle.gx_types.specs.declared.shape.Shape.{Shape}
@@ -16,7 +15,7 @@ use Rattle.gx_types.proofs.DerivationTest.{derives_when_tested}
 use Rattle.gx_types.proofs.PublicLaws.{choice_takes_some, limited_takes_type}
 use Rattle.gx_model.specs.Forest.{Forest}
 use Rattle.gx_model.specs.Honest.{IsHonest}
-use Rattle.gx_model.specs.Item.{atom, node, Items}
+use Rattle.gx_model.specs.Item.{atom, Items}
 use Rattle.gx_model.specs.Belongs.{HaveShapes, Belongs, ItemFits}
 use Rattle.gx_model.specs.Growth.{Extends}
 use Rattle.gx_core.specs.declared.cases.TypeCase.{TypeCase}
@@ -25,8 +24,8 @@ use Rattle.gx_core.specs.declared.operator.Operator.TheVariants as operators
 use Rattle.gx_core.specs.Expression.{Parts, no_parts, a_part, each_of, annotation_of}
 use Rattle.gx_core.specs.Bindings.{Types, position_bound, branch_types}
 use Rattle.gx_core.specs.Instances.{is_instance, is_item_instance}
-use Rattle.gx_core.specs.Outcome.{Outcome, gives, raises, wrong, after}
-use Rattle.gx_core.specs.Meaning.{Bindings, Denotation, switched, meaning, meanings}
+use Rattle.gx_core.specs.Outcome.{Outcome, after}
+use Rattle.gx_core.specs.Meaning.{Bindings, switched, meaning, meanings}
 use Rattle.gx_core.specs.Soundness.{Setting, TypedExpression, typed_setting, context_of, IsOfType, Keeps, Situation, KeepsItsType, Fits}
 use Rattle.gx_core.proofs.KeptFacts.{fact_after, binding_fits, bindings_fit_still}
 use Rattle.gx_static.specs.Laws.{PartsKeepTypes, SwitchKeepsType}

@@ -7,12 +7,7 @@ use Rattle.gx_static.specs.declared.error.InferError.TheVariants as infer
 use Rattle.gx_static.specs.declared.error.RuleError.{RuleError}
 use Rattle.gx_static.specs.declared.error.RuleError.TheVariants as rules
 use Rattle.gx_static.specs.Rule.{Ruling, has_none}
-use Rattle.gx_static.specs.Judgement.{Judgement, rejected, code_place}
-
--- the judgement rejects with this place and code
-abbrev pub Rejects : InferError → Judgement → Type 0
-Rejects (infer.NoType place code) judgement = judgement ≡ rejected place code
-Rejects infer.Memory judgement = Unit {0}
+use Rattle.gx_static.specs.Judgement.{code_place}
 
 -- the error names the place and the code of a failure
 abbrev pub NamesFailure : InferError → (Place → Code → Type 0) → Type 0

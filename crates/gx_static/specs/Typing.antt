@@ -1,11 +1,10 @@
 -- What a typing in its midst comes to.
-use Rattle.std.specs.Prelude.{◌≡◌, ℕ, zero, suc, List, [], ◌∷◌, ◌++◌, ◌+◌, length, Option, None, Some, drop, map, flat_map}
+use Rattle.std.specs.Prelude.{◌≡◌, ℕ, zero, suc, List, [], ◌∷◌, ◌++◌, Option, None, Some, drop, map, flat_map}
 use Rattle.gx_base.specs.declared.place.Place.{Place}
 use Rattle.gx_types.specs.SchemaSet.{SchemaSet}
 use Rattle.gx_types.specs.SequenceType.{SequenceType}
 use Rattle.gx_base.specs.declared.type_name.Builtin.TheVariants.{Integer}
 use Rattle.gx_types.specs.Prime.{prime_of}
-use Rattle.gx_funcs.specs.Function.{arity_of}
 use Rattle.gx_core.specs.declared.expression.Clause.TheVariants as clauses
 use Rattle.gx_core.specs.declared.operator.ClauseKind.{ClauseKind}
 use Rattle.gx_core.specs.declared.operator.ClauseKind.TheVariants as kinds
@@ -21,7 +20,7 @@ use Rattle.gx_core.specs.Soundness.{TypedExpression}
 use Rattle.gx_core.specs.Queries.{TypedCore, CoreDeclaration, TypedDeclaration}
 use Rattle.gx_core.specs.declared.expression.Declaration.TheVariants.{Global}
 use Rattle.gx_core.specs.QueryMeaning.{global_types, external_types}
-use Rattle.gx_static.specs.Rule.{atomic, ruling}
+use Rattle.gx_static.specs.Rule.{atomic, arity, ruling}
 use Rattle.gx_static.specs.Judgement.{Judged, typed, rejected, judged, concluded}
 use Rattle.gx_static.specs.QueryJudgement.{declared_as}
 use Rattle.gx_static.specs.declared.error.InferError.{InferError}
@@ -39,31 +38,11 @@ abbrev pub then_typed : {R : Type 0} → Judged R → (R → Awaited) → Awaite
 then_typed (typed result) next = next result
 then_typed (rejected place code) next = Some (rejected place code)
 
--- how many parts an expression of the operator has
+-- how many parts an expression of the operator has: the one part that the rule of a variable and of a step asks for stands in no expression
 abbrev pub part_count : Operator → ℕ
-part_count (operators.Lit value) = 0
 part_count (operators.Var number) = 0
-part_count operators.Empty = 0
-part_count operators.Seq = 2
-part_count (operators.For binder position) = 2
-part_count (operators.SomeIn binder) = 2
-part_count (operators.EveryIn binder) = 2
-part_count (operators.Let binder) = 2
-part_count (operators.Block clauses keys) = length clauses + length keys + 1
-part_count operators.If = 3
-part_count (operators.Cast kind allows_empty) = 1
-part_count (operators.Castable kind allows_empty) = 1
 part_count (operators.Step axis asks number) = 0
-part_count operators.Nodes = 1
-part_count operators.Order = 1
-part_count (operators.Switch cases default) = 2 + length cases
-part_count (operators.Nth number reverse) = 1
-part_count (operators.Final reverse) = 1
-part_count operators.DataOf = 1
-part_count operators.NoContext = 0
-part_count (operators.Call function) = arity_of function
-part_count operators.Neg = 1
-part_count (operators.Binary operator) = 2
+part_count operator = arity operator
 
 -- what is bound to an item of a typed part, and to the position of the item
 abbrev pub item_type_bound : (variable position : ℕ) → TypedExpression → Types

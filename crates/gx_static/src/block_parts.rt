@@ -1,106 +1,22 @@
-// The parts of blocks: their tasks, and blocks over their parts.
+// Blocks over their parts: their forms, their types, and the places of their codes.
 
-ghost use Rattle.std.specs.Prelude.{◌≡◌, ◌+◌, ◌++◌, ◌∷◌, [], length, map, flat_map, IfOk, IfErr, OnOk};
+ghost use Rattle.std.specs.Prelude.{◌≡◌, ◌+◌, ◌∷◌, [], length, map, IfOk, IfErr};
 ghost use Rattle.gx_core.specs.Expression.{annotation_of, outer_of, all_parts};
-ghost use Rattle.gx_core.specs.ExpressionView.{kind_of_clause, order_of_key, operator_of, part_of_clause, part_of_key, parts_of, parts_of_block};
+ghost use Rattle.gx_core.specs.ExpressionView.{kind_of_clause, order_of_key, operator_of, part_of_clause, parts_of, parts_of_block};
 ghost use Rattle.gx_core.specs.declared.operator.Operator.TheVariants as operators;
 ghost use Rattle.gx_static.specs.Judgement.{clause_places, code_place};
 ghost use Rattle.gx_static.specs.Rule.{block_rule, has_type};
 ghost use Rattle.gx_static.specs.Refusal.{RefusesType};
-ghost use Rattle.gx_static.specs.Typing.{clause_tasks, clause_unbinding};
-ghost use Rattle.gx_static.specs.declared.typing.Task.TheVariants as tasks;
 
 use crate::block::block_type;
 use crate::error::RuleError;
-use crate::typing::Task;
 use gx_base::place::Place;
-use gx_core::expression::{
-    Binder, CoreClause, CoreKey, Form, SortKey, TypedClause, TypedExpr, TypedKey,
-};
+use gx_core::expression::{Binder, Form, SortKey, TypedClause, TypedExpr, TypedKey};
 use gx_core::operator::ClauseKind;
 use gx_sorting::KeyOrder;
 use gx_types::schemas::Schemas;
 use gx_types::sequence_type::Ty;
 use std::alloc::{AllocError, Global};
-
-// Adds the tasks of clauses, and answers the clauses without their parts.
-pub(crate) fn open_clauses(
-    alloc: Global,
-    clauses: Vec<CoreClause>,
-    steps: &mut Vec<Task>,
-) -> Result<Vec<ClauseKind>, AllocError>
-    ensures steps { OnOk result (steps.new.items ≡ steps.old.items ++ flat_map clause_tasks clauses.items) }
-    ensures kinds { IfOk result (λ kinds. kinds.items ≡ map kind_of_clause clauses.items) }
-{
-    let mut kinds = Vec::new(alloc);
-    for clause in clauses {
-        kinds.push(open_clause(clause, steps)?)?;
-    }
-    Ok(kinds)
-}
-
-fn open_clause(clause: CoreClause, steps: &mut Vec<Task>) -> Result<ClauseKind, AllocError>
-    ensures steps { OnOk result (steps.new.items ≡ steps.old.items ++ clause_tasks clause) }
-    ensures kind { IfOk result (λ kind. kind ≡ kind_of_clause clause) }
-{
-    match clause {
-        CoreClause::For(binder, position, source) => {
-            steps.push(Task::Infer(source))?;
-            steps.push(Task::BindItem(binder.variable, position))?;
-            Ok(ClauseKind::For(binder, position))
-        }
-        CoreClause::Let(binder, value) => {
-            steps.push(Task::Infer(value))?;
-            steps.push(Task::Bind(binder.variable))?;
-            Ok(ClauseKind::Let(binder))
-        }
-        CoreClause::Where(condition) => {
-            steps.push(Task::Infer(condition))?;
-            Ok(ClauseKind::Where)
-        }
-    }
-}
-
-// Adds the tasks of keys, and answers their orders.
-pub(crate) fn open_keys(
-    alloc: Global,
-    keys: Vec<CoreKey>,
-    steps: &mut Vec<Task>,
-) -> Result<Vec<KeyOrder>, AllocError>
-    ensures steps { OnOk result (steps.new.items ≡ steps.old.items ++ map (λ key. tasks.Infer (part_of_key key)) keys.items) }
-    ensures orders { IfOk result (λ orders. orders.items ≡ map order_of_key keys.items) }
-{
-    let mut orders = Vec::new(alloc);
-    for key in keys {
-        orders.push(key.order)?;
-        steps.push(Task::Infer(key.value))?;
-    }
-    Ok(orders)
-}
-
-// Adds the tasks that take away what clauses bind.
-pub(crate) fn unbind_clauses(kinds: &[ClauseKind], steps: &mut Vec<Task>) -> Result<(), AllocError>
-    ensures { OnOk result (steps.new.items ≡ steps.old.items ++ flat_map clause_unbinding kinds.now) }
-{
-    for kind in kinds {
-        unbind_clause(kind, steps)?;
-    }
-    Ok(())
-}
-
-fn unbind_clause(kind: &ClauseKind, steps: &mut Vec<Task>) -> Result<(), AllocError>
-    ensures { OnOk result (steps.new.items ≡ steps.old.items ++ clause_unbinding kind.now) }
-{
-    match kind {
-        ClauseKind::For(_, 0) | ClauseKind::Let(_) => steps.push(Task::Unbind)?,
-        ClauseKind::For(_, _) => {
-            steps.push(Task::Unbind)?;
-            steps.push(Task::Unbind)?;
-        }
-        ClauseKind::Where => {}
-    }
-    Ok(())
-}
 
 // A block over its parts.
 pub(crate) fn block_form(

@@ -1,6 +1,6 @@
 // The types of items that are picked by their numbers, and of switches.
 
-ghost use Rattle.std.specs.Prelude.{◌≡◌, ◌+◌, length, IfOk, IfErr};
+ghost use Rattle.std.specs.Prelude.{◌≡◌, IfOk, IfErr};
 ghost use Rattle.gx_types.specs.Choice.{choice_among};
 ghost use Rattle.gx_types.specs.TypeRules.{limited};
 ghost use Rattle.gx_static.specs.Rule.{has_type, is_first, one_of_type, switch_rule};

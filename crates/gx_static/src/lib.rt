@@ -3,15 +3,21 @@
 
 mod block;
 mod block_parts;
+mod block_tasks;
 mod call;
 mod comparison;
 pub mod error;
 mod filtering;
+mod forms;
+mod globals;
 pub mod infer;
 mod item_tests;
 pub mod laws;
 mod nodes;
 mod numeric;
+mod opening;
 mod path;
+mod places;
 pub mod rules;
+mod switch_tasks;
 mod typing;

@@ -2,7 +2,7 @@ use Rattle.std.proofs.Common.{◌≡◌, ◌++◌, map}
 use Rattle.std.specs.Prelude.{flat_map}
 use Rattle.gx_core.specs.ExpressionView.{kind_of_clause}
 use Rattle.gx_static.specs.Typing.{clause_tasks}
-use Rattle.gx_static.proofs.block_parts.open_clauses.Given as goal
+use Rattle.gx_static.proofs.block_tasks.open_clauses.Given as goal
 
 -- what is there and what is left come to the tasks of all clauses, and to all clauses without their parts
 abbrev pub invariant-loop-clause : goal.invariant-loop-clause

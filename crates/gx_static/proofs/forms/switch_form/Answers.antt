@@ -1,5 +1,5 @@
 use Rattle.gx_static.proofs.Continuing.{operand_below}
-use Rattle.gx_static.proofs.typing.switch_form.Goals as goal
+use Rattle.gx_static.proofs.forms.switch_form.Goals as goal
 
 pub returns-clause-parts : goal.returns-clause-parts
 returns-clause-parts c = λ next.

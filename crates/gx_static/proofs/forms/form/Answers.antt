@@ -2,7 +2,7 @@ use Rattle.std.proofs.Common.{◌≡◌, ◌+◌, ℕ, suc, length, IfOk, sym, �
 use Rattle.gx_core.specs.Expression.{no_parts}
 use Rattle.gx_core.specs.ExpressionView.{parts_of}
 use Rattle.gx_static.specs.Typing.{part_count, last_parts}
-use Rattle.gx_static.proofs.typing.form.Goals as goal
+use Rattle.gx_static.proofs.forms.form.Goals as goal
 
 pub returns-in-Switch-clause-parts : goal.returns-in-Switch-clause-parts
 returns-in-Switch-clause-parts c = λ next.

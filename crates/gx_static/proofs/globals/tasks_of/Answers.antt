@@ -3,7 +3,7 @@ use Rattle.gx_core.specs.Queries.{CoreDeclaration}
 use Rattle.gx_static.specs.declared.typing.Task.{Task}
 use Rattle.gx_static.specs.Typing.{tasks_of}
 use Rattle.gx_static.proofs.Declaring.{tasks_joined}
-use Rattle.gx_static.proofs.typing.tasks_of.Goals as goal
+use Rattle.gx_static.proofs.globals.tasks_of.Goals as goal
 
 pub loop-declaration-preserved : goal.loop-declaration-preserved
 loop-declaration-preserved c =

@@ -1,5 +1,5 @@
 use Rattle.std.proofs.Common.{◌≡◌, ◌++◌, length}
-use Rattle.gx_static.proofs.typing.last.Given as goal
+use Rattle.gx_static.proofs.forms.last.Given as goal
 
 -- what has been taken, the last part first, stood on the parts
 abbrev pub invariant-loop : goal.invariant-loop

@@ -1,7 +1,7 @@
 use Rattle.std.proofs.Common.{◌≡◌, ◌++◌, map}
 use Rattle.gx_core.specs.ExpressionView.{order_of_key, part_of_key}
 use Rattle.gx_static.specs.declared.typing.Task.TheVariants.{Infer}
-use Rattle.gx_static.proofs.block_parts.open_keys.Given as goal
+use Rattle.gx_static.proofs.block_tasks.open_keys.Given as goal
 
 -- what is there and what is left come to the tasks of all keys, and to all orders
 abbrev pub invariant-loop-key : goal.invariant-loop-key

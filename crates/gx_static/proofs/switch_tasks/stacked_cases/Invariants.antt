@@ -1,5 +1,5 @@
 use Rattle.std.proofs.Common.{◌≡◌, ◌++◌, length}
-use Rattle.gx_static.proofs.typing.stacked_cases.Given as goal
+use Rattle.gx_static.proofs.switch_tasks.stacked_cases.Given as goal
 
 -- those that are left stand before those on the stack
 abbrev pub invariant-loop-case : goal.invariant-loop-case

@@ -1,7 +1,7 @@
 use Rattle.std.proofs.Common.{◌≡◌, [], ◌∷◌, vec_len}
 use Rattle.gx_static.specs.declared.typing.Task.TheVariants.{Infer}
 use Rattle.gx_static.specs.Typing.{tasks_of}
-use Rattle.gx_static.proofs.typing.tasks_of.Given as goal
+use Rattle.gx_static.proofs.globals.tasks_of.Given as goal
 
 -- the tasks of the declarations that are left lie over those that are put down
 abbrev pub invariant-loop-declaration : goal.invariant-loop-declaration

@@ -1,5 +1,5 @@
 use Rattle.std.proofs.Common.{◌≡◌, ◌++◌, vec_len}
-use Rattle.gx_static.proofs.typing.stacked.Given as goal
+use Rattle.gx_static.proofs.switch_tasks.stacked.Given as goal
 
 -- those that are left stand before those on the stack
 abbrev pub invariant-loop-item : goal.invariant-loop-item
