@@ -40,7 +40,7 @@ same_over_derived s is t v h =
     (filter_agree (λ u. is_derived s u t) (λ u. is_derived s u v)
     (λ u. same_tests (is_derived s u t) (is_derived s u v) (equally_derived s is u t v h) (equally_derived s is u v t (equality_is_an_equivalence.type_names.symm v t ∙ h))) (listed_types s))
 
-same_child_contents : (s : SchemaSet) → IsSchemaSet s → (t v : TypeName) → same_type_name t v ≡ true → child_content s t ≡ child_content s v
+pub same_child_contents : (s : SchemaSet) → IsSchemaSet s → (t v : TypeName) → same_type_name t v ≡ true → child_content s t ≡ child_content s v
 same_child_contents s is (names.Builtin a) (names.Builtin b) h = ap (λ c. child_content s (names.Builtin c)) (equality_is_an_equivalence.builtins_are_one a b h)
 same_child_contents s is (names.Named m) (names.Named n) h = same_over_derived s is (names.Named m) (names.Named n) h
 same_child_contents s is (names.Anonymous m) (names.Anonymous n) h = same_over_derived s is (names.Anonymous m) (names.Anonymous n) h
@@ -83,7 +83,7 @@ one_more_asked s asked found kind p =
 
 -- whether a type was asked, and that it is now, as sets of names of types tell
 
-kinds_are_equal : equal_kinds ≡ same_type_name
+pub kinds_are_equal : equal_kinds ≡ same_type_name
 kinds_are_equal = fun_ext (λ t. fun_ext (λ u. equal_kinds_are t u))
 
 pub member_as_asked : (asked : List TypeName) (kind : TypeName) → list_any (equal_kinds kind) asked ≡ is_member same_type_name asked kind

@@ -2,10 +2,12 @@ pub mod DerivedLemmas
 pub mod SameNames
 pub mod Replacing
 pub mod Declarations
+pub mod AloneTypes
 pub mod ReadValues
 pub mod UntypedKinds
 pub mod CoveredTypes
 pub mod SimpleKinds
+pub mod OneNode
 pub mod FormedShapes
 pub mod Testing
 pub mod Arrangements
@@ -20,6 +22,7 @@ pub mod ChildTypes
 pub mod AttributeTypes
 pub mod NearSteps
 pub mod AskedTypes
+pub mod KnownChildren
 pub mod DescendantKinds
 pub mod FarSteps
 pub mod StepTypes

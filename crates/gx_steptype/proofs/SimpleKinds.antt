@@ -28,7 +28,7 @@ no_builtin_is_declared s b d is e = let none = builtin_is_undeclared s b is in c
 
 -- types that declarations may name are derived from xs:anyType
 
-is_declared_too : (s : SchemaSet) (t : TypeName) (o : Option Declared) → declaration_of s t ≡ o → is_some o ≡ true → is_declared (bases_of s) t ≡ true
+pub is_declared_too : (s : SchemaSet) (t : TypeName) (o : Option Declared) → declaration_of s t ≡ o → is_some o ≡ true → is_declared (bases_of s) t ≡ true
 is_declared_too s t None e h = absurd (true≢false (sym h))
 is_declared_too s t (Some d) e h = ap is_some (base_is s.types t d e)
 

@@ -1,9 +1,11 @@
 pub mod Replaced
 pub mod DerivedTypes
+pub mod DeclaredBases
 pub mod TestedType
 pub mod AskedView
 pub mod StepType
 pub mod Descent
+pub mod TestedChildren
 pub mod DataType
 pub mod StepAnswer
 pub mod StepLaws

@@ -115,7 +115,7 @@ fn declared_attributes_of(
     ensures { IfOk result (λ t. t ≡ attributes_behind schemas.now (kind_asked asked.entry) kind.now) }
 {
     let all = over_derived(alloc, schemas, &AttributesOf { schemas }, kind)?;
-    let tested = replace(alloc, &Tested { schemas, asked }, &all)?;
+    let tested = replace(alloc, &mut Tested { schemas, asked }, &all)?;
     if has_one_name(asked) {
         Ok(tested)
     } else {

@@ -6,10 +6,10 @@ ghost use Rattle.gx_types.specs.SchemaSet.{declaration_of};
 ghost use Rattle.gx_types.specs.declared.item_type.ItemType.TheVariants as items;
 ghost use Rattle.gx_steptype.specs.StepType.{any_element as any_element_type, any_document as any_document_type, text_item, optional_text as optional_text_type, mixed_with as mixed_with_kind, content_type as type_of_content, declared_content as content_of_declared, content_of as content_of_kind, is_ur_type as is_any, child_content as content_of_children, child_type as type_of_children, parent_type as type_of_parent};
 
-use crate::derived::{OfType, derived_from, over_derived, over_types};
+use crate::derived::{OfType, over_types};
+use crate::derived_types::DerivedTypes;
 use gx_base::name::Name;
 use gx_base::type_name::{Builtin, TypeName};
-use gx_include_derivations::derivations::Derivations;
 use gx_types::declaration::Content;
 use gx_types::item_type::ItemType;
 use gx_types::schemas::Schemas;
@@ -36,13 +36,14 @@ impl OfType for ContentOf<'_> {
 // The children of a node of an item type.
 pub(crate) fn child_type(
     alloc: Global,
-    schemas: &Schemas,
+    derived: &mut DerivedTypes<'_>,
     item: &ItemType,
 ) -> Result<Ty, AllocError>
-    ensures { IfOk result (λ t. t ≡ type_of_children schemas.now item.now) }
+    ensures same { derived.new ≡ derived.old }
+    ensures children { IfOk result (λ t. t ≡ type_of_children derived.old item.now) }
 {
     match item {
-        ItemType::Element { name: _, kind } => child_content(alloc, schemas, kind),
+        ItemType::Element { name: _, kind } => child_content(alloc, derived, kind),
         ItemType::Document(None) => mixed_with(alloc, &TypeName::Builtin(Builtin::AnyType)),
         ItemType::Document(Some((name, kind))) => element_type(alloc, name, kind),
         ItemType::Attribute { name: _, kind: _ } | ItemType::Text | ItemType::Atom(_) => {
@@ -54,38 +55,23 @@ pub(crate) fn child_type(
 // The children of the elements of a type and of all types that are derived from it.
 pub(crate) fn child_content(
     alloc: Global,
-    schemas: &Schemas,
+    derived: &mut DerivedTypes<'_>,
     kind: &TypeName,
 ) -> Result<Ty, AllocError>
-    ensures { IfOk result (λ t. t ≡ content_of_children schemas.now kind.now) }
+    ensures same { derived.new ≡ derived.old }
+    ensures content { IfOk result (λ t. t ≡ content_of_children derived.old kind.now) }
 {
-    if is_any_type(kind) {
-        content_of(alloc, schemas, kind)
-    } else {
-        over_derived(alloc, schemas, &ContentOf { schemas }, kind)
-    }
-}
-
-// The same where it is asked for many types.
-pub(crate) fn content_of_derived(
-    alloc: Global,
-    derivations: &mut Derivations<'_>,
-    kind: &TypeName,
-) -> Result<Ty, AllocError>
-    ensures same { derivations.new ≡ derivations.old }
-    ensures content { IfOk result (λ t. t ≡ content_of_children derivations.old kind.now) }
-{
-    let schemas = derivations.schemas();
+    let schemas = derived.schemas();
     if is_any_type(kind) {
         return content_of(alloc, schemas, kind);
     }
-    let derived = derived_from(alloc, derivations, kind)?;
+    let types = derived.of(alloc, kind)?;
     over_types(
         alloc,
         schemas,
         &ContentOf { schemas },
         kind,
-        derived.as_slice(),
+        types.as_slice(),
     )
 }
 

@@ -29,7 +29,7 @@ pub fn data_type(alloc: Global, schemas: &Schemas, t: &Ty) -> Result<Ty, StepErr
     if !has_data(alloc, schemas, t)? {
         return Err(StepError::NoTypedValue);
     }
-    let values = replace(alloc, &Data { schemas }, t)?;
+    let values = replace(alloc, &mut Data { schemas }, t)?;
     Ok(limit(alloc, values)?)
 }
 
@@ -44,7 +44,9 @@ impl Replacement for Data<'_> {
 
     ghost gives = { λ d kind. data_of_item d.schemas.now kind };
 
-    fn replace(&self, alloc: Global, item: &ItemType) -> Result<Ty, AllocError> {
+    ghost fits = { λ d. Unit {0} };
+
+    fn replace(&mut self, alloc: Global, item: &ItemType) -> Result<Ty, AllocError> {
         item_data(alloc, self.schemas, item)
     }
 }

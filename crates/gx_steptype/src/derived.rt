@@ -7,9 +7,8 @@ ghost use Rattle.gx_include_derivations.specs.Derivations.{derived_types as type
 ghost use Rattle.gx_steptype.specs.DerivedTypes.{over_derived as choice_over_derived, derived_among, listed_names};
 
 use gx_base::type_name::{Builtin, TypeName};
-use gx_include_derivations::derivations::{Derivations, derived_types};
+use gx_include_derivations::derivations::derived_types;
 use gx_types::derivation::derives;
-use gx_types::item_type::ItemType;
 use gx_types::schemas::Schemas;
 use gx_types::sequence_type::Ty;
 use gx_types::type_rules::choose;
@@ -77,22 +76,6 @@ pub(crate) fn over_types<T: OfType>(
     add_builtins(alloc, schemas, of, kind, &LISTED, &mut types)?;
     add_each(alloc, of, derived, &mut types)?;
     choose(alloc, &types)
-}
-
-// The declared types that are derived from a type, where it is asked for many types.
-#[tactic(auto, using(crate::proofs::DerivedLemmas::asked_are_derived))]
-pub(crate) fn derived_from(
-    alloc: Global,
-    derivations: &mut Derivations<'_>,
-    kind: &TypeName,
-) -> Result<Vec<TypeName>, AllocError>
-    ensures same { derivations.new ≡ derivations.old }
-    ensures types { IfOk result (λ types. types.items ≡ types_derived derivations.old kind.now) }
-{
-    let kind = kind.clone()?;
-    let elements = [ItemType::Element { name: None, kind }];
-    derivations.ask(alloc, &elements)?;
-    derivations.types_asked(alloc, &elements)
 }
 
 fn add_builtins<T: OfType>(

@@ -10,11 +10,11 @@ ghost use Rattle.gx_steptype.specs.Descent.{ArePut};
 ghost use Rattle.gx_steptype.specs.StepType.{child_content as content_of_children, descendant_kinds as kinds_of_descendants, ancestor_kinds as kinds_of_ancestors, any_tested as any_of_tested, descendant_type as type_of_descendants, ancestor_type as type_of_ancestors};
 
 use crate::asked::Asked;
-use crate::children::{child_type, content_of_derived};
+use crate::children::{child_content, child_type};
+use crate::derived_types::DerivedTypes;
 use crate::tested::tested_type;
 use gx_base::type_name::{Builtin, TypeName};
 use gx_closure::close::{Step, close};
-use gx_include_derivations::derivations::Derivations;
 use gx_types::item_type::ItemType;
 use gx_types::schemas::Schemas;
 use gx_types::sequence_type::{Ty, TyNode};
@@ -95,13 +95,12 @@ fn descendant_kinds(
 ) -> Result<IndexSet<ItemType>, AllocError>
     ensures { IfOk result (λ found. found.keys ≡ kinds_of_descendants schemas.now item.now) }
 {
+    let mut derived = DerivedTypes::new(alloc, schemas)?;
+    let children = child_type(alloc, &mut derived, item)?;
     let mut found = IndexSet::new(alloc);
-    let children = child_type(alloc, schemas, item)?;
     add_items(&mut found, &children)?;
-    let mut descent = Descent {
-        derivations: Derivations::new(alloc, schemas)?,
-        asked: IndexSet::new(alloc),
-    };
+    let asked = IndexSet::new(alloc);
+    let mut descent = Descent { derived, asked };
     let closed = close(alloc, &mut descent, &mut found);
     drop(descent);
     closed?;
@@ -130,7 +129,7 @@ fn add_items(found: &mut IndexSet<ItemType>, t: &Ty) -> Result<(), AllocError>
 // The children of the nodes that are found. Those of the elements of a type are put once.
 #[derive(Drop)]
 struct Descent<'a> {
-    pub derivations: Derivations<'a>,
+    pub derived: DerivedTypes<'a>,
     pub asked: IndexSet<TypeName>,
 }
 
@@ -138,9 +137,9 @@ impl Step<ItemType> for Descent<'_> {
     ghost use Rattle.gx_steptype.specs.StepType.{grandchild_kinds};
     ghost use Rattle.gx_steptype.specs.Descent.{ArePut};
 
-    ghost next = { λ d kind. grandchild_kinds d.derivations kind };
+    ghost next = { λ d kind. grandchild_kinds d.derived kind };
 
-    ghost fits = { λ d found. ArePut d.derivations d.asked.keys found };
+    ghost fits = { λ d found. ArePut d.derived d.asked.keys found };
 
     fn add_next(
         &mut self,
@@ -152,28 +151,28 @@ impl Step<ItemType> for Descent<'_> {
             return Ok(());
         };
         let kind = kind.clone()?;
-        add_children(alloc, &mut self.derivations, &kind, &mut self.asked, found)
+        add_children(alloc, &mut self.derived, &kind, &mut self.asked, found)
     }
 }
 
 // Puts the item types of the children of the elements of a type, unless that was done before.
 fn add_children(
     alloc: Global,
-    derivations: &mut Derivations<'_>,
+    derived: &mut DerivedTypes<'_>,
     kind: &TypeName,
     asked: &mut IndexSet<TypeName>,
     found: &mut IndexSet<ItemType>,
 ) -> Result<(), AllocError>
-    requires { ArePut derivations.old asked.old.keys found.old.keys }
-    ensures same { derivations.new ≡ derivations.old }
-    ensures added { OnOk result (found.new.keys ≡ insert_all same_item_type found.old.keys (items_of (content_of_children derivations.old kind.now))) }
-    ensures put { OnOk result (ArePut derivations.old asked.new.keys found.new.keys) }
+    requires { ArePut derived.old asked.old.keys found.old.keys }
+    ensures same { derived.new ≡ derived.old }
+    ensures added { OnOk result (found.new.keys ≡ insert_all same_item_type found.old.keys (items_of (content_of_children derived.old kind.now))) }
+    ensures put { OnOk result (ArePut derived.old asked.new.keys found.new.keys) }
 {
-    let _types = derivations.schemas().types();
+    let _types = derived.schemas().types();
     if asked.contains(kind) {
         return Ok(());
     }
-    let content = content_of_derived(alloc, derivations, kind)?;
+    let content = child_content(alloc, derived, kind)?;
     add_items(found, &content)?;
     asked.insert(kind.clone()?)?;
     Ok(())

@@ -14,14 +14,23 @@ use std::alloc::{AllocError, Global};
 pub(crate) trait Replacement {
     ghost gives: { Self → KindOfItem → SequenceType };
 
-    fn replace(&self, alloc: Global, item: &ItemType) -> Result<Ty, AllocError>
-        ensures { IfOk result (λ t. t ≡ gives self.now item.now) };
+    // What was found for one item type may be kept for the next.
+    ghost fits: { Self → Type 0 };
+
+    fn replace(&mut self, alloc: Global, item: &ItemType) -> Result<Ty, AllocError>
+        requires { fits self.old }
+        ensures same { gives self.new ≡ gives self.old }
+        ensures fits { fits self.new }
+        ensures given { IfOk result (λ t. t ≡ gives self.old item.now) };
 }
 
 // A type with what a replacement gives in the place of each item type, however long it is.
 #[cycle(replace)]
-pub(crate) fn replace<R: Replacement>(alloc: Global, with: &R, t: &Ty) -> Result<Ty, AllocError>
-    ensures { IfOk result (λ u. u ≡ replaced_items (R.gives with.now) t.now) }
+pub(crate) fn replace<R: Replacement>(alloc: Global, with: &mut R, t: &Ty) -> Result<Ty, AllocError>
+    requires { R.fits with.old }
+    ensures same { R.gives with.new ≡ R.gives with.old }
+    ensures fits { R.fits with.new }
+    ensures replaced { IfOk result (λ u. u ≡ replaced_items (R.gives with.old) t.now) }
 {
     match &t.node {
         TyNode::Never => Ok(Ty::none()),
@@ -29,7 +38,8 @@ pub(crate) fn replace<R: Replacement>(alloc: Global, with: &R, t: &Ty) -> Result
         TyNode::Item(kind) => with.replace(alloc, kind),
         TyNode::Seq(first, second) => {
             let first = replace(alloc, with, first)?;
-            join(alloc, &first, &replace(alloc, with, second)?)
+            let second = replace(alloc, with, second)?;
+            join(alloc, &first, &second)
         }
         TyNode::Alt(first, second) => {
             let mut members = Vec::new(alloc);
@@ -47,11 +57,14 @@ pub(crate) fn replace<R: Replacement>(alloc: Global, with: &R, t: &Ty) -> Result
 #[cycle(replace)]
 fn add_alternatives<R: Replacement>(
     alloc: Global,
-    with: &R,
+    with: &mut R,
     t: &Ty,
     members: &mut Vec<Ty>,
 ) -> Result<(), AllocError>
-    ensures { OnOk result (members.new.items ≡ members.old.items ++ alternatives (R.gives with.now) t.now) }
+    requires { R.fits with.old }
+    ensures same { R.gives with.new ≡ R.gives with.old }
+    ensures fits { R.fits with.new }
+    ensures added { OnOk result (members.new.items ≡ members.old.items ++ alternatives (R.gives with.old) t.now) }
 {
     match &t.node {
         TyNode::Alt(first, second) => {

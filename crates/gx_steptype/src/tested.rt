@@ -50,7 +50,9 @@ impl Replacement for Tested<'_> {
 
     ghost gives = { λ t kind. item_tested t.schemas.now (kind_asked t.asked) kind };
 
-    fn replace(&self, alloc: Global, item: &ItemType) -> Result<Ty, AllocError> {
+    ghost fits = { λ t. Unit {0} };
+
+    fn replace(&mut self, alloc: Global, item: &ItemType) -> Result<Ty, AllocError> {
         tested_type(alloc, self.schemas, self.asked, item)
     }
 }

@@ -18,7 +18,7 @@ returns-then-contains-clause-added c =
 
 pub returns-clause-put : goal.returns-clause-put
 returns-clause-put c =
-    let s = c.args.derivations.now in
+    let s = c.args.derived.now in
     let asked = c.args.asked.now.keys in
     let found = c.args.found.now.keys in
     let kind = c.args.kind.now in

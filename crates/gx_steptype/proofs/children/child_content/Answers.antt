@@ -2,7 +2,7 @@ use Rattle.std.proofs.Common.{◌≡◌, Bool, IfOk, if◌then◌else◌, sym, �
 use Rattle.gx_types.specs.SchemaSet.{SchemaSet}
 use Rattle.gx_steptype.specs.DerivedTypes.{over_derived}
 use Rattle.gx_steptype.specs.StepType.{content_of, child_content}
-use Rattle.gx_steptype.proofs.children.content_of_derived.Goals as goal
+use Rattle.gx_steptype.proofs.children.child_content.Goals as goal
 
 pub returns-clause-content : goal.returns-clause-content
 returns-clause-content c =
