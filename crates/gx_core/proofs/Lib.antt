@@ -7,3 +7,5 @@ pub mod DynamicCodes
 pub mod LoopBindings
 pub mod DecidingParts
 pub mod FreeMeaning
+pub mod StepLoops
+pub mod StepsInOrder

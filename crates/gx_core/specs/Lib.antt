@@ -27,4 +27,5 @@ pub mod Soundness
 pub mod FreeVariables
 pub mod QueryMeaning
 pub mod Laws
+pub mod PathLaws
 pub mod Refusal

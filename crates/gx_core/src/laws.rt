@@ -1,6 +1,7 @@
 // Laws of the meaning of Core.
 
 ghost use Rattle.gx_core.specs.Laws.{MeaningLooksAtNoType, AfterKeeps, BindingsFitStill, BindingFits, OperandsKeepTheirTypes, ExpressionsRaiseDynamicCodes, PartsDecide, MeaningLooksAtFreeVariables};
+ghost use Rattle.gx_core.specs.PathLaws.{StepsAreInOrder, LoopsOfStepsAreSteps, SlashesAreDescendants};
 ghost use Rattle.gx_core.specs.QueryMeaning.{NoneNeedsNoDocument, SoundQueriesKeepTheirTypes, QueriesRaiseDynamicCodes};
 
 /// The meaning of a typed expression is that of the same expression without its types.
@@ -55,4 +56,20 @@ pub fn parts_decide()
 /// section 3.1.2).
 pub fn meaning_looks_at_free_variables()
     ensures { MeaningLooksAtFreeVariables }
+{}
+
+/// A step gives its nodes in document order (XQuery 1.0, section 3.2.1).
+pub fn steps_are_in_order()
+    ensures { StepsAreInOrder }
+{}
+
+/// A loop whose body is a step from the item of the loop is a step from each item of its source.
+pub fn loops_of_steps_are_steps()
+    ensures { LoopsOfStepsAreSteps }
+{}
+
+/// In document order, the children of nodes and of all their descendants are the descendants of the nodes: `E//name` is a step along
+/// the descendant axis from each node of `E` (XQuery 1.0, section 3.2).
+pub fn slashes_are_descendants()
+    ensures { SlashesAreDescendants }
 {}

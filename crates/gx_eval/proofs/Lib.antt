@@ -1,8 +1,11 @@
+pub mod AtHand
 pub mod LaterItems
 pub mod Operands
 pub mod NodeOperators
 pub mod Resuming
+pub mod Alone
 pub mod BlockResuming
 pub mod Ranges
 pub mod Globals
 pub mod Picked
+pub mod ManySteps

@@ -47,7 +47,7 @@ fails_through o next Memory h = tt
 pub fails_also : (e : Failure) (o p : Outcome Items) → o ≡ p → FailsSo e p → FailsSo e o
 fails_also e o p h f = subst (FailsSo e) (sym h) f
 
-after_after : {R S : Type 0} (o : Outcome R) (make : R → Forest → Outcome S) (next : S → Forest → Outcome Items) → after o (λ x f. after (make x f) next) ≡ after (after o make) next
+pub after_after : {R S : Type 0} (o : Outcome R) (make : R → Forest → Outcome S) (next : S → Forest → Outcome Items) → after o (λ x f. after (make x f) next) ≡ after (after o make) next
 after_after (gives x f) make next = refl
 after_after (raises code) make next = refl
 after_after wrong make next = refl
@@ -119,6 +119,13 @@ one_at_hand k operator operand bindings forest xs answer e h = hand_is k operato
 pub one_fails_at_hand : (k : Context) (operator : Single) (operand : Denotation) (bindings : Bindings) (forest : Forest) (xs : Items) (e : Failure) → operand bindings forest ≡ gives xs forest
     → FailsSo e (acts k (single_operator operator) (xs ∷ []) forest) → FailsSo e (denoted k (single_operator operator) (operand ∷ []) bindings forest)
 one_fails_at_hand k operator operand bindings forest xs e h f = subst (FailsSo e) (sym (hand_is k operator operand bindings forest xs h)) f
+
+-- both operands of an operator at hand
+pub both_are : (k : Context) (forest : Forest) (operator : BinaryOp) (left right : Denotation) (xs ys : Items) (bindings : Bindings) → left bindings forest ≡ gives xs forest → right bindings forest ≡ gives ys forest
+    → denoted k (operators.Binary operator) (left ∷ right ∷ []) bindings forest ≡ binary_meaning (class_of operator) xs ys forest
+both_are k forest operator left right xs ys bindings e h =
+    ap (λ (o : Outcome Items). after (after o (λ value now. after (all_of (right ∷ []) bindings now) (λ values last. gives (value ∷ values) last))) (acts k (operators.Binary operator))) e
+    ∙ ap (λ (o : Outcome Items). after (after (after o (λ value now. gives (value ∷ []) now)) (λ values last. gives (xs ∷ values) last)) (acts k (operators.Binary operator))) h
 
 -- an answer goes behind the values
 pub answer_behind : (o : Outcome Items) (forest : Forest) (values answer : Items) (next : Rest) → o ≡ gives answer forest → next (values ++ answer) forest ≡ after o (λ more left. next (values ++ more) left)
@@ -483,7 +490,7 @@ let_opens_at k forest variable value body work values first stacks bindings h =
 -- ---- loops
 
 -- the values that are there stand before those of the turns
-turns_behind : (step : ℕ → Item → Forest → Outcome Items) (number : ℕ) (done front xs : Items) (forest : Forest)
+pub turns_behind : (step : ℕ → Item → Forest → Outcome Items) (number : ℕ) (done front xs : Items) (forest : Forest)
     → for_each step number (done ++ front) xs forest ≡ after (for_each step number front xs forest) (λ more left. gives (done ++ more) left)
 turns_behind step number done front [] forest = refl
 turns_behind step number done front (x ∷ xs) forest = one_turn (step number x forest) (λ more f. turns_behind step (suc number) done (front ++ more) xs f)

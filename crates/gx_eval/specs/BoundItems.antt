@@ -7,7 +7,7 @@ use Rattle.gx_store.specs.Items.{item_in, items_in}
 use Rattle.gx_eval.specs.declared.bound.Bound.{Bound}
 use Rattle.gx_eval.specs.declared.bound.Bound.TheVariants.{One, Many}
 use Rattle.gx_eval.specs.declared.hand.AtHand.{AtHand}
-use Rattle.gx_eval.specs.declared.hand.AtHand.TheVariants.{Literal, There}
+use Rattle.gx_eval.specs.declared.hand.AtHand.TheVariants.{One as OneAtHand, There}
 
 abbrev pub bound_items : Forest → Bound → Items
 bound_items later (One item) = item_in later item ∷ []
@@ -19,5 +19,5 @@ items_of later = map (λ binding. (binding.0, bound_items later binding.1))
 
 -- the items of a value at hand
 abbrev pub hand_items : Forest → AtHand → Items
-hand_items later (Literal item) = item_in later item ∷ []
+hand_items later (OneAtHand item) = item_in later item ∷ []
 hand_items later (There items) = items_in later items.now

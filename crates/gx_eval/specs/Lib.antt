@@ -1,8 +1,10 @@
 pub mod Failing
 pub mod OneItem
 pub mod OrderedItems
+pub mod StepPaths
 pub mod BoundItems
 pub mod Answering
 pub mod Operators
+pub mod StepLoops
 pub mod FoundTuples
 pub mod Resume

@@ -13,6 +13,7 @@ use Rattle.gx_core.specs.Comparing.{truth_value, condition_of}
 use Rattle.gx_core.specs.Outcome.{Outcome, gives, wrong, after, given}
 use Rattle.gx_core.specs.Meaning.{Context, Bindings, Denotation, acts, branch, switched, for_each, item_bound, decides, any_decides, meaning}
 use Rattle.gx_core.specs.Soundness.{TypedExpression}
+use Rattle.gx_core.specs.PathLaws.{stepped_from_each}
 use Rattle.gx_store.specs.Items.{items_in}
 use Rattle.gx_store.specs.Places.{node_places}
 pub use Rattle.gx_eval.specs.BoundItems.{items_of}
@@ -20,7 +21,7 @@ pub use Rattle.gx_eval.specs.FoundTuples.{Stacks, with_sources}
 use Rattle.gx_eval.specs.FoundTuples.{found_in, none_found, block_resumed}
 use Rattle.gx_eval.specs.Operators.{single_operator, changing_operator}
 use Rattle.gx_eval.specs.declared.evaluation.Pending.{Pending}
-use Rattle.gx_eval.specs.declared.evaluation.Pending.TheVariants.{Evaluate, Change, Single as Operate, Right, Binary, Choose, Switch, Mark, Call, Gather, Each, Decide, Bind, Unbind, Declare, External, Block, UnbindAll}
+use Rattle.gx_eval.specs.declared.evaluation.Pending.TheVariants.{Evaluate, Change, Steps, Single as Operate, Right, Binary, Choose, Switch, Mark, Call, Gather, Each, Decide, Bind, Unbind, Declare, External, Block, UnbindAll}
 use Rattle.gx_eval.specs.declared.evaluation.Evaluation.{Evaluation}
 use Rattle.gx_eval.specs.declared.looping.Loop.{Loop}
 use Rattle.gx_eval.specs.declared.looping.Loop.TheVariants.{For, Search}
@@ -102,6 +103,8 @@ resume k (Evaluate e ∷ work) values stacks bindings forest =
     after (meaning k e.now bindings forest) (λ more left. resume k work (values ++ more) stacks bindings left)
 resume k (Change operator first ∷ work) values stacks bindings forest =
     operated k (changing_operator operator) (drop first values ∷ []) (take first values) forest (λ vs left. resume k work vs stacks bindings left)
+resume k (Steps axis asks first ∷ work) values stacks bindings forest =
+    after (stepped_from_each k.schemas axis asks.now (take first values) (drop first values) forest) (λ vs left. resume k work vs stacks bindings left)
 resume k (Operate operator first ∷ work) values stacks bindings forest =
     operated k (single_operator operator) (drop first values ∷ []) (take first values) forest (λ vs left. resume k work vs stacks bindings left)
 resume k (Right operator first right ∷ work) values stacks bindings forest =

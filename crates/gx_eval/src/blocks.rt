@@ -12,15 +12,14 @@ ghost use Rattle.gx_eval.specs.Resume.{items_of, outcome_of, outcome_behind, out
 ghost use Rattle.gx_eval.specs.declared.blocks.Step.TheVariants as steps;
 ghost use Rattle.gx_eval.specs.declared.evaluation.Pending.TheVariants as work;
 
-use crate::bound::Bound;
+use crate::bound::take_bound;
 use crate::evaluation::{Evaluation, Pending};
 use crate::failure::Failure;
 use crate::looping::{bind_item, unbind_item};
-use crate::operand::{condition_of, count_of, cut_off, move_behind, split_at, values_from};
+use crate::operand::{condition_of, count_of, cut_off, move_from, values_from};
 use crate::tuples::{bind_row, elements_from, innermost, key_of, numbers_in_order, row_at};
 use gx_core::expression::{Clause, TypedClause, TypedExpr, TypedKey};
 use std::alloc::{AllocError, Global};
-use std::rc::Rc;
 
 // The clauses of a block that are left, its keys, what is returned, and how many innermost bindings are those of the clauses before.
 #[derive(Clone, Copy)]
@@ -184,8 +183,7 @@ impl<'a> Evaluation<'a> {
         ensures { (k : Context) (forest later : PlainForest) → OnOk result (outcome_of k forest later self.new ≡ outcome_with k forest later (work.Block (steps.Gather variable position first) tail.entry) self.old) }
     {
         let start = count_of(&self.sources);
-        let source = split_at(alloc, &mut self.values, first)?;
-        move_behind(source, &mut self.sources)?;
+        move_from(alloc, &mut self.values, first, &mut self.sources)?;
         let each = Step::Each {
             variable,
             position,
@@ -239,9 +237,8 @@ impl<'a> Evaluation<'a> {
     ) -> Result<(), AllocError>
         ensures { (k : Context) (forest later : PlainForest) → OnOk result (outcome_of k forest later self.new ≡ outcome_with k forest later (work.Block (steps.Assign variable first) tail.entry) self.old) }
     {
-        let value = split_at(alloc, &mut self.values, first)?;
-        let shared = Rc::new(alloc, value)?;
-        self.scope.bind(variable, Bound::Many(shared))?;
+        let bound = take_bound(alloc, &mut self.values, first)?;
+        self.scope.bind(variable, bound)?;
         self.work.push(Pending::Unbind)?;
         self.work.push(Pending::Block(Step::Walk, tail))
     }
@@ -373,7 +370,7 @@ fn bound_by(clause: &TypedClause) -> usize
 }
 
 // How many variables a turn of a loop binds.
-fn bound_in_turn(position: u32) -> usize
+pub(crate) fn bound_in_turn(position: u32) -> usize
     ensures { result ≡ bound_in_turn position }
 {
     if position == 0 { 1 } else { 2 }

@@ -1,12 +1,13 @@
 // What a variable is bound to.
 
-ghost use Rattle.std.specs.Prelude.{◌≡◌, IfOk};
+ghost use Rattle.std.specs.Prelude.{◌≡◌, IfOk, OnOk, take, drop};
 ghost use Rattle.gx_model.specs.Forest.{Forest as PlainForest};
 ghost use Rattle.gx_store.specs.Items.{items_in};
 ghost use Rattle.gx_eval.specs.BoundItems.{bound_items};
 
+use crate::operand::{pop_only, split_at};
 use gx_store::item::Item;
-use std::alloc::AllocError;
+use std::alloc::{AllocError, Global};
 use std::rc::Rc;
 use std::slice;
 
@@ -35,4 +36,20 @@ impl Bound {
             Bound::Many(items) => Ok(Bound::Many(items.clone()?)),
         }
     }
+}
+
+// Takes the values from a number of them on, to be bound.
+pub(crate) fn take_bound(
+    alloc: Global,
+    values: &mut Vec<Item>,
+    first: usize,
+) -> Result<Bound, AllocError>
+    ensures front { (later : PlainForest) → OnOk result (items_in later values.new.items ≡ take first (items_in later values.old.items)) }
+    ensures bound { (later : PlainForest) → IfOk result (λ bound. bound_items later bound ≡ drop first (items_in later values.old.items)) }
+{
+    if let Some(item) = pop_only(values, first) {
+        return Ok(Bound::One(item));
+    }
+    let value = split_at(alloc, values, first)?;
+    Ok(Bound::Many(Rc::new(alloc, value)?))
 }

@@ -19,7 +19,7 @@ ghost use Rattle.gx_eval.specs.declared.looping.Loop.TheVariants as loops;
 
 use crate::answer::{Answer, of_two, put};
 use crate::blocks::{Step, Tail};
-use crate::bound::Bound;
+use crate::bound::{Bound, take_bound};
 use crate::calling::called_with_none;
 use crate::change::{Change, change_values};
 use crate::failure::Failure;
@@ -27,8 +27,7 @@ use crate::hand::at_hand;
 use crate::looping::{Loop, bind_item, decides, unbind_item};
 use crate::nodes::{append_nodes, stepped};
 use crate::operand::{
-    append_all, condition_of, count_of, cut_at, cut_off, move_behind, push_atom, split_at,
-    values_from,
+    append_all, condition_of, count_of, cut_at, cut_off, move_from, push_atom, values_from,
 };
 use crate::single::{Single, of_one};
 use crate::switching::is_instance;
@@ -48,7 +47,7 @@ use std::mem;
 use std::rc::Rc;
 
 // A piece of work. A number is that of the values before an operand: to evaluate an expression, behind the values that are
-// there; to change an operand where it stands; to apply an operator of one operand; to evaluate the right operand of an operator,
+// there; to change an operand where it stands; to put what a step from each node of an operand gives in its place; to apply an operator of one operand; to evaluate the right operand of an operator,
 // whose left one is there; to apply an operator of two operands; to choose the first of two branches where the operand is true,
 // and else the second; to choose the branch of the first case whose type the operand is of, or of the default; to mark where an argument begins; to call a function of two arguments and so many more, behind the last
 // marks; to put the items of an operand aside for a loop; to repeat the body of a loop for each item that was put aside from the
@@ -60,6 +59,7 @@ use std::rc::Rc;
 pub(crate) enum Pending<'a> {
     Evaluate(&'a TypedExpr),
     Change(Change, usize),
+    Steps(Axis, &'a Test, usize),
     Single(Single<'a>, usize),
     Right(BinaryOp, usize, &'a TypedExpr),
     Binary(BinaryOp, usize, usize),
@@ -138,11 +138,14 @@ impl<'a> Evaluation<'a> {
             Pending::Change(operator, first) => {
                 self.apply_change(alloc, schemas, store, operator, first)
             },
+            Pending::Steps(axis, test, first) => {
+                self.apply_steps(alloc, schemas, store, axis, test, first)
+            }
             Pending::Single(operator, first) => {
                 self.apply_single(alloc, schemas, store, operator, first)
             }
             Pending::Right(operator, first, right) => {
-                self.open_right(alloc, store, operator, first, right)
+                self.open_right(alloc, schemas, store, operator, first, right)
             }
             Pending::Binary(operator, first, second) => {
                 self.apply_binary(alloc, store, operator, first, second)
@@ -203,12 +206,7 @@ impl<'a> Evaluation<'a> {
             Form::Empty => Ok(()),
             Form::Seq(left, right) => Ok(self.open_part(left, Pending::Evaluate(right))?),
             Form::For(binder, position, source, body) => {
-                let repeated = Loop::For {
-                    variable: binder.variable,
-                    position: *position,
-                    number: 1,
-                };
-                Ok(self.open_part(source, Pending::Gather(repeated, first, body))?)
+                Ok(self.open_loop(binder, *position, source, body)?)
             }
             Form::SomeIn(binder, source, test) => {
                 let repeated = Loop::Search {
@@ -243,7 +241,7 @@ impl<'a> Evaluation<'a> {
                 self.append_step(schemas, store, *axis, test, *number)
             }
             Form::Nodes(operand) => Ok(self.open_change(Change::Nodes, operand)?),
-            Form::Order(operand) => Ok(self.open_change(Change::Order, operand)?),
+            Form::Order(operand) => Ok(self.open_ordered(operand)?),
             Form::Nth(operand, number, reverse) => {
                 Ok(self.open_change(Change::Nth(*number, *reverse), operand)?)
             }
@@ -257,7 +255,7 @@ impl<'a> Evaluation<'a> {
             }
             Form::Neg(operand) => { self.open_single(alloc, schemas, store, Single::Neg, operand) }
             Form::Binary(operator, left, right) => {
-                Ok(self.open_part(left, Pending::Right(*operator, first, right))?)
+                self.open_binary(alloc, schemas, store, *operator, left, right)
             }
             Form::Switch(operand, cases, default, branches) => {
                 let chosen = Pending::Switch {
@@ -323,7 +321,7 @@ impl<'a> Evaluation<'a> {
         ensures fits { IfOk result (λ found. IfSome found AnswerFits) }
         ensures failed { let k = context_over schemas.now in (later : PlainForest) → Extends store.now later → IfErr result (λ e. FailsSo e (denoted k (single_operator operator.entry) (meaning k operand.now ∷ []) (items_of later self.now.scope) store.now)) }
     {
-        match at_hand(&self.scope, operand)? {
+        match at_hand(schemas, store, &self.scope, operand)? {
             Some(hand) => Ok(Some(of_one(alloc, schemas, store, operator, hand.as_slice())?)),
             None => Ok(None),
         }
@@ -333,18 +331,19 @@ impl<'a> Evaluation<'a> {
     fn right_at_hand(
         &self,
         alloc: Global,
+        schemas: &Schemas,
         store: &Store,
         operator: BinaryOp,
         first: usize,
         right: &TypedExpr,
     ) -> Result<Option<Answer>, Failure>
-        ensures value { (k : Context) (later : PlainForest) → Extends store.now later → IfOk result (λ found. IfSome found (λ r.
+        ensures value { let k = context_over schemas.now in (later : PlainForest) → Extends store.now later → IfOk result (λ found. IfSome found (λ r.
             right_meaning k operator first right.now (items_in later self.now.values.items) (items_of later self.now.scope) store.now ≡ gives (answer_items later r) store.now)) }
         ensures fits { IfOk result (λ found. IfSome found AnswerFits) }
-        ensures failed { (k : Context) (later : PlainForest) → Extends store.now later → IfErr result (λ e. FailsSo e (right_meaning k operator first right.now (items_in later self.now.values.items) (items_of later self.now.scope) store.now)) }
+        ensures failed { let k = context_over schemas.now in (later : PlainForest) → Extends store.now later → IfErr result (λ e. FailsSo e (right_meaning k operator first right.now (items_in later self.now.values.items) (items_of later self.now.scope) store.now)) }
     {
         let left = values_from(&self.values, first);
-        match at_hand(&self.scope, right)? {
+        match at_hand(schemas, store, &self.scope, right)? {
             Some(hand) => Ok(Some(of_two(alloc, store, operator.class(), left, hand.as_slice())?)),
             None => Ok(None),
         }
@@ -372,19 +371,73 @@ impl<'a> Evaluation<'a> {
         Ok(self.work.push(Pending::Evaluate(operand))?)
     }
 
+    // An operator of two operands is applied at once where both are at hand.
+    fn open_binary(
+        &mut self,
+        alloc: Global,
+        schemas: &Schemas,
+        store: &Store,
+        operator: BinaryOp,
+        left: &'a TypedExpr,
+        right: &'a TypedExpr,
+    ) -> Result<(), Failure>
+        ensures value { let k = context_over schemas.now in (later : PlainForest) → Extends store.now later → OnOk result (outcome_of k store.now later self.new
+            ≡ outcome_behind k later (denoted k (operators.Binary operator) (meaning k left.now ∷ meaning k right.now ∷ []) (items_of later self.old.scope) store.now) self.old) }
+        ensures failed { let k = context_over schemas.now in (later : PlainForest) → Extends store.now later → IfErr result (λ e. FailsSo e
+            (outcome_behind k later (denoted k (operators.Binary operator) (meaning k left.now ∷ meaning k right.now ∷ []) (items_of later self.old.scope) store.now) self.old)) }
+    {
+        if let Some(answer) = self.both_at_hand(alloc, schemas, store, operator, left, right)? {
+            return Ok(put(answer, &mut self.values)?);
+        }
+        let first = count_of(&self.values);
+        Ok(self.open_part(left, Pending::Right(operator, first, right))?)
+    }
+
+    // What an operator makes of two operands, where both are at hand.
+    fn both_at_hand(
+        &self,
+        alloc: Global,
+        schemas: &Schemas,
+        store: &Store,
+        operator: BinaryOp,
+        left: &TypedExpr,
+        right: &TypedExpr,
+    ) -> Result<Option<Answer>, Failure>
+        ensures value { let k = context_over schemas.now in (later : PlainForest) → Extends store.now later → IfOk result (λ found. IfSome found (λ r.
+            denoted k (operators.Binary operator) (meaning k left.now ∷ meaning k right.now ∷ []) (items_of later self.now.scope) store.now ≡ gives (answer_items later r) store.now)) }
+        ensures fits { IfOk result (λ found. IfSome found AnswerFits) }
+        ensures failed { let k = context_over schemas.now in (later : PlainForest) → Extends store.now later → IfErr result (λ e. FailsSo e
+            (denoted k (operators.Binary operator) (meaning k left.now ∷ meaning k right.now ∷ []) (items_of later self.now.scope) store.now)) }
+    {
+        let Some(first) = at_hand(schemas, store, &self.scope, left)? else {
+            return Ok(None);
+        };
+        match at_hand(schemas, store, &self.scope, right)? {
+            Some(second) => Ok(Some(of_two(
+                alloc,
+                store,
+                operator.class(),
+                first.as_slice(),
+                second.as_slice(),
+            )?)),
+            None => Ok(None),
+        }
+    }
+
     // The operator of a left operand that is there is applied at once where the right one is at hand.
     fn open_right(
         &mut self,
         alloc: Global,
+        schemas: &Schemas,
         store: &Store,
         operator: BinaryOp,
         first: usize,
         right: &'a TypedExpr,
     ) -> Result<(), Failure>
-        ensures value { (k : Context) (later : PlainForest) → Extends store.now later → OnOk result (outcome_of k store.now later self.new ≡ outcome_with k store.now later (work.Right operator first right.entry) self.old) }
-        ensures failed { (k : Context) (later : PlainForest) → Extends store.now later → IfErr result (λ e. FailsSo e (outcome_with k store.now later (work.Right operator first right.entry) self.old)) }
+        ensures value { let k = context_over schemas.now in (later : PlainForest) → Extends store.now later → OnOk result (outcome_of k store.now later self.new ≡ outcome_with k store.now later (work.Right operator first right.entry) self.old) }
+        ensures failed { let k = context_over schemas.now in (later : PlainForest) → Extends store.now later → IfErr result (λ e. FailsSo e (outcome_with k store.now later (work.Right operator first right.entry) self.old)) }
     {
-        if let Some(answer) = self.right_at_hand(alloc, store, operator, first, right)? {
+        if let Some(answer) = self.right_at_hand(alloc, schemas, store, operator, first, right)? {
             cut_off(&mut self.values, first);
             return Ok(put(answer, &mut self.values)?);
         }
@@ -482,8 +535,7 @@ impl<'a> Evaluation<'a> {
         ensures { (k : Context) (forest later : PlainForest) → OnOk result (outcome_of k forest later self.new ≡ outcome_with k forest later (work.Gather repeated first body.entry) self.old) }
     {
         let start = count_of(&self.sources);
-        let source = split_at(alloc, &mut self.values, first)?;
-        move_behind(source, &mut self.sources)?;
+        move_from(alloc, &mut self.values, first, &mut self.sources)?;
         self.work.push(Pending::Each(repeated, start, start, body))?;
         Ok(())
     }
@@ -624,9 +676,8 @@ impl<'a> Evaluation<'a> {
     ) -> Result<(), AllocError>
         ensures { (k : Context) (forest later : PlainForest) → OnOk result (outcome_of k forest later self.new ≡ outcome_with k forest later (work.Bind variable first body.entry) self.old) }
     {
-        let value = split_at(alloc, &mut self.values, first)?;
-        let shared = Rc::new(alloc, value)?;
-        self.scope.bind(variable, Bound::Many(shared))?;
+        let bound = take_bound(alloc, &mut self.values, first)?;
+        self.scope.bind(variable, bound)?;
         self.work.push(Pending::Unbind)?;
         self.work.push(Pending::Evaluate(body))?;
         Ok(())

@@ -7,6 +7,7 @@ ghost use Rattle.gx_core.specs.Meaning.{Context, Bindings, decides, item_bound};
 ghost use Rattle.gx_store.specs.Items.{item_in};
 ghost use Rattle.gx_eval.specs.Resume.{Stacks, items_of, resume};
 
+use crate::blocks::bound_in_turn;
 use crate::bound::Bound;
 use crate::evaluation::Pending;
 use gx_base::stack::Stack;
@@ -60,9 +61,5 @@ pub(crate) fn unbind_item(work: &mut Stack<Pending<'_>>, position: u32) -> Resul
     ensures { (k : Context) (values : Items) (stacks : Stacks) (variable number : ℕ) (x : PlainItem) (bindings : Bindings) (forest : PlainForest)
         → OnOk result (resume k work.new values stacks (item_bound variable position number x ++ bindings) forest ≡ resume k work.old values stacks bindings forest) }
 {
-    work.push(Pending::Unbind)?;
-    if position != 0 {
-        work.push(Pending::Unbind)?;
-    }
-    Ok(())
+    work.push(Pending::UnbindAll(bound_in_turn(position)))
 }

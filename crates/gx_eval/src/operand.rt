@@ -1,6 +1,6 @@
 // The items of an operand.
 
-ghost use Rattle.std.specs.Prelude.{◌≡◌, ◌++◌, ◌∷◌, [], length, OnOk, IfOk, take, drop, option_copied, option_map, MatchOption, Some, None};
+ghost use Rattle.std.specs.Prelude.{◌≡◌, ◌++◌, ◌∷◌, [], length, OnOk, IfOk, take, drop, option_copied, option_map, MatchOption, Some, None, IfSome, IsSome, IsNone};
 ghost use Rattle.std.specs.List.{list_all, list_any};
 ghost use Rattle.gx_model.specs.Forest.{Forest as PlainForest};
 ghost use Rattle.gx_model.specs.Item.{atom};
@@ -154,6 +154,38 @@ pub(crate) fn split_at(
     } else {
         Ok(Vec::new(alloc))
     }
+}
+
+// Takes the value that is alone from a number of them on; where none is, or more are, all stay.
+pub(crate) fn pop_only(values: &mut Vec<Item>, number: usize) -> Option<Item>
+    ensures alone { (later : PlainForest) → IfSome result (λ item. drop number (items_in later values.old.items) ≡ item_in later item ∷ []) }
+    ensures front { (later : PlainForest) → IsSome result → items_in later values.new.items ≡ take number (items_in later values.old.items) }
+    ensures kept { IsNone result → values.new.items ≡ values.old.items }
+{
+    if values_from(values, number).len() != 1 {
+        return None;
+    }
+    let Some(item) = values.pop() else {
+        return None;
+    };
+    Some(item)
+}
+
+// Moves the values from a number of them on behind others.
+pub(crate) fn move_from(
+    alloc: Global,
+    values: &mut Vec<Item>,
+    number: usize,
+    others: &mut Vec<Item>,
+) -> Result<(), AllocError>
+    ensures front { (later : PlainForest) → OnOk result (items_in later values.new.items ≡ take number (items_in later values.old.items)) }
+    ensures moved { (later : PlainForest) → OnOk result (items_in later others.new.items ≡ items_in later others.old.items ++ drop number (items_in later values.old.items)) }
+{
+    if let Some(item) = pop_only(values, number) {
+        return Ok(others.push(item)?);
+    }
+    let taken = split_at(alloc, values, number)?;
+    move_behind(taken, others)
 }
 
 // Adds an atomic value behind the values.

@@ -160,11 +160,11 @@ self_is_found p from t = sym (self_filtered p from.path from.attribute t)
 
 -- the parent
 
-not_both : (b : Bool) → (b && false) ≡ false
+pub not_both : (b : Bool) → (b && false) ≡ false
 not_both true = refl
 not_both false = refl
 
-nat_symmetric : (m n : ℕ) → nat_eq m n ≡ nat_eq n m
+pub nat_symmetric : (m n : ℕ) → nat_eq m n ≡ nat_eq n m
 nat_symmetric m n = symmetric_if m n (nat_eq m n) refl
   where
     symmetric_if : (m n : ℕ) (b : Bool) → nat_eq m n ≡ b → nat_eq m n ≡ nat_eq n m

@@ -4,6 +4,7 @@ pub mod ListLemmas
 pub mod OrderLemmas
 pub mod ListedNodes
 pub mod Ordering
+pub mod DescendantLemmas
 pub mod LocationLemmas
 pub mod AxisLemmas
 pub mod SearchLemmas

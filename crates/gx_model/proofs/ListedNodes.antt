@@ -146,19 +146,19 @@ hit_in f make hit m same other k (suc n) (x ∷ xs) e =
     ∙ ap (λ (b : Bool). b || list_any f (numbered make (suc k) xs)) (other k x (λ g. absurd (omega (arith, e, g))))
     ∙ hit_in f make hit m same other (suc k) n xs (omega (arith, e))
 
-any_mapped : {A B : Type 0} (f : B → Bool) (g : A → B) (xs : List A) → list_any f (map g xs) ≡ list_any (λ x. f (g x)) xs
+pub any_mapped : {A B : Type 0} (f : B → Bool) (g : A → B) (xs : List A) → list_any f (map g xs) ≡ list_any (λ x. f (g x)) xs
 any_mapped f g [] = refl
 any_mapped f g (x ∷ xs) = ap (λ (b : Bool). f (g x) || b) (any_mapped f g xs)
 
-any_agrees : {A : Type 0} (f g : A → Bool) → ((x : A) → f x ≡ g x) → (xs : List A) → list_any f xs ≡ list_any g xs
+pub any_agrees : {A : Type 0} (f g : A → Bool) → ((x : A) → f x ≡ g x) → (xs : List A) → list_any f xs ≡ list_any g xs
 any_agrees f g h [] = refl
 any_agrees f g h (x ∷ xs) = ap (λ (b : Bool). b || list_any f xs) (h x) ∙ ap (λ (b : Bool). g x || b) (any_agrees f g h xs)
 
-any_never : {A : Type 0} (f : A → Bool) → ((x : A) → f x ≡ false) → (xs : List A) → list_any f xs ≡ false
+pub any_never : {A : Type 0} (f : A → Bool) → ((x : A) → f x ≡ false) → (xs : List A) → list_any f xs ≡ false
 any_never f h [] = refl
 any_never f h (x ∷ xs) = ap (λ (b : Bool). b || list_any f xs) (h x) ∙ any_never f h xs
 
-abbrev same_location : List ℕ → Option ℕ → Location → Bool
+abbrev pub same_location : List ℕ → Option ℕ → Location → Bool
 same_location path place to = pointwise nat_eq path to.path && same_position place to.attribute
 
 abbrev child_part : ℕ → PlainTree → List Location
@@ -215,7 +215,7 @@ then_seen : (found : Option PlainTree) (path : List ℕ) (place : Option ℕ)
 then_seen None path place = refl
 then_seen (Some u) path place = refl
 
-in_tree : (path : List ℕ) (place : Option ℕ) (t : PlainTree) → list_any (same_location path place) (all_locations t) ≡ is_some (then_found (tree_at t path) (attribute_at place))
+pub in_tree : (path : List ℕ) (place : Option ℕ) (t : PlainTree) → list_any (same_location path place) (all_locations t) ≡ is_some (then_found (tree_at t path) (attribute_at place))
 in_tree [] None t = ap (list_any (same_location [] None)) (all_are t)
 in_tree [] (Some i) t =
     ap (list_any (same_location [] (Some i))) (all_are t)

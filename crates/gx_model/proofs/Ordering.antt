@@ -17,7 +17,7 @@ use Rattle.gx_model.specs.OrderLaws.{Every, Ascends, OrderedNodesAscend}
 use Rattle.gx_model.proofs.OrderLemmas.{node_order, nodes_equal, before_when_less, before_goes_on, never_both, not_before_itself, nodes_same, node_itself, same_is_equal}
 use Rattle.gx_model.proofs.ListedNodes.{listed_where_there, nodes_ascend}
 
-abbrev is_in : PlainNode → List PlainNode → Bool
+abbrev pub is_in : PlainNode → List PlainNode → Bool
 is_in n xs = list_any (same_node n) xs
 
 -- ---- what is filtered

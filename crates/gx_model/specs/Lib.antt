@@ -7,6 +7,7 @@ pub mod Location
 pub mod DocumentOrder
 pub mod NodeOrder
 pub mod OrderLaws
+pub mod PathLaws
 pub mod NodeTest
 pub mod Axes
 pub mod TypedValue

@@ -2,6 +2,7 @@
 
 ghost use Rattle.gx_model.specs.Growth.{GrowthIsAnOrder, ValuesStay};
 ghost use Rattle.gx_model.specs.OrderLaws.{DocumentOrderIsTotal, NodesAscend, OrderedNodesAscend};
+ghost use Rattle.gx_model.specs.PathLaws.{ChildrenBelowAreDescendants};
 
 /// A forest extends itself, and what extends an extension extends the first.
 pub fn growth_is_an_order()
@@ -22,4 +23,9 @@ pub fn document_order_is_total()
 pub fn nodes_ascend()
     ensures listed { NodesAscend }
     ensures ordered { OrderedNodesAscend }
+{}
+
+/// The children of nodes and of all their descendants are the descendants of the nodes (XQuery 1.0, section 3.2).
+pub fn children_below_are_descendants()
+    ensures { ChildrenBelowAreDescendants }
 {}

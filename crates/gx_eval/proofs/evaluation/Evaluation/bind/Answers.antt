@@ -2,6 +2,7 @@ use Rattle.std.proofs.Common.{◌∷◌, List, take, ap, ◌∙◌}
 use Rattle.gx_model.specs.Item.{Items}
 use Rattle.gx_core.specs.Meaning.{Bindings}
 use Rattle.gx_store.specs.Items.{items_in}
+use Rattle.gx_eval.specs.BoundItems.{bound_items}
 use Rattle.gx_eval.specs.declared.evaluation.Pending.{Pending}
 use Rattle.gx_eval.specs.declared.evaluation.Pending.TheVariants.{Evaluate, Unbind}
 use Rattle.gx_eval.specs.Resume.{Stacks, resume, items_of, stacks_of}
@@ -11,9 +12,9 @@ pub returns : goal.returns
 returns c = λ k forest later.
     let stacks : Stacks = stacks_of later c.args.self.now in
     let bindings : Bindings = items_of later c.args.self.now.scope in
+    let front : Items = items_in later c.take_bound.new.values.items in
     let work : List Pending = Evaluate c.args.body ∷ Unbind ∷ c.args.self.now.work in
-    ap (λ (w : List Pending). resume k w (items_in later c.split_at.new.values.items) stacks (items_of later c.bind.new.self) forest) (c.in_ok-push-2.ensures.ok ∙ ap (λ (w : List Pending). Evaluate c.args.body ∷ w) c.in_ok-push.ensures.ok)
-    ∙ ap (λ scope. resume k work (items_in later c.split_at.new.values.items) stacks (items_of later scope) forest) c.in_ok-bind.ensures
-    ∙ ap (λ shared. resume k work (items_in later c.split_at.new.values.items) stacks ((c.args.variable, items_in later shared.items) ∷ bindings) forest) c.in_ok-shared.ensures.ok
-    ∙ ap (λ (v : Items). resume k work v stacks ((c.args.variable, items_in later c.in_ok-value.value.items) ∷ bindings) forest) (c.in_ok-value.ensures.front later)
-    ∙ ap (λ (v : Items). resume k work (take c.args.first (items_in later c.args.self.now.values.items)) stacks ((c.args.variable, v) ∷ bindings) forest) (c.in_ok-value.ensures.rest later)
+    ap (λ (w : List Pending). resume k w front stacks (items_of later c.bind.new.self) forest) (c.in_ok-push-2.ensures.ok ∙ ap (λ (w : List Pending). Evaluate c.args.body ∷ w) c.in_ok-push.ensures.ok)
+    ∙ ap (λ scope. resume k work front stacks (items_of later scope) forest) c.in_ok-bind.ensures
+    ∙ ap (λ (v : Items). resume k work v stacks ((c.args.variable, bound_items later c.in_ok-bound.bound) ∷ bindings) forest) (c.in_ok-bound.ensures.front later)
+    ∙ ap (λ (v : Items). resume k work (take c.args.first (items_in later c.args.self.now.values.items)) stacks ((c.args.variable, v) ∷ bindings) forest) (c.in_ok-bound.ensures.bound later)

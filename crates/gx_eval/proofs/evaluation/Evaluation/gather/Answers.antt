@@ -10,11 +10,11 @@ use Rattle.gx_eval.proofs.evaluation.Evaluation.gather.Goals as goal
 pub returns : goal.returns
 returns c = λ k forest later.
     let values : Items = items_in later c.args.self.now.values.items in
-    let front : Items = items_in later c.split_at.new.values.items in
-    let sources : Items = items_in later c.move_behind.new.values.items in
+    let front : Items = items_in later c.move_from.new.values.items in
+    let sources : Items = items_in later c.move_from.new.others.items in
     let stacks : Stacks = stacks_of later c.args.self.now in
     let bindings : Bindings = items_of later c.args.self.now.scope in
-    let moved : sources ≡ stacks.sources ++ drop c.args.first values = c.in_ok-move_behind.ensures later ∙ ap (λ (v : Items). stacks.sources ++ v) (c.in_ok-source.ensures.rest later) in
+    let moved : sources ≡ stacks.sources ++ drop c.args.first values = c.in_ok-move_from.ensures.moved later in
     ap (λ (w : List Pending). resume k w front (with_sources stacks sources) bindings forest) c.in_ok-push.ensures.ok
-    ∙ gathered_at k forest c.args.repeated (meaning k c.args.body.now) c.args.self.now.work values front sources c.args.first c.count_of-start.result stacks bindings (c.in_ok-source.ensures.front later) moved
+    ∙ gathered_at k forest c.args.repeated (meaning k c.args.body.now) c.args.self.now.work values front sources c.args.first c.count_of-start.result stacks bindings (c.in_ok-move_from.ensures.front later) moved
     (c.count_of-start.ensures later)

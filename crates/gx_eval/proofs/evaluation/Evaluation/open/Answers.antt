@@ -15,8 +15,7 @@ use Rattle.gx_store.specs.Items.{items_in}
 use Rattle.gx_eval.specs.Failing.{FailsSo}
 use Rattle.gx_eval.specs.declared.evaluation.Pending.{Pending}
 use Rattle.gx_eval.specs.Resume.{Stacks, context_over, outcome_of, outcome_behind, items_of, stacks_of, resume}
-use Rattle.gx_eval.specs.declared.looping.Loop.TheVariants as loops
-use Rattle.gx_eval.proofs.Resuming.{each_argument, binary_opens_at, conditional_opens_at, loop_opens_at, search_opens_at, let_opens_at, switch_opens}
+use Rattle.gx_eval.proofs.Resuming.{each_argument, conditional_opens_at, search_opens_at, let_opens_at, switch_opens}
 use Rattle.gx_eval.proofs.evaluation.Evaluation.open.Goals as goal
 
 pub returns-in-Var-clause-value : goal.returns-in-Var-clause-value
@@ -57,17 +56,9 @@ returns-in-Call-clause-failed c = λ later x.
     (subst (λ (parts : List Denotation). IfErr c.open_call.result (λ e. FailsSo e
     (outcome_behind k later (denoted k (operators.Call c.in-Call.function) parts (items_of later c.args.self.now.scope) c.args.store.now) c.args.self.now))) (sym (each_argument k c.as_slice.result.now)) (c.open_call.ensures.failed later x))
 
-pub returns-in_ok-open_part-in-For-clause-value : goal.returns-in_ok-open_part-in-For-clause-value
-returns-in_ok-open_part-in-For-clause-value c = λ later x.
-    let k : Context = context_over c.args.schemas.now in
-    let work : List Pending = c.args.self.now.work in
-    let values : Items = items_in later c.args.self.now.values.items in
-    let stacks : Stacks = stacks_of later c.args.self.now in
-    let bindings : Bindings = items_of later c.args.self.now.scope in
-    let there : c.count_of-first.result ≡ length values = c.count_of-first.ensures later in
-    c.in_ok-open_part-in-For.ensures k c.args.store.now later
-    ∙ rw (← c.expression.view_is, c.in-For.is, ← c.deref-in-For.ensures, ← c.deref-in-For-2.ensures)
-    (loop_opens_at k c.args.store.now (loops.For c.in-For.binder.variable c.in-For.position 1) (meaning k c.deref-in-For.result.now) (meaning k c.deref-in-For-2.result.now) work values c.count_of-first.result stacks bindings there)
+pub returns-in_ok-open_loop-in-For-clause-value : goal.returns-in_ok-open_loop-in-For-clause-value
+returns-in_ok-open_loop-in-For-clause-value c = λ later x.
+    rw (← c.expression.view_is, c.in-For.is, ← c.deref-in-For.ensures, ← c.deref-in-For-2.ensures) (c.in_ok-open_loop-in-For.ensures (context_over c.args.schemas.now) c.args.store.now later)
 
 pub returns-in_ok-open_part-in-Let-clause-value : goal.returns-in_ok-open_part-in-Let-clause-value
 returns-in_ok-open_part-in-Let-clause-value c = λ later x.
@@ -91,16 +82,11 @@ returns-in_ok-open_part-in-If-clause-value c = λ later x.
     ∙ rw (← c.expression.view_is, c.in-If.is, ← c.deref-in-If.ensures, ← c.deref-in-If-2.ensures, ← c.deref-in-If-3.ensures)
     (conditional_opens_at k c.args.store.now (meaning k c.deref-in-If.result.now) (meaning k c.deref-in-If-2.result.now) (meaning k c.deref-in-If-3.result.now) work values c.count_of-first.result stacks bindings (c.count_of-first.ensures later))
 
-pub returns-in_ok-open_part-in-Binary-clause-value : goal.returns-in_ok-open_part-in-Binary-clause-value
-returns-in_ok-open_part-in-Binary-clause-value c = λ later x.
-    let k : Context = context_over c.args.schemas.now in
-    let work : List Pending = c.args.self.now.work in
-    let values : Items = items_in later c.args.self.now.values.items in
-    let stacks : Stacks = stacks_of later c.args.self.now in
-    let bindings : Bindings = items_of later c.args.self.now.scope in
-    c.in_ok-open_part-in-Binary.ensures k c.args.store.now later
-    ∙ rw (← c.expression.view_is, c.in-Binary.is, ← c.deref-in-Binary.ensures, ← c.deref-in-Binary-2.ensures)
-    (binary_opens_at k c.args.store.now c.in-Binary.operator (meaning k c.deref-in-Binary.result.now) (meaning k c.deref-in-Binary-2.result.now) work values c.count_of-first.result stacks bindings (c.count_of-first.ensures later))
+pub returns-in-Binary-clause-value : goal.returns-in-Binary-clause-value
+returns-in-Binary-clause-value c = λ later x. rw (← c.expression.view_is, c.in-Binary.is, ← c.deref-in-Binary.ensures, ← c.deref-in-Binary-2.ensures) (c.open_binary.ensures.value later x)
+
+pub returns-in-Binary-clause-failed : goal.returns-in-Binary-clause-failed
+returns-in-Binary-clause-failed c = λ later x. rw (← c.expression.view_is, c.in-Binary.is, ← c.deref-in-Binary.ensures, ← c.deref-in-Binary-2.ensures) (c.open_binary.ensures.failed later x)
 
 pub returns-in_ok-push_atom-in-Lit-clause-value : goal.returns-in_ok-push_atom-in-Lit-clause-value
 returns-in_ok-push_atom-in-Lit-clause-value c = λ later x.

@@ -21,6 +21,12 @@ returns-in-Change-clause-value c = λ later x. rw c.in-Change.is (c.apply_change
 pub returns-in-Change-clause-failed : goal.returns-in-Change-clause-failed
 returns-in-Change-clause-failed c = λ later x. rw c.in-Change.is (c.apply_change.ensures.failed later x)
 
+pub returns-in-Steps-clause-value : goal.returns-in-Steps-clause-value
+returns-in-Steps-clause-value c = λ later x. rw c.in-Steps.is (c.apply_steps.ensures.value later x)
+
+pub returns-in-Steps-clause-failed : goal.returns-in-Steps-clause-failed
+returns-in-Steps-clause-failed c = λ later x. rw c.in-Steps.is (c.apply_steps.ensures.failed later x)
+
 pub returns-in-Single-clause-value : goal.returns-in-Single-clause-value
 returns-in-Single-clause-value c = λ later x. rw c.in-Single.is (c.apply_single.ensures.value later x)
 
@@ -28,10 +34,10 @@ pub returns-in-Single-clause-failed : goal.returns-in-Single-clause-failed
 returns-in-Single-clause-failed c = λ later x. rw c.in-Single.is (c.apply_single.ensures.failed later x)
 
 pub returns-in-Right-clause-value : goal.returns-in-Right-clause-value
-returns-in-Right-clause-value c = λ later x. rw c.in-Right.is (c.open_right.ensures.value (context_over c.args.schemas.now) later x)
+returns-in-Right-clause-value c = λ later x. rw c.in-Right.is (c.open_right.ensures.value later x)
 
 pub returns-in-Right-clause-failed : goal.returns-in-Right-clause-failed
-returns-in-Right-clause-failed c = λ later x. rw c.in-Right.is (c.open_right.ensures.failed (context_over c.args.schemas.now) later x)
+returns-in-Right-clause-failed c = λ later x. rw c.in-Right.is (c.open_right.ensures.failed later x)
 
 pub returns-in-Binary-clause-value : goal.returns-in-Binary-clause-value
 returns-in-Binary-clause-value c = λ later x. rw c.in-Binary.is (c.apply_binary.ensures.value (context_over c.args.schemas.now) later x)
