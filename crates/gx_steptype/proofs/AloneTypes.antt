@@ -1,5 +1,5 @@
 -- A declared type that is the base of none stands alone among those that are derived from it.
-use Rattle.std.proofs.Common.{◌≡◌, ℕ, zero, suc, Bool, true, false, ◌||◌, List, [], ◌∷◌, map, filter, cond, Option, None, Some, IfSome, refl, sym, ◌∙◌, ap, subst, if◌then◌else◌}
+use Rattle.std.proofs.Common.{◌≡◌, ℕ, zero, suc, Bool, true, false, ◌||◌, List, [], ◌∷◌, filter, cond, Option, None, Some, IfSome, refl, sym, ◌∙◌, ap, subst, if◌then◌else◌}
 use Rattle.std.specs.List.{list_any}
 use Rattle.std.specs.Option.{option_map}
 use Rattle.std.specs.Set.{is_member}
@@ -8,7 +8,6 @@ use Rattle.std.proofs.lemmas.List.Elements.{filter_agree}
 use Rattle.gx_base.specs.declared.type_name.Builtin.{Builtin}
 use Rattle.gx_base.specs.declared.type_name.TypeName.{TypeName}
 use Rattle.gx_base.specs.declared.type_name.TypeName.TheVariants as names
-use Rattle.gx_closure.specs.Closure.{AreAmong}
 use Rattle.gx_closure.proofs.Growing.{all_are_put, member_of_all}
 use Rattle.indexmap.specs.IndexSet.{insert_all}
 use Rattle.gx_include_derivations.specs.Derivations.{derived_types}
@@ -18,7 +17,7 @@ use Rattle.gx_types.specs.SameItemType.{same_type_name}
 use Rattle.gx_types.specs.TypeIndex.{equal_kinds}
 use Rattle.gx_types.specs.SchemaSet.{SchemaSet, names_declared, declared_types, declaration_among, declaration_of}
 use Rattle.gx_types.specs.SchemaInvariant.{IsSchemaSet, AreDistinctBy, is_built_in}
-use Rattle.gx_types.specs.Derivation.{Bases, bases_among, bases_of, declared_base_of, base_of, Leads, is_derived}
+use Rattle.gx_types.specs.Derivation.{Bases, bases_among, bases_of, declared_base_of, Leads, is_derived}
 use Rattle.gx_types.specs.EqualNames.{same_tests}
 use Rattle.gx_types.proofs.PublicLaws.{equality_is_an_equivalence}
 use Rattle.gx_types.proofs.DerivationTest.{derives_when_tested, tested_when_derives}
@@ -37,7 +36,7 @@ builtin_is_other b (names.Builtin c) p = absurd (true≢false p)
 builtin_is_other b (names.Named n) p = refl
 builtin_is_other b (names.Anonymous n) p = refl
 
-builtins_lead_nowhere : (bases : Bases) (steps : ℕ) (b : Builtin) (kind : TypeName) → is_built_in kind ≡ false → Leads bases steps (names.Builtin b) kind → ⊥
+pub builtins_lead_nowhere : (bases : Bases) (steps : ℕ) (b : Builtin) (kind : TypeName) → is_built_in kind ≡ false → Leads bases steps (names.Builtin b) kind → ⊥
 builtins_lead_nowhere bases zero b kind p h = true≢false (sym h ∙ builtin_is_other b kind p)
 builtins_lead_nowhere bases (suc steps) b kind p (base, e, r) =
     some_builtin (builtin_base_of b) base (λ t. Leads bases steps t kind) e r (λ c k. builtins_lead_nowhere bases steps c kind p k)
@@ -106,14 +105,14 @@ one_equal (x ∷ types) kind d a e = by (one_equal types kind d a.1) (same_type_
 
 -- no built-in type is declared
 
-declared_is_not_built_in : (s : SchemaSet) (kind : TypeName) (d : Declared) → IsSchemaSet s → declaration_of s kind ≡ Some d → is_built_in kind ≡ false
+pub declared_is_not_built_in : (s : SchemaSet) (kind : TypeName) (d : Declared) → IsSchemaSet s → declaration_of s kind ≡ Some d → is_built_in kind ≡ false
 declared_is_not_built_in s (names.Builtin b) d is e = let none = builtin_is_undeclared s b is in cc
 declared_is_not_built_in s (names.Named n) d is e = refl
 declared_is_not_built_in s (names.Anonymous n) d is e = refl
 
 -- the bases that are put
 
-not_true : (b : Bool) → (b ≡ true → ⊥) → b ≡ false
+pub not_true : (b : Bool) → (b ≡ true → ⊥) → b ≡ false
 not_true true h = absurd (h refl)
 not_true false h = refl
 

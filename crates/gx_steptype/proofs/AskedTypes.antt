@@ -1,7 +1,7 @@
 -- Types whose children were put.
-use Rattle.std.proofs.Common.{◌≡◌, Bool, true, false, ◌||◌, List, [], ◌∷◌, ◌++◌, map, filter, Option, None, Some, refl, sym, ◌∙◌, ap, subst, if◌then◌else◌}
+use Rattle.std.proofs.Common.{◌≡◌, Bool, true, false, ◌||◌, List, [], ◌∷◌, ◌++◌, map, refl, sym, ◌∙◌, ap, subst, if◌then◌else◌}
 use mathlib.Core.Path.{fun_ext}
-use Rattle.std.specs.List.{list_any, AllByRecursion}
+use Rattle.std.specs.List.{list_all, list_any}
 use Rattle.std.specs.Set.{is_member}
 use Rattle.std.proofs.lemmas.Bool.{true≢false}
 use Rattle.std.proofs.lemmas.List.Elements.{filter_agree}
@@ -9,23 +9,27 @@ use Rattle.indexmap.specs.IndexSet.{insert_key, insert_all}
 use Rattle.gx_base.specs.declared.type_name.TypeName.{TypeName}
 use Rattle.gx_base.specs.declared.type_name.TypeName.TheVariants as names
 use Rattle.gx_closure.specs.Closure.{AreAmong}
-use Rattle.gx_closure.proofs.Growing.{among_stay, all_are_put, all_more_hold, member_of_all}
-use Rattle.gx_types.specs.declared.declaration.Declared.{Declared}
+use Rattle.gx_closure.proofs.Growing.{among_stay, all_are_put, all_more_hold}
 use Rattle.gx_types.specs.declared.item_type.ItemType.{ItemType}
 use Rattle.gx_types.specs.EqualNames.{same_tests}
 use Rattle.gx_types.specs.SameItemType.{same_type_name, same_item_type}
 use Rattle.gx_types.specs.TypeIndex.{equal_kinds}
 use Rattle.gx_types.proofs.TypeIndexes.{equal_kinds_are}
-use Rattle.gx_types.specs.SchemaSet.{SchemaSet, declaration_of}
-use Rattle.gx_types.specs.SchemaInvariant.{IsSchemaSet, is_built_in}
+use Rattle.gx_types.specs.SchemaSet.{SchemaSet}
+use Rattle.gx_types.specs.SchemaInvariant.{IsSchemaSet}
 use Rattle.gx_types.specs.Derivation.{is_derived}
 use Rattle.gx_types.specs.Prime.{items_of}
 use Rattle.gx_types.specs.Choice.{choice_among}
 use Rattle.gx_types.specs.SequenceType.{SequenceType}
-use Rattle.gx_types.proofs.PublicLaws.{equality_is_an_equivalence, derivation_is_a_preorder, derivation_looks_at_no_prefix}
+use Rattle.gx_model.specs.NodeTest.{KindTest}
+use Rattle.gx_types.proofs.PublicLaws.{equality_is_an_equivalence, derivation_looks_at_no_prefix}
 use Rattle.gx_types.proofs.DerivationTest.{derives_when_tested, tested_when_derives}
-use Rattle.gx_steptype.specs.DerivedTypes.{listed_types, derived_among, over_derived}
-use Rattle.gx_steptype.specs.StepType.{content_of, child_content}
+use Rattle.gx_steptype.specs.DerivedTypes.{listed_types, over_derived}
+use Rattle.gx_steptype.specs.DataType.{has_value, values_of_type, value_type_of, have_values}
+use Rattle.gx_steptype.specs.KeptSteps.{tested_children}
+use Rattle.gx_steptype.specs.Replaced.{replaced_items}
+use Rattle.gx_steptype.specs.StepType.{content_of, child_content, unordered, attributes_of_type, attributes_behind, attribute_content}
+use Rattle.gx_steptype.specs.TestedType.{tested_item}
 use Rattle.gx_steptype.specs.Descent.{ArePut}
 
 -- the contents of equal types are equal
@@ -34,17 +38,42 @@ equally_derived : (s : SchemaSet) → IsSchemaSet s → (u t v : TypeName) → s
 equally_derived s is u t v h e =
     tested_when_derives s u v is.grounded (derivation_looks_at_no_prefix s u u t v (equality_is_an_equivalence.type_names.refl u) h (derives_when_tested s u t e))
 
-same_over_derived : (s : SchemaSet) → IsSchemaSet s → (t v : TypeName) → same_type_name t v ≡ true → over_derived s (content_of s) t ≡ over_derived s (content_of s) v
-same_over_derived s is t v h =
-    ap (λ ts. choice_among (map (content_of s) ts))
+same_over_derived : (s : SchemaSet) → IsSchemaSet s → (of : TypeName → SequenceType) (t v : TypeName) → same_type_name t v ≡ true → over_derived s of t ≡ over_derived s of v
+same_over_derived s is of t v h =
+    ap (λ ts. choice_among (map of ts))
     (filter_agree (λ u. is_derived s u t) (λ u. is_derived s u v)
     (λ u. same_tests (is_derived s u t) (is_derived s u v) (equally_derived s is u t v h) (equally_derived s is u v t (equality_is_an_equivalence.type_names.symm v t ∙ h))) (listed_types s))
 
 pub same_child_contents : (s : SchemaSet) → IsSchemaSet s → (t v : TypeName) → same_type_name t v ≡ true → child_content s t ≡ child_content s v
 same_child_contents s is (names.Builtin a) (names.Builtin b) h = ap (λ c. child_content s (names.Builtin c)) (equality_is_an_equivalence.builtins_are_one a b h)
-same_child_contents s is (names.Named m) (names.Named n) h = same_over_derived s is (names.Named m) (names.Named n) h
-same_child_contents s is (names.Anonymous m) (names.Anonymous n) h = same_over_derived s is (names.Anonymous m) (names.Anonymous n) h
+same_child_contents s is (names.Named m) (names.Named n) h = same_over_derived s is (content_of s) (names.Named m) (names.Named n) h
+same_child_contents s is (names.Anonymous m) (names.Anonymous n) h = same_over_derived s is (content_of s) (names.Anonymous m) (names.Anonymous n) h
 same_child_contents s is _ _ h = absurd (cc)
+
+pub same_tested_children : (s : SchemaSet) → IsSchemaSet s → (test : KindTest) (t v : TypeName) → same_type_name t v ≡ true → tested_children s test t ≡ tested_children s test v
+same_tested_children s is test t v h = ap (replaced_items (tested_item s test)) (same_child_contents s is t v h)
+
+-- and so are their attributes
+
+same_behind : (s : SchemaSet) → IsSchemaSet s → (test : KindTest) (t v : TypeName) → same_type_name t v ≡ true → attributes_behind s test t ≡ attributes_behind s test v
+same_behind s is test t v h = ap (λ (all : SequenceType). unordered test (replaced_items (tested_item s test) all)) (same_over_derived s is (attributes_of_type s) t v h)
+
+pub same_attribute_contents : (s : SchemaSet) → IsSchemaSet s → (test : KindTest) (t v : TypeName) → same_type_name t v ≡ true → attribute_content s test t ≡ attribute_content s test v
+same_attribute_contents s is test (names.Builtin a) (names.Builtin b) h = ap (λ c. attribute_content s test (names.Builtin c)) (equality_is_an_equivalence.builtins_are_one a b h)
+same_attribute_contents s is test (names.Named m) (names.Named n) h = same_behind s is test (names.Named m) (names.Named n) h
+same_attribute_contents s is test (names.Anonymous m) (names.Anonymous n) h = same_behind s is test (names.Anonymous m) (names.Anonymous n) h
+same_attribute_contents s is test _ _ h = absurd (cc)
+
+-- and their typed values
+
+pub same_data : (s : SchemaSet) → IsSchemaSet s → (t v : TypeName) → same_type_name t v ≡ true → over_derived s (value_type_of s) t ≡ over_derived s (value_type_of s) v
+same_data s is t v h = same_over_derived s is (value_type_of s) t v h
+
+pub same_have_values : (s : SchemaSet) → IsSchemaSet s → (t v : TypeName) → same_type_name t v ≡ true → have_values s t ≡ have_values s v
+same_have_values s is t v h =
+    ap (list_all (λ u. has_value (values_of_type s u)))
+    (filter_agree (λ u. is_derived s u t) (λ u. is_derived s u v)
+    (λ u. same_tests (is_derived s u t) (is_derived s u v) (equally_derived s is u t v h) (equally_derived s is u v t (equality_is_an_equivalence.type_names.symm v t ∙ h))) (listed_types s))
 
 -- where a type was asked, its children are there
 

@@ -1,5 +1,5 @@
 -- The item types of descendants are the least closed list.
-use Rattle.std.proofs.Common.{◌≡◌, ℕ, Bool, true, false, ◌||◌, List, [], ◌∷◌, ◌++◌, map, cond, None, Some, Result, Ok, Err, IfOk, OnOk, refl, sym, ◌∙◌, ap, subst, if◌then◌else◌}
+use Rattle.std.proofs.Common.{◌≡◌, ℕ, Bool, true, false, ◌||◌, List, [], ◌∷◌, ◌++◌, map, cond, None, Some, Result, Ok, Err, OnOk, refl, sym, ◌∙◌, ap, subst, if◌then◌else◌}
 use Rattle.std.specs.List.{slice_get, list_any, flat_map, AllByRecursion}
 use Rattle.std.specs.Set.{is_member}
 use Rattle.std.proofs.lemmas.List.Folds.{list_any-append}
@@ -141,11 +141,6 @@ unfolding descendant_kinds
 descendant_kinds_hold s kind P begins step =
     as_each P (descendant_kinds s kind)
     (closure_keeps same_item_type (grandchild_kinds s) P (child_kinds s kind ++ all_child_kinds s) (child_kinds s kind) (as_all P (child_kinds s kind) begins) (λ other h. as_all P (grandchild_kinds s other) (step other h)))
-
--- the item types of a type that is answered
-pub items_are_answered : {E : Type 0} (r : Result SequenceType E) (content : SequenceType) (kinds : List ItemType) → items_of content ≡ kinds → IfOk r (λ t. t ≡ content) → IfOk r (λ t. items_of t ≡ kinds)
-items_are_answered (Ok t) content kinds e h = ap items_of h ∙ e
-items_are_answered (Err x) content kinds e h = tt
 
 -- what is put behind the item types that are found, for the one at a place
 pub successors_are_put : {X E : Type 0} (r : Result X E) (s : SchemaSet) (found new : List ItemType) (at : ℕ) (kind : ItemType) (content : List ItemType) → slice_get found at ≡ Some kind → content ≡ grandchild_kinds s kind

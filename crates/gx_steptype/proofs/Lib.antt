@@ -3,6 +3,7 @@ pub mod SameNames
 pub mod Replacing
 pub mod Declarations
 pub mod AloneTypes
+pub mod ListedTypes
 pub mod ReadValues
 pub mod UntypedKinds
 pub mod CoveredTypes
@@ -22,7 +23,7 @@ pub mod ChildTypes
 pub mod AttributeTypes
 pub mod NearSteps
 pub mod AskedTypes
-pub mod KnownChildren
+pub mod KeptTypes
 pub mod DescendantKinds
 pub mod FarSteps
 pub mod StepTypes

@@ -1,5 +1,5 @@
 -- A choice of item types of nodes is a type of one node.
-use Rattle.std.proofs.Common.{◌≡◌, true, Option, None, Some, is_some, List, [], ◌∷◌, inl, inr, refl, sym, ◌∙◌}
+use Rattle.std.proofs.Common.{◌≡◌, true, Option, None, Some, is_some, List, [], ◌∷◌, inl, inr, refl}
 use Rattle.gx_base.specs.declared.name.Name.{Name}
 use Rattle.gx_base.specs.declared.type_name.Builtin.{Builtin}
 use Rattle.gx_base.specs.declared.type_name.Builtin.TheVariants.{AnyType, AnySimple}

@@ -15,7 +15,7 @@ use Rattle.gx_types.specs.SchemaSet.{SchemaSet, declaration_of}
 use Rattle.gx_types.specs.SchemaInvariant.{is_nameable, is_atomic_content, item_of_list, is_simple_content, content_is, is_atomic_type, is_simple_type, is_named_type, IsListOver, BaseFits, IsSchemaSet}
 use Rattle.gx_types.specs.Derivation.{bases_of, declared_base_of, base_of, is_declared, Leads, DerivesFrom}
 use Rattle.gx_types.specs.Grounded.{Grounded, EndsWithin}
-use Rattle.gx_types.proofs.PublicLaws.{all_types_are_derived_from_any_type, derivation_is_a_preorder}
+use Rattle.gx_types.proofs.PublicLaws.{all_types_are_derived_from_any_type}
 use Rattle.gx_types.proofs.EqualNames.{builtins_are_one}
 use Rattle.gx_types.proofs.DerivationLemmas.{to_base}
 use Rattle.gx_types.proofs.SchemaLemmas.{base_is, base_of_declaration}
@@ -36,9 +36,6 @@ pub named_is_any : (s : SchemaSet) (t : TypeName) → Grounded (bases_of s) → 
 named_is_any s (names.Builtin b) g h = all_types_are_derived_from_any_type.builtin s b
 named_is_any s (names.Named n) g h = all_types_are_derived_from_any_type.declared s (names.Named n) g (is_declared_too s (names.Named n) (declaration_of s (names.Named n)) refl h)
 named_is_any s (names.Anonymous n) g h = all_types_are_derived_from_any_type.declared s (names.Anonymous n) g (is_declared_too s (names.Anonymous n) (declaration_of s (names.Anonymous n)) refl h)
-
-pub simple_is_any : (s : SchemaSet) (t : TypeName) → DerivesFrom s t (names.Builtin AnySimple) → DerivesFrom s t (names.Builtin AnyType)
-simple_is_any s t d = derivation_is_a_preorder.transitive s t (names.Builtin AnySimple) (names.Builtin AnyType) d (all_types_are_derived_from_any_type.builtin s AnySimple)
 
 -- built-in types from xs:string on are derived from xs:anySimpleType
 nameable_is_simple : (s : SchemaSet) (b : Builtin) → is_nameable b ≡ true → DerivesFrom s (names.Builtin b) (names.Builtin AnySimple)

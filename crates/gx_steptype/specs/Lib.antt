@@ -1,11 +1,12 @@
 pub mod Replaced
 pub mod DerivedTypes
 pub mod DeclaredBases
+pub mod ListedTypes
 pub mod TestedType
 pub mod AskedView
 pub mod StepType
 pub mod Descent
-pub mod TestedChildren
+pub mod KeptSteps
 pub mod DataType
 pub mod StepAnswer
 pub mod StepLaws

@@ -1,15 +1,18 @@
 // The types of steps to attributes.
 
-ghost use Rattle.std.specs.Prelude.{◌≡◌, IfOk, Option, None, Some};
+ghost use Rattle.std.specs.Prelude.{◌≡◌, IfOk, None, Some};
 ghost use Rattle.gx_types.specs.SequenceType.{item as one_item};
 ghost use Rattle.gx_types.specs.SchemaSet.{declaration_of};
 ghost use Rattle.gx_types.specs.declared.item_type.ItemType.TheVariants as items;
 ghost use Rattle.gx_base.specs.declared.type_name.TypeName.TheVariants as types;
+ghost use Rattle.gx_include_derivations.specs.Derivations.{derived_types as types_derived};
 ghost use Rattle.gx_steptype.specs.AskedView.{kind_asked};
+ghost use Rattle.gx_steptype.specs.KeptSteps.{IsTableOf};
 ghost use Rattle.gx_steptype.specs.StepType.{use_type as type_of_use, uses_type as type_of_uses, declared_attributes as attributes_of_declared, attributes_of_type as attributes_of_kind, has_one_name as asks_one_name, any_attributes as type_of_any, attribute_content as content_of_attributes, attribute_type as type_of_attributes, attributes_behind};
 
 use crate::asked::{Asked, AskedName};
-use crate::derived::{OfType, over_derived};
+use crate::derived::{OfType, over_types};
+use crate::derived_types::DerivedTypes;
 use crate::replace::replace;
 use crate::tested::{Tested, tested_type};
 use gx_base::type_name::{Builtin, TypeName};
@@ -19,6 +22,7 @@ use gx_types::schemas::Schemas;
 use gx_types::sequence_type::Ty;
 use gx_types::step::NameTest;
 use gx_types::type_rules::{factor, join, optional, star};
+use indexmap::IndexMap;
 use std::alloc::{AllocError, Global};
 
 // The attributes of the elements of each type.
@@ -40,30 +44,59 @@ impl OfType for AttributesOf<'_> {
 // The attributes of a node of an item type that pass a test.
 pub(crate) fn attribute_type(
     alloc: Global,
-    schemas: &Schemas,
+    derived: &mut DerivedTypes<'_>,
     asked: Asked<'_>,
+    known: &mut IndexMap<TypeName, Ty>,
     item: &ItemType,
 ) -> Result<Ty, AllocError>
-    ensures { IfOk result (λ t. t ≡ type_of_attributes schemas.now (kind_asked asked.entry) item.now) }
+    requires { IsTableOf (content_of_attributes derived.old (kind_asked asked)) known.old }
+    ensures same { derived.new ≡ derived.old }
+    ensures kept { IsTableOf (content_of_attributes derived.old (kind_asked asked.entry)) known.new }
+    ensures attributes { IfOk result (λ t. t ≡ type_of_attributes derived.old (kind_asked asked.entry) item.now) }
 {
     match item {
-        ItemType::Element { name: _, kind } => attribute_content(alloc, schemas, asked, kind),
+        ItemType::Element { name: _, kind } => {
+            element_attributes(alloc, derived, asked, known, kind)
+        }
         _ => Ok(Ty::empty()),
     }
 }
 
+// The attributes of the elements of a type, found once for each type.
+fn element_attributes(
+    alloc: Global,
+    derived: &mut DerivedTypes<'_>,
+    asked: Asked<'_>,
+    known: &mut IndexMap<TypeName, Ty>,
+    kind: &TypeName,
+) -> Result<Ty, AllocError>
+    requires { IsTableOf (content_of_attributes derived.old (kind_asked asked)) known.old }
+    ensures same { derived.new ≡ derived.old }
+    ensures kept { IsTableOf (content_of_attributes derived.old (kind_asked asked.entry)) known.new }
+    ensures attributes { IfOk result (λ t. t ≡ content_of_attributes derived.old (kind_asked asked.entry) kind.now) }
+{
+    let _types = derived.schemas().types();
+    if let Some(t) = known.get(kind) {
+        return t.clone();
+    }
+    let t = attribute_content(alloc, derived, asked, kind)?;
+    known.insert(kind.clone()?, t.clone()?)?;
+    Ok(t)
+}
+
 fn attribute_content(
     alloc: Global,
-    schemas: &Schemas,
+    derived: &mut DerivedTypes<'_>,
     asked: Asked<'_>,
     kind: &TypeName,
 ) -> Result<Ty, AllocError>
-    ensures { IfOk result (λ t. t ≡ content_of_attributes schemas.now (kind_asked asked.entry) kind.now) }
+    ensures same { derived.new ≡ derived.old }
+    ensures content { IfOk result (λ t. t ≡ content_of_attributes derived.old (kind_asked asked.entry) kind.now) }
 {
     match kind {
-        TypeName::Builtin(builtin) => builtin_attributes(alloc, schemas, asked, *builtin),
+        TypeName::Builtin(builtin) => builtin_attributes(alloc, derived, asked, *builtin),
         TypeName::Named(_) | TypeName::Anonymous(_) => {
-            declared_attributes_of(alloc, schemas, asked, kind)
+            declared_attributes_of(alloc, derived, asked, kind)
         }
     }
 }
@@ -71,16 +104,18 @@ fn attribute_content(
 // The attributes of the elements of a built-in type.
 fn builtin_attributes(
     alloc: Global,
-    schemas: &Schemas,
+    derived: &mut DerivedTypes<'_>,
     asked: Asked<'_>,
     builtin: Builtin,
 ) -> Result<Ty, AllocError>
-    ensures { IfOk result (λ t. t ≡ content_of_attributes schemas.now (kind_asked asked.entry) (types.Builtin builtin)) }
+    ensures same { derived.new ≡ derived.old }
+    ensures content { IfOk result (λ t. t ≡ content_of_attributes derived.old (kind_asked asked.entry) (types.Builtin builtin)) }
 {
+    let schemas = derived.schemas();
     match builtin {
         Builtin::AnyType => any_attributes(alloc, schemas, asked, Builtin::AnySimple),
         Builtin::Untyped => any_attributes(alloc, schemas, asked, Builtin::UntypedAtomic),
-        _ => declared_attributes_of(alloc, schemas, asked, &TypeName::Builtin(builtin)),
+        _ => declared_attributes_of(alloc, derived, asked, &TypeName::Builtin(builtin)),
     }
 }
 
@@ -108,13 +143,30 @@ fn any_attributes(
 // The attributes that declarations allow.
 fn declared_attributes_of(
     alloc: Global,
-    schemas: &Schemas,
+    derived: &mut DerivedTypes<'_>,
     asked: Asked<'_>,
     kind: &TypeName,
 ) -> Result<Ty, AllocError>
+    ensures same { derived.new ≡ derived.old }
+    ensures content { IfOk result (λ t. t ≡ attributes_behind derived.old (kind_asked asked.entry) kind.now) }
+{
+    let schemas = derived.schemas();
+    let types = derived.of(alloc, kind)?;
+    attributes_over(alloc, schemas, asked, kind, types.as_slice())
+}
+
+// The same where the declared types that are derived from the type are at hand.
+fn attributes_over(
+    alloc: Global,
+    schemas: &Schemas,
+    asked: Asked<'_>,
+    kind: &TypeName,
+    derived: &[TypeName],
+) -> Result<Ty, AllocError>
+    requires { derived.now ≡ types_derived schemas.now kind.now }
     ensures { IfOk result (λ t. t ≡ attributes_behind schemas.now (kind_asked asked.entry) kind.now) }
 {
-    let all = over_derived(alloc, schemas, &AttributesOf { schemas }, kind)?;
+    let all = over_types(alloc, schemas, &AttributesOf { schemas }, kind, derived)?;
     let tested = replace(alloc, &mut Tested { schemas, asked }, &all)?;
     if has_one_name(asked) {
         Ok(tested)

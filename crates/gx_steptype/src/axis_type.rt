@@ -1,6 +1,6 @@
 // The types of steps.
 
-ghost use Rattle.std.specs.Prelude.{◌≡◌, IfOk, IsTrue, MatchResult};
+ghost use Rattle.std.specs.Prelude.{◌≡◌, IfOk, MatchResult};
 ghost use Rattle.gx_types.specs.TypeRules.{joined_types, factored};
 ghost use Rattle.gx_include.specs.Decision.{is_included as included_in};
 ghost use Rattle.gx_model.specs.Axes.{is_attribute_axis};
@@ -8,7 +8,7 @@ ghost use Rattle.gx_steptype.specs.AskedView.{kind_asked};
 ghost use Rattle.gx_steptype.specs.Replaced.{replaced_items};
 ghost use Rattle.gx_steptype.specs.TestedType.{tested_item as item_tested};
 ghost use Rattle.gx_steptype.specs.StepType.{step_type, child_type as type_of_children, parent_type as type_of_parent, descendant_type as type_of_descendants, ancestor_type as type_of_ancestors, node_type as type_of_node, any_item};
-ghost use Rattle.gx_steptype.specs.TestedChildren.{AreTested, tested_children};
+ghost use Rattle.gx_steptype.specs.KeptSteps.{IsTableOf, tested_children};
 ghost use Rattle.gx_steptype.specs.StepAnswer.{HasStepType, RefusesStep};
 
 use crate::asked::{Asked, asked_by};
@@ -90,7 +90,7 @@ fn is_of_attributes(axis: Axis) -> bool
     matches!(axis, Axis::Attribute)
 }
 
-// A step in the place of each item type, with what the test leaves of the children of the elements of types that were met before.
+// A step in the place of each item type, with what it gives from the elements of types that were met before.
 #[derive(Drop)]
 struct Step<'a> {
     pub derived: DerivedTypes<'a>,
@@ -102,11 +102,11 @@ struct Step<'a> {
 impl Replacement for Step<'_> {
     ghost use Rattle.gx_steptype.specs.AskedView.{kind_asked};
     ghost use Rattle.gx_steptype.specs.StepType.{item_step};
-    ghost use Rattle.gx_steptype.specs.TestedChildren.{AreTested};
+    ghost use Rattle.gx_steptype.specs.KeptSteps.{IsTableOf, element_step};
 
     ghost gives = { λ s kind. item_step s.derived s.axis (kind_asked s.asked) kind };
 
-    ghost fits = { λ s. AreTested s.derived (kind_asked s.asked) s.known };
+    ghost fits = { λ s. IsTableOf (element_step s.derived s.axis (kind_asked s.asked)) s.known };
 
     fn replace(&mut self, alloc: Global, item: &ItemType) -> Result<Ty, AllocError> {
         let schemas = self.derived.schemas();
@@ -118,7 +118,13 @@ impl Replacement for Step<'_> {
                 &mut self.known,
                 item,
             ),
-            Axis::Attribute => attribute_type(alloc, schemas, self.asked, item),
+            Axis::Attribute => attribute_type(
+                alloc,
+                &mut self.derived,
+                self.asked,
+                &mut self.known,
+                item,
+            ),
             Axis::SelfAxis => tested_type(alloc, schemas, self.asked, item),
             Axis::Parent => parents_tested(alloc, schemas, self.asked, item),
             Axis::Descendant => descendant_type(alloc, schemas, self.asked, item),
@@ -137,9 +143,9 @@ fn children_tested(
     known: &mut IndexMap<TypeName, Ty>,
     item: &ItemType,
 ) -> Result<Ty, AllocError>
-    requires { AreTested derived.old (kind_asked asked) known.old }
+    requires { IsTableOf (tested_children derived.old (kind_asked asked)) known.old }
     ensures same { derived.new ≡ derived.old }
-    ensures known { AreTested derived.old (kind_asked asked.entry) known.new }
+    ensures kept { IsTableOf (tested_children derived.old (kind_asked asked.entry)) known.new }
     ensures tested { IfOk result (λ t. t ≡ replaced_items (item_tested derived.old (kind_asked asked.entry)) (type_of_children derived.old item.now)) }
 {
     match item {
@@ -161,9 +167,9 @@ fn element_children_tested(
     known: &mut IndexMap<TypeName, Ty>,
     kind: &TypeName,
 ) -> Result<Ty, AllocError>
-    requires { AreTested derived.old (kind_asked asked) known.old }
+    requires { IsTableOf (tested_children derived.old (kind_asked asked)) known.old }
     ensures same { derived.new ≡ derived.old }
-    ensures known { AreTested derived.old (kind_asked asked.entry) known.new }
+    ensures kept { IsTableOf (tested_children derived.old (kind_asked asked.entry)) known.new }
     ensures tested { IfOk result (λ t. t ≡ tested_children derived.old (kind_asked asked.entry) kind.now) }
 {
     let _types = derived.schemas().types();

@@ -3,22 +3,24 @@
 ghost use Rattle.std.specs.Prelude.{◌≡◌, [], ◌∷◌, IfOk, MatchResult};
 ghost use Rattle.std.specs.List.{list_all};
 ghost use Rattle.gx_types.specs.SchemaSet.{declaration_of};
-ghost use Rattle.gx_steptype.specs.DerivedTypes.{derived_among, listed_names};
-ghost use Rattle.gx_steptype.specs.DataType.{atomic_item, values_by_content as values_of_content, declared_values as values_of_declared, simple_values as values_of_simple, values_of_type, values_declared, content_values, has_value as values_exist, value_type, value_type_of as type_of_values, item_has_data as item_has_values, item_data as data_of_item, has_data as type_has_data, have_values, untyped_atomic_type as untyped_type, list_of_items};
+ghost use Rattle.gx_steptype.specs.DerivedTypes.{derived_among, listed_names, over_derived as choice_over_derived};
+ghost use Rattle.gx_steptype.specs.DataType.{atomic_item, values_by_content as values_of_content, declared_values as values_of_declared, simple_values as values_of_simple, values_of_type, values_declared, content_values, has_value as values_exist, value_type, value_type_of as type_of_values, item_has_data as item_has_values, item_data as data_of_item, has_data as type_has_data, have_values, untyped_atomic_type as untyped_type, list_of_items, type_of_data as type_of_values_of};
+ghost use Rattle.gx_steptype.specs.KeptSteps.{IsTableOf};
 ghost use Rattle.gx_steptype.specs.StepAnswer.{HasDataType, RefusesData};
 
 use crate::children::is_any_type;
-use crate::derived::{LISTED, OfType, over_derived};
+use crate::derived::{LISTED, OfType, over_types};
+use crate::derived_types::DerivedTypes;
 use crate::error::StepError;
 use crate::replace::{Replacement, replace};
 use gx_base::type_name::{Builtin, TypeName};
-use gx_include_derivations::derivations::derived_types;
 use gx_types::declaration::Content;
 use gx_types::derivation::derives;
 use gx_types::item_type::ItemType;
 use gx_types::schemas::Schemas;
 use gx_types::sequence_type::{Ty, TyNode};
 use gx_types::type_rules::{limit, star};
+use indexmap::IndexMap;
 use std::alloc::{AllocError, Global};
 
 /// The type of the typed values of the items of a type (XQuery 1.0, section 2.5.2; Formal Semantics, section 7.2.3). `NoTypedValue`
@@ -26,28 +28,55 @@ use std::alloc::{AllocError, Global};
 pub fn data_type(alloc: Global, schemas: &Schemas, t: &Ty) -> Result<Ty, StepError>
     ensures { MatchResult result (HasDataType schemas.now t.now) (RefusesData schemas.now t.now) }
 {
-    if !has_data(alloc, schemas, t)? {
+    if !all_have_data(alloc, schemas, t)? {
         return Err(StepError::NoTypedValue);
     }
-    let values = replace(alloc, &mut Data { schemas }, t)?;
-    Ok(limit(alloc, values)?)
+    Ok(values_of(alloc, schemas, t)?)
 }
 
-// Typed values in the place of each item type.
-#[derive(Clone, Copy)]
+// Whether each item type of a type has a typed value.
+fn all_have_data(alloc: Global, schemas: &Schemas, t: &Ty) -> Result<bool, AllocError>
+    ensures { IfOk result (λ answer. answer ≡ type_has_data schemas.now t.now) }
+{
+    let mut derived = DerivedTypes::new(alloc, schemas)?;
+    let mut known = IndexMap::new(alloc);
+    let answer = has_data(alloc, &mut derived, &mut known, t);
+    drop(derived);
+    answer
+}
+
+// The type of the typed values, of item types that have them.
+fn values_of(alloc: Global, schemas: &Schemas, t: &Ty) -> Result<Ty, AllocError>
+    ensures { IfOk result (λ values. values ≡ type_of_values_of schemas.now t.now) }
+{
+    let derived = DerivedTypes::new(alloc, schemas)?;
+    let mut data = Data {
+        derived,
+        known: IndexMap::new(alloc),
+    };
+    let values = replace(alloc, &mut data, t);
+    drop(data);
+    limit(alloc, values?)
+}
+
+// Typed values in the place of each item type, with those of the elements of types that were met before.
+#[derive(Drop)]
 struct Data<'a> {
-    pub schemas: &'a Schemas,
+    pub derived: DerivedTypes<'a>,
+    pub known: IndexMap<TypeName, Ty>,
 }
 
 impl Replacement for Data<'_> {
-    ghost use Rattle.gx_steptype.specs.DataType.{item_data as data_of_item};
+    ghost use Rattle.gx_steptype.specs.DerivedTypes.{over_derived};
+    ghost use Rattle.gx_steptype.specs.DataType.{item_data as data_of_item, value_type_of};
+    ghost use Rattle.gx_steptype.specs.KeptSteps.{IsTableOf};
 
-    ghost gives = { λ d kind. data_of_item d.schemas.now kind };
+    ghost gives = { λ d kind. data_of_item d.derived kind };
 
-    ghost fits = { λ d. Unit {0} };
+    ghost fits = { λ d. IsTableOf (over_derived d.derived (value_type_of d.derived)) d.known };
 
     fn replace(&mut self, alloc: Global, item: &ItemType) -> Result<Ty, AllocError> {
-        item_data(alloc, self.schemas, item)
+        item_data(alloc, &mut self.derived, &mut self.known, item)
     }
 }
 
@@ -67,56 +96,146 @@ impl OfType for ValuesOf<'_> {
     }
 }
 
-fn item_data(alloc: Global, schemas: &Schemas, item: &ItemType) -> Result<Ty, AllocError>
-    ensures { IfOk result (λ t. t ≡ data_of_item schemas.now item.now) }
+fn item_data(
+    alloc: Global,
+    derived: &mut DerivedTypes<'_>,
+    known: &mut IndexMap<TypeName, Ty>,
+    item: &ItemType,
+) -> Result<Ty, AllocError>
+    requires { IsTableOf (choice_over_derived derived.old (type_of_values derived.old)) known.old }
+    ensures same { derived.new ≡ derived.old }
+    ensures kept { IsTableOf (choice_over_derived derived.old (type_of_values derived.old)) known.new }
+    ensures data { IfOk result (λ t. t ≡ data_of_item derived.old item.now) }
 {
     match item {
-        ItemType::Element { name: _, kind } => {
-            over_derived(alloc, schemas, &ValuesOf { schemas }, kind)
-        }
-        ItemType::Attribute { name: _, kind } => value_type_of(alloc, schemas, kind),
+        ItemType::Element { name: _, kind } => kept_data(alloc, derived, known, kind),
+        ItemType::Attribute { name: _, kind } => value_type_of(alloc, derived.schemas(), kind),
         ItemType::Text | ItemType::Document(_) => untyped_atomic_type(alloc),
         ItemType::Atom(kind) => atomic_type(alloc, kind),
     }
 }
 
-// Whether each item type of a type has a typed value.
-fn has_data(alloc: Global, schemas: &Schemas, t: &Ty) -> Result<bool, AllocError>
-    ensures { IfOk result (λ answer. answer ≡ type_has_data schemas.now t.now) }
+// The typed values of the elements of a type, found once for each type.
+fn kept_data(
+    alloc: Global,
+    derived: &mut DerivedTypes<'_>,
+    known: &mut IndexMap<TypeName, Ty>,
+    kind: &TypeName,
+) -> Result<Ty, AllocError>
+    requires { IsTableOf (choice_over_derived derived.old (type_of_values derived.old)) known.old }
+    ensures same { derived.new ≡ derived.old }
+    ensures kept { IsTableOf (choice_over_derived derived.old (type_of_values derived.old)) known.new }
+    ensures data { IfOk result (λ t. t ≡ choice_over_derived derived.old (type_of_values derived.old) kind.now) }
+{
+    let _types = derived.schemas().types();
+    if let Some(t) = known.get(kind) {
+        return t.clone();
+    }
+    let t = element_data(alloc, derived, kind)?;
+    known.insert(kind.clone()?, t.clone()?)?;
+    Ok(t)
+}
+
+// The typed values of the elements of a type and of all types that are derived from it.
+fn element_data(
+    alloc: Global,
+    derived: &mut DerivedTypes<'_>,
+    kind: &TypeName,
+) -> Result<Ty, AllocError>
+    ensures same { derived.new ≡ derived.old }
+    ensures data { IfOk result (λ t. t ≡ choice_over_derived derived.old (type_of_values derived.old) kind.now) }
+{
+    let schemas = derived.schemas();
+    let types = derived.of(alloc, kind)?;
+    over_types(
+        alloc,
+        schemas,
+        &ValuesOf { schemas },
+        kind,
+        types.as_slice(),
+    )
+}
+
+// Whether each item type of a type has a typed value, where the derived types of the schemas are at hand.
+fn has_data(
+    alloc: Global,
+    derived: &mut DerivedTypes<'_>,
+    known: &mut IndexMap<TypeName, bool>,
+    t: &Ty,
+) -> Result<bool, AllocError>
+    requires { IsTableOf (have_values derived.old) known.old }
+    ensures same { derived.new ≡ derived.old }
+    ensures kept { IsTableOf (have_values derived.old) known.new }
+    ensures data { IfOk result (λ answer. answer ≡ type_has_data derived.old t.now) }
 {
     match &t.node {
         TyNode::Never | TyNode::Empty => Ok(true),
-        TyNode::Item(kind) => item_has_data(alloc, schemas, kind),
+        TyNode::Item(kind) => item_has_data(alloc, derived, known, kind),
         TyNode::Seq(first, second) | TyNode::Alt(first, second) => {
-            Ok(has_data(alloc, schemas, first)? && has_data(alloc, schemas, second)?)
+            Ok(has_data(alloc, derived, known, first)? && has_data(alloc, derived, known, second)?)
         }
         TyNode::Optional(part) | TyNode::Star(part) | TyNode::Plus(part) => {
-            has_data(alloc, schemas, part)
+            has_data(alloc, derived, known, part)
         }
     }
 }
 
-fn item_has_data(alloc: Global, schemas: &Schemas, item: &ItemType) -> Result<bool, AllocError>
-    ensures { IfOk result (λ answer. answer ≡ item_has_values schemas.now item.now) }
+fn item_has_data(
+    alloc: Global,
+    derived: &mut DerivedTypes<'_>,
+    known: &mut IndexMap<TypeName, bool>,
+    item: &ItemType,
+) -> Result<bool, AllocError>
+    requires { IsTableOf (have_values derived.old) known.old }
+    ensures same { derived.new ≡ derived.old }
+    ensures kept { IsTableOf (have_values derived.old) known.new }
+    ensures data { IfOk result (λ answer. answer ≡ item_has_values derived.old item.now) }
 {
     match item {
         ItemType::Element { name: _, kind } => {
-            Ok(!is_any_type(kind) && all_have_values(alloc, schemas, kind)?)
+            Ok(!is_any_type(kind) && kept_answer(alloc, derived, known, kind)?)
         }
-        ItemType::Attribute { name: _, kind } => Ok(has_value(schemas, kind)),
+        ItemType::Attribute { name: _, kind } => Ok(has_value(derived.schemas(), kind)),
         ItemType::Text | ItemType::Document(_) | ItemType::Atom(_) => Ok(true),
     }
 }
 
-// Whether the nodes of a type and of all types that are derived from it have typed values.
-fn all_have_values(alloc: Global, schemas: &Schemas, kind: &TypeName) -> Result<bool, AllocError>
-    ensures { IfOk result (λ answer. answer ≡ have_values schemas.now kind.now) }
+// Whether the elements of a type have typed values, found once for each type.
+fn kept_answer(
+    alloc: Global,
+    derived: &mut DerivedTypes<'_>,
+    known: &mut IndexMap<TypeName, bool>,
+    kind: &TypeName,
+) -> Result<bool, AllocError>
+    requires { IsTableOf (have_values derived.old) known.old }
+    ensures same { derived.new ≡ derived.old }
+    ensures kept { IsTableOf (have_values derived.old) known.new }
+    ensures values { IfOk result (λ answer. answer ≡ have_values derived.old kind.now) }
 {
+    let _types = derived.schemas().types();
+    if let Some(answer) = known.get(kind) {
+        return Ok(*answer);
+    }
+    let answer = all_have_values(alloc, derived, kind)?;
+    known.insert(kind.clone()?, answer)?;
+    Ok(answer)
+}
+
+// Whether the nodes of a type and of all types that are derived from it have typed values.
+fn all_have_values(
+    alloc: Global,
+    derived: &mut DerivedTypes<'_>,
+    kind: &TypeName,
+) -> Result<bool, AllocError>
+    ensures same { derived.new ≡ derived.old }
+    ensures values { IfOk result (λ answer. answer ≡ have_values derived.old kind.now) }
+{
+    let schemas = derived.schemas();
     if !builtins_have_values(schemas, kind, &LISTED) {
         return Ok(false);
     }
-    let derived = derived_types(alloc, schemas, kind)?;
-    Ok(each_has_value(schemas, derived.as_slice()))
+    let types = derived.of(alloc, kind)?;
+    Ok(each_has_value(schemas, types.as_slice()))
 }
 
 fn builtins_have_values(schemas: &Schemas, kind: &TypeName, listed: &[Builtin]) -> bool

@@ -7,7 +7,6 @@ ghost use Rattle.gx_include_derivations.specs.Derivations.{derived_types as type
 ghost use Rattle.gx_steptype.specs.DerivedTypes.{over_derived as choice_over_derived, derived_among, listed_names};
 
 use gx_base::type_name::{Builtin, TypeName};
-use gx_include_derivations::derivations::derived_types;
 use gx_types::derivation::derives;
 use gx_types::schemas::Schemas;
 use gx_types::sequence_type::Ty;
@@ -48,20 +47,7 @@ pub(crate) trait OfType {
         ensures { IfOk result (λ t. t ≡ of self.now kind.now) };
 }
 
-// The choice of what stands for a type and for all types that are derived from it.
-pub(crate) fn over_derived<T: OfType>(
-    alloc: Global,
-    schemas: &Schemas,
-    of: &T,
-    kind: &TypeName,
-) -> Result<Ty, AllocError>
-    ensures { IfOk result (λ t. t ≡ choice_over_derived schemas.now (T.of of.now) kind.now) }
-{
-    let derived = derived_types(alloc, schemas, kind)?;
-    over_types(alloc, schemas, of, kind, derived.as_slice())
-}
-
-// The same where the declared types that are derived from the type are at hand.
+// The choice of what stands for a type and for all types that are derived from it, where the declared ones are at hand.
 pub(crate) fn over_types<T: OfType>(
     alloc: Global,
     schemas: &Schemas,

@@ -6,29 +6,34 @@ ghost use Rattle.gx_types.specs.TypeIndex.{equal_kinds};
 ghost use Rattle.gx_types.specs.declared.declaration.Declared.{Declared as Declaration};
 ghost use Rattle.gx_include_derivations.specs.Derivations.{derived_types as types_derived};
 ghost use Rattle.gx_steptype.specs.DeclaredBases.{declared_bases, HasBases};
+ghost use Rattle.gx_steptype.specs.ListedTypes.{AreDerivedLists};
 
+use crate::type_lists::{listed, same_types, type_lists};
 use gx_base::type_name::TypeName;
 use gx_include_derivations::derivations::Derivations;
 use gx_types::declaration::Declared;
 use gx_types::item_type::ItemType;
 use gx_types::schemas::Schemas;
-use indexmap::IndexSet;
+use indexmap::{IndexMap, IndexSet};
 use std::alloc::{AllocError, Global};
 use std::marker::Model;
 
-// Schemas with what is asked about derivation: which types are the base of a declared type, and which types are derived from those
-// that were asked for.
+// Schemas with what is asked about derivation: which types are the base of a declared type, which types are derived from those that
+// were asked for, and, once a base was asked for, the lists of the types that are derived from each declared type.
 #[derive(Drop)]
 pub(crate) struct DerivedTypes<'a> {
     derivations: Derivations<'a>,
     bases: IndexSet<TypeName>,
+    lists: Option<IndexMap<TypeName, Vec<TypeName>>>,
 }
 
 impl<'a> Model for DerivedTypes<'a> {
     ghost use Rattle.gx_types.specs.SchemaSet.{SchemaSet};
     ghost use Rattle.gx_types.specs.contracts.sequence_type.Ty as kinds;
     ghost use Rattle.std.specs.Coded.{codes};
+    ghost use Rattle.std.specs.Prelude.{IfSome};
     ghost use Rattle.gx_steptype.specs.DeclaredBases.{HasBases};
+    ghost use Rattle.gx_steptype.specs.ListedTypes.{AreDerivedLists};
 
     ghost Value = { SchemaSet };
 
@@ -36,7 +41,7 @@ impl<'a> Model for DerivedTypes<'a> {
 
     ghost view = { λ derived. derived.derivations };
 
-    ghost invariant = { λ derived. HasBases derived.derivations derived.bases.keys };
+    ghost invariant = { λ derived. HasBases derived.derivations derived.bases.keys × IfSome derived.lists (AreDerivedLists derived.derivations) };
 }
 
 impl<'a> DerivedTypes<'a> {
@@ -49,7 +54,11 @@ impl<'a> DerivedTypes<'a> {
     {
         let bases = bases_of(alloc, schemas)?;
         let derivations = Derivations::new(alloc, schemas)?;
-        Ok(DerivedTypes { derivations, bases })
+        Ok(DerivedTypes {
+            derivations,
+            bases,
+            lists: None,
+        })
     }
 
     // The schemas.
@@ -66,7 +75,7 @@ impl<'a> DerivedTypes<'a> {
     {
         match declared_alone(self.derivations.schemas(), &self.bases, kind) {
             Some(declared) => only_name(alloc, declared),
-            None => derived_from(alloc, &mut self.derivations, kind),
+            None => of_base(alloc, &mut self.derivations, &mut self.lists, kind),
         }
     }
 }
@@ -113,6 +122,44 @@ fn only_name(alloc: Global, declared: &Declared) -> Result<Vec<TypeName>, AllocE
     let mut types = Vec::new(alloc);
     types.push(declared.name.clone()?)?;
     Ok(types)
+}
+
+// The declared types that are derived from a type, by the lists of types, which are made where there are none yet.
+fn of_base(
+    alloc: Global,
+    derivations: &mut Derivations<'_>,
+    lists: &mut Option<IndexMap<TypeName, Vec<TypeName>>>,
+    kind: &TypeName,
+) -> Result<Vec<TypeName>, AllocError>
+    requires { IfSome lists.old (AreDerivedLists derivations.old) }
+    ensures same { derivations.new ≡ derivations.old }
+    ensures lists { IfSome lists.new (AreDerivedLists derivations.old) }
+    ensures types { IfOk result (λ types. types.items ≡ types_derived derivations.old kind.now) }
+{
+    if let Some(made) = lists {
+        return listed_or_found(alloc, derivations, made, kind);
+    }
+    let made = type_lists(alloc, derivations.schemas())?;
+    let types = listed_or_found(alloc, derivations, &made, kind);
+    *lists = Some(made);
+    types
+}
+
+// The declared types that are derived from a type: those that are listed for it, or found among all declared types.
+fn listed_or_found(
+    alloc: Global,
+    derivations: &mut Derivations<'_>,
+    lists: &IndexMap<TypeName, Vec<TypeName>>,
+    kind: &TypeName,
+) -> Result<Vec<TypeName>, AllocError>
+    requires { AreDerivedLists derivations.old lists.now }
+    ensures same { derivations.new ≡ derivations.old }
+    ensures types { IfOk result (λ types. types.items ≡ types_derived derivations.old kind.now) }
+{
+    match listed(derivations.schemas(), lists, kind) {
+        Some(types) => same_types(alloc, types.as_slice()),
+        None => derived_from(alloc, derivations, kind),
+    }
 }
 
 // The declared types that are derived from a type, of all declared types.

@@ -14,3 +14,4 @@ mod nodes;
 mod relatives;
 mod replace;
 pub mod tested;
+mod type_lists;

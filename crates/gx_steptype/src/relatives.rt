@@ -7,7 +7,7 @@ ghost use Rattle.gx_types.specs.Prime.{items_of};
 ghost use Rattle.gx_steptype.specs.AskedView.{kind_asked};
 ghost use Rattle.gx_steptype.specs.TestedType.{tested_item as item_tested};
 ghost use Rattle.gx_steptype.specs.Descent.{ArePut};
-ghost use Rattle.gx_steptype.specs.StepType.{child_content as content_of_children, descendant_kinds as kinds_of_descendants, ancestor_kinds as kinds_of_ancestors, any_tested as any_of_tested, descendant_type as type_of_descendants, ancestor_type as type_of_ancestors};
+ghost use Rattle.gx_steptype.specs.StepType.{child_content as content_of_children, descendant_kinds as kinds_of_descendants, any_tested as any_of_tested, descendant_type as type_of_descendants, ancestor_type as type_of_ancestors};
 
 use crate::asked::Asked;
 use crate::children::{child_content, child_type};
@@ -99,8 +99,8 @@ fn descendant_kinds(
     let children = child_type(alloc, &mut derived, item)?;
     let mut found = IndexSet::new(alloc);
     add_items(&mut found, &children)?;
-    let asked = IndexSet::new(alloc);
-    let mut descent = Descent { derived, asked };
+    let known = IndexSet::new(alloc);
+    let mut descent = Descent { derived, known };
     let closed = close(alloc, &mut descent, &mut found);
     drop(descent);
     closed?;
@@ -130,7 +130,7 @@ fn add_items(found: &mut IndexSet<ItemType>, t: &Ty) -> Result<(), AllocError>
 #[derive(Drop)]
 struct Descent<'a> {
     pub derived: DerivedTypes<'a>,
-    pub asked: IndexSet<TypeName>,
+    pub known: IndexSet<TypeName>,
 }
 
 impl Step<ItemType> for Descent<'_> {
@@ -139,7 +139,7 @@ impl Step<ItemType> for Descent<'_> {
 
     ghost next = { λ d kind. grandchild_kinds d.derived kind };
 
-    ghost fits = { λ d found. ArePut d.derived d.asked.keys found };
+    ghost fits = { λ d found. ArePut d.derived d.known.keys found };
 
     fn add_next(
         &mut self,
@@ -151,7 +151,7 @@ impl Step<ItemType> for Descent<'_> {
             return Ok(());
         };
         let kind = kind.clone()?;
-        add_children(alloc, &mut self.derived, &kind, &mut self.asked, found)
+        add_children(alloc, &mut self.derived, &kind, &mut self.known, found)
     }
 }
 
@@ -160,20 +160,20 @@ fn add_children(
     alloc: Global,
     derived: &mut DerivedTypes<'_>,
     kind: &TypeName,
-    asked: &mut IndexSet<TypeName>,
+    known: &mut IndexSet<TypeName>,
     found: &mut IndexSet<ItemType>,
 ) -> Result<(), AllocError>
-    requires { ArePut derived.old asked.old.keys found.old.keys }
+    requires { ArePut derived.old known.old.keys found.old.keys }
     ensures same { derived.new ≡ derived.old }
     ensures added { OnOk result (found.new.keys ≡ insert_all same_item_type found.old.keys (items_of (content_of_children derived.old kind.now))) }
-    ensures put { OnOk result (ArePut derived.old asked.new.keys found.new.keys) }
+    ensures put { OnOk result (ArePut derived.old known.new.keys found.new.keys) }
 {
     let _types = derived.schemas().types();
-    if asked.contains(kind) {
+    if known.contains(kind) {
         return Ok(());
     }
     let content = child_content(alloc, derived, kind)?;
     add_items(found, &content)?;
-    asked.insert(kind.clone()?)?;
+    known.insert(kind.clone()?)?;
     Ok(())
 }

@@ -1,6 +1,6 @@
 // Types with other types in the place of their item types.
 
-ghost use Rattle.std.specs.Prelude.{◌≡◌, ◌++◌, [], ◌∷◌, IfOk, OnOk};
+ghost use Rattle.std.specs.Prelude.{◌≡◌, ◌++◌, IfOk, OnOk};
 ghost use Rattle.gx_types.specs.SequenceType.{SequenceType};
 ghost use Rattle.gx_types.specs.declared.item_type.ItemType.{ItemType as KindOfItem};
 ghost use Rattle.gx_steptype.specs.Replaced.{replaced_items, alternatives};

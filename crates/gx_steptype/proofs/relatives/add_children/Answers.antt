@@ -13,13 +13,13 @@ use Rattle.gx_steptype.proofs.relatives.add_children.Goals as goal
 pub returns-then-contains-clause-added : goal.returns-then-contains-clause-added
 returns-then-contains-clause-added c =
     subst (λ (s : SchemaSet). c.args.found.now.keys ≡ insert_all same_item_type c.args.found.now.keys (items_of (child_content s c.args.kind.now))) c.schemas.ensures
-    (asked_before c.schemas.result.now c.types-types.ensures.invariant c.args.asked.now.keys c.args.found.now.keys c.args.kind.now
-    (subst (λ (s : SchemaSet). ArePut s c.args.asked.now.keys c.args.found.now.keys) (sym c.schemas.ensures) c.requires) (sym (member_as_asked c.args.asked.now.keys c.args.kind.now) ∙ sym c.contains.ensures ∙ c.if-contains.true))
+    (asked_before c.schemas.result.now c.types-types.ensures.invariant c.args.known.now.keys c.args.found.now.keys c.args.kind.now
+    (subst (λ (s : SchemaSet). ArePut s c.args.known.now.keys c.args.found.now.keys) (sym c.schemas.ensures) c.requires) (sym (member_as_asked c.args.known.now.keys c.args.kind.now) ∙ sym c.contains.ensures ∙ c.if-contains.true))
 
 pub returns-clause-put : goal.returns-clause-put
 returns-clause-put c =
     let s = c.args.derived.now in
-    let asked = c.args.asked.now.keys in
+    let asked = c.args.known.now.keys in
     let found = c.args.found.now.keys in
     let kind = c.args.kind.now in
     let put : c.add_items.new.found.keys ≡ insert_all same_item_type found (items_of (child_content s kind)) =
