@@ -1,5 +1,6 @@
 -- An evaluation raises the codes of dynamic errors alone.
-use Rattle.std.proofs.Common.{◌≡◌, zero, length, drop, Bool, true, false, not, List, [], ◌∷◌, ◌++◌, map, Option, None, Some, Result, Ok, Err, refl, subst, if◌then◌else◌, ◌&&◌}
+use Rattle.std.proofs.Common.{◌≡◌, zero, length, drop, Bool, true, false, not, List, [], ◌∷◌, ◌++◌, map}
+use Rattle.std.proofs.Common.{Option, None, Some, Result, Ok, Err, refl, subst, if◌then◌else◌, ◌&&◌}
 use Rattle.std.specs.Prelude.{ℕ, suc, nat_le, option_map}
 use Rattle.std.specs.List.{list_all, list_any}
 use Rattle.gx_base.specs.declared.code.Code.{Code}
@@ -30,12 +31,13 @@ use Rattle.gx_model.specs.DocumentOrder.{in_document_order}
 use Rattle.gx_sorting.specs.declared.keys.KeyOrder.{KeyOrder}
 use Rattle.gx_core.specs.declared.operator.ClauseKind.{ClauseKind}
 use Rattle.gx_core.specs.declared.operator.ClauseKind.TheVariants as kinds
-use Rattle.gx_core.specs.Blocks.{Tuple, key_of, tuple_keys, tuples_of_each, tuples_if, tuples_of, in_key_order, returned, block_returned, block_denoted}
+use Rattle.gx_core.specs.Blocks.{Tuple, key_of, tuple_keys, tuples_of_each, tuples_if, tuples_of}
+use Rattle.gx_core.specs.Blocks.{in_key_order, returned, block_returned, block_denoted}
 use Rattle.gx_core.specs.declared.operator.Operator.{Operator}
 use Rattle.gx_core.specs.declared.operator.Operator.TheVariants as operators
 use Rattle.gx_core.specs.declared.expression.ArithmeticOp.{ArithmeticOp}
 use Rattle.gx_core.specs.declared.expression.BinaryClass.{BinaryClass}
-use Rattle.gx_core.specs.declared.expression.BinaryClass.TheVariants.{Arithmetic, Value, General, Nodes, Range, Sets}
+use Rattle.gx_core.specs.declared.expression.BinaryClass.TheVariants.{Arithmetic, Value, General, Nodes, Range, Combination}
 use Rattle.gx_core.specs.declared.expression.NodeComparison.{NodeComparison}
 use Rattle.gx_core.specs.declared.expression.Declaration.TheVariants.{Global}
 use Rattle.gx_core.specs.Queries.{CoreDeclaration}
@@ -44,9 +46,10 @@ use Rattle.gx_core.specs.Expression.{Expression, At, Parts, no_parts, a_part}
 use Rattle.gx_core.specs.Outcome.{Outcome, gives, raises, wrong, after, given}
 use Rattle.gx_core.specs.Operands.{on_one, on_two}
 use Rattle.gx_core.specs.Arithmetic.{number_of_item, computed, result_of, computed_of_items, negation_of_item}
-use Rattle.gx_core.specs.Comparing.{truth_value, condition_of, value_of_item, compared_items, cast_failure, decided, atoms_among, generally_compared}
+use Rattle.gx_core.specs.Comparing.{truth_value, condition_of, value_of_item, compared_items}
+use Rattle.gx_core.specs.Comparing.{cast_failure, decided, atoms_among, generally_compared}
 use Rattle.gx_core.specs.ComparingNodes.{compared_nodes}
-use Rattle.gx_core.specs.NodeSets.{combined}
+use Rattle.gx_core.specs.CombiningNodes.{combined}
 use Rattle.gx_core.specs.Ranging.{integer_of_item, range_length, integers_from, range_between, range_of_items}
 use Rattle.gx_core.specs.Casting.{cast_outcome, cast_items, castable_items}
 use Rattle.gx_core.specs.Calling.{views_of, answered}
@@ -54,7 +57,8 @@ use Rattle.gx_core.specs.Paths.{is_node, places_of, stepped, put_in_order}
 use Rattle.gx_core.specs.declared.cases.TypeCase.{TypeCase}
 use Rattle.gx_core.specs.Instances.{is_instance}
 use Rattle.gx_core.specs.Bindings.{look_up, position_bound}
-use Rattle.gx_core.specs.Meaning.{Context, Bindings, Denotation, binary_meaning, acts, all_of, for_each, item_bound, decides, any_decides, branch, switched, denoted, meaning, meanings}
+use Rattle.gx_core.specs.Meaning.{Context, Bindings, Denotation, binary_meaning, acts, all_of, for_each, item_bound}
+use Rattle.gx_core.specs.Meaning.{decides, any_decides, branch, switched, denoted, meaning, meanings}
 use Rattle.gx_core.specs.QueryMeaning.{globals_bound, query_outcome, QueriesRaiseDynamicCodes}
 use Rattle.gx_core.specs.Laws.{RaisesDynamicCodes, ExpressionsRaiseDynamicCodes}
 
@@ -71,7 +75,8 @@ by_cases wrong h code e = absurd (cc)
 
 -- ---- what follows
 
-dynamic_after : {R S : Type 0} (outcome : Outcome R) (next : R → Forest → Outcome S) → IsDynamic outcome → ((result : R) (forest : Forest) → IsDynamic (next result forest)) → IsDynamic (after outcome next)
+dynamic_after : {R S : Type 0} (outcome : Outcome R) (next : R → Forest → Outcome S) → IsDynamic outcome
+    → ((result : R) (forest : Forest) → IsDynamic (next result forest)) → IsDynamic (after outcome next)
 dynamic_after (gives result forest) next h k = k result forest
 dynamic_after (raises code) next h k = h
 dynamic_after wrong next h k = tt
@@ -80,12 +85,14 @@ dynamic_given : {R S : Type 0} (x : Option R) (next : R → Outcome S) → ((r :
 dynamic_given None next k = tt
 dynamic_given (Some x) next k = k x
 
-dynamic_on_one : (xs : Items) (forest : Forest) (next : Item → Forest → Outcome Items) → ((x : Item) → IsDynamic (next x forest)) → IsDynamic (on_one xs forest next)
+dynamic_on_one : (xs : Items) (forest : Forest) (next : Item → Forest → Outcome Items) → ((x : Item) → IsDynamic (next x forest))
+    → IsDynamic (on_one xs forest next)
 dynamic_on_one [] forest next k = tt
 dynamic_on_one (x ∷ []) forest next k = k x
 dynamic_on_one (x ∷ y ∷ xs) forest next k = tt
 
-dynamic_on_two : (xs ys : Items) (forest : Forest) (next : Item → Item → Forest → Outcome Items) → ((x y : Item) → IsDynamic (next x y forest)) → IsDynamic (on_two xs ys forest next)
+dynamic_on_two : (xs ys : Items) (forest : Forest) (next : Item → Item → Forest → Outcome Items)
+    → ((x y : Item) → IsDynamic (next x y forest)) → IsDynamic (on_two xs ys forest next)
 dynamic_on_two (x ∷ []) (y ∷ []) forest next k = k x y
 dynamic_on_two [] [] forest next k = tt
 dynamic_on_two [] (y ∷ []) forest next k = tt
@@ -102,13 +109,16 @@ dynamic_computed (Err DivZero) forest = refl
 dynamic_arithmetic : (operation : ArithmeticOp) (x y : Item) (forest : Forest) → IsDynamic (computed_of_items operation x y forest)
 dynamic_arithmetic operation x y forest =
     dynamic_given (number_of_item x) (λ m. given (number_of_item y) (λ n. computed (result_of operation m n) forest))
-    (λ m. dynamic_given (number_of_item y) (λ n. computed (result_of operation m n) forest) (λ n. dynamic_computed (result_of operation m n) forest))
+    (λ m. dynamic_given (number_of_item y) (λ n. computed (result_of operation m n) forest)
+    (λ n. dynamic_computed (result_of operation m n) forest))
 
 dynamic_negation : (x : Item) (forest : Forest) → IsDynamic (negation_of_item x forest)
 dynamic_negation x forest =
-    dynamic_given (number_of_item x) (λ n. computed (in_range_or_overflow (exact_negation n)) forest) (λ n. dynamic_computed (in_range_or_overflow (exact_negation n)) forest)
+    dynamic_given (number_of_item x) (λ n. computed (in_range_or_overflow (exact_negation n)) forest)
+    (λ n. dynamic_computed (in_range_or_overflow (exact_negation n)) forest)
 
-dynamic_choice : (b : Bool) (chosen otherwise : Outcome Items) → IsDynamic chosen → IsDynamic otherwise → IsDynamic (if b then chosen else otherwise)
+dynamic_choice : (b : Bool) (chosen otherwise : Outcome Items) → IsDynamic chosen → IsDynamic otherwise
+    → IsDynamic (if b then chosen else otherwise)
 dynamic_choice true chosen otherwise h k = h
 dynamic_choice false chosen otherwise h k = k
 
@@ -116,7 +126,8 @@ dynamic_range : (x y : Item) (forest : Forest) → IsDynamic (range_of_items x y
 dynamic_range x y forest =
     dynamic_given (integer_of_item x) (λ first. given (integer_of_item y) (λ last. range_between first last forest))
     (λ first. dynamic_given (integer_of_item y) (λ last. range_between first last forest)
-    (λ last. dynamic_choice (nat_le (range_length first last) RANGE_ITEMS) (gives (atoms (integers_from first (range_length first last))) forest) (raises GLXD0002) tt refl))
+    (λ last. dynamic_choice (nat_le (range_length first last) RANGE_ITEMS)
+    (gives (atoms (integers_from first (range_length first last))) forest) (raises GLXD0002) tt refl))
 
 -- ---- casts and comparisons
 
@@ -131,13 +142,15 @@ dynamic_cast_outcome : (result : Result Atomic CastError) (forest : Forest) → 
 dynamic_cast_outcome (Ok a) forest = tt
 dynamic_cast_outcome (Err error) forest = dynamic_failure error
 
-dynamic_cast : (schemas : SchemaSet) (kind : TypeName) (optional : Bool) (xs : Items) (forest : Forest) → IsDynamic (cast_items schemas kind optional xs forest)
+dynamic_cast : (schemas : SchemaSet) (kind : TypeName) (optional : Bool) (xs : Items) (forest : Forest)
+    → IsDynamic (cast_items schemas kind optional xs forest)
 dynamic_cast schemas kind optional [] forest = dynamic_choice optional (gives [] forest) wrong tt tt
 dynamic_cast schemas kind optional (atom a ∷ []) forest = dynamic_cast_outcome (cast_of schemas a kind) forest
 dynamic_cast schemas kind optional (atom a ∷ y ∷ xs) forest = tt
 dynamic_cast schemas kind optional (node place ∷ xs) forest = tt
 
-dynamic_castable : (schemas : SchemaSet) (kind : TypeName) (optional : Bool) (xs : Items) (forest : Forest) → IsDynamic (castable_items schemas kind optional xs forest)
+dynamic_castable : (schemas : SchemaSet) (kind : TypeName) (optional : Bool) (xs : Items) (forest : Forest)
+    → IsDynamic (castable_items schemas kind optional xs forest)
 dynamic_castable schemas kind optional [] forest = tt
 dynamic_castable schemas kind optional (atom a ∷ []) forest = tt
 dynamic_castable schemas kind optional (atom a ∷ y ∷ xs) forest = tt
@@ -145,7 +158,8 @@ dynamic_castable schemas kind optional (node place ∷ xs) forest = tt
 
 dynamic_comparison : (op : Op) (x y : Item) (forest : Forest) → IsDynamic (compared_items op x y forest)
 dynamic_comparison op x y forest =
-    dynamic_given (value_of_item x) (λ a. given (value_of_item y) (λ b. given (value_comparison op a b) (λ truth. gives (truth_value truth) forest)))
+    dynamic_given (value_of_item x)
+    (λ a. given (value_of_item y) (λ b. given (value_comparison op a b) (λ truth. gives (truth_value truth) forest)))
     (λ a. dynamic_given (value_of_item y) (λ b. given (value_comparison op a b) (λ truth. gives (truth_value truth) forest))
     (λ b. dynamic_given (value_comparison op a b) (λ truth. gives (truth_value truth) forest) (λ truth. tt)))
 
@@ -159,7 +173,8 @@ dynamic_general op [] ys forest = tt
 dynamic_general op (x ∷ xs) [] forest = tt
 dynamic_general op (x ∷ xs) (y ∷ ys) forest =
     dynamic_given (atoms_among (x ∷ xs)) (λ as'. given (atoms_among (y ∷ ys)) (λ bs. decided (general_comparison op as' bs) forest))
-    (λ as'. dynamic_given (atoms_among (y ∷ ys)) (λ bs. decided (general_comparison op as' bs) forest) (λ bs. dynamic_decision (general_comparison op as' bs) forest))
+    (λ as'. dynamic_given (atoms_among (y ∷ ys)) (λ bs. decided (general_comparison op as' bs) forest)
+    (λ bs. dynamic_decision (general_comparison op as' bs) forest))
 
 dynamic_nodes : (op : NodeComparison) (x y : Item) (forest : Forest) → IsDynamic (compared_nodes op x y forest)
 dynamic_nodes op (node a) (node b) forest = tt
@@ -167,17 +182,20 @@ dynamic_nodes op (node a) (atom y) forest = tt
 dynamic_nodes op (atom x) y forest = tt
 
 dynamic_binary : (class : BinaryClass) (xs ys : Items) (forest : Forest) → IsDynamic (binary_meaning class xs ys forest)
-dynamic_binary (Arithmetic operation) xs ys forest = dynamic_on_two xs ys forest (computed_of_items operation) (λ x y. dynamic_arithmetic operation x y forest)
+dynamic_binary (Arithmetic operation) xs ys forest =
+    dynamic_on_two xs ys forest (computed_of_items operation) (λ x y. dynamic_arithmetic operation x y forest)
 dynamic_binary (Value op) xs ys forest = dynamic_on_two xs ys forest (compared_items op) (λ x y. dynamic_comparison op x y forest)
 dynamic_binary (General op) xs ys forest = dynamic_general op xs ys forest
 dynamic_binary (Nodes op) xs ys forest = dynamic_on_two xs ys forest (compared_nodes op) (λ x y. dynamic_nodes op x y forest)
 dynamic_binary Range xs ys forest = dynamic_on_two xs ys forest range_of_items (λ x y. dynamic_range x y forest)
-dynamic_binary (Sets op) xs ys forest =
-    dynamic_choice (list_all is_node xs && list_all is_node ys) (gives (map node (in_document_order forest (combined op (places_of xs) (places_of ys)))) forest) wrong tt tt
+dynamic_binary (Combination op) xs ys forest =
+    dynamic_choice (list_all is_node xs && list_all is_node ys)
+    (gives (map node (in_document_order forest (combined op (places_of xs) (places_of ys)))) forest) wrong tt tt
 
 -- ---- paths and calls
 
-dynamic_step : (schemas : SchemaSet) (axis : Axis) (asks : Test) (xs : Items) (forest : Forest) → IsDynamic (stepped schemas axis asks xs forest)
+dynamic_step : (schemas : SchemaSet) (axis : Axis) (asks : Test) (xs : Items) (forest : Forest)
+    → IsDynamic (stepped schemas axis asks xs forest)
 dynamic_step schemas axis asks (node place ∷ []) forest = tt
 dynamic_step schemas axis asks [] forest = tt
 dynamic_step schemas axis asks (node place ∷ y ∷ xs) forest = tt
@@ -185,15 +203,18 @@ dynamic_step schemas axis asks (atom a ∷ xs) forest = tt
 
 dynamic_order : (xs : Items) (forest : Forest) → IsDynamic (put_in_order xs forest)
 dynamic_order xs forest =
-    dynamic_choice (list_all is_node xs) (gives (map node (in_document_order forest (places_of xs))) forest) (if list_any is_node xs then wrong else gives xs forest) tt
+    dynamic_choice (list_all is_node xs) (gives (map node (in_document_order forest (places_of xs))) forest)
+    (if list_any is_node xs then wrong else gives xs forest) tt
     (dynamic_choice (list_any is_node xs) wrong (gives xs forest) tt tt)
 
 -- a function answers no error
-dynamic_answer : {V : Type 0} (x : Option V) (answer : V → Atomic) (forest : Forest) → IsDynamic (given (option_map (λ v. one_answer (answer v)) x) (λ answer. answered answer forest))
+dynamic_answer : {V : Type 0} (x : Option V) (answer : V → Atomic) (forest : Forest)
+    → IsDynamic (given (option_map (λ v. one_answer (answer v)) x) (λ answer. answered answer forest))
 dynamic_answer None answer forest = tt
 dynamic_answer (Some x) answer forest = tt
 
-dynamic_call : (function : Function) (views : List (List ItemView)) (forest : Forest) → IsDynamic (given (applied function views) (λ answer. answered answer forest))
+dynamic_call : (function : Function) (views : List (List ItemView)) (forest : Forest)
+    → IsDynamic (given (applied function views) (λ answer. answered answer forest))
 dynamic_call functions.True [] forest = tt
 dynamic_call functions.False [] forest = tt
 dynamic_call functions.Boolean (items ∷ []) forest = dynamic_answer (effective_boolean items) truth_atom forest
@@ -206,7 +227,8 @@ dynamic_call _ _ forest = tt
 
 -- ---- operators
 
-dynamic_act : (context : Context) (operator : Operator) (values : List Items) (forest : Forest) → IsDynamic (acts context operator values forest)
+dynamic_act : (context : Context) (operator : Operator) (values : List Items) (forest : Forest)
+    → IsDynamic (acts context operator values forest)
 dynamic_act context (operators.Lit value) [] forest = tt
 dynamic_act context operators.Empty [] forest = tt
 dynamic_act context operators.Seq (xs ∷ ys ∷ []) forest = tt
@@ -214,7 +236,8 @@ dynamic_act context operators.Nodes (xs ∷ []) forest = dynamic_choice (list_al
 dynamic_act context operators.Order (xs ∷ []) forest = dynamic_order xs forest
 dynamic_act context (operators.Nth number reverse) (xs ∷ []) forest = tt
 dynamic_act context (operators.Final reverse) (xs ∷ []) forest = tt
-dynamic_act context operators.DataOf (xs ∷ []) forest = dynamic_given (atomized context.schemas forest xs) (λ ys. gives ys forest) (λ ys. tt)
+dynamic_act context operators.DataOf (xs ∷ []) forest =
+    dynamic_given (atomized context.schemas forest xs) (λ ys. gives ys forest) (λ ys. tt)
 dynamic_act context (operators.Cast kind optional) (xs ∷ []) forest = dynamic_cast context.schemas kind optional xs forest
 dynamic_act context (operators.Castable kind optional) (xs ∷ []) forest = dynamic_castable context.schemas kind optional xs forest
 dynamic_act context (operators.Call function) values forest = dynamic_call function (map (views_of forest) values) forest
@@ -227,34 +250,45 @@ abbrev AreDynamic : List Denotation → Type 0
 AreDynamic [] = Unit {0}
 AreDynamic (part ∷ parts) = ((bindings : Bindings) (forest : Forest) → IsDynamic (part bindings forest)) × AreDynamic parts
 
-dynamic_all : (parts : List Denotation) (bindings : Bindings) (forest : Forest) → AreDynamic parts → IsDynamic (all_of parts bindings forest)
+dynamic_all : (parts : List Denotation) (bindings : Bindings) (forest : Forest) → AreDynamic parts
+    → IsDynamic (all_of parts bindings forest)
 dynamic_all [] bindings forest h = tt
 dynamic_all (part ∷ parts) bindings forest h =
-    dynamic_after (part bindings forest) (λ value left. after (all_of parts bindings left) (λ values last. gives (value ∷ values) last)) (h.0 bindings forest)
-    (λ value left. dynamic_after (all_of parts bindings left) (λ values last. gives (value ∷ values) last) (dynamic_all parts bindings left h.1) (λ values last. tt))
+    dynamic_after (part bindings forest) (λ value left. after (all_of parts bindings left) (λ values last. gives (value ∷ values) last))
+    (h.0 bindings forest)
+    (λ value left. dynamic_after (all_of parts bindings left) (λ values last. gives (value ∷ values) last)
+    (dynamic_all parts bindings left h.1) (λ values last. tt))
 
-dynamic_each : (next : ℕ → Item → Forest → Outcome Items) (number : ℕ) (done xs : Items) (forest : Forest) → ((n : ℕ) (x : Item) (now : Forest) → IsDynamic (next n x now)) → IsDynamic (for_each next number done xs forest)
+dynamic_each : (next : ℕ → Item → Forest → Outcome Items) (number : ℕ) (done xs : Items) (forest : Forest)
+    → ((n : ℕ) (x : Item) (now : Forest) → IsDynamic (next n x now)) → IsDynamic (for_each next number done xs forest)
 dynamic_each next number done [] forest k = tt
 dynamic_each next number done (x ∷ xs) forest k =
-    dynamic_after (next number x forest) (λ more left. for_each next (suc number) (done ++ more) xs left) (k number x forest) (λ more left. dynamic_each next (suc number) (done ++ more) xs left k)
+    dynamic_after (next number x forest) (λ more left. for_each next (suc number) (done ++ more) xs left) (k number x forest)
+    (λ more left. dynamic_each next (suc number) (done ++ more) xs left k)
 
-dynamic_search : (decisive : Bool) (test : Item → Forest → Outcome Items) (xs : Items) (forest : Forest) → ((x : Item) (now : Forest) → IsDynamic (test x now)) → IsDynamic (any_decides decisive test xs forest)
+dynamic_search : (decisive : Bool) (test : Item → Forest → Outcome Items) (xs : Items) (forest : Forest)
+    → ((x : Item) (now : Forest) → IsDynamic (test x now)) → IsDynamic (any_decides decisive test xs forest)
 dynamic_search decisive test [] forest k = tt
 dynamic_search decisive test (x ∷ xs) forest k =
-    dynamic_after (test x forest) (λ ys left. given (condition_of ys) (λ truth. if decides decisive truth then gives (truth_value decisive) left else any_decides decisive test xs left)) (k x forest)
-    (λ ys left. dynamic_given (condition_of ys) (λ truth. if decides decisive truth then gives (truth_value decisive) left else any_decides decisive test xs left)
-    (λ truth. dynamic_choice (decides decisive truth) (gives (truth_value decisive) left) (any_decides decisive test xs left) tt (dynamic_search decisive test xs left k)))
+    dynamic_after (test x forest) (λ ys left. given (condition_of ys)
+    (λ truth. if decides decisive truth then gives (truth_value decisive) left else any_decides decisive test xs left)) (k x forest)
+    (λ ys left. dynamic_given (condition_of ys)
+    (λ truth. if decides decisive truth then gives (truth_value decisive) left else any_decides decisive test xs left)
+    (λ truth. dynamic_choice (decides decisive truth) (gives (truth_value decisive) left) (any_decides decisive test xs left) tt
+    (dynamic_search decisive test xs left k)))
 
 dynamic_branch : (b : Bool) (chosen otherwise : Denotation) (bindings : Bindings) (forest : Forest)
     → IsDynamic (chosen bindings forest) → IsDynamic (otherwise bindings forest) → IsDynamic (branch b chosen otherwise bindings forest)
 dynamic_branch true chosen otherwise bindings forest h k = h
 dynamic_branch false chosen otherwise bindings forest h k = k
 
-dynamic_switched : (schemas : SchemaSet) (cases : List TypeCase) (default : ℕ) (branches : List Denotation) (xs : Items) (bindings : Bindings) (forest : Forest)
+dynamic_switched : (schemas : SchemaSet) (cases : List TypeCase) (default : ℕ) (branches : List Denotation) (xs : Items)
+    (bindings : Bindings) (forest : Forest)
     → AreDynamic branches → IsDynamic (switched schemas cases default branches xs bindings forest)
 dynamic_switched schemas [] default (otherwise ∷ []) xs bindings forest h = h.0 (position_bound default xs ++ bindings) forest
 dynamic_switched schemas (c ∷ cases) default (chosen ∷ branches) xs bindings forest h =
-    dynamic_choice (is_instance schemas c.kind xs) (chosen (position_bound c.variable xs ++ bindings) forest) (switched schemas cases default branches xs bindings forest)
+    dynamic_choice (is_instance schemas c.kind xs) (chosen (position_bound c.variable xs ++ bindings) forest)
+    (switched schemas cases default branches xs bindings forest)
     (h.0 (position_bound c.variable xs ++ bindings) forest) (dynamic_switched schemas cases default branches xs bindings forest h.1)
 dynamic_switched schemas [] default [] xs bindings forest h = tt
 dynamic_switched schemas [] default (b ∷ d ∷ branches) xs bindings forest h = tt
@@ -262,49 +296,69 @@ dynamic_switched schemas (c ∷ cases) default [] xs bindings forest h = tt
 
 -- ---- blocks
 
-dynamic_keys : (orders : List KeyOrder) (parts : List Denotation) (bindings : Bindings) (forest : Forest) → AreDynamic parts → IsDynamic (tuple_keys orders parts bindings forest)
+dynamic_keys : (orders : List KeyOrder) (parts : List Denotation) (bindings : Bindings) (forest : Forest) → AreDynamic parts
+    → IsDynamic (tuple_keys orders parts bindings forest)
 dynamic_keys [] parts bindings forest h = tt
 dynamic_keys (order ∷ orders) [] bindings forest h = tt
 dynamic_keys (order ∷ orders) (part ∷ parts) bindings forest h =
-    dynamic_after (part bindings forest) (λ xs left. given (key_of xs) (λ key. after (tuple_keys orders parts bindings left) (λ keys last. gives (key ∷ keys) last))) (h.0 bindings forest)
+    dynamic_after (part bindings forest)
+    (λ xs left. given (key_of xs) (λ key. after (tuple_keys orders parts bindings left) (λ keys last. gives (key ∷ keys) last)))
+    (h.0 bindings forest)
     (λ xs left. dynamic_given (key_of xs) (λ key. after (tuple_keys orders parts bindings left) (λ keys last. gives (key ∷ keys) last))
-    (λ key. dynamic_after (tuple_keys orders parts bindings left) (λ keys last. gives (key ∷ keys) last) (dynamic_keys orders parts bindings left h.1) (λ keys last. tt)))
+    (λ key. dynamic_after (tuple_keys orders parts bindings left) (λ keys last. gives (key ∷ keys) last)
+    (dynamic_keys orders parts bindings left h.1) (λ keys last. tt)))
 
-dynamic_tuples_of_each : (next : ℕ → Item → Forest → Outcome (List Tuple)) (number : ℕ) (xs : Items) (forest : Forest) → ((n : ℕ) (x : Item) (now : Forest) → IsDynamic (next n x now)) → IsDynamic (tuples_of_each next number xs forest)
+dynamic_tuples_of_each : (next : ℕ → Item → Forest → Outcome (List Tuple)) (number : ℕ) (xs : Items) (forest : Forest)
+    → ((n : ℕ) (x : Item) (now : Forest) → IsDynamic (next n x now)) → IsDynamic (tuples_of_each next number xs forest)
 dynamic_tuples_of_each next number [] forest k = tt
 dynamic_tuples_of_each next number (x ∷ xs) forest k =
-    dynamic_after (next number x forest) (λ found left. after (tuples_of_each next (suc number) xs left) (λ others last. gives (found ++ others) last)) (k number x forest)
-    (λ found left. dynamic_after (tuples_of_each next (suc number) xs left) (λ others last. gives (found ++ others) last) (dynamic_tuples_of_each next (suc number) xs left k) (λ others last. tt))
+    dynamic_after (next number x forest)
+    (λ found left. after (tuples_of_each next (suc number) xs left) (λ others last. gives (found ++ others) last)) (k number x forest)
+    (λ found left. dynamic_after (tuples_of_each next (suc number) xs left) (λ others last. gives (found ++ others) last)
+    (dynamic_tuples_of_each next (suc number) xs left k) (λ others last. tt))
 
-dynamic_tuples_if : (truth : Bool) (found : Forest → Outcome (List Tuple)) (forest : Forest) → IsDynamic (found forest) → IsDynamic (tuples_if truth found forest)
+dynamic_tuples_if : (truth : Bool) (found : Forest → Outcome (List Tuple)) (forest : Forest) → IsDynamic (found forest)
+    → IsDynamic (tuples_if truth found forest)
 dynamic_tuples_if true found forest h = h
 dynamic_tuples_if false found forest h = tt
 
-dynamic_tuples : (kinds : List ClauseKind) (orders : List KeyOrder) (parts : List Denotation) (bound outer : Bindings) (forest : Forest) → AreDynamic parts → IsDynamic (tuples_of kinds orders parts bound outer forest)
+dynamic_tuples : (kinds : List ClauseKind) (orders : List KeyOrder) (parts : List Denotation) (bound outer : Bindings) (forest : Forest)
+    → AreDynamic parts → IsDynamic (tuples_of kinds orders parts bound outer forest)
 dynamic_tuples [] orders parts bound outer forest h =
-    dynamic_after (tuple_keys orders parts (bound ++ outer) forest) (λ keys left. gives (record { keys = keys; bound = bound } ∷ []) left) (dynamic_keys orders parts (bound ++ outer) forest h) (λ keys left. tt)
+    dynamic_after (tuple_keys orders parts (bound ++ outer) forest) (λ keys left. gives (record { keys = keys; bound = bound } ∷ []) left)
+    (dynamic_keys orders parts (bound ++ outer) forest h) (λ keys left. tt)
 dynamic_tuples (kind ∷ kinds) orders [] bound outer forest h = tt
 dynamic_tuples (kinds.For binder position ∷ others) orders (source ∷ parts) bound outer forest h =
     dynamic_after (source (bound ++ outer) forest)
-    (λ xs left. tuples_of_each (λ number x now. tuples_of others orders parts (item_bound binder.variable position number x ++ bound) outer now) 1 xs left) (h.0 (bound ++ outer) forest)
-    (λ xs left. dynamic_tuples_of_each (λ number x now. tuples_of others orders parts (item_bound binder.variable position number x ++ bound) outer now) 1 xs left
+    (λ xs left. tuples_of_each (λ number x now. tuples_of others orders parts
+    (item_bound binder.variable position number x ++ bound) outer now) 1 xs left) (h.0 (bound ++ outer) forest)
+    (λ xs left. dynamic_tuples_of_each
+    (λ number x now. tuples_of others orders parts (item_bound binder.variable position number x ++ bound) outer now) 1 xs left
     (λ number x now. dynamic_tuples others orders parts (item_bound binder.variable position number x ++ bound) outer now h.1))
 dynamic_tuples (kinds.Let binder ∷ others) orders (value ∷ parts) bound outer forest h =
-    dynamic_after (value (bound ++ outer) forest) (λ xs left. tuples_of others orders parts ((binder.variable, xs) ∷ bound) outer left) (h.0 (bound ++ outer) forest)
+    dynamic_after (value (bound ++ outer) forest) (λ xs left. tuples_of others orders parts ((binder.variable, xs) ∷ bound) outer left)
+    (h.0 (bound ++ outer) forest)
     (λ xs left. dynamic_tuples others orders parts ((binder.variable, xs) ∷ bound) outer left h.1)
 dynamic_tuples (kinds.Where ∷ others) orders (condition ∷ parts) bound outer forest h =
-    dynamic_after (condition (bound ++ outer) forest) (λ xs left. given (condition_of xs) (λ truth. tuples_if truth (λ now. tuples_of others orders parts bound outer now) left)) (h.0 (bound ++ outer) forest)
+    dynamic_after (condition (bound ++ outer) forest)
+    (λ xs left. given (condition_of xs) (λ truth. tuples_if truth (λ now. tuples_of others orders parts bound outer now) left))
+    (h.0 (bound ++ outer) forest)
     (λ xs left. dynamic_given (condition_of xs) (λ truth. tuples_if truth (λ now. tuples_of others orders parts bound outer now) left)
-    (λ truth. dynamic_tuples_if truth (λ now. tuples_of others orders parts bound outer now) left (dynamic_tuples others orders parts bound outer left h.1)))
+    (λ truth. dynamic_tuples_if truth (λ now. tuples_of others orders parts bound outer now) left
+    (dynamic_tuples others orders parts bound outer left h.1)))
 
-dynamic_returned : (body : Denotation) (outer : Bindings) (done : Items) (tuples : List Bindings) (forest : Forest) → ((bindings : Bindings) (now : Forest) → IsDynamic (body bindings now)) → IsDynamic (returned body outer done tuples forest)
+dynamic_returned : (body : Denotation) (outer : Bindings) (done : Items) (tuples : List Bindings) (forest : Forest)
+    → ((bindings : Bindings) (now : Forest) → IsDynamic (body bindings now)) → IsDynamic (returned body outer done tuples forest)
 dynamic_returned body outer done [] forest k = tt
 dynamic_returned body outer done (bound ∷ tuples) forest k =
-    dynamic_after (body (bound ++ outer) forest) (λ more left. returned body outer (done ++ more) tuples left) (k (bound ++ outer) forest) (λ more left. dynamic_returned body outer (done ++ more) tuples left k)
+    dynamic_after (body (bound ++ outer) forest) (λ more left. returned body outer (done ++ more) tuples left) (k (bound ++ outer) forest)
+    (λ more left. dynamic_returned body outer (done ++ more) tuples left k)
 
-dynamic_block_returned : (orders : List KeyOrder) (returns : List Denotation) (bindings : Bindings) (tuples : List Tuple) (forest : Forest) → AreDynamic returns → IsDynamic (block_returned orders returns bindings tuples forest)
+dynamic_block_returned : (orders : List KeyOrder) (returns : List Denotation) (bindings : Bindings) (tuples : List Tuple) (forest : Forest)
+    → AreDynamic returns → IsDynamic (block_returned orders returns bindings tuples forest)
 dynamic_block_returned orders [] bindings tuples forest h = tt
-dynamic_block_returned orders (body ∷ []) bindings tuples forest h = dynamic_returned body bindings [] (map (λ t. t.bound) (in_key_order orders tuples)) forest h.0
+dynamic_block_returned orders (body ∷ []) bindings tuples forest h =
+    dynamic_returned body bindings [] (map (λ t. t.bound) (in_key_order orders tuples)) forest h.0
 dynamic_block_returned orders (body ∷ other ∷ more) bindings tuples forest h = tt
 
 dynamic_dropped : (n : ℕ) (parts : List Denotation) → AreDynamic parts → AreDynamic (drop n parts)
@@ -312,32 +366,49 @@ dynamic_dropped zero parts h = h
 dynamic_dropped (suc n) [] h = tt
 dynamic_dropped (suc n) (part ∷ parts) h = dynamic_dropped n parts h.1
 
-dynamic_block : (kinds : List ClauseKind) (orders : List KeyOrder) (parts : List Denotation) (bindings : Bindings) (forest : Forest) → AreDynamic parts → IsDynamic (block_denoted kinds orders parts bindings forest)
+dynamic_block : (kinds : List ClauseKind) (orders : List KeyOrder) (parts : List Denotation) (bindings : Bindings) (forest : Forest)
+    → AreDynamic parts → IsDynamic (block_denoted kinds orders parts bindings forest)
 dynamic_block kinds orders parts bindings forest h =
-    dynamic_after (tuples_of kinds orders parts [] bindings forest) (block_returned orders (drop (length orders) (drop (length kinds) parts)) bindings) (dynamic_tuples kinds orders parts [] bindings forest h)
-    (λ tuples left. dynamic_block_returned orders (drop (length orders) (drop (length kinds) parts)) bindings tuples left (dynamic_dropped (length orders) (drop (length kinds) parts) (dynamic_dropped (length kinds) parts h)))
+    dynamic_after (tuples_of kinds orders parts [] bindings forest)
+    (block_returned orders (drop (length orders) (drop (length kinds) parts)) bindings)
+    (dynamic_tuples kinds orders parts [] bindings forest h)
+    (λ tuples left. dynamic_block_returned orders (drop (length orders) (drop (length kinds) parts)) bindings tuples left
+    (dynamic_dropped (length orders) (drop (length kinds) parts) (dynamic_dropped (length kinds) parts h)))
 
-dynamic_operator : (context : Context) (operator : Operator) (parts : List Denotation) (bindings : Bindings) (forest : Forest) → AreDynamic parts → IsDynamic (denoted context operator parts bindings forest)
-dynamic_operator context (operators.Var number) [] bindings forest h = dynamic_given (look_up bindings number) (λ value. gives value forest) (λ value. tt)
+dynamic_operator : (context : Context) (operator : Operator) (parts : List Denotation) (bindings : Bindings) (forest : Forest)
+    → AreDynamic parts → IsDynamic (denoted context operator parts bindings forest)
+dynamic_operator context (operators.Var number) [] bindings forest h =
+    dynamic_given (look_up bindings number) (λ value. gives value forest) (λ value. tt)
 dynamic_operator context (operators.For binder position) (source ∷ body ∷ []) bindings forest h =
-    dynamic_after (source bindings forest) (λ xs left. for_each (λ number x now. body (item_bound binder.variable position number x ++ bindings) now) 1 [] xs left) (h.0 bindings forest)
-    (λ xs left. dynamic_each (λ number x now. body (item_bound binder.variable position number x ++ bindings) now) 1 [] xs left (λ number x now. h.1.0 (item_bound binder.variable position number x ++ bindings) now))
+    dynamic_after (source bindings forest)
+    (λ xs left. for_each (λ number x now. body (item_bound binder.variable position number x ++ bindings) now) 1 [] xs left)
+    (h.0 bindings forest)
+    (λ xs left. dynamic_each (λ number x now. body (item_bound binder.variable position number x ++ bindings) now) 1 [] xs left
+    (λ number x now. h.1.0 (item_bound binder.variable position number x ++ bindings) now))
 dynamic_operator context (operators.SomeIn binder) (source ∷ test ∷ []) bindings forest h =
-    dynamic_after (source bindings forest) (λ xs left. any_decides true (λ x now. test ((binder.variable, x ∷ []) ∷ bindings) now) xs left) (h.0 bindings forest)
-    (λ xs left. dynamic_search true (λ x now. test ((binder.variable, x ∷ []) ∷ bindings) now) xs left (λ x now. h.1.0 ((binder.variable, x ∷ []) ∷ bindings) now))
+    dynamic_after (source bindings forest) (λ xs left. any_decides true (λ x now. test ((binder.variable, x ∷ []) ∷ bindings) now) xs left)
+    (h.0 bindings forest)
+    (λ xs left. dynamic_search true (λ x now. test ((binder.variable, x ∷ []) ∷ bindings) now) xs left
+    (λ x now. h.1.0 ((binder.variable, x ∷ []) ∷ bindings) now))
 dynamic_operator context (operators.EveryIn binder) (source ∷ test ∷ []) bindings forest h =
-    dynamic_after (source bindings forest) (λ xs left. any_decides false (λ x now. test ((binder.variable, x ∷ []) ∷ bindings) now) xs left) (h.0 bindings forest)
-    (λ xs left. dynamic_search false (λ x now. test ((binder.variable, x ∷ []) ∷ bindings) now) xs left (λ x now. h.1.0 ((binder.variable, x ∷ []) ∷ bindings) now))
+    dynamic_after (source bindings forest) (λ xs left. any_decides false (λ x now. test ((binder.variable, x ∷ []) ∷ bindings) now) xs left)
+    (h.0 bindings forest)
+    (λ xs left. dynamic_search false (λ x now. test ((binder.variable, x ∷ []) ∷ bindings) now) xs left
+    (λ x now. h.1.0 ((binder.variable, x ∷ []) ∷ bindings) now))
 dynamic_operator context (operators.Block kinds orders) parts bindings forest h = dynamic_block kinds orders parts bindings forest h
 dynamic_operator context (operators.Step axis asks number) [] bindings forest h =
-    dynamic_given (look_up bindings number) (λ value. stepped context.schemas axis asks value forest) (λ value. dynamic_step context.schemas axis asks value forest)
+    dynamic_given (look_up bindings number) (λ value. stepped context.schemas axis asks value forest)
+    (λ value. dynamic_step context.schemas axis asks value forest)
 dynamic_operator context (operators.Let binder) (value ∷ body ∷ []) bindings forest h =
-    dynamic_after (value bindings forest) (λ xs left. body ((binder.variable, xs) ∷ bindings) left) (h.0 bindings forest) (λ xs left. h.1.0 ((binder.variable, xs) ∷ bindings) left)
+    dynamic_after (value bindings forest) (λ xs left. body ((binder.variable, xs) ∷ bindings) left) (h.0 bindings forest)
+    (λ xs left. h.1.0 ((binder.variable, xs) ∷ bindings) left)
 dynamic_operator context (operators.Switch cases default) (operand ∷ branches) bindings forest h =
-    dynamic_after (operand bindings forest) (λ xs left. switched context.schemas cases default branches xs bindings left) (h.0 bindings forest)
+    dynamic_after (operand bindings forest) (λ xs left. switched context.schemas cases default branches xs bindings left)
+    (h.0 bindings forest)
     (λ xs left. dynamic_switched context.schemas cases default branches xs bindings left h.1)
 dynamic_operator context operators.If (condition ∷ chosen ∷ otherwise ∷ []) bindings forest h =
-    dynamic_after (condition bindings forest) (λ xs left. given (condition_of xs) (λ truth. branch truth chosen otherwise bindings left)) (h.0 bindings forest)
+    dynamic_after (condition bindings forest) (λ xs left. given (condition_of xs) (λ truth. branch truth chosen otherwise bindings left))
+    (h.0 bindings forest)
     (λ xs left. dynamic_given (condition_of xs) (λ truth. branch truth chosen otherwise bindings left)
     (λ truth. dynamic_branch truth chosen otherwise bindings left (h.1.0 bindings left) (h.1.1.0 bindings left)))
 dynamic_operator context (operators.For binder position) _ bindings forest h = tt
@@ -347,27 +418,34 @@ dynamic_operator context (operators.Let binder) _ bindings forest h = tt
 dynamic_operator context operators.If _ bindings forest h = tt
 dynamic_operator context (operators.Switch cases default) [] bindings forest h = tt
 dynamic_operator context operator parts bindings forest h =
-    dynamic_after (all_of parts bindings forest) (acts context operator) (dynamic_all parts bindings forest h) (λ values left. dynamic_act context operator values left)
+    dynamic_after (all_of parts bindings forest) (acts context operator) (dynamic_all parts bindings forest h)
+    (λ values left. dynamic_act context operator values left)
 
 -- ---- expressions and queries
 
 mutual
-  dynamic_expression : (A : Type 0) (context : Context) (e : Expression A) (bindings : Bindings) (forest : Forest) → IsDynamic (meaning context e bindings forest)
-  dynamic_expression A context (At place outer annotation operator parts) bindings forest = dynamic_operator context operator (meanings context parts) bindings forest (dynamic_parts A context parts)
+  dynamic_expression : (A : Type 0) (context : Context) (e : Expression A) (bindings : Bindings) (forest : Forest)
+      → IsDynamic (meaning context e bindings forest)
+  dynamic_expression A context (At place outer annotation operator parts) bindings forest =
+      dynamic_operator context operator (meanings context parts) bindings forest (dynamic_parts A context parts)
 
   dynamic_parts : (A : Type 0) (context : Context) (parts : Parts A) → AreDynamic (meanings context parts)
   dynamic_parts A context no_parts = tt
   dynamic_parts A context (a_part first others) = (dynamic_expression A context first, dynamic_parts A context others)
 
 pub expressions_raise_dynamic_codes : ExpressionsRaiseDynamicCodes
-expressions_raise_dynamic_codes context e bindings forest = by_cases (meaning context e bindings forest) (dynamic_expression (Unit {0}) context e bindings forest)
+expressions_raise_dynamic_codes context e bindings forest =
+    by_cases (meaning context e bindings forest) (dynamic_expression (Unit {0}) context e bindings forest)
 
-dynamic_globals : (context : Context) (declarations : List CoreDeclaration) (documents : List PlainNode) (bindings : Bindings) (forest : Forest)
+dynamic_globals : (context : Context) (declarations : List CoreDeclaration) (documents : List PlainNode) (bindings : Bindings)
+    (forest : Forest)
     → IsDynamic (globals_bound context declarations documents bindings forest)
 dynamic_globals context [] documents bindings forest = tt
 dynamic_globals context (Global name binder (Some value) ∷ others) documents bindings forest =
-    dynamic_after (meaning context value bindings forest) (λ items left. globals_bound context others documents ((binder.variable, items) ∷ bindings) left)
-    (dynamic_expression (Unit {0}) context value bindings forest) (λ items left. dynamic_globals context others documents ((binder.variable, items) ∷ bindings) left)
+    dynamic_after (meaning context value bindings forest)
+    (λ items left. globals_bound context others documents ((binder.variable, items) ∷ bindings) left)
+    (dynamic_expression (Unit {0}) context value bindings forest)
+    (λ items left. dynamic_globals context others documents ((binder.variable, items) ∷ bindings) left)
 dynamic_globals context (Global name binder None ∷ others) [] bindings forest = tt
 dynamic_globals context (Global name binder None ∷ others) (document ∷ documents) bindings forest =
     dynamic_globals context others documents ((binder.variable, node document ∷ []) ∷ bindings) forest
@@ -377,4 +455,5 @@ queries_raise_dynamic_codes schemas core documents forest =
     let context : Context = record { schemas = schemas } in
     by_cases (query_outcome schemas core documents forest)
     (dynamic_after (globals_bound context core.declarations documents [] forest) (λ bindings left. meaning context core.body bindings left)
-    (dynamic_globals context core.declarations documents [] forest) (λ bindings left. dynamic_expression (Unit {0}) context core.body bindings left))
+    (dynamic_globals context core.declarations documents [] forest)
+    (λ bindings left. dynamic_expression (Unit {0}) context core.body bindings left))

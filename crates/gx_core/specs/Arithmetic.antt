@@ -9,7 +9,8 @@ use Rattle.gx_num.specs.declared.Number.{Number}
 use Rattle.gx_num.specs.declared.Number.TheVariants.{Int, Dec}
 use Rattle.gx_num.specs.declared.NumFault.{NumFault}
 use Rattle.gx_num.specs.declared.NumFault.TheVariants.{Overflow, DivZero}
-use Rattle.gx_num.specs.Arithmetic.{sum_of, difference_of, product_of, quotient_of, integer_quotient_of, remainder_of, exact_negation, in_range_or_overflow}
+use Rattle.gx_num.specs.Arithmetic.{sum_of, difference_of, product_of, quotient_of, integer_quotient_of}
+use Rattle.gx_num.specs.Arithmetic.{remainder_of, exact_negation, in_range_or_overflow}
 use Rattle.gx_facets.specs.declared.Atomic.{Atomic}
 use Rattle.gx_facets.specs.declared.AtomValue.{AtomValue}
 use Rattle.gx_facets.specs.declared.AtomValue.TheVariants.{Num}

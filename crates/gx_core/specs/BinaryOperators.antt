@@ -4,9 +4,9 @@ use Rattle.gx_core.specs.declared.expression.BinaryOp.{BinaryOp}
 use Rattle.gx_core.specs.declared.expression.BinaryOp.TheVariants as binary
 use Rattle.gx_core.specs.declared.expression.ArithmeticOp.TheVariants as arithmetic
 use Rattle.gx_core.specs.declared.expression.BinaryClass.{BinaryClass}
-use Rattle.gx_core.specs.declared.expression.BinaryClass.TheVariants.{Arithmetic, Value, General, Nodes, Range, Sets}
+use Rattle.gx_core.specs.declared.expression.BinaryClass.TheVariants.{Arithmetic, Value, General, Nodes, Range, Combination}
 use Rattle.gx_core.specs.declared.expression.NodeComparison.TheVariants as nodes
-use Rattle.gx_core.specs.declared.expression.SetOperator.TheVariants as sets
+use Rattle.gx_core.specs.declared.expression.NodeCombination.TheVariants as combinations
 
 abbrev pub class_of : BinaryOp → BinaryClass
 class_of binary.Add = Arithmetic arithmetic.Add
@@ -31,6 +31,6 @@ class_of binary.Is = Nodes nodes.Is
 class_of binary.Before = Nodes nodes.Before
 class_of binary.After = Nodes nodes.After
 class_of binary.To = Range
-class_of binary.Union = Sets sets.Union
-class_of binary.Intersect = Sets sets.Intersect
-class_of binary.Except = Sets sets.Except
+class_of binary.Union = Combination combinations.Union
+class_of binary.Intersect = Combination combinations.Intersect
+class_of binary.Except = Combination combinations.Except

@@ -34,7 +34,8 @@ value_of_item (node place) = None
 
 abbrev pub compared_items : Op → Item → Item → Forest → Outcome Items
 compared_items op x y forest =
-    given (value_of_item x) (λ a. given (value_of_item y) (λ b. given (value_comparison op a b) (λ truth. gives (truth_value truth) forest)))
+    given (value_of_item x) (λ a. given (value_of_item y)
+    (λ b. given (value_comparison op a b) (λ truth. gives (truth_value truth) forest)))
 
 abbrev pub value_compared : Op → Items → Items → Forest → Outcome Items
 value_compared op xs ys forest = on_two xs ys forest (compared_items op)

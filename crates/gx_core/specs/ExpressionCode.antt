@@ -8,7 +8,8 @@ use Rattle.gx_core.specs.Expression.{Expression, At, Parts, no_parts, a_part}
 
 abbrev mutual
   pub store_expression : {A : Type 0} → (A → Gv) → Expression A → Gv
-  store_expression code (At p o n f ps) = gcons (stored_place p) (gcons (stored_place o) (gcons (code n) (gcons (the_row.coded.code f) (store_parts code ps))))
+  store_expression code (At p o n f ps) =
+      gcons (stored_place p) (gcons (stored_place o) (gcons (code n) (gcons (the_row.coded.code f) (store_parts code ps))))
 
   pub store_parts : {A : Type 0} → (A → Gv) → Parts A → Gv
   store_parts code no_parts = gnil

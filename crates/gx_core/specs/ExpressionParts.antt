@@ -6,21 +6,25 @@ use Rattle.gx_core.specs.declared.expression.Clause.{Clause}
 use Rattle.gx_core.specs.declared.expression.Clause.TheVariants as clauses
 use Rattle.gx_core.specs.declared.expression.SortKey.{SortKey}
 use Rattle.gx_core.specs.declared.expression.Form.{Form}
-use Rattle.gx_core.specs.declared.expression.Form.TheVariants.{Lit, Var, Empty, Seq, For, Let, If, Cast, Castable, Step, Nodes, Order, SomeIn, EveryIn, Switch, Nth, Final, DataOf, NoContext, Call, Neg, Binary, Block}
+use Rattle.gx_core.specs.declared.expression.Form.TheVariants.{Lit, Var, Empty, Seq, For, Let, If, Cast, Castable}
+use Rattle.gx_core.specs.declared.expression.Form.TheVariants.{Step, Nodes, Order, SomeIn, EveryIn, Switch, Nth}
+use Rattle.gx_core.specs.declared.expression.Form.TheVariants.{Final, DataOf, NoContext, Call, Neg, Binary, Block}
 use Rattle.gx_core.specs.declared.expression.Expr.TheDeep.{deep-Form, deep-Clause, deep-SortKey}
 use Rattle.gx_core.specs.Expression.{Expression, expression_size, parts_size, all_parts}
-use Rattle.gx_core.specs.ExpressionView.{part_of_clause, part_of_key, parts_of_block, parts_of}
+use Rattle.gx_core.specs.ExpressionView.{part_of_key, parts_of_block, parts_of}
 
 most_parts : {A : Type 0} (es : List (Expression A)) → most (λ e. expression_size e + 1) es ≤ 1 + parts_size (all_parts es)
 most_parts [] = omega arith
 most_parts (e ∷ es) = omega (arith, most_parts es)
 
-most_keys : {A : Type 0} (ks : List (SortKey A)) (a : Expression A) → max (most (deep-SortKey A) ks) (expression_size a + 2) ≤ 1 + parts_size (all_parts (map part_of_key ks ++ a ∷ []))
+most_keys : {A : Type 0} (ks : List (SortKey A)) (a : Expression A)
+    → max (most (deep-SortKey A) ks) (expression_size a + 2) ≤ 1 + parts_size (all_parts (map part_of_key ks ++ a ∷ []))
 most_keys [] a = omega arith
 most_keys (k ∷ ks) a = omega (arith, most_keys ks a)
 
 most_clauses : {A : Type 0} (cs : List (Clause A)) (ks : List (SortKey A)) (a : Expression A)
-    → max (most (deep-Clause A) cs) (max (most (deep-SortKey A) ks) (expression_size a + 2)) ≤ 1 + parts_size (all_parts (parts_of_block cs ks a))
+    → max (most (deep-Clause A) cs) (max (most (deep-SortKey A) ks) (expression_size a + 2))
+    ≤ 1 + parts_size (all_parts (parts_of_block cs ks a))
 most_clauses [] ks a = omega (arith, most_keys ks a)
 most_clauses (clauses.For v p e ∷ cs) ks a = omega (arith, most_clauses cs ks a)
 most_clauses (clauses.Let v e ∷ cs) ks a = omega (arith, most_clauses cs ks a)

@@ -25,9 +25,11 @@ abbrev mutual
   pub is_free_in_parts : {A : Type 0} → Operator → (before : List (Unit {0})) → Parts A → ℕ → Bool
   is_free_in_parts operator before no_parts number = false
   is_free_in_parts operator before (a_part first others) number =
-      (not (is_among (numbers_bound_by operator before) number) && is_free_in first number) || is_free_in_parts operator (before ++ tt ∷ []) others number
+      (not (is_among (numbers_bound_by operator before) number) && is_free_in first number)
+      || is_free_in_parts operator (before ++ tt ∷ []) others number
 
 -- each variable that an expression names and does not bind is bound to a value of its type
 abbrev pub FitsFree : {A : Type 0} → SchemaSet → Forest → Expression A → Types → Bindings → Type 0
 FitsFree schemas forest e types bindings =
-    (number : ℕ) (t : SequenceType) → is_free_in e number ≡ true → look_up types number ≡ Some t → IsBoundTo schemas forest bindings number t
+    (number : ℕ) (t : SequenceType) → is_free_in e number ≡ true → look_up types number ≡ Some t
+    → IsBoundTo schemas forest bindings number t

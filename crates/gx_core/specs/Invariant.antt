@@ -113,7 +113,7 @@ IsCoreLiteral literal = IsCoreLiteralOf literal.value literal.kind
 -- a call of a function of the table with its number of arguments; `data` is an operator of its own, and `position` and `last` are
 -- variables
 pub record IsTableCall (function : Function) (arguments : ℕ) : Type 0 where
-  pub other : function ≢ functions.Data
+  pub not_data : function ≢ functions.Data
   pub not_position : function ≢ functions.Position
   pub not_last : function ≢ functions.Last
   pub all : arguments ≡ arity_of function
@@ -132,7 +132,8 @@ number_of_parts (a_part first others) = 1 + number_of_parts others
 -- an expression and all that stand in it
 abbrev mutual
   pub IsWellFormedExpression : {A : Type 0} → Expression A → Type 0
-  IsWellFormedExpression (At place outer annotation operator parts) = IsWellFormedOver operator (number_of_parts parts) × ArePartsWellFormed parts
+  IsWellFormedExpression (At place outer annotation operator parts) =
+      IsWellFormedOver operator (number_of_parts parts) × ArePartsWellFormed parts
 
   pub ArePartsWellFormed : {A : Type 0} → Parts A → Type 0
   ArePartsWellFormed no_parts = Unit {0}

@@ -15,19 +15,23 @@ use Rattle.gx_core.specs.declared.operator.Operator.{Operator}
 use Rattle.gx_core.specs.Bindings.{Types, look_up}
 use Rattle.gx_core.specs.Outcome.{Outcome, raises, after}
 use Rattle.gx_core.specs.Meaning.{Context, Bindings, Denotation, all_of, denoted, meaning}
-use Rattle.gx_core.specs.Calls.{Call, calls, evaluated_as}
+use Rattle.gx_core.specs.Evaluations.{PartEvaluation, evaluations, evaluated_as}
 use Rattle.gx_core.specs.FreeVariables.{is_free_in}
 use Rattle.gx_core.specs.Soundness.{TypedExpression, Setting, KeepsFact, AreOfTypes, Keeps, Fits, Situation}
 
 -- the meaning of a typed expression is that of the same expression without its types
 abbrev pub MeaningLooksAtNoType : Type 0
-MeaningLooksAtNoType = (context : Context) (e : TypedExpression) (bindings : Bindings) (forest : Forest) → meaning context (plain e) bindings forest ≡ meaning context e bindings forest
+MeaningLooksAtNoType =
+    (context : Context) (e : TypedExpression) (bindings : Bindings) (forest : Forest)
+    → meaning context (plain e) bindings forest ≡ meaning context e bindings forest
 
 -- what is made of a value in each forest that has grown from this one
 abbrev pub AfterKeeps : Type 0
 AfterKeeps =
-    (setting : Setting) (before : Forest) (t u : SequenceType) (outcome : Outcome Items) (next : Items → Forest → Outcome Items) → Keeps setting before t outcome
-    → ((value : Items) (now : Forest) → Extends before now → IsHonest setting.schemas now → Belongs setting.schemas now value t → Keeps setting now u (next value now))
+    (setting : Setting) (before : Forest) (t u : SequenceType) (outcome : Outcome Items) (next : Items → Forest → Outcome Items)
+    → Keeps setting before t outcome
+    → ((value : Items) (now : Forest) → Extends before now → IsHonest setting.schemas now → Belongs setting.schemas now value t
+    → Keeps setting now u (next value now))
     → Keeps setting before u (after outcome next)
 
 -- bindings fit still where the forest has grown
@@ -47,13 +51,15 @@ BindingFits =
 abbrev pub AllKeep : (setting : Setting) → Types → List Denotation → List SequenceType → Type 0
 AllKeep setting types [] [] = Unit {0}
 AllKeep setting types (part ∷ parts) (t ∷ ts) =
-    ((situation : Situation setting types) → Keeps setting situation.forest t (part situation.bindings situation.forest)) × AllKeep setting types parts ts
+    ((situation : Situation setting types) → Keeps setting situation.forest t (part situation.bindings situation.forest))
+    × AllKeep setting types parts ts
 AllKeep setting types _ _ = ⊥
 
 -- the values of all parts belong to their types, in the forest that the last part leaves
 abbrev pub OperandsKeepTheirTypes : Type 0
 OperandsKeepTheirTypes =
-    (setting : Setting) (types : Types) (parts : List Denotation) (ts : List SequenceType) (situation : Situation setting types) → AllKeep setting types parts ts
+    (setting : Setting) (types : Types) (parts : List Denotation) (ts : List SequenceType) (situation : Situation setting types)
+    → AllKeep setting types parts ts
     → KeepsFact setting situation.forest (AreOfTypes setting.schemas ts) (all_of parts situation.bindings situation.forest)
 
 -- where an outcome is an error, the code is that of a dynamic error
@@ -62,20 +68,23 @@ RaisesDynamicCodes outcome = (code : Code) → outcome ≡ raises code → is_dy
 
 -- the evaluation of an expression raises the codes of dynamic errors alone
 abbrev pub ExpressionsRaiseDynamicCodes : Type 0
-ExpressionsRaiseDynamicCodes = (context : Context) (e : CoreExpression) (bindings : Bindings) (forest : Forest) → RaisesDynamicCodes (meaning context e bindings forest)
+ExpressionsRaiseDynamicCodes =
+    (context : Context) (e : CoreExpression) (bindings : Bindings) (forest : Forest)
+    → RaisesDynamicCodes (meaning context e bindings forest)
 
 -- parts that come to the same in an evaluation
-abbrev pub AgreeAt : (parts others : List Denotation) → Call → Type 0
+abbrev pub AgreeAt : (parts others : List Denotation) → PartEvaluation → Type 0
 AgreeAt parts others evaluation = evaluated_as parts evaluation ≡ evaluated_as others evaluation
 
 -- parts that come to the same in each evaluation that an operator asks for may stand for one another: the operator comes to the same, and
 -- asks for the same evaluations
 abbrev pub PartsDecide : Type 0
 PartsDecide =
-    (context : Context) (operator : Operator) (parts others : List Denotation) (bindings : Bindings) (forest : Forest) → length parts ≡ length others
-    → AllByRecursion (AgreeAt parts others) (calls context operator parts bindings forest)
+    (context : Context) (operator : Operator) (parts others : List Denotation) (bindings : Bindings) (forest : Forest)
+    → length parts ≡ length others
+    → AllByRecursion (AgreeAt parts others) (evaluations context operator parts bindings forest)
     → (denoted context operator parts bindings forest ≡ denoted context operator others bindings forest)
-    × (calls context operator parts bindings forest ≡ calls context operator others bindings forest)
+    × (evaluations context operator parts bindings forest ≡ evaluations context operator others bindings forest)
 
 -- an expression comes to the same under bindings that are the same for the variables that it names and does not bind
 abbrev pub MeaningLooksAtFreeVariables : Type 0

@@ -16,13 +16,13 @@ pub mod Casting
 pub mod Calling
 pub mod Paths
 pub mod ComparingNodes
-pub mod NodeSets
+pub mod CombiningNodes
 pub mod Filtering
 pub mod Instances
 pub mod Denotations
 pub mod Blocks
 pub mod Meaning
-pub mod Calls
+pub mod Evaluations
 pub mod Soundness
 pub mod FreeVariables
 pub mod QueryMeaning

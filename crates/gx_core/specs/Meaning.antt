@@ -10,7 +10,7 @@ use Rattle.gx_core.specs.Expression.{Expression, At, Parts, no_parts, a_part}
 use Rattle.gx_core.specs.Bindings.{look_up, position_bound}
 use Rattle.gx_core.specs.Outcome.{Outcome, gives, wrong, after, given}
 use Rattle.gx_core.specs.declared.expression.BinaryClass.{BinaryClass}
-use Rattle.gx_core.specs.declared.expression.BinaryClass.TheVariants.{Arithmetic, Value, General, Nodes, Range, Sets}
+use Rattle.gx_core.specs.declared.expression.BinaryClass.TheVariants.{Arithmetic, Value, General, Nodes, Range, Combination}
 use Rattle.gx_core.specs.BinaryOperators.{class_of}
 use Rattle.gx_core.specs.Arithmetic.{arithmetic, negation}
 use Rattle.gx_core.specs.Comparing.{truth_value, condition_of, value_compared, generally_compared}
@@ -19,7 +19,7 @@ use Rattle.gx_core.specs.Ranging.{range}
 use Rattle.gx_core.specs.Casting.{cast_items, castable_items}
 use Rattle.gx_core.specs.Calling.{called}
 use Rattle.gx_core.specs.Paths.{stepped, nodes_alone, put_in_order}
-use Rattle.gx_core.specs.NodeSets.{sets_combined}
+use Rattle.gx_core.specs.CombiningNodes.{nodes_combined}
 use Rattle.gx_core.specs.Filtering.{nth_of, final_of}
 use Rattle.gx_core.specs.Instances.{is_instance}
 use Rattle.gx_core.specs.declared.cases.TypeCase.{TypeCase}
@@ -37,7 +37,7 @@ binary_meaning (Value op) xs ys forest = value_compared op xs ys forest
 binary_meaning (General op) xs ys forest = generally_compared op xs ys forest
 binary_meaning (Nodes op) xs ys forest = nodes_compared op xs ys forest
 binary_meaning Range xs ys forest = range xs ys forest
-binary_meaning (Sets op) xs ys forest = sets_combined op xs ys forest
+binary_meaning (Combination op) xs ys forest = nodes_combined op xs ys forest
 
 -- what a strict operator makes of the values of its parts; a wrong number of them is a type error
 abbrev pub acts : Context → Operator → List Items → Forest → Outcome Items
@@ -76,7 +76,8 @@ decides false truth = not truth
 abbrev pub any_decides : (decisive : Bool) → (test : Item → Forest → Outcome Items) → Items → Forest → Outcome Items
 any_decides decisive test [] forest = gives (truth_value (not decisive)) forest
 any_decides decisive test (x ∷ xs) forest =
-    after (test x forest) (λ ys left. given (condition_of ys) (λ truth. if decides decisive truth then gives (truth_value decisive) left else any_decides decisive test xs left))
+    after (test x forest) (λ ys left. given (condition_of ys)
+    (λ truth. if decides decisive truth then gives (truth_value decisive) left else any_decides decisive test xs left))
 
 -- the branch of a conditional
 abbrev pub branch : Bool → (chosen otherwise : Denotation) → Denotation
@@ -87,7 +88,8 @@ branch false chosen otherwise = otherwise
 abbrev pub switched : SchemaSet → List TypeCase → (default : ℕ) → (branches : List Denotation) → Items → Bindings → Forest → Outcome Items
 switched schemas [] default (otherwise ∷ []) xs bindings forest = otherwise (position_bound default xs ++ bindings) forest
 switched schemas (case ∷ cases) default (chosen ∷ branches) xs bindings forest =
-    if is_instance schemas case.kind xs then chosen (position_bound case.variable xs ++ bindings) forest else switched schemas cases default branches xs bindings forest
+    if is_instance schemas case.kind xs then chosen (position_bound case.variable xs ++ bindings) forest
+    else switched schemas cases default branches xs bindings forest
 switched schemas _ default _ xs bindings forest = wrong
 
 -- an operator over its parts: those that choose, bind or repeat have a line each, and over another number of parts than theirs they are a
@@ -95,7 +97,8 @@ switched schemas _ default _ xs bindings forest = wrong
 abbrev pub denoted : Context → Operator → List Denotation → Bindings → Forest → Outcome Items
 denoted context (operators.Var number) [] bindings forest = given (look_up bindings number) (λ value. gives value forest)
 denoted context (operators.For binder position) (source ∷ body ∷ []) bindings forest =
-    after (source bindings forest) (λ xs left. for_each (λ number x now. body (item_bound binder.variable position number x ++ bindings) now) 1 [] xs left)
+    after (source bindings forest) (λ xs left. for_each
+    (λ number x now. body (item_bound binder.variable position number x ++ bindings) now) 1 [] xs left)
 denoted context (operators.For binder position) _ bindings forest = wrong
 denoted context (operators.SomeIn binder) (source ∷ test ∷ []) bindings forest =
     after (source bindings forest) (λ xs left. any_decides true (λ x now. test ((binder.variable, x ∷ []) ∷ bindings) now) xs left)
@@ -104,7 +107,8 @@ denoted context (operators.EveryIn binder) (source ∷ test ∷ []) bindings for
     after (source bindings forest) (λ xs left. any_decides false (λ x now. test ((binder.variable, x ∷ []) ∷ bindings) now) xs left)
 denoted context (operators.EveryIn binder) _ bindings forest = wrong
 denoted context (operators.Block kinds orders) parts bindings forest = block_denoted kinds orders parts bindings forest
-denoted context (operators.Step axis asks number) [] bindings forest = given (look_up bindings number) (λ value. stepped context.schemas axis asks value forest)
+denoted context (operators.Step axis asks number) [] bindings forest =
+    given (look_up bindings number) (λ value. stepped context.schemas axis asks value forest)
 denoted context (operators.Let binder) (value ∷ body ∷ []) bindings forest =
     after (value bindings forest) (λ xs left. body ((binder.variable, xs) ∷ bindings) left)
 denoted context (operators.Let binder) _ bindings forest = wrong

@@ -15,11 +15,13 @@ use Rattle.gx_core.specs.Meaning.{Context, Bindings, Denotation, for_each, denot
 
 -- a step from each item, behind what there is so far
 abbrev pub stepped_from_each : SchemaSet → Axis → Test → (done : Items) → Items → Forest → Outcome Items
-stepped_from_each schemas axis asks done items forest = for_each (λ number x now. stepped schemas axis asks (x ∷ []) now) 1 done items forest
+stepped_from_each schemas axis asks done items forest =
+    for_each (λ number x now. stepped schemas axis asks (x ∷ []) now) 1 done items forest
 
 -- a loop whose body is a step from the item of the loop
 abbrev pub loop_of_steps : Context → Binder → Axis → Test → (source : Denotation) → Denotation
-loop_of_steps context binder axis asks source = denoted context (operators.For binder 0) (source ∷ denoted context (operators.Step axis asks binder.variable) [] ∷ [])
+loop_of_steps context binder axis asks source =
+    denoted context (operators.For binder 0) (source ∷ denoted context (operators.Step axis asks binder.variable) [] ∷ [])
 
 -- one operand in document order, and one of nodes alone
 abbrev pub ordered : Context → Denotation → Denotation
@@ -31,24 +33,30 @@ only_nodes context operand = denoted context operators.Nodes (operand ∷ [])
 -- a step gives nodes in document order
 abbrev pub StepsAreInOrder : Type 0
 StepsAreInOrder =
-    (schemas : SchemaSet) (axis : Axis) (asks : Test) (from found : Items) (forest now : Forest) → stepped schemas axis asks from forest ≡ gives found now
+    (schemas : SchemaSet) (axis : Axis) (asks : Test) (from found : Items) (forest now : Forest)
+    → stepped schemas axis asks from forest ≡ gives found now
     → put_in_order found now ≡ gives found now
 
 -- such a loop is a step from each item of its source
 abbrev pub LoopsOfStepsAreSteps : Type 0
 LoopsOfStepsAreSteps =
     (context : Context) (binder : Binder) (axis : Axis) (asks : Test) (source : Denotation) (bindings : Bindings) (forest : Forest)
-    → loop_of_steps context binder axis asks source bindings forest ≡ after (source bindings forest) (λ items left. stepped_from_each context.schemas axis asks [] items left)
+    → loop_of_steps context binder axis asks source bindings forest ≡ after (source bindings forest)
+    (λ items left. stepped_from_each context.schemas axis asks [] items left)
 
 -- in document order, the children of all nodes and their descendants are the descendants: these may come as the steps give them, in
 -- document order, or as nodes alone in document order, as `//` has them
 pub record SlashesAreDescendants : Type 0 where
   pub together : (context : Context) (outer inner : Binder) (asks : Test) (source : Denotation) (bindings : Bindings) (forest : Forest)
-      → ordered context (loop_of_steps context outer axes.Child asks (loop_of_steps context inner axes.DescendantOrSelf tests.Node source)) bindings forest
+      → ordered context (loop_of_steps context outer axes.Child asks (loop_of_steps context inner axes.DescendantOrSelf tests.Node source))
+      bindings forest
       ≡ ordered context (loop_of_steps context inner axes.Descendant asks source) bindings forest
   pub in_order : (context : Context) (outer inner : Binder) (asks : Test) (source : Denotation) (bindings : Bindings) (forest : Forest)
-      → ordered context (loop_of_steps context outer axes.Child asks (ordered context (loop_of_steps context inner axes.DescendantOrSelf tests.Node source))) bindings forest
+      → ordered context (loop_of_steps context outer axes.Child asks
+      (ordered context (loop_of_steps context inner axes.DescendantOrSelf tests.Node source))) bindings forest
       ≡ ordered context (loop_of_steps context inner axes.Descendant asks source) bindings forest
-  pub nodes_in_order : (context : Context) (outer inner : Binder) (asks : Test) (source : Denotation) (bindings : Bindings) (forest : Forest)
-      → ordered context (loop_of_steps context outer axes.Child asks (only_nodes context (ordered context (loop_of_steps context inner axes.DescendantOrSelf tests.Node source)))) bindings forest
+  pub nodes_in_order :
+      (context : Context) (outer inner : Binder) (asks : Test) (source : Denotation) (bindings : Bindings) (forest : Forest)
+      → ordered context (loop_of_steps context outer axes.Child asks
+      (only_nodes context (ordered context (loop_of_steps context inner axes.DescendantOrSelf tests.Node source)))) bindings forest
       ≡ ordered context (loop_of_steps context inner axes.Descendant asks source) bindings forest

@@ -32,4 +32,5 @@ nodes_alone items forest = if list_all is_node items then gives items forest els
 -- nodes in document order, each once, and atomic values as they are; both at once are a type error
 abbrev pub put_in_order : Items → Forest → Outcome Items
 put_in_order items forest =
-    if list_all is_node items then gives (map node (in_document_order forest (places_of items))) forest else (if list_any is_node items then wrong else gives items forest)
+    if list_all is_node items then gives (map node (in_document_order forest (places_of items))) forest
+    else (if list_any is_node items then wrong else gives items forest)

@@ -35,7 +35,8 @@ query_type query = annotation_of query.body
 abbrev pub globals_bound : Context → List CoreDeclaration → (documents : List PlainNode) → Bindings → Forest → Outcome Bindings
 globals_bound context [] documents bindings forest = gives bindings forest
 globals_bound context (Global name binder (Some value) ∷ others) documents bindings forest =
-    after (meaning context value bindings forest) (λ items left. globals_bound context others documents ((binder.variable, items) ∷ bindings) left)
+    after (meaning context value bindings forest)
+    (λ items left. globals_bound context others documents ((binder.variable, items) ∷ bindings) left)
 globals_bound context (Global name binder None ∷ others) [] bindings forest = wrong
 globals_bound context (Global name binder None ∷ others) (document ∷ documents) bindings forest =
     globals_bound context others documents ((binder.variable, node document ∷ []) ∷ bindings) forest
@@ -43,7 +44,8 @@ globals_bound context (Global name binder None ∷ others) (document ∷ documen
 -- what it comes to, with these document nodes of the forest: the globals, and then the body
 abbrev pub query_outcome : SchemaSet → Core → (documents : List PlainNode) → Forest → Outcome Items
 query_outcome schemas core documents forest =
-    after (globals_bound (record { schemas = schemas }) core.declarations documents [] forest) (λ bindings left. meaning (record { schemas = schemas }) core.body bindings left)
+    after (globals_bound (record { schemas = schemas }) core.declarations documents [] forest)
+    (λ bindings left. meaning (record { schemas = schemas }) core.body bindings left)
 
 -- ---- soundness
 
@@ -69,12 +71,14 @@ IsSoundValue setting (Global name binder None) types = Unit {0}
 -- each value, under the types of the globals before it
 abbrev pub ValuesAreSound : Setting → List TypedDeclaration → Types → Type 0
 ValuesAreSound setting [] types = Unit {0}
-ValuesAreSound setting (declaration ∷ others) types = IsSoundValue setting declaration types × ValuesAreSound setting others (global_types declaration ++ types)
+ValuesAreSound setting (declaration ∷ others) types =
+    IsSoundValue setting declaration types × ValuesAreSound setting others (global_types declaration ++ types)
 
 -- no expression of it goes wrong, and the value of each belongs to its type
 abbrev pub IsSoundQuery : SchemaSet → TypedCore → Type 0
 IsSoundQuery schemas query =
-    ValuesAreSound (typed_setting schemas) query.declarations [] × IsSound (typed_setting schemas) query.body (types_declared query.declarations [])
+    ValuesAreSound (typed_setting schemas) query.declarations []
+    × IsSound (typed_setting schemas) query.body (types_declared query.declarations [])
 
 -- ---- documents
 
@@ -99,7 +103,9 @@ HasNoExternal (Global name binder None ∷ others) = ⊥
 
 -- a query without external variables needs no document
 abbrev pub NoneNeedsNoDocument : Type 0
-NoneNeedsNoDocument = (schemas : SchemaSet) (forest : Forest) (declarations : List CoreDeclaration) → HasNoExternal declarations → DocumentsFit schemas forest declarations []
+NoneNeedsNoDocument =
+    (schemas : SchemaSet) (forest : Forest) (declarations : List CoreDeclaration) → HasNoExternal declarations
+    → DocumentsFit schemas forest declarations []
 
 -- a query that is sound is no type error, and its value belongs to its type
 abbrev pub SoundQueriesKeepTheirTypes : Type 0

@@ -33,7 +33,8 @@ integers_from first count = map (λ k. number_atom (Int (first +ℤ pos k))) (ra
 -- all integers from the first to the last; more than the limit are an error
 abbrev pub range_between : (first last : ℤ) → Forest → Outcome Items
 range_between first last forest =
-    if nat_le (range_length first last) RANGE_ITEMS then gives (atoms (integers_from first (range_length first last))) forest else raises GLXD0002
+    if nat_le (range_length first last) RANGE_ITEMS then gives (atoms (integers_from first (range_length first last))) forest
+    else raises GLXD0002
 
 -- of two integers; an operand that is none is a type error
 abbrev pub range_of_items : Item → Item → Forest → Outcome Items

@@ -64,7 +64,8 @@ pub record IsBoundTo (schemas : SchemaSet) (forest : Forest) (bindings : Binding
 
 -- each variable that has a type is bound to a value of it
 abbrev pub Fits : SchemaSet → Forest → Types → Bindings → Type 0
-Fits schemas forest types bindings = (number : ℕ) (t : SequenceType) → look_up types number ≡ Some t → IsBoundTo schemas forest bindings number t
+Fits schemas forest types bindings =
+    (number : ℕ) (t : SequenceType) → look_up types number ≡ Some t → IsBoundTo schemas forest bindings number t
 
 -- all that an evaluation stands in
 pub record Situation (setting : Setting) (types : Types) : Type 0 where
@@ -76,7 +77,8 @@ pub record Situation (setting : Setting) (types : Types) : Type 0 where
 -- wherever it stands, the outcome of an expression keeps its type
 abbrev pub KeepsItsType : Setting → TypedExpression → Types → Type 0
 KeepsItsType setting e types =
-    (situation : Situation setting types) → Keeps setting situation.forest (annotation_of e) (meaning (context_of setting) e situation.bindings situation.forest)
+    (situation : Situation setting types)
+    → Keeps setting situation.forest (annotation_of e) (meaning (context_of setting) e situation.bindings situation.forest)
 
 -- an expression and all that stand in it keep their types
 abbrev mutual
@@ -87,4 +89,5 @@ abbrev mutual
   pub PartsAreSound : Setting → Operator → (before : List SequenceType) → Parts SequenceType → Types → Type 0
   PartsAreSound setting operator before no_parts types = Unit {0}
   PartsAreSound setting operator before (a_part first others) types =
-      IsSound setting first (setting.binders operator before ++ types) × PartsAreSound setting operator (before ++ annotation_of first ∷ []) others types
+      IsSound setting first (setting.binders operator before ++ types)
+      × PartsAreSound setting operator (before ++ annotation_of first ∷ []) others types

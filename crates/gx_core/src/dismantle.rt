@@ -48,15 +48,10 @@ fn set_aside<K: Drop>(alloc: Global, form: Form<K>, parts: &mut Vec<Part<K>>) {
         Form::Lit(_) | Form::Var(_) | Form::Empty | Form::NoContext => {}
         Form::Step(_, _test, _) => {}
         Form::DataOf(operand) | Form::Neg(operand) | Form::Nodes(operand) | Form::Order(operand) =>
-            {
-                let _kept = parts.push(operand);
-            }
-        Form::Cast(operand, _target, _) | Form::Castable(operand, _target, _) => {
-            let _kept = parts.push(operand);
-        }
-        Form::Nth(operand, _, _) | Form::Final(operand, _) => {
-            let _kept = parts.push(operand);
-        }
+            set_boxed_part_aside(operand, parts),
+        Form::Cast(operand, _target, _) | Form::Castable(operand, _target, _) =>
+            set_boxed_part_aside(operand, parts),
+        Form::Nth(operand, _, _) | Form::Final(operand, _) => set_boxed_part_aside(operand, parts),
         Form::Switch(operand, cases, _, branches) => {
             drop(cases);
             let _kept = parts.push(operand);
@@ -126,6 +121,10 @@ fn set_keys_aside<K: Drop>(alloc: Global, mut keys: Vec<SortKey<K>>, parts: &mut
 
 fn set_part_aside<K: Drop>(alloc: Global, part: Expr<K>, parts: &mut Vec<Part<K>>) {
     if let Ok(part) = Box::new(alloc, part) {
-        let _kept = parts.push(part);
+        set_boxed_part_aside(part, parts);
     }
+}
+
+fn set_boxed_part_aside<K: Drop>(part: Part<K>, parts: &mut Vec<Part<K>>) {
+    let _kept = parts.push(part);
 }

@@ -118,24 +118,29 @@ pub enum NodeComparison {
     After,
 }
 
-/// The operators that combine sequences of nodes (XQuery 1.0, section 3.3.3).
+/// The combinations of sequences of nodes (XQuery 1.0, section 3.3.3): the nodes of either, of both, or of the first alone.
 #[derive(Clone, Copy)]
-pub enum SetOperator {
+pub enum NodeCombination {
     Union,
     Intersect,
     Except,
 }
 
-/// What an operator of two operands does: arithmetic, a value comparison, a general comparison, a comparison of nodes, a range of
-/// integers, or a combination of sequences of nodes.
+/// What an operator of two operands does.
 #[derive(Clone, Copy)]
 pub enum BinaryClass {
+    /// Arithmetic.
     Arithmetic(ArithmeticOp),
+    /// A value comparison.
     Value(Op),
+    /// A general comparison.
     General(Op),
+    /// A comparison of nodes.
     Nodes(NodeComparison),
+    /// A range of integers.
     Range,
-    Sets(SetOperator),
+    /// A combination of sequences of nodes.
+    Combination(NodeCombination),
 }
 
 impl BinaryOp {
@@ -166,9 +171,9 @@ impl BinaryOp {
             BinaryOp::Before => BinaryClass::Nodes(NodeComparison::Before),
             BinaryOp::After => BinaryClass::Nodes(NodeComparison::After),
             BinaryOp::To => BinaryClass::Range,
-            BinaryOp::Union => BinaryClass::Sets(SetOperator::Union),
-            BinaryOp::Intersect => BinaryClass::Sets(SetOperator::Intersect),
-            BinaryOp::Except => BinaryClass::Sets(SetOperator::Except),
+            BinaryOp::Union => BinaryClass::Combination(NodeCombination::Union),
+            BinaryOp::Intersect => BinaryClass::Combination(NodeCombination::Intersect),
+            BinaryOp::Except => BinaryClass::Combination(NodeCombination::Except),
         }
     }
 }
@@ -192,47 +197,67 @@ pub type TypedExpr = Expr<Ty>;
 /// An expression inside another one.
 pub type Part<K> = Box<Expr<K>>;
 
-/// What an expression is: a literal, a variable by its number, the empty sequence, a sequence of two parts, a `for` with the number
-/// of the variable that has the position of the item, or 0 where there is none, a `let`, a conditional, a cast or a test whether there is one, to a type and of an empty operand where that is true, a step along
-/// an axis with a test from the node of a variable, an operand of nodes alone, an operand in document order, whether a test holds
-/// of some item or of every item of an operand, the branch of the first case whose type an operand is of, or of the default, an item
-/// by its number, and the last one, counted from the end where that is true, clauses with the keys of their tuples and what is returned for
-/// each tuple in the order of the keys, the atomization of its operand, what looks at a context where there is none, a call of a built-in function, the negation of a number, or an operator of two operands.
+/// What an expression is, with its parts in the order of evaluation. A variable stands by its number, which is 0 where there is none.
 #[cycle(core_tree)]
 #[derive(Drop)]
 pub enum Form<K> {
+    /// A literal.
     Lit(Atomic),
+    /// A variable.
     Var(u32),
+    /// The empty sequence.
     Empty,
+    /// Two sequences, one behind the other.
     Seq(Part<K>, Part<K>),
+    /// `for`, with the variable of the position of the item: its source and its body.
     For(Binder, u32, Part<K>, Part<K>),
+    /// `let`: its value and its body.
     Let(Binder, Part<K>, Part<K>),
+    /// A conditional: its condition, and what stands behind `then` and behind `else`.
     If(Part<K>, Part<K>, Part<K>),
+    /// A cast to a type; the flag says whether the operand may be empty.
     Cast(Part<K>, TypeName, bool),
+    /// Whether there is such a cast.
     Castable(Part<K>, TypeName, bool),
+    /// A step along an axis, with a test, from the node that a variable is bound to.
     Step(Axis, Test, u32),
+    /// An operand of nodes alone; an atomic value is an error.
     Nodes(Part<K>),
+    /// An operand with its nodes in document order, each once, or its atomic values as they are.
     Order(Part<K>),
+    /// `some`, of one variable: its source and its test.
     SomeIn(Binder, Part<K>, Part<K>),
+    /// `every`, of one variable: its source and its test.
     EveryIn(Binder, Part<K>, Part<K>),
+    /// The branch of the first case whose type an operand is of, or of the default, with the variable of the default.
     Switch(Part<K>, Cases, u32, Vec<Expr<K>>),
+    /// The item with a number; the flag says whether items are counted from the end.
     Nth(Part<K>, i128, bool),
+    /// The last item; the flag says whether items are counted from the end, so that this is the first one.
     Final(Part<K>, bool),
+    /// A FLWOR with sort keys: its clauses, its keys, and what it returns for each tuple.
     Block(Vec<Clause<K>>, Vec<SortKey<K>>, Part<K>),
+    /// The atomization of an operand.
     DataOf(Part<K>),
+    /// What looks at a context where there is none.
     NoContext,
+    /// A call of a built-in function.
     Call(Function, Vec<Expr<K>>),
+    /// The negation of a number.
     Neg(Part<K>),
+    /// An operator of two operands.
     Binary(BinaryOp, Part<K>, Part<K>),
 }
 
-/// A clause of a block: for each item of an operand, with the number of the variable that has the position of the item, or 0 where there
-/// is none; a value; or a condition on the tuples (XQuery 1.0, sections 3.8.1 and 3.8.2).
+/// A clause of a block (XQuery 1.0, sections 3.8.1 and 3.8.2).
 #[cycle(core_tree)]
 #[derive(Drop)]
 pub enum Clause<K> {
+    /// A variable for each item of a source, with the variable of the position of the item, or 0 where there is none.
     For(Binder, u32, Expr<K>),
+    /// A variable for a value.
     Let(Binder, Expr<K>),
+    /// A condition that keeps a tuple.
     Where(Expr<K>),
 }
 

@@ -1,6 +1,7 @@
 // Laws of the meaning of Core.
 
-ghost use Rattle.gx_core.specs.Laws.{MeaningLooksAtNoType, AfterKeeps, BindingsFitStill, BindingFits, OperandsKeepTheirTypes, ExpressionsRaiseDynamicCodes, PartsDecide, MeaningLooksAtFreeVariables};
+ghost use Rattle.gx_core.specs.Laws.{MeaningLooksAtNoType, AfterKeeps, BindingsFitStill, BindingFits, OperandsKeepTheirTypes};
+ghost use Rattle.gx_core.specs.Laws.{ExpressionsRaiseDynamicCodes, PartsDecide, MeaningLooksAtFreeVariables};
 ghost use Rattle.gx_core.specs.PathLaws.{StepsAreInOrder, LoopsOfStepsAreSteps, SlashesAreDescendants};
 ghost use Rattle.gx_core.specs.QueryMeaning.{NoneNeedsNoDocument, SoundQueriesKeepTheirTypes, QueriesRaiseDynamicCodes};
 

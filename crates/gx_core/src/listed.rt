@@ -1,4 +1,4 @@
-// Lists.
+// Vectors that contracts see as lists.
 
 ghost use Rattle.std.specs.Prelude.{◌≡◌};
 

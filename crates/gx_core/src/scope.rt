@@ -1,6 +1,7 @@
 // The variables in scope, each with what is bound to it.
 
-ghost use Rattle.std.specs.Prelude.{◌≡◌, [], ◌∷◌, OnOk, OnErr, IfSome, IfNone, None, Some, option_copied, drop, get_or, length, slice_get, ◌<◌, ◌≤◌, ℕ, IsNone};
+ghost use Rattle.std.specs.Prelude.{◌≡◌, [], ◌∷◌, OnOk, IfSome, None, Some, option_copied};
+ghost use Rattle.std.specs.Prelude.{drop, get_or, length, slice_get, ◌<◌, ◌≤◌, ℕ, IsNone};
 ghost use Rattle.gx_core.specs.Bindings.{look_up};
 
 use std::alloc::{AllocError, Global};

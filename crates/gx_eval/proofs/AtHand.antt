@@ -1,19 +1,25 @@
 -- Operands at hand: typed values of nodes, and paths of one step.
-use Rattle.std.proofs.Common.{◌≡◌, ℕ, zero, suc, Bool, true, false, cond, List, [], ◌∷◌, ◌++◌, map, Option, None, Some, IfSome, Result, Ok, Err, IfOk, refl, sym, ◌∙◌, ap, subst}
-use Rattle.std.proofs.lemmas.Bool.{eq-eqb}
+use Rattle.std.proofs.Common.{◌≡◌, ℕ, List, [], ◌∷◌, map, Option, None, Some, IfSome, Result, Ok, Err, IfOk, refl, ◌∙◌, ap}
+use Rattle.gx_base.specs.declared.type_name.TypeName.{TypeName}
+use Rattle.gx_types.specs.SchemaSet.{SchemaSet}
 use Rattle.gx_types.specs.declared.step.Axis.{Axis}
 use Rattle.gx_types.specs.declared.step.Test.{Test}
-use Rattle.gx_types.specs.SchemaSet.{SchemaSet}
+use Rattle.gx_tree.specs.PlainTree.{PlainTree, document, element, attribute, text}
+use Rattle.gx_tree.specs.StringValue.{string_value}
 use Rattle.gx_model.specs.Axes.{on_axis}
 use Rattle.gx_model.specs.Atomization.{atomized}
-use Rattle.gx_model.specs.Forest.{Forest, PlainNode}
-use Rattle.gx_model.specs.Item.{Item, Items, node, atom}
+use Rattle.gx_model.specs.Forest.{Forest, PlainNode, then_found}
+use Rattle.gx_model.specs.Item.{Items, node, atom}
+use Rattle.gx_model.specs.TypedValue.{untyped_value, value_at_type, typed_value_of, found_string_value}
+use Rattle.gx_store.specs.Stored.{kind_of}
 use Rattle.gx_core.specs.declared.expression.Binder.{Binder}
 use Rattle.gx_core.specs.declared.operator.Operator.TheVariants as operators
 use Rattle.gx_core.specs.Bindings.{look_up}
-use Rattle.gx_core.specs.Outcome.{Outcome, gives, wrong, after, given}
-use Rattle.gx_core.specs.Meaning.{Context, Bindings, Denotation, acts, for_each, item_bound, denoted}
+use Rattle.gx_core.specs.Outcome.{Outcome, gives, after, given}
+use Rattle.gx_core.specs.Meaning.{Context, Bindings, Denotation, acts, denoted}
 use Rattle.gx_core.specs.Paths.{stepped}
+use Rattle.gx_core.specs.PathLaws.{stepped_from_each, loop_of_steps, ordered, only_nodes}
+use Rattle.gx_core.proofs.StepLoops.{loops_of_steps}
 use Rattle.gx_core.proofs.StepsInOrder.{steps_are_in_order}
 use Rattle.gx_eval.specs.OneItem.{only_node}
 
@@ -44,47 +50,47 @@ node_is_typed k forest operand xs typed place bindings e h t =
     alone (node q ∷ y ∷ ys) p = absurd (cc)
     alone (atom a ∷ y ∷ ys) p = absurd (cc)
 
+-- the typed value of a node whose type gives its string value
+pub untyped_is : (schemas : SchemaSet) (found : Option PlainTree) (kind : TypeName) → then_found found kind_of ≡ Some kind → ((string : List ℕ) → value_at_type schemas kind string ≡ untyped_value string)
+    → then_found found (typed_value_of schemas) ≡ untyped_value (found_string_value found)
+untyped_is schemas None kind e h = absurd (cc)
+untyped_is schemas (Some (document ts)) kind e h = refl
+untyped_is schemas (Some (element name own attributes ts)) kind e h =
+    let same : own ≡ kind = cc in ap (λ (t : TypeName). value_at_type schemas t (string_value (element name own attributes ts))) same ∙ h (string_value (element name own attributes ts))
+untyped_is schemas (Some (attribute a)) kind e h = let same : a.kind ≡ kind = cc in ap (λ (t : TypeName). value_at_type schemas t a.value) same ∙ h a.value
+untyped_is schemas (Some (text t)) kind e h = refl
+
 -- ---- paths of one step
 
--- what a loop whose body is a step from its own variable comes to, where its source is nodes of a variable
-abbrev stepping : Context → Binder → Axis → Test → (from : ℕ) → Option Items → Bindings → Forest → Outcome Items
-stepping k binder axis asks from found bindings forest =
-    after (after (after (given found (λ v. gives v forest)) (λ value left. after (gives [] left) (λ values last. gives (value ∷ values) last))) (acts k operators.Nodes))
-    (λ xs left. for_each (λ number x now. given (look_up (item_bound binder.variable 0 number x ++ bindings) from) (λ value. stepped k.schemas axis asks value now)) 1 [] xs left)
+-- the nodes of a variable, and a path of a step from them: a loop whose body is a step from its own variable where `from` is that
+abbrev nodes_of : Context → (number : ℕ) → Denotation
+nodes_of k number = only_nodes k (denoted k (operators.Var number) [])
 
-step_from_item : (k : Context) (axis : Axis) (asks : Test) (from variable : ℕ) (place : PlainNode) (bindings : Bindings) (forest : Forest) → from ≡ variable
-    → given (look_up ((variable, node place ∷ []) ∷ bindings) from) (λ value. stepped k.schemas axis asks value forest) ≡ gives (map node (on_axis k.schemas forest place axis asks)) forest
-step_from_item k axis asks from variable place bindings forest e =
-    ap (λ (b : Bool). given (cond b (Some (node place ∷ [])) (look_up bindings from)) (λ (value : Items). stepped k.schemas axis asks value forest)) (eq-eqb variable from (sym e))
+abbrev path_of : Context → Binder → (number : ℕ) → Axis → Test → (from : ℕ) → Denotation
+path_of k binder number axis asks from = ordered k (denoted k (operators.For binder 0) (nodes_of k number ∷ denoted k (operators.Step axis asks from) [] ∷ []))
 
-from_node : (k : Context) (binder : Binder) (axis : Axis) (asks : Test) (from : ℕ) (place : PlainNode) (bindings : Bindings) (forest : Forest) → from ≡ binder.variable
-    → stepping k binder axis asks from (Some (node place ∷ [])) bindings forest ≡ gives (map node (on_axis k.schemas forest place axis asks)) forest
-from_node k binder axis asks from place bindings forest e =
-    ap (λ (o : Outcome Items). after o (λ more left. gives more left)) (step_from_item k axis asks from binder.variable place bindings forest e)
-
--- what a path comes to from the node of its variable
-path_from : (k : Context) (binder : Binder) (number : ℕ) (axis : Axis) (asks : Test) (from : ℕ) (place : PlainNode) (bindings : Bindings) (forest : Forest) → from ≡ binder.variable
-    → look_up bindings number ≡ Some (node place ∷ []) → stepping k binder axis asks from (look_up bindings number) bindings forest ≡ gives (map node (on_axis k.schemas forest place axis asks)) forest
-path_from k binder number axis asks from place bindings forest h e = ap (λ (o : Option Items). stepping k binder axis asks from o bindings forest) e ∙ from_node k binder axis asks from place bindings forest h
-
--- and in document order
-abbrev in_order : Context → Binder → (number : ℕ) → Axis → Test → (from : ℕ) → Bindings → Forest → Outcome Items
-in_order k binder number axis asks from bindings forest =
-    after (after (stepping k binder axis asks from (look_up bindings number) bindings forest) (λ x f. gives (x ∷ []) f)) (acts k operators.Order)
+-- what such a loop comes to from one node
+steps_of_node : (k : Context) (binder : Binder) (number : ℕ) (axis : Axis) (asks : Test) (place : PlainNode) (bindings : Bindings) (forest : Forest) → look_up bindings number ≡ Some (node place ∷ [])
+    → loop_of_steps k binder axis asks (nodes_of k number) bindings forest ≡ gives (map node (on_axis k.schemas forest place axis asks)) forest
+steps_of_node k binder number axis asks place bindings forest e =
+    loops_of_steps k binder axis asks (nodes_of k number) bindings forest
+    ∙ ap (λ (o : Option Items). after (after (after (given o (λ v. gives v forest)) (λ x f. gives (x ∷ []) f)) (acts k operators.Nodes)) (λ items left. stepped_from_each k.schemas axis asks [] items left)) e
 
 pub steps_from : (binder : Binder) (number : ℕ) (axis : Axis) (asks : Test) (from : ℕ) → from ≡ binder.variable → (k : Context) (bindings : Bindings) (forest : Forest) (found : Items)
-    → given (look_up bindings number) (λ xs. stepped k.schemas axis asks xs forest) ≡ gives found forest → in_order k binder number axis asks from bindings forest ≡ gives found forest
+    → given (look_up bindings number) (λ xs. stepped k.schemas axis asks xs forest) ≡ gives found forest → path_of k binder number axis asks from bindings forest ≡ gives found forest
 steps_from binder number axis asks from h k bindings forest found e = by_value (look_up bindings number) refl e
   where
-    ordered : (place : PlainNode) → look_up bindings number ≡ Some (node place ∷ []) → map node (on_axis k.schemas forest place axis asks) ≡ found → in_order k binder number axis asks from bindings forest ≡ gives found forest
-    ordered place l same =
-        ap (λ (o : Outcome Items). after (after o (λ x f. gives (x ∷ []) f)) (acts k operators.Order)) (path_from k binder number axis asks from place bindings forest h l ∙ ap (λ (v : Items). gives v forest) same)
-        ∙ steps_are_in_order k.schemas axis asks (node place ∷ []) found forest forest (ap (λ (v : Items). gives v forest) same)
+    from_node : (place : PlainNode) → look_up bindings number ≡ Some (node place ∷ []) → map node (on_axis k.schemas forest place axis asks) ≡ found → path_of k binder number axis asks from bindings forest ≡ gives found forest
+    from_node place l same =
+        let stepped_so : gives (map node (on_axis k.schemas forest place axis asks)) forest ≡ gives found forest = ap (λ (v : Items). gives v forest) same in
+        ap (λ (n : ℕ). path_of k binder number axis asks n bindings forest) h
+        ∙ ap (λ (o : Outcome Items). after (after o (λ x f. gives (x ∷ []) f)) (acts k operators.Order)) (steps_of_node k binder number axis asks place bindings forest l ∙ stepped_so)
+        ∙ steps_are_in_order k.schemas axis asks (node place ∷ []) found forest forest stepped_so
 
-    by_value : (o : Option Items) → look_up bindings number ≡ o → given o (λ (xs : Items). stepped k.schemas axis asks xs forest) ≡ gives found forest → in_order k binder number axis asks from bindings forest ≡ gives found forest
+    by_value : (o : Option Items) → look_up bindings number ≡ o → given o (λ (xs : Items). stepped k.schemas axis asks xs forest) ≡ gives found forest → path_of k binder number axis asks from bindings forest ≡ gives found forest
     by_value None l g = absurd (cc)
     by_value (Some []) l g = absurd (cc)
     by_value (Some (atom a ∷ [])) l g = absurd (cc)
-    by_value (Some (node place ∷ [])) l g = let same : map node (on_axis k.schemas forest place axis asks) ≡ found = cc in ordered place l same
+    by_value (Some (node place ∷ [])) l g = let same : map node (on_axis k.schemas forest place axis asks) ≡ found = cc in from_node place l same
     by_value (Some (atom a ∷ y ∷ ys)) l g = absurd (cc)
     by_value (Some (node place ∷ y ∷ ys)) l g = absurd (cc)

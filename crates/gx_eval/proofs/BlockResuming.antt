@@ -27,18 +27,9 @@ use Rattle.gx_eval.specs.declared.bound.Bound.{Bound}
 use Rattle.gx_eval.specs.BoundItems.{bound_items, items_of}
 use Rattle.gx_eval.specs.FoundTuples.{Found, Stacks, Row, row_in, bound_in_turn, found_more, with_keys, with_found, with_sources, before_block, returned_for, numbers_in_order}
 use Rattle.gx_types.specs.SequenceType.{SequenceType}
+use Rattle.gx_eval.proofs.Outcomes.{after_after, same_after}
 
 -- ---- outcomes
-
-after_both : {Q R S : Type 0} (o : Outcome Q) (make : Q → Forest → Outcome R) (next : R → Forest → Outcome S) → after o (λ x f. after (make x f) next) ≡ after (after o make) next
-after_both (gives x f) make next = refl
-after_both (raises code) make next = refl
-after_both wrong make next = refl
-
-same_after : {R S : Type 0} (o : Outcome R) (f g : R → Forest → Outcome S) → ((x : R) (left : Forest) → f x left ≡ g x left) → after o f ≡ after o g
-same_after (gives x left) f g h = h x left
-same_after (raises code) f g h = refl
-same_after wrong f g h = refl
 
 same_given : {R S : Type 0} (found : Option R) (f g : R → Outcome S) → ((x : R) → f x ≡ g x) → given found f ≡ given found g
 same_given None f g h = refl
@@ -159,7 +150,7 @@ returns_behind body outer values done [] forest = refl
 returns_behind body outer values done (row ∷ rows) forest =
     same_after (body (row ++ outer) forest) (λ more left. returned body outer ((values ++ done) ++ more) rows left) (λ more left. after (returned body outer (done ++ more) rows left) (λ ys last. gives (values ++ ys) last))
     (λ more left. ap (λ (v : Items). returned body outer v rows left) (append_assoc values done more) ∙ returns_behind body outer values (done ++ more) rows left)
-    ∙ after_both (body (row ++ outer) forest) (λ more left. returned body outer (done ++ more) rows left) (λ ys last. gives (values ++ ys) last)
+    ∙ after_after (body (row ++ outer) forest) (λ more left. returned body outer (done ++ more) rows left) (λ ys last. gives (values ++ ys) last)
 
 -- ---- found tuples
 
@@ -222,9 +213,9 @@ block_opens m clauses keys body values found bindings forest next =
     (numbers_are_of_sorted_tuples Tuple orders (λ t. t.keys) ts counted))
     ∙ ap (λ (v : Items). after (returned (m body) bindings v (map (λ (t : Tuple). t.bound) ordered) left) next) (sym (append-nil values))
     ∙ ap (λ (o : Outcome Items). after o next) (returns_behind (m body) bindings values [] (map (λ (t : Tuple). t.bound) ordered) left)
-    ∙ sym (after_both (returned (m body) bindings [] (map (λ (t : Tuple). t.bound) ordered) left) (λ more last. gives (values ++ more) last) next)
+    ∙ sym (after_after (returned (m body) bindings [] (map (λ (t : Tuple). t.bound) ordered) left) (λ more last. gives (values ++ more) last) next)
     ∙ ap (λ (ds : List Denotation). after (block_returned orders ds bindings ts left) (λ more last. next (values ++ more) last)) (sym (behind_clauses m clauses keys body)))
-    ∙ after_both tuples returns (λ more last. next (values ++ more) last)
+    ∙ after_after tuples returns (λ more last. next (values ++ more) last)
   where
     length_map : (ts : List Tuple) → length (map (λ (t : Tuple). t.bound) ts) ≡ length ts
     length_map [] = refl
@@ -292,7 +283,7 @@ walk_ends m keys body n bindings row values stacks forest next e =
     ∙ ap (λ (bs : Bindings). tuple_keys orders parts bs forest) (sym (take-append-drop n bindings)))
     ∙ same_after (tuple_keys orders parts (own ++ drop n bindings) forest) (λ ks left. next values (with_found stacks (with_keys (with_row found own) ks)) left) (λ ks left. with_more next values stacks (tuple ks ∷ []) left)
     (λ ks left. ap (λ (l : List (Option Atomic)). next values (with_found stacks (record { keys = found.keys ++ l; rows = found.rows ++ own ∷ []; numbers = found.numbers })) left) (sym (append-nil ks)))
-    ∙ after_both (tuple_keys orders parts (own ++ drop n bindings) forest) (λ ks left. gives (tuple ks ∷ []) left) (with_more next values stacks)
+    ∙ after_after (tuple_keys orders parts (own ++ drop n bindings) forest) (λ ks left. gives (tuple ks ∷ []) left) (with_more next values stacks)
 
 -- turns that find the same
 same_turns : (f g : ℕ → Item → Forest → Outcome (List Tuple)) (number : ℕ) (xs : Items) (forest : Forest) → ((n : ℕ) (x : Item) (now : Forest) → f n x now ≡ g n x now) → tuples_of_each f number xs forest ≡ tuples_of_each g number xs forest
@@ -337,7 +328,7 @@ part_opens part bindings n values first forest inside make stacks next e h =
     ∙ ap (λ (vs : Items). after (inside more left) (with_more next vs stacks)) (take-append_seam values more)
     ∙ ap (λ (o : Outcome (List Tuple)). after o (with_more next values stacks)) (h more left))
     ∙ ap (λ (bs : Bindings). after (part bs forest) (λ more left. after (make more left) (with_more next values stacks))) (sym (take-append-drop n bindings))
-    ∙ after_both (part (take n bindings ++ drop n bindings) forest) make (with_more next values stacks)
+    ∙ after_after (part (take n bindings ++ drop n bindings) forest) make (with_more next values stacks)
 
 pub for_walks : (kinds : List ClauseKind) (orders : List KeyOrder) (parts : List Denotation) (part : Denotation) (variable position n inner : ℕ) (bindings : Bindings) (values : Items) (first : ℕ) (stacks : Stacks) (forest : Forest) (next : Next)
     → inner ≡ n + bound_in_turn position → first ≡ length values
@@ -430,8 +421,8 @@ turns_go_on turn number following x rest all found forest next others n e h =
     ∙ ap (λ (m : ℕ). after (tuples_of_each turn m rest left) (λ us last. next (found_more (found_more found ts) us) last)) n
     ∙ same_after (tuples_of_each turn (suc number) rest left) (λ us last. next (found_more (found_more found ts) us) last) (λ us last. next (found_more found (ts ++ us)) last)
     (λ us last. ap (λ (f : Found). next f last) (found_again found ts us))
-    ∙ after_both (tuples_of_each turn (suc number) rest left) (λ us last. gives (ts ++ us) last) (λ us last. next (found_more found us) last))
-    ∙ after_both (turn number x forest) (λ ts left. after (tuples_of_each turn (suc number) rest left) (λ us last. gives (ts ++ us) last)) (λ us last. next (found_more found us) last)
+    ∙ after_after (tuples_of_each turn (suc number) rest left) (λ us last. gives (ts ++ us) last) (λ us last. next (found_more found us) last))
+    ∙ after_after (turn number x forest) (λ ts left. after (tuples_of_each turn (suc number) rest left) (λ us last. gives (ts ++ us) last)) (λ us last. next (found_more found us) last)
     ∙ ap (λ (xs : Items). after (tuples_of_each turn number xs forest) (λ ts left. next (found_more found ts) left)) (sym e)
 
 -- ---- conditions
@@ -475,9 +466,9 @@ keys_open order orders part parts bindings values first stacks forest next e =
     (λ key.
     same_after (tuple_keys orders parts bindings left) (λ ks last. next values (with_found stacks (with_keys (with_keys found (key ∷ [])) ks)) last) (λ ks last. put (key ∷ ks) last)
     (λ ks last. ap (λ (l : List (Option Atomic)). next values (with_found stacks (record { keys = l; rows = found.rows; numbers = found.numbers })) last) (append_assoc found.keys (key ∷ []) ks))
-    ∙ after_both (tuple_keys orders parts bindings left) (λ ks last. gives (key ∷ ks) last) put)
+    ∙ after_after (tuple_keys orders parts bindings left) (λ ks last. gives (key ∷ ks) last) put)
     ∙ after_given (key_of more) (λ key. after (tuple_keys orders parts bindings left) (λ ks last. gives (key ∷ ks) last)) put)
-    ∙ after_both (part bindings forest) (λ xs left. given (key_of xs) (λ key. after (tuple_keys orders parts bindings left) (λ ks last. gives (key ∷ ks) last))) put
+    ∙ after_after (part bindings forest) (λ xs left. given (key_of xs) (λ key. after (tuple_keys orders parts bindings left) (λ ks last. gives (key ∷ ks) last))) put
 
 -- no key is left
 pub keys_end : (m : TypedExpression → Denotation) (keys : List (SortKey SequenceType)) (bindings : Bindings) (values : Items) (stacks : Stacks) (forest : Forest) (next : Next) → keys ≡ []
@@ -548,7 +539,7 @@ returns_go_on body bindings values rows row number count rest numbers forest nex
     ap (λ (k : ℕ). after one (λ more left. others (values ++ more) (drop k (row ++ bindings)) left)) n
     ∙ ap (λ (bs : Bindings). after one (λ more left. others (values ++ more) bs left)) (drop-append_seam row bindings)
     ∙ same_after one (λ more left. others (values ++ more) bindings left) (λ more left. after (returned_for body bindings (values ++ more) rows rest left) next) (λ more left. h (values ++ more) left)
-    ∙ after_both one (λ more left. returned_for body bindings (values ++ more) rows rest left) next
+    ∙ after_after one (λ more left. returned_for body bindings (values ++ more) rows rest left) next
     ∙ ap (λ (o : Option Bindings). after (given o (λ r. after (body (r ++ bindings) forest) (λ more left. returned_for body bindings (values ++ more) rows rest left))) next) (sym there)
     ∙ ap (λ (ns : List ℕ). after (returned_for body bindings values rows ns forest) next) (sym e)
 

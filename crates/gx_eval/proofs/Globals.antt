@@ -6,32 +6,23 @@ use Rattle.gx_model.specs.Item.{node, Items}
 use Rattle.gx_core.specs.Queries.{TypedCore, TypedDeclaration}
 use Rattle.gx_core.specs.declared.expression.Declaration.TheVariants.{Global}
 use Rattle.gx_core.specs.Expression.{plain}
-use Rattle.gx_core.specs.Outcome.{Outcome, gives, raises, wrong, after}
+use Rattle.gx_core.specs.Outcome.{Outcome, after}
 use Rattle.gx_core.specs.Meaning.{Context, Bindings, meaning}
 use Rattle.gx_core.specs.QueryMeaning.{plain_declaration, plain_query, globals_bound, query_outcome}
 use Rattle.gx_core.proofs.PlainMeaning.{meaning_looks_at_no_type}
 use Rattle.gx_eval.specs.Resume.{context_over, declared_then, typed_outcome}
+use Rattle.gx_eval.proofs.Outcomes.{after_after, same_after}
 
 -- what follows the globals, with the documents that are left
 abbrev pub Following : Type 0
 Following = List PlainNode → Bindings → Forest → Outcome Items
-
-also_behind : {R S : Type 0} (o : Outcome R) (f g : R → Forest → Outcome S) → ((x : R) (left : Forest) → f x left ≡ g x left) → after o f ≡ after o g
-also_behind (gives x left) f g h = h x left
-also_behind (raises code) f g h = refl
-also_behind wrong f g h = refl
-
-after_after : {R S T : Type 0} (o : Outcome R) (f : R → Forest → Outcome S) (g : S → Forest → Outcome T) → after o (λ x left. after (f x left) g) ≡ after (after o f) g
-after_after (gives x left) f g = refl
-after_after (raises code) f g = refl
-after_after wrong f g = refl
 
 -- what follows the globals may be written otherwise
 pub same_behind : (k : Context) (ds : List TypedDeclaration) (f g : Following) (documents : List PlainNode) (bindings : Bindings) (forest : Forest)
     → ((rest : List PlainNode) (bs : Bindings) (left : Forest) → f rest bs left ≡ g rest bs left) → declared_then k ds f documents bindings forest ≡ declared_then k ds g documents bindings forest
 same_behind k [] f g documents bindings forest h = h documents bindings forest
 same_behind k (Global name binder (Some value) ∷ ds) f g documents bindings forest h =
-    also_behind (meaning k value bindings forest) _ _ (λ items left. same_behind k ds f g documents ((binder.variable, items) ∷ bindings) left h)
+    same_after (meaning k value bindings forest) _ _ (λ items left. same_behind k ds f g documents ((binder.variable, items) ∷ bindings) left h)
 same_behind k (Global name binder None ∷ ds) f g [] bindings forest h = refl
 same_behind k (Global name binder None ∷ ds) f g (document ∷ documents) bindings forest h = same_behind k ds f g documents ((binder.variable, node document ∷ []) ∷ bindings) forest h
 
@@ -40,7 +31,7 @@ pub last_declared : (k : Context) (ds : List TypedDeclaration) (d : TypedDeclara
     → declared_then k (ds ++ d ∷ []) next documents bindings forest ≡ declared_then k ds (λ rest bs left. declared_then k (d ∷ []) next rest bs left) documents bindings forest
 last_declared k [] d next documents bindings forest = refl
 last_declared k (Global name binder (Some value) ∷ ds) d next documents bindings forest =
-    also_behind (meaning k value bindings forest) _ _ (λ items left. last_declared k ds d next documents ((binder.variable, items) ∷ bindings) left)
+    same_after (meaning k value bindings forest) _ _ (λ items left. last_declared k ds d next documents ((binder.variable, items) ∷ bindings) left)
 last_declared k (Global name binder None ∷ ds) d next [] bindings forest = refl
 last_declared k (Global name binder None ∷ ds) d next (document ∷ documents) bindings forest = last_declared k ds d next documents ((binder.variable, node document ∷ []) ∷ bindings) forest
 
@@ -51,7 +42,7 @@ plain_then k [] next documents bindings forest = refl
 plain_then k (Global name binder (Some value) ∷ ds) next documents bindings forest =
     sym (after_after (meaning k (plain value) bindings forest) (λ items left. globals_bound k (map plain_declaration ds) documents ((binder.variable, items) ∷ bindings) left) next)
     ∙ ap (λ (o : Outcome Items). after o (λ items left. after (globals_bound k (map plain_declaration ds) documents ((binder.variable, items) ∷ bindings) left) next)) (meaning_looks_at_no_type k value bindings forest)
-    ∙ also_behind (meaning k value bindings forest) _ _ (λ items left. plain_then k ds next documents ((binder.variable, items) ∷ bindings) left)
+    ∙ same_after (meaning k value bindings forest) _ _ (λ items left. plain_then k ds next documents ((binder.variable, items) ∷ bindings) left)
 plain_then k (Global name binder None ∷ ds) next [] bindings forest = refl
 plain_then k (Global name binder None ∷ ds) next (document ∷ documents) bindings forest = plain_then k ds next documents ((binder.variable, node document ∷ []) ∷ bindings) forest
 

@@ -1,3 +1,4 @@
+pub mod Outcomes
 pub mod AtHand
 pub mod LaterItems
 pub mod Operands

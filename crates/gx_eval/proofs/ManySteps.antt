@@ -22,7 +22,8 @@ use Rattle.gx_store.specs.Items.{item_in, items_in}
 use Rattle.gx_store.specs.Places.{node_places}
 use Rattle.gx_eval.specs.declared.failure.Failure.{Failure}
 use Rattle.gx_eval.specs.Failing.{FailsSo}
-use Rattle.gx_eval.proofs.Resuming.{Rest, fails_through, after_after, turns_behind}
+use Rattle.gx_eval.proofs.Resuming.{Rest, fails_through, turns_behind}
+use Rattle.gx_eval.proofs.Outcomes.{after_after}
 
 -- ---- loops along `//`
 

@@ -13,13 +13,13 @@ use Rattle.gx_model.specs.Axes.{on_axis}
 use Rattle.gx_model.specs.Atomization.{atomized, joined_values, values_of_item}
 use Rattle.gx_model.specs.DocumentOrder.{comes_before, same_node, in_document_order}
 use Rattle.gx_model.proofs.OrderLemmas.{not_before_itself, nodes_same, node_itself}
-use Rattle.gx_core.specs.declared.expression.SetOperator.{SetOperator}
+use Rattle.gx_core.specs.declared.expression.NodeCombination.{NodeCombination}
 use Rattle.gx_core.specs.declared.operator.Operator.{Operator}
 use Rattle.gx_core.specs.declared.operator.Operator.TheVariants as operators
 use Rattle.gx_core.specs.Outcome.{Outcome, gives, wrong, after, given}
 use Rattle.gx_core.specs.Meaning.{Context, Bindings, Denotation, acts, denoted}
 use Rattle.gx_core.specs.Paths.{is_node, places_of, put_in_order, stepped}
-use Rattle.gx_core.specs.NodeSets.{combined, sets_combined}
+use Rattle.gx_core.specs.CombiningNodes.{combined, nodes_combined}
 use Rattle.gx_nodes.specs.Entries.{place_of_number}
 use Rattle.gx_nodes.proofs.NumberOrder.{before_is as number_before}
 use Rattle.gx_eval.specs.declared.failure.Failure.{Failure}
@@ -46,10 +46,6 @@ step_from_none schemas axis asks (node p ∷ y ∷ xs) forest e = refl
 step_from_none schemas axis asks (atom a ∷ y ∷ xs) forest e = refl
 
 -- ---- typed values
-
-none_of_two : (a b : Bool) → (if a then true else b) ≡ false → (a ≡ false) × (b ≡ false)
-none_of_two true b e = absurd (cc)
-none_of_two false b e = (refl, e)
 
 pub atoms_are_typed : (s : SchemaSet) (forest : Forest) (xs : Items) → list_any is_node xs ≡ false → atomized s forest xs ≡ Some xs
 atoms_are_typed s forest [] e = refl
@@ -160,10 +156,10 @@ before_is later a b = number_before later a b
 
 -- ---- combinations of sequences of nodes
 
-pub sets_of_nodes : (op : SetOperator) (xs ys : Items) (forest : Forest) (nodes : List PlainNode) → (list_all is_node xs && list_all is_node ys) ≡ true
-    → nodes ≡ in_document_order forest (combined op (places_of xs) (places_of ys)) → sets_combined op xs ys forest ≡ gives (map node nodes) forest
+pub sets_of_nodes : (op : NodeCombination) (xs ys : Items) (forest : Forest) (nodes : List PlainNode) → (list_all is_node xs && list_all is_node ys) ≡ true
+    → nodes ≡ in_document_order forest (combined op (places_of xs) (places_of ys)) → nodes_combined op xs ys forest ≡ gives (map node nodes) forest
 sets_of_nodes op xs ys forest nodes h e =
     ap (λ (b : Bool). if b then gives (map node (in_document_order forest (combined op (places_of xs) (places_of ys)))) forest else wrong) h ∙ ap (λ (ns : List PlainNode). gives (map node ns) forest) (sym e)
 
-pub others_are_no_sets : (op : SetOperator) (xs ys : Items) (forest : Forest) → (list_all is_node xs && list_all is_node ys) ≡ false → sets_combined op xs ys forest ≡ wrong
+pub others_are_no_sets : (op : NodeCombination) (xs ys : Items) (forest : Forest) → (list_all is_node xs && list_all is_node ys) ≡ false → nodes_combined op xs ys forest ≡ wrong
 others_are_no_sets op xs ys forest h = ap (λ (b : Bool). if b then gives (map node (in_document_order forest (combined op (places_of xs) (places_of ys)))) forest else wrong) h

@@ -25,7 +25,7 @@ use Rattle.gx_core.specs.Ranging.{integer_of_item}
 use Rattle.gx_core.specs.Calling.{views_of, answered, called}
 use Rattle.gx_core.specs.Casting.{cast_outcome, cast_items, castable_items}
 use Rattle.gx_eval.specs.declared.answer.Paired.{Paired}
-use Rattle.gx_eval.specs.declared.answer.Paired.TheVariants.{Arithmetic, Value, Nodes, Range}
+use Rattle.gx_eval.specs.declared.answer.Paired.TheVariants.{Arithmetic, Value, NodeComparison, Range}
 use Rattle.gx_eval.specs.Failing.{FailsSo}
 use Rattle.gx_eval.specs.OneItem.{only_atom, only_node}
 use Rattle.gx_eval.specs.Answering.{failure_of, paired_meaning}
@@ -56,13 +56,13 @@ given_none (Some x) never e = e
 pub no_pair_on_the_left : (operation : Paired) (place : PlainNode) (a : Atomic) (forest : Forest) → paired_meaning operation (node place) (atom a) forest ≡ wrong
 no_pair_on_the_left (Arithmetic operation) place a forest = refl
 no_pair_on_the_left (Value op) place a forest = refl
-no_pair_on_the_left (Nodes op) place a forest = refl
+no_pair_on_the_left (NodeComparison op) place a forest = refl
 no_pair_on_the_left Range place a forest = refl
 
 pub no_pair_on_the_right : (operation : Paired) (a : Atomic) (place : PlainNode) (forest : Forest) → paired_meaning operation (atom a) (node place) forest ≡ wrong
 no_pair_on_the_right (Arithmetic operation) a place forest = given_none (number_of_item (atom a)) wrong refl
 no_pair_on_the_right (Value op) a place forest = refl
-no_pair_on_the_right (Nodes op) a place forest = refl
+no_pair_on_the_right (NodeComparison op) a place forest = refl
 no_pair_on_the_right Range a place forest = given_none (integer_of_item (atom a)) wrong refl
 
 pub many_are_not_cast : (schemas : SchemaSet) (kind : TypeName) (allows_empty : Bool) (xs : Items) (forest : Forest) → 2 ≤ length xs → cast_items schemas kind allows_empty xs forest ≡ wrong

@@ -34,6 +34,7 @@ use Rattle.gx_eval.specs.Operators.{single_operator, changing_operator}
 use Rattle.gx_eval.specs.declared.looping.Loop.{Loop}
 use Rattle.gx_eval.specs.declared.looping.Loop.TheVariants.{For, Search}
 use Rattle.gx_eval.specs.Resume.{Stacks, with_marks, with_sources, operated, changed, right_meaning, between_marks, in_order, turn, item_tested, looped, resume}
+use Rattle.gx_eval.proofs.Outcomes.{after_after, same_after}
 
 -- what is left to do behind these values
 abbrev pub Rest : Type 0
@@ -46,11 +47,6 @@ fails_through o next Memory h = tt
 
 pub fails_also : (e : Failure) (o p : Outcome Items) → o ≡ p → FailsSo e p → FailsSo e o
 fails_also e o p h f = subst (FailsSo e) (sym h) f
-
-pub after_after : {R S : Type 0} (o : Outcome R) (make : R → Forest → Outcome S) (next : S → Forest → Outcome Items) → after o (λ x f. after (make x f) next) ≡ after (after o make) next
-after_after (gives x f) make next = refl
-after_after (raises code) make next = refl
-after_after wrong make next = refl
 
 -- ---- the answer of an operator goes where its operands stood
 
@@ -144,13 +140,6 @@ right_at_once k forest operator right work values answer first stacks bindings e
     goes_behind (right_meaning k operator first right values bindings forest) (take first values) answer forest (λ vs left. resume k work vs stacks bindings left) e
     ∙ sym (after_after (meaning k right bindings forest) (λ ys left. acts k (operators.Binary operator) (drop first values ∷ ys ∷ []) left) (λ more left. resume k work (take first values ++ more) stacks bindings left))
 
-pub right_fails_at_once : (k : Context) (forest : Forest) (operator : BinaryOp) (right : TypedExpression) (values : Items) (first : ℕ) (bindings : Bindings) (next : Rest) (e : Failure)
-    → FailsSo e (right_meaning k operator first right values bindings forest)
-    → FailsSo e (after (meaning k right bindings forest) (λ ys left. operated k (operators.Binary operator) (drop first values ∷ ys ∷ []) (take first values) left next))
-right_fails_at_once k forest operator right values first bindings next e h =
-    subst (FailsSo e) (sym (after_after (meaning k right bindings forest) (λ ys left. acts k (operators.Binary operator) (drop first values ∷ ys ∷ []) left) (λ more left. next (take first values ++ more) left)))
-    (fails_through (right_meaning k operator first right values bindings forest) (λ more left. next (take first values ++ more) left) e h)
-
 -- ---- operators, opened
 
 -- what is made of operands behind the values is made of them
@@ -173,7 +162,7 @@ single_opens k forest operator operand work values first stacks bindings h =
 change_denoted : (k : Context) (operator : Change) (operand : Denotation) (bindings : Bindings) (forest : Forest)
     → denoted k (changing_operator operator) (operand ∷ []) bindings forest ≡ after (all_of (operand ∷ []) bindings forest) (acts k (changing_operator operator))
 change_denoted k changes.Data operand bindings forest = refl
-change_denoted k changes.Nodes operand bindings forest = refl
+change_denoted k changes.OnlyNodes operand bindings forest = refl
 change_denoted k changes.Order operand bindings forest = refl
 change_denoted k (changes.Nth number reverse) operand bindings forest = refl
 change_denoted k (changes.Final reverse) operand bindings forest = refl
@@ -234,9 +223,6 @@ binary_opens_at k forest operator left right work values first stacks bindings h
     ∙ binary_opens k forest operator left right values bindings (λ vs last. resume k work vs stacks bindings last)
 
 -- ---- calls of no argument, and of more than one
-
-pub none_fails : (k : Context) (forest : Forest) (function : Function) (bindings : Bindings) (next : Rest) (e : Failure) → FailsSo e (called function [] forest) → FailsSo e (after (denoted k (operators.Call function) [] bindings forest) next)
-none_fails k forest function bindings next e h = fails_through (called function [] forest) next e h
 
 pub none_applies : (k : Context) (forest : Forest) (function : Function) (work : List Pending) (values answer : Items) (stacks : Stacks) (bindings : Bindings)
     → called function [] forest ≡ gives answer forest
@@ -310,18 +296,13 @@ parts_in_order k operator work stacks values marks bindings (part ∷ parts) n t
     (λ operands next. ap (λ (v : Items). between_marks n marked v (drop (length there) (there ++ x) ∷ operands) next) (take-append_seam there x)
     ∙ ap (λ (v : Items). between_marks n marked there (v ∷ operands) next) (drop-append_seam there x) ∙ h (x ∷ operands) next))
 
-pub also_behind : (o : Outcome Items) (f g : Items → Forest → Outcome Items) → ((x : Items) (left : Forest) → f x left ≡ g x left) → after o f ≡ after o g
-also_behind (gives x left) f g h = h x left
-also_behind (raises code) f g h = refl
-also_behind wrong f g h = refl
-
 -- the last of several operands is evaluated behind the others
 pub last_in_order : (parts : List Denotation) (part : Denotation) (next : Items → List ℕ → Bindings → Forest → Outcome Items) (values : Items) (marks : List ℕ) (bindings : Bindings) (forest : Forest)
     → in_order (parts ++ part ∷ []) next values marks bindings forest
     ≡ in_order parts (λ vs ms bs f. after (part bs f) (λ more left. next (vs ++ more) (length vs ∷ ms) bs left)) values marks bindings forest
 last_in_order [] part next values marks bindings forest = refl
 last_in_order (p ∷ parts) part next values marks bindings forest =
-    also_behind (p bindings forest) (λ more left. in_order (parts ++ part ∷ []) next (values ++ more) (length values ∷ marks) bindings left)
+    same_after (p bindings forest) (λ more left. in_order (parts ++ part ∷ []) next (values ++ more) (length values ∷ marks) bindings left)
     (λ more left. in_order parts (λ vs ms bs f. after (part bs f) (λ more left. next (vs ++ more) (length vs ∷ ms) bs left)) (values ++ more) (length values ∷ marks) bindings left)
     (λ x f. last_in_order parts part next (values ++ x) (length values ∷ marks) bindings f)
 
@@ -386,26 +367,6 @@ chosen_is k forest yes' no' work values first stacks bindings truth e =
 
 pub none_is_chosen : (values : Items) (first : ℕ) (next : Bool → Outcome Items) → condition_of (drop first values) ≡ None → given (condition_of (drop first values)) next ≡ wrong
 none_is_chosen values first next e = ap (λ (o : Option Bool). given o next) e
-
--- a sequence, opened
-sequence_second : (k : Context) (work : List Pending) (values xs : Items) (stacks : Stacks) (bindings : Bindings) (o : Outcome Items)
-    → after o (λ ys g. resume k work ((values ++ xs) ++ ys) stacks bindings g)
-    ≡ after (after (after (after o (λ y g. gives (y ∷ []) g)) (λ vs g. gives (xs ∷ vs) g)) (acts k operators.Seq)) (λ more left. resume k work (values ++ more) stacks bindings left)
-sequence_second k work values xs stacks bindings (gives ys g) = ap (λ (v : Items). resume k work v stacks bindings g) (append_assoc values xs ys)
-sequence_second k work values xs stacks bindings (raises code) = refl
-sequence_second k work values xs stacks bindings wrong = refl
-
-sequence_first : (k : Context) (work : List Pending) (values : Items) (stacks : Stacks) (bindings : Bindings) (second : Denotation) (o : Outcome Items)
-    → after o (λ xs f. after (second bindings f) (λ ys g. resume k work ((values ++ xs) ++ ys) stacks bindings g))
-    ≡ after (after (after o (λ x f. after (after (second bindings f) (λ y g. gives (y ∷ []) g)) (λ vs g. gives (x ∷ vs) g))) (acts k operators.Seq)) (λ more left. resume k work (values ++ more) stacks bindings left)
-sequence_first k work values stacks bindings second (gives xs f) = sequence_second k work values xs stacks bindings (second bindings f)
-sequence_first k work values stacks bindings second (raises code) = refl
-sequence_first k work values stacks bindings second wrong = refl
-
-pub sequence_opens : (k : Context) (forest : Forest) (work : List Pending) (values : Items) (stacks : Stacks) (bindings : Bindings) (first second : Denotation)
-    → after (first bindings forest) (λ xs f. after (second bindings f) (λ ys g. resume k work ((values ++ xs) ++ ys) stacks bindings g))
-    ≡ after (denoted k operators.Seq (first ∷ second ∷ []) bindings forest) (λ more left. resume k work (values ++ more) stacks bindings left)
-sequence_opens k forest work values stacks bindings first second = sequence_first k work values stacks bindings second (first bindings forest)
 
 -- ---- a switch
 
@@ -549,7 +510,7 @@ pub search_opens_at : (k : Context) (forest : Forest) (variable : ℕ) (decisive
 search_opens_at k forest variable decisive source test work values first stacks bindings h =
     loop_opens_at k forest (Search variable decisive) source test work values first stacks bindings h
     ∙ ap (λ (o : Outcome Items). after o (λ more left. resume k work (values ++ more) stacks bindings left))
-    (also_behind (source bindings forest) (λ xs f. looped test (Search variable decisive) bindings [] xs f) (λ xs f. any_decides decisive (item_tested test variable bindings) xs f)
+    (same_after (source bindings forest) (λ xs f. looped test (Search variable decisive) bindings [] xs f) (λ xs f. any_decides decisive (item_tested test variable bindings) xs f)
     (λ xs f. searched (any_decides decisive (item_tested test variable bindings) xs f)))
 
 -- the items of a loop go aside
@@ -584,7 +545,7 @@ pub turn_goes_on : (forest : Forest) (variable position number following : ℕ) 
     → following ≡ suc number → all ≡ x ∷ rest → ((vs : Items) (left : Forest) → others vs left ≡ after (for_each (turn body variable position bindings) following vs rest left) next)
     → after (turn body variable position bindings number x forest) (λ more left. others (values ++ more) left) ≡ after (for_each (turn body variable position bindings) number values all forest) next
 turn_goes_on forest variable position number following body values x rest all bindings next others n e h =
-    also_behind (turn body variable position bindings number x forest) (λ more left. others (values ++ more) left) (λ more left. after (for_each (turn body variable position bindings) following (values ++ more) rest left) next)
+    same_after (turn body variable position bindings number x forest) (λ more left. others (values ++ more) left) (λ more left. after (for_each (turn body variable position bindings) following (values ++ more) rest left) next)
     (λ more left. h (values ++ more) left)
     ∙ ap (λ (m : ℕ). after (turn body variable position bindings number x forest) (λ more left. after (for_each (turn body variable position bindings) m (values ++ more) rest left) next)) n
     ∙ next_turn forest variable position number body values x rest all bindings next e

@@ -15,16 +15,15 @@ use Rattle.gx_store.specs.Places.{node_places}
 use Rattle.gx_eval.specs.declared.failure.Failure.{Failure}
 use Rattle.gx_eval.specs.declared.failure.Failure.TheVariants.{Raised, Memory}
 use Rattle.gx_eval.specs.declared.answer.Answer.{Answer}
-use Rattle.gx_eval.specs.declared.answer.Answer.TheVariants.{Nothing, One, Integers, Nodes}
+use Rattle.gx_eval.specs.declared.answer.Answer.TheVariants.{Nothing, One, Integers, NodeSequence}
 use Rattle.gx_eval.specs.declared.answer.Paired.{Paired}
-use Rattle.gx_eval.specs.declared.answer.Paired.TheVariants.{Arithmetic, Value, Range}
-use Rattle.gx_eval.specs.declared.answer.Paired.TheVariants as pairs
+use Rattle.gx_eval.specs.declared.answer.Paired.TheVariants.{Arithmetic, Value, NodeComparison, Range}
 
 abbrev pub answer_items : Forest → Answer → Items
 answer_items forest Nothing = []
 answer_items forest (One a) = atom a ∷ []
 answer_items forest (Integers first count) = atoms (integers_from first count)
-answer_items forest (Nodes nodes) = map node (node_places forest nodes.items)
+answer_items forest (NodeSequence nodes) = map node (node_places forest nodes.items)
 
 -- each of so many integers is within the limits of xs:integer
 abbrev pub IntegersFit : (first : ℤ) → (count : ℕ) → Type 0
@@ -37,7 +36,7 @@ AnswerFits _ = Unit {0}
 abbrev pub paired_meaning : Paired → Item → Item → Forest → Outcome Items
 paired_meaning (Arithmetic operation) x y forest = computed_of_items operation x y forest
 paired_meaning (Value op) x y forest = compared_items op x y forest
-paired_meaning (pairs.Nodes op) x y forest = compared_nodes op x y forest
+paired_meaning (NodeComparison op) x y forest = compared_nodes op x y forest
 paired_meaning Range x y forest = range_of_items x y forest
 
 -- how the evaluation fails where a cast does

@@ -1,5 +1,5 @@
 -- The tuples that clauses have found, and what is left to do of a block.
-use Rattle.std.specs.Prelude.{ℕ, zero, suc, ◌+◌, List, [], ◌∷◌, ◌++◌, length, map, flat_map, take, drop, Option, slice_get, Vec}
+use Rattle.std.specs.Prelude.{ℕ, suc, ◌+◌, List, [], ◌∷◌, ◌++◌, length, map, flat_map, take, drop, Option, slice_get, Vec}
 use Rattle.std.specs.Global.{Global}
 use Rattle.std.specs.List.{range_with_len}
 use Rattle.gx_facets.specs.declared.Atomic.{Atomic}
@@ -8,8 +8,7 @@ use Rattle.gx_sorting.specs.Sorting.{sorted}
 use Rattle.gx_sorting.specs.Tuples.{tuple_precedes}
 use Rattle.gx_model.specs.Forest.{Forest, PlainNode}
 use Rattle.gx_model.specs.Item.{Items}
-use Rattle.gx_core.specs.declared.operator.ClauseKind.{ClauseKind}
-use Rattle.gx_core.specs.declared.operator.ClauseKind.TheVariants as kinds
+use Rattle.gx_core.specs.Bindings.{position_numbers}
 use Rattle.gx_core.specs.ExpressionView.{kind_of_clause, order_of_key, part_of_key, parts_of_block}
 use Rattle.gx_core.specs.Outcome.{Outcome, gives, after, given}
 use Rattle.gx_core.specs.Comparing.{condition_of}
@@ -18,9 +17,9 @@ use Rattle.gx_core.specs.Blocks.{Tuple, key_of, tuple_keys, tuples_of, tuples_of
 use Rattle.gx_eval.specs.BoundItems.{items_of}
 use Rattle.gx_eval.specs.declared.bound.Bound.{Bound}
 use Rattle.gx_eval.specs.declared.tuples.Tuples.{Tuples}
-use Rattle.gx_eval.specs.declared.blocks.Tail.{Tail}
-use Rattle.gx_eval.specs.declared.blocks.Step.{Step}
-use Rattle.gx_eval.specs.declared.blocks.Step.TheVariants.{Walk, Gather, Each, Assign, Test, Keys, TakeKey, Sort, Return}
+use Rattle.gx_eval.specs.declared.blocks.BlockRest.{BlockRest}
+use Rattle.gx_eval.specs.declared.blocks.BlockWork.{BlockWork}
+use Rattle.gx_eval.specs.declared.blocks.BlockWork.TheVariants.{Walk, Gather, Each, Assign, Test, Keys, TakeKey, Sort, Return}
 
 -- the keys of all tuples, behind one another; what is bound in each tuple; and the numbers of those that are sorted
 pub record Found : Type 0 where
@@ -79,48 +78,42 @@ returned_for body outer done rows [] forest = gives done forest
 returned_for body outer done rows (number ∷ numbers) forest =
     given (slice_get rows number) (λ row. after (body (row ++ outer) forest) (λ more left. returned_for body outer (done ++ more) rows numbers left))
 
--- how many bindings a turn of a loop makes, and a clause
+-- how many bindings a turn of a loop makes: that of its variable, and that of its position where it has one
 abbrev pub bound_in_turn : (position : ℕ) → ℕ
-bound_in_turn zero = 1
-bound_in_turn (suc number) = 2
-
-abbrev pub bound_by : ClauseKind → ℕ
-bound_by (kinds.For binder position) = bound_in_turn position
-bound_by (kinds.Let binder) = 1
-bound_by kinds.Where = 0
+bound_in_turn position = suc (length (position_numbers position))
 
 -- the tuples of the clauses that are left, where the innermost bindings are those of the clauses before
-abbrev pub walked : Context → Tail → Bindings → Forest → Outcome (List Tuple)
-walked k tail bindings forest =
-    tuples_of (map kind_of_clause tail.clauses.now) (map order_of_key tail.keys.now) (map (meaning k) (parts_of_block tail.clauses.now tail.keys.now tail.body.now))
-    (take tail.bound bindings) (drop tail.bound bindings) forest
+abbrev pub walked : Context → BlockRest → Bindings → Forest → Outcome (List Tuple)
+walked k rest bindings forest =
+    tuples_of (map kind_of_clause rest.clauses.now) (map order_of_key rest.keys.now) (map (meaning k) (parts_of_block rest.clauses.now rest.keys.now rest.body.now))
+    (take rest.bound bindings) (drop rest.bound bindings) forest
 
 -- those for each item of a loop
-abbrev pub walked_each : Context → Tail → (variable position : ℕ) → Bindings → (number : ℕ) → Items → Forest → Outcome (List Tuple)
-walked_each k tail variable position bindings number items forest =
-    tuples_of_each (λ n x now. walked k tail (item_bound variable position n x ++ bindings) now) number items forest
+abbrev pub walked_each : Context → BlockRest → (variable position : ℕ) → Bindings → (number : ℕ) → Items → Forest → Outcome (List Tuple)
+walked_each k rest variable position bindings number items forest =
+    tuples_of_each (λ n x now. walked k rest (item_bound variable position n x ++ bindings) now) number items forest
 
 -- what is left to do of a block, and then the next work
-abbrev pub block_resumed : Context → Step → Tail → (values : Items) → Stacks → Bindings → Forest → (Items → Stacks → Forest → Outcome Items) → Outcome Items
-block_resumed k Walk tail values stacks bindings forest next = after (walked k tail bindings forest) (λ ts left. next values (with_found stacks (found_more stacks.found ts)) left)
-block_resumed k (Gather variable position first) tail values stacks bindings forest next =
-    after (walked_each k tail variable position bindings 1 (drop first values) forest) (λ ts left. next (take first values) (with_found stacks (found_more stacks.found ts)) left)
-block_resumed k (Each variable position number following start) tail values stacks bindings forest next =
-    after (walked_each k tail variable position bindings number (drop following stacks.sources) forest)
+abbrev pub block_resumed : Context → BlockWork → BlockRest → (values : Items) → Stacks → Bindings → Forest → (Items → Stacks → Forest → Outcome Items) → Outcome Items
+block_resumed k Walk rest values stacks bindings forest next = after (walked k rest bindings forest) (λ ts left. next values (with_found stacks (found_more stacks.found ts)) left)
+block_resumed k (Gather variable position first) rest values stacks bindings forest next =
+    after (walked_each k rest variable position bindings 1 (drop first values) forest) (λ ts left. next (take first values) (with_found stacks (found_more stacks.found ts)) left)
+block_resumed k (Each variable position number following start) rest values stacks bindings forest next =
+    after (walked_each k rest variable position bindings number (drop following stacks.sources) forest)
     (λ ts left. next values (with_found (with_sources stacks (take start stacks.sources)) (found_more stacks.found ts)) left)
-block_resumed k (Assign variable first) tail values stacks bindings forest next =
-    after (walked k tail ((variable, drop first values) ∷ bindings) forest) (λ ts left. next (take first values) (with_found stacks (found_more stacks.found ts)) left)
-block_resumed k (Test first) tail values stacks bindings forest next =
+block_resumed k (Assign variable first) rest values stacks bindings forest next =
+    after (walked k rest ((variable, drop first values) ∷ bindings) forest) (λ ts left. next (take first values) (with_found stacks (found_more stacks.found ts)) left)
+block_resumed k (Test first) rest values stacks bindings forest next =
     given (condition_of (drop first values))
-    (λ truth. after (tuples_if truth (λ now. walked k tail bindings now) forest) (λ ts left. next (take first values) (with_found stacks (found_more stacks.found ts)) left))
-block_resumed k Keys tail values stacks bindings forest next =
-    after (tuple_keys (map order_of_key tail.keys.now) (map (λ key. meaning k (part_of_key key)) tail.keys.now) bindings forest) (λ ks left. next values (with_found stacks (with_keys stacks.found ks)) left)
-block_resumed k (TakeKey first) tail values stacks bindings forest next =
+    (λ truth. after (tuples_if truth (λ now. walked k rest bindings now) forest) (λ ts left. next (take first values) (with_found stacks (found_more stacks.found ts)) left))
+block_resumed k Keys rest values stacks bindings forest next =
+    after (tuple_keys (map order_of_key rest.keys.now) (map (λ key. meaning k (part_of_key key)) rest.keys.now) bindings forest) (λ ks left. next values (with_found stacks (with_keys stacks.found ks)) left)
+block_resumed k (TakeKey first) rest values stacks bindings forest next =
     given (key_of (drop first values)) (λ key. next (take first values) (with_found stacks (with_keys stacks.found (key ∷ []))) forest)
-block_resumed k (Sort first_key first_row) tail values stacks bindings forest next =
-    after (returned_for (meaning k tail.body.now) bindings values (drop first_row stacks.found.rows)
-    (numbers_in_order (map order_of_key tail.keys.now) (drop first_key stacks.found.keys) (length (drop first_row stacks.found.rows))) forest)
+block_resumed k (Sort first_key first_row) rest values stacks bindings forest next =
+    after (returned_for (meaning k rest.body.now) bindings values (drop first_row stacks.found.rows)
+    (numbers_in_order (map order_of_key rest.keys.now) (drop first_key stacks.found.keys) (length (drop first_row stacks.found.rows))) forest)
     (λ vs left. next vs (with_found stacks (before_block stacks.found first_key first_row)) left)
-block_resumed k (Return following start first_row) tail values stacks bindings forest next =
-    after (returned_for (meaning k tail.body.now) bindings values (drop first_row stacks.found.rows) (drop following stacks.found.numbers) forest)
+block_resumed k (Return following start first_row) rest values stacks bindings forest next =
+    after (returned_for (meaning k rest.body.now) bindings values (drop first_row stacks.found.rows) (drop following stacks.found.numbers) forest)
     (λ vs left. next vs (with_found stacks (before_returns stacks.found start first_row)) left)

@@ -15,7 +15,7 @@ single_operator (singles.Call function) = operators.Call function
 
 abbrev pub changing_operator : Change → Operator
 changing_operator changes.Data = operators.DataOf
-changing_operator changes.Nodes = operators.Nodes
+changing_operator changes.OnlyNodes = operators.Nodes
 changing_operator changes.Order = operators.Order
 changing_operator (changes.Nth number reverse) = operators.Nth number reverse
 changing_operator (changes.Final reverse) = operators.Final reverse

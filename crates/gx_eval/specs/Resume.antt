@@ -1,5 +1,5 @@
 -- What an evaluation in its midst comes to.
-use Rattle.std.specs.Prelude.{ℕ, zero, suc, ◌+◌, List, [], ◌∷◌, ◌++◌, length, take, drop, map, None, Some, if◌then◌else◌}
+use Rattle.std.specs.Prelude.{Bool, ℕ, zero, suc, ◌+◌, List, [], ◌∷◌, ◌++◌, length, take, drop, map, None, Some, if◌then◌else◌}
 use Rattle.gx_types.specs.SchemaSet.{SchemaSet}
 use Rattle.gx_model.specs.Forest.{Forest, PlainNode}
 use Rattle.gx_model.specs.Item.{Item, node, Items}
@@ -21,7 +21,7 @@ pub use Rattle.gx_eval.specs.FoundTuples.{Stacks, with_sources}
 use Rattle.gx_eval.specs.FoundTuples.{found_in, none_found, block_resumed}
 use Rattle.gx_eval.specs.Operators.{single_operator, changing_operator}
 use Rattle.gx_eval.specs.declared.evaluation.Pending.{Pending}
-use Rattle.gx_eval.specs.declared.evaluation.Pending.TheVariants.{Evaluate, Change, Steps, Single as Operate, Right, Binary, Choose, Switch, Mark, Call, Gather, Each, Decide, Bind, Unbind, Declare, External, Block, UnbindAll}
+use Rattle.gx_eval.specs.declared.evaluation.Pending.TheVariants.{Evaluate, Change, Steps, Single as Operate, Right, Binary, Choose, Switch, Mark, Call, Gather, Each, Decide, Bind, Unbind, Declare, External, Block}
 use Rattle.gx_eval.specs.declared.evaluation.Evaluation.{Evaluation}
 use Rattle.gx_eval.specs.declared.looping.Loop.{Loop}
 use Rattle.gx_eval.specs.declared.looping.Loop.TheVariants.{For, Search}
@@ -90,6 +90,11 @@ turn body variable position bindings number item forest = body (item_bound varia
 abbrev pub item_tested : Denotation → (variable : ℕ) → Bindings → Item → Forest → Outcome Items
 item_tested test variable bindings item forest = test ((variable, item ∷ []) ∷ bindings) forest
 
+-- what a search over the items of a source comes to
+abbrev pub search_meaning : Context → (decisive : Bool) → (variable : ℕ) → (source test : TypedExpression) → Denotation
+search_meaning k decisive variable source test bindings forest =
+    after (meaning k source bindings forest) (λ xs left. any_decides decisive (item_tested (meaning k test) variable bindings) xs left)
+
 -- what a loop over items puts behind the values that are there
 abbrev pub looped : Denotation → Loop → Bindings → (values items : Items) → Forest → Outcome Items
 looped body (For variable position number) bindings values items forest = for_each (turn body variable position bindings) number values items forest
@@ -116,8 +121,8 @@ resume k (Binary operator first second ∷ work) values stacks bindings forest =
 resume k (Choose first yes' no' ∷ work) values stacks bindings forest =
     given (condition_of (drop first values))
     (λ truth. after (branch truth (meaning k yes'.now) (meaning k no'.now) bindings forest) (λ more left. resume k work (take first values ++ more) stacks bindings left))
-resume k (Switch first cases default branches ∷ work) values stacks bindings forest =
-    after (switched k.schemas cases.now default (map (meaning k) branches.now) (drop first values) bindings forest) (λ more left. resume k work (take first values ++ more) stacks bindings left)
+resume k (Switch first choice ∷ work) values stacks bindings forest =
+    after (switched k.schemas choice.cases.now choice.default (map (meaning k) choice.branches.now) (drop first values) bindings forest) (λ more left. resume k work (take first values ++ more) stacks bindings left)
 resume k (Mark ∷ work) values stacks bindings forest = resume k work values (with_marks stacks (length values ∷ stacks.marks)) bindings forest
 resume k (Call function more ∷ work) values stacks bindings forest =
     between_marks (more + 2) stacks.marks values []
@@ -127,15 +132,15 @@ resume k (Gather repeated first body ∷ work) values stacks bindings forest =
 resume k (Each repeated next start body ∷ work) values stacks bindings forest =
     after (looped (meaning k body.now) repeated bindings values (drop next stacks.sources) forest)
     (λ vs left. resume k work vs (with_sources stacks (take start stacks.sources)) bindings left)
-resume k (Decide variable decisive first next start test ∷ work) values stacks bindings forest =
-    given (condition_of (drop first values))
-    (λ truth. after (if decides decisive truth then gives (truth_value decisive) forest else any_decides decisive (item_tested (meaning k test.now) variable bindings) (drop next stacks.sources) forest)
-    (λ more left. resume k work (take first values ++ more) (with_sources stacks (take start stacks.sources)) bindings left))
+resume k (Decide search ∷ work) values stacks bindings forest =
+    given (condition_of (drop search.first values))
+    (λ truth. after (if decides search.decisive truth then gives (truth_value search.decisive) forest
+    else any_decides search.decisive (item_tested (meaning k search.test.now) search.variable bindings) (drop search.next stacks.sources) forest)
+    (λ more left. resume k work (take search.first values ++ more) (with_sources stacks (take search.start stacks.sources)) bindings left))
 resume k (Bind variable first body ∷ work) values stacks bindings forest =
     after (meaning k body.now ((variable, drop first values) ∷ bindings) forest) (λ more left. resume k work (take first values ++ more) stacks bindings left)
-resume k (Block step tail ∷ work) values stacks bindings forest = block_resumed k step tail values stacks bindings forest (λ vs beside left. resume k work vs beside bindings left)
-resume k (Unbind ∷ work) values stacks bindings forest = resume k work values stacks (drop 1 bindings) forest
-resume k (UnbindAll count ∷ work) values stacks bindings forest = resume k work values stacks (drop count bindings) forest
+resume k (Block piece rest ∷ work) values stacks bindings forest = block_resumed k piece rest values stacks bindings forest (λ vs beside left. resume k work vs beside bindings left)
+resume k (Unbind count ∷ work) values stacks bindings forest = resume k work values stacks (drop count bindings) forest
 resume k (Declare variable ∷ work) values stacks bindings forest = resume k work [] stacks ((variable, values) ∷ bindings) forest
 resume k (External variable ∷ work) values stacks bindings forest =
     next_document stacks.documents (λ document rest. resume k work values (with_documents stacks rest) ((variable, node document ∷ []) ∷ bindings) forest)

@@ -1,6 +1,6 @@
 // What a strict operator makes of its operands.
 
-ghost use Rattle.std.specs.Prelude.{◌≡◌, ◌++◌, ◌∷◌, [], IfOk, IfErr, OnOk};
+ghost use Rattle.std.specs.Prelude.{◌≡◌, ◌++◌, [], IfOk, IfErr, OnOk};
 ghost use Rattle.gx_model.specs.Forest.{Forest};
 ghost use Rattle.gx_model.specs.Item.{atom, node};
 ghost use Rattle.gx_model.specs.Growth.{Extends};
@@ -36,7 +36,7 @@ pub(crate) enum Answer {
     Nothing,
     One(Atomic),
     Integers(i128, u32),
-    Nodes(Vec<NodeId>),
+    NodeSequence(Vec<NodeId>),
 }
 
 // An operation on one value of each of two operands.
@@ -44,7 +44,7 @@ pub(crate) enum Answer {
 enum Paired {
     Arithmetic(ArithmeticOp),
     Value(Op),
-    Nodes(NodeComparison),
+    NodeComparison(NodeComparison),
     Range,
 }
 
@@ -64,9 +64,9 @@ pub(crate) fn of_two(
         BinaryClass::Arithmetic(operation) => on_two(Paired::Arithmetic(operation), left, right),
         BinaryClass::Value(op) => on_two(Paired::Value(op), left, right),
         BinaryClass::General(op) => Ok(Answer::One(generally_compared(alloc, op, left, right)?)),
-        BinaryClass::Nodes(op) => on_two(Paired::Nodes(op), left, right),
+        BinaryClass::Nodes(op) => on_two(Paired::NodeComparison(op), left, right),
         BinaryClass::Range => on_two(Paired::Range, left, right),
-        BinaryClass::Sets(operator) => combined(alloc, store, operator, left, right),
+        BinaryClass::Combination(operator) => combined(alloc, store, operator, left, right),
     }
 }
 
@@ -114,7 +114,7 @@ fn of_nodes(operation: Paired, left: NodeId, right: NodeId) -> Result<Answer, Fa
     ensures failed { (forest later : Forest) → IfErr result (λ e. FailsSo e (paired_meaning operation (node (place_of_number later left.number)) (node (place_of_number later right.number)) forest)) }
 {
     match operation {
-        Paired::Nodes(op) => Ok(Answer::One(truth_atom(nodes_compare(op, left, right)))),
+        Paired::NodeComparison(op) => Ok(Answer::One(truth_atom(nodes_compare(op, left, right)))),
         _ => Err(Failure::Wrong),
     }
 }
@@ -128,7 +128,7 @@ fn of_atoms(operation: Paired, left: &Atomic, right: &Atomic) -> Result<Answer, 
     match operation {
         Paired::Arithmetic(operation) => Ok(Answer::One(computed(operation, left, right)?)),
         Paired::Value(op) => Ok(Answer::One(compared(op, left, right)?)),
-        Paired::Nodes(_) => Err(Failure::Wrong),
+        Paired::NodeComparison(_) => Err(Failure::Wrong),
         Paired::Range => Ok(ranged(left, right)?),
     }
 }
@@ -170,6 +170,6 @@ pub(crate) fn put(answer: Answer, values: &mut Vec<Item>) -> Result<(), AllocErr
         Answer::Nothing => Ok(()),
         Answer::One(atomic) => push_atom(atomic, values),
         Answer::Integers(first, count) => put_integers(first, count, values),
-        Answer::Nodes(nodes) => append_nodes(nodes.as_slice(), values),
+        Answer::NodeSequence(nodes) => append_nodes(nodes.as_slice(), values),
     }
 }

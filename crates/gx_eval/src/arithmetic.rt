@@ -1,7 +1,6 @@
 // Arithmetic on atomic values.
 
 ghost use Rattle.std.specs.Prelude.{◌≡◌, IfOk, IfErr, ◌∷◌, []};
-ghost use Rattle.gx_num.specs.Arithmetic.{exact_negation, in_range_or_overflow};
 ghost use Rattle.gx_model.specs.Forest.{Forest};
 ghost use Rattle.gx_model.specs.Item.{atom};
 ghost use Rattle.gx_core.specs.Outcome.{gives};

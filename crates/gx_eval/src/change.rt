@@ -1,7 +1,7 @@
 // Operators that change their operand where it stands.
 
-ghost use Rattle.std.specs.Prelude.{◌≡◌, ◌++◌, ◌∷◌, [], OnOk, IfErr, take, drop};
-ghost use Rattle.gx_core.specs.Outcome.{gives, after};
+ghost use Rattle.std.specs.Prelude.{◌≡◌, ◌∷◌, [], OnOk, IfErr, drop};
+ghost use Rattle.gx_core.specs.Outcome.{gives};
 ghost use Rattle.gx_core.specs.Meaning.{Context, acts};
 ghost use Rattle.gx_core.specs.declared.operator.Operator.TheVariants as operators;
 ghost use Rattle.gx_model.specs.Forest.{Forest as PlainForest};
@@ -24,7 +24,7 @@ use std::alloc::Global;
 #[derive(Clone, Copy)]
 pub(crate) enum Change {
     Data,
-    Nodes,
+    OnlyNodes,
     Order,
     Nth(i128, bool),
     Final(bool),
@@ -44,7 +44,7 @@ pub(crate) fn change_values(
 {
     match operator {
         Change::Data => atomize(alloc, schemas, store, first, values),
-        Change::Nodes => check_nodes(first, values),
+        Change::OnlyNodes => check_nodes(first, values),
         Change::Order => order(alloc, store, first, values),
         Change::Nth(number, reverse) => Ok(keep_nth(number, reverse, first, values)?),
         Change::Final(reverse) => Ok(keep_last(reverse, first, values)?),

@@ -1,11 +1,13 @@
 // Operands at hand.
 
-ghost use Rattle.std.specs.Prelude.{◌≡◌, ◌∷◌, [], false, map, IfOk, IfSome, Some};
+ghost use Rattle.std.specs.Prelude.{◌≡◌, ◌∷◌, [], ℕ, true, false, List, map, IfOk, IfSome, Some};
 ghost use Rattle.std.specs.List.{list_any};
+ghost use Rattle.gx_types.specs.SchemaSet.{SchemaSet};
 ghost use Rattle.gx_model.specs.Atomization.{atomized};
 ghost use Rattle.gx_model.specs.Forest.{Forest};
 ghost use Rattle.gx_model.specs.Growth.{Extends};
 ghost use Rattle.gx_model.specs.Item.{node as a_node, atoms};
+ghost use Rattle.gx_model.specs.TypedValue.{untyped_atomic, untyped_value, value_at_type};
 ghost use Rattle.gx_core.specs.declared.operator.Operator.TheVariants as operators;
 ghost use Rattle.gx_core.specs.Bindings.{look_up};
 ghost use Rattle.gx_core.specs.Outcome.{gives, given};
@@ -20,9 +22,11 @@ ghost use Rattle.gx_eval.specs.Resume.{context_over, items_of};
 
 use crate::bound::Bound;
 use crate::operand::{any_node, only_node};
+use gx_base::text::Text;
+use gx_base::type_name::{Builtin, TypeName};
 use gx_core::expression::{Form, TypedExpr};
 use gx_core::scope::Scope;
-use gx_facets::Atomic;
+use gx_facets::{AtomValue, Atomic};
 use gx_store::item::Item;
 use gx_store::number::NodeId;
 use gx_store::store::Store;
@@ -107,7 +111,7 @@ fn atoms_alone(hand: AtHand<'_>) -> Option<AtHand<'_>>
     Some(hand)
 }
 
-// The typed value of a node, where it is at most one atomic value.
+// The typed value of a node, where it is at most one atomic value: that of an untyped node takes no list.
 fn typed_at_hand<'s>(
     schemas: &Schemas,
     store: &Store,
@@ -116,9 +120,35 @@ fn typed_at_hand<'s>(
     ensures { (later : Forest) → Extends store.now later → IfOk result (λ found. IfSome found (λ hand.
         atomized schemas.now store.now (a_node (place_of_number later node.number) ∷ []) ≡ Some (hand_items later hand))) }
 {
+    if let Some(kind) = store.annotation(node) {
+        if is_untyped(kind) {
+            let text = store.string_value(node)?;
+            return Ok(Some(AtHand::One(Item::Atom(untyped_atom(text)))));
+        }
+    }
     match store.typed_value(schemas, node)? {
         Some(values) => Ok(one_at_hand(values)),
         None => Ok(None),
+    }
+}
+
+// Whether the typed value of nodes of a type is their string value.
+fn is_untyped(kind: &TypeName) -> bool
+    ensures { (schemas : SchemaSet) (string : List ℕ) → result ≡ true → value_at_type schemas kind.now string ≡ untyped_value string }
+{
+    match kind {
+        TypeName::Builtin(Builtin::Untyped) => true,
+        TypeName::Builtin(Builtin::UntypedAtomic) => true,
+        _ => false,
+    }
+}
+
+fn untyped_atom(text: Text) -> Atomic
+    ensures { result ≡ untyped_atomic text }
+{
+    Atomic {
+        value: AtomValue::Untyped(text),
+        kind: TypeName::Builtin(Builtin::UntypedAtomic),
     }
 }
 

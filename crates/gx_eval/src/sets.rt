@@ -5,7 +5,7 @@ ghost use Rattle.std.specs.List.{list_all};
 ghost use Rattle.gx_model.specs.DocumentOrder.{in_document_order};
 ghost use Rattle.gx_model.specs.Forest.{Forest as PlainForest};
 ghost use Rattle.gx_model.specs.Growth.{Extends};
-ghost use Rattle.gx_core.specs.NodeSets.{combined as combined_places, sets_combined};
+ghost use Rattle.gx_core.specs.CombiningNodes.{combined as combined_places, nodes_combined};
 ghost use Rattle.gx_core.specs.Outcome.{gives};
 ghost use Rattle.gx_core.specs.Paths.{is_node};
 ghost use Rattle.gx_store.specs.Items.{items_in};
@@ -17,7 +17,7 @@ use crate::answer::Answer;
 use crate::failure::Failure;
 use crate::nodes::nodes_among;
 use crate::operand::all_nodes;
-use gx_core::expression::SetOperator;
+use gx_core::expression::NodeCombination;
 use gx_store::item::Item;
 use gx_store::number::NodeId;
 use gx_store::store::Store;
@@ -27,14 +27,14 @@ use std::alloc::{AllocError, Global};
 pub(crate) fn combined(
     alloc: Global,
     store: &Store,
-    operator: SetOperator,
+    operator: NodeCombination,
     left: &[Item],
     right: &[Item],
 ) -> Result<Answer, Failure>
     ensures value { (later : PlainForest) → Extends store.now later → IfOk result (λ r.
-        sets_combined operator (items_in later left.now) (items_in later right.now) store.now ≡ gives (answer_items later r) store.now) }
+        nodes_combined operator (items_in later left.now) (items_in later right.now) store.now ≡ gives (answer_items later r) store.now) }
     ensures fits { IfOk result (λ r. AnswerFits r) }
-    ensures failed { (later : PlainForest) → Extends store.now later → IfErr result (λ e. FailsSo e (sets_combined operator (items_in later left.now) (items_in later right.now) store.now)) }
+    ensures failed { (later : PlainForest) → Extends store.now later → IfErr result (λ e. FailsSo e (nodes_combined operator (items_in later left.now) (items_in later right.now) store.now)) }
 {
     if !are_nodes(left, right) {
         return Err(Failure::Wrong);
@@ -42,7 +42,7 @@ pub(crate) fn combined(
     let first = nodes_among(alloc, left)?;
     let second = nodes_among(alloc, right)?;
     let nodes = combined_nodes(store, operator, first, second)?;
-    Ok(Answer::Nodes(nodes))
+    Ok(Answer::NodeSequence(nodes))
 }
 
 // Whether all items of two operands are nodes.
@@ -54,7 +54,7 @@ fn are_nodes(left: &[Item], right: &[Item]) -> bool
 
 fn combined_nodes(
     store: &Store,
-    operator: SetOperator,
+    operator: NodeCombination,
     left: Vec<NodeId>,
     right: Vec<NodeId>,
 ) -> Result<Vec<NodeId>, AllocError>
@@ -62,8 +62,8 @@ fn combined_nodes(
         node_places later nodes.items ≡ in_document_order store.now (combined_places operator (node_places later left.items) (node_places later right.items))) }
 {
     match operator {
-        SetOperator::Union => store.union(left, right),
-        SetOperator::Intersect => store.intersect(left, right),
-        SetOperator::Except => store.except(left, right),
+        NodeCombination::Union => store.union(left, right),
+        NodeCombination::Intersect => store.intersect(left, right),
+        NodeCombination::Except => store.except(left, right),
     }
 }

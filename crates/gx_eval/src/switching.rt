@@ -1,15 +1,34 @@
-// The types of cases.
+// Choices: of a branch by a condition, and of one by the type of a value.
 
-ghost use Rattle.std.specs.Prelude.{◌≡◌};
-ghost use Rattle.gx_core.specs.Instances.{is_instance, is_item_instance};
+ghost use Rattle.std.specs.Prelude.{◌≡◌, ◌∷◌, [], OnOk, IfErr, map};
 ghost use Rattle.gx_model.specs.Forest.{Forest as PlainForest};
+ghost use Rattle.gx_core.specs.Instances.{is_instance, is_item_instance};
+ghost use Rattle.gx_core.specs.declared.operator.Operator.TheVariants as operators;
+ghost use Rattle.gx_core.specs.Meaning.{Context, denoted, meaning};
 ghost use Rattle.gx_store.specs.Items.{items_in};
+ghost use Rattle.gx_eval.specs.Failing.{FailsSo};
+ghost use Rattle.gx_eval.specs.Resume.{context_over, items_of, outcome_of, outcome_behind, outcome_with, branch_outcome};
+ghost use Rattle.gx_eval.specs.declared.evaluation.Pending.TheVariants as work;
 
+use crate::evaluation::{Evaluation, Pending};
+use crate::failure::Failure;
+use crate::operand::{condition_of, count_of, cut_off, values_from};
+use gx_core::cases::TypeCase;
+use gx_core::expression::TypedExpr;
 use gx_store::item::Item;
 use gx_types::derivation::derives;
 use gx_types::item_type::ItemType;
 use gx_types::schemas::Schemas;
 use gx_types::sequence_type::{Ty, TyNode};
+use std::alloc::{AllocError, Global};
+
+// The cases that are left, with a branch for each and one behind them for the default, and the variable of the default, or 0.
+#[derive(Clone, Copy)]
+pub(crate) struct Choice<'a> {
+    pub(crate) cases: &'a [TypeCase],
+    pub(crate) default: u32,
+    pub(crate) branches: &'a [TypedExpr],
+}
 
 // Whether a value is of the type of a case.
 pub(crate) fn is_instance(schemas: &Schemas, kind: &Ty, values: &[Item]) -> bool
@@ -28,5 +47,112 @@ fn is_item_instance(schemas: &Schemas, kind: &ItemType, values: &[Item]) -> bool
     match (kind, values) {
         (ItemType::Atom(kind), [Item::Atom(value)]) => derives(schemas, &value.kind, kind),
         _ => false,
+    }
+}
+
+impl<'a> Evaluation<'a> {
+    // A condition is evaluated first, and then the branch that it chooses.
+    pub(crate) fn open_if(
+        &mut self,
+        condition: &'a TypedExpr,
+        chosen: &'a TypedExpr,
+        otherwise: &'a TypedExpr,
+    ) -> Result<(), AllocError>
+        ensures { (k : Context) (forest later : PlainForest) → OnOk result (outcome_of k forest later self.new
+            ≡ outcome_behind k later (denoted k operators.If (meaning k condition.now ∷ meaning k chosen.now ∷ meaning k otherwise.now ∷ []) (items_of later self.old.scope) forest) self.old) }
+    {
+        let first = count_of(&self.values);
+        self.open_part(condition, Pending::Choose(first, chosen, otherwise))
+    }
+
+    // The operand of a switch is evaluated first, and then the branch that its type chooses.
+    pub(crate) fn open_switch(
+        &mut self,
+        operand: &'a TypedExpr,
+        cases: &'a [TypeCase],
+        default: u32,
+        branches: &'a [TypedExpr],
+    ) -> Result<(), AllocError>
+        ensures { (k : Context) (forest later : PlainForest) → OnOk result (outcome_of k forest later self.new
+            ≡ outcome_behind k later (denoted k (operators.Switch cases.now default) (meaning k operand.now ∷ map (meaning k) branches.now) (items_of later self.old.scope) forest) self.old) }
+    {
+        let first = count_of(&self.values);
+        let choice = Choice {
+            cases,
+            default,
+            branches,
+        };
+        self.open_part(operand, Pending::Switch(first, choice))
+    }
+
+    // Puts the branch to the work that the values from the number on choose.
+    pub(crate) fn choose(
+        &mut self,
+        first: usize,
+        chosen: &'a TypedExpr,
+        otherwise: &'a TypedExpr,
+    ) -> Result<(), Failure>
+        ensures value { (k : Context) (forest later : PlainForest) → OnOk result (outcome_of k forest later self.new ≡ outcome_with k forest later (work.Choose first chosen.entry otherwise.entry) self.old) }
+        ensures failed { (k : Context) (forest later : PlainForest) → IfErr result (λ e. FailsSo e (outcome_with k forest later (work.Choose first chosen.entry otherwise.entry) self.old)) }
+    {
+        let condition = values_from(&self.values, first);
+        let Some(truth) = condition_of(condition) else {
+            return Err(Failure::Wrong);
+        };
+        cut_off(&mut self.values, first);
+        if truth {
+            Ok(self.work.push(Pending::Evaluate(chosen))?)
+        } else {
+            Ok(self.work.push(Pending::Evaluate(otherwise))?)
+        }
+    }
+
+    // Puts the branch of the first case to the work whose type the values from the number on are of, or goes on to the next case.
+    pub(crate) fn switch(
+        &mut self,
+        alloc: Global,
+        schemas: &Schemas,
+        first: usize,
+        choice: Choice<'a>,
+    ) -> Result<(), Failure>
+        ensures value { let k = context_over schemas.now in (forest later : PlainForest) → OnOk result (outcome_of k forest later self.new ≡ outcome_with k forest later (work.Switch first choice.entry) self.old) }
+        ensures failed { let k = context_over schemas.now in (forest later : PlainForest) → IfErr result (λ e. FailsSo e (outcome_with k forest later (work.Switch first choice.entry) self.old)) }
+    {
+        let Some((branch, others)) = choice.branches.split_first() else {
+            return Err(Failure::Wrong);
+        };
+        let Some((case, rest)) = choice.cases.split_first() else {
+            if !others.is_empty() {
+                return Err(Failure::Wrong);
+            }
+            return Ok(self.choose_branch(alloc, first, choice.default, branch)?);
+        };
+        if is_instance(schemas, &case.kind, values_from(&self.values, first)) {
+            return Ok(self.choose_branch(alloc, first, case.variable, branch)?);
+        }
+        let next = Choice {
+            cases: rest,
+            default: choice.default,
+            branches: others,
+        };
+        Ok(self.work.push(Pending::Switch(first, next))?)
+    }
+
+    // A branch, in which a variable is bound to the values from the number on where there is one.
+    fn choose_branch(
+        &mut self,
+        alloc: Global,
+        first: usize,
+        variable: u32,
+        branch: &'a TypedExpr,
+    ) -> Result<(), AllocError>
+        ensures { (k : Context) (forest later : PlainForest) → OnOk result (outcome_of k forest later self.new ≡ branch_outcome k forest later first variable branch.now self.old) }
+    {
+        if variable != 0 {
+            return self.bind(alloc, variable, first, branch);
+        }
+        cut_off(&mut self.values, first);
+        self.work.push(Pending::Evaluate(branch))?;
+        Ok(())
     }
 }

@@ -81,7 +81,7 @@ pub(crate) fn row_at(rows: &[Row], number: usize) -> Option<&Row>
 
 // Takes so many innermost bindings away.
 #[tactic(auto, using(crate::proofs::BlockResuming::dropped_again))]
-pub(crate) fn unbind_all(scope: &mut Scope<Bound>, count: usize)
+pub(crate) fn unbind_innermost(scope: &mut Scope<Bound>, count: usize)
     ensures { scope.new ≡ drop count scope.old }
 {
     let mut left = count;

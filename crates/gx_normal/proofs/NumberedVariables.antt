@@ -21,7 +21,7 @@ use Rattle.gx_resolved.specs.declared.tree.Declaration.TheVariants as declared
 use Rattle.gx_resolved.specs.ResolvedTree.{ResolvedTree, ResolvedTrees, resolved_at, no_resolved, a_resolved}
 use Rattle.gx_core.specs.declared.expression.BinaryOp.{BinaryOp}
 use Rattle.gx_core.specs.declared.expression.BinaryClass.{BinaryClass}
-use Rattle.gx_core.specs.declared.expression.BinaryClass.TheVariants.{Nodes, Sets}
+use Rattle.gx_core.specs.declared.expression.BinaryClass.TheVariants.{Nodes, Combination}
 use Rattle.gx_core.specs.BinaryOperators.{class_of}
 use Rattle.gx_core.specs.Queries.{Core, CoreDeclaration}
 use Rattle.gx_core.specs.declared.expression.Declaration.TheVariants.{Global}
@@ -137,7 +137,7 @@ sequence_numbered scope free middle next a b h k =
 
 operand_numbered : (class : BinaryClass) → JoinsOne (operand_of class)
 operand_numbered (Nodes op) scope free next e h = h
-operand_numbered (Sets op) scope free next e h = h
+operand_numbered (Combination op) scope free next e h = h
 operand_numbered _ scope free next e h = data_numbered scope free next e h
 
 operator_numbered : (place : Place) (op : BinaryOp) → JoinsTwo (operator_at place op)

@@ -20,7 +20,7 @@ use Rattle.gx_resolved.specs.declared.tree.Declaration.TheVariants as declared
 use Rattle.gx_resolved.specs.ResolvedTree.{ResolvedTree, ResolvedTrees, resolved_at, no_resolved, a_resolved}
 use Rattle.gx_core.specs.declared.expression.BinaryOp.{BinaryOp}
 use Rattle.gx_core.specs.declared.expression.BinaryClass.{BinaryClass}
-use Rattle.gx_core.specs.declared.expression.BinaryClass.TheVariants.{Nodes, Sets}
+use Rattle.gx_core.specs.declared.expression.BinaryClass.TheVariants.{Nodes, Combination}
 use Rattle.gx_core.specs.BinaryOperators.{class_of}
 use Rattle.gx_sorting.specs.declared.keys.KeyOrder.{KeyOrder}
 use Rattle.gx_core.specs.declared.operator.ClauseKind.{ClauseKind}
@@ -69,16 +69,16 @@ signed_formed place true e h = (tt, ((tt, (h, tt)), tt))
 signed_formed place false e h = (tt, ((tt, (h, tt)), ((refl, tt), tt)))
 
 boolean_formed : KeepsOne boolean_around
-boolean_formed e h = (record { other = λ c. cc; not_position = λ c. cc; not_last = λ c. cc; all = refl }, (h, tt))
+boolean_formed e h = (record { not_data = λ c. cc; not_position = λ c. cc; not_last = λ c. cc; all = refl }, (h, tt))
 
 conditional_formed : (place : Place) (a b c : CoreExpression) → IsWellFormedExpression a → IsWellFormedExpression b → IsWellFormedExpression c → IsWellFormedExpression (conditional_at place a b c)
 conditional_formed place a b c h k l = (tt, (boolean_formed a h, (k, (l, tt))))
 
 and_formed : (place : Place) → KeepsTwo (and_at place)
-and_formed place a b h k = (tt, (boolean_formed a h, (boolean_formed b k, ((record { other = λ c. cc; not_position = λ c. cc; not_last = λ c. cc; all = refl }, tt), tt))))
+and_formed place a b h k = (tt, (boolean_formed a h, (boolean_formed b k, ((record { not_data = λ c. cc; not_position = λ c. cc; not_last = λ c. cc; all = refl }, tt), tt))))
 
 or_formed : (place : Place) → KeepsTwo (or_at place)
-or_formed place a b h k = (tt, (boolean_formed a h, ((record { other = λ c. cc; not_position = λ c. cc; not_last = λ c. cc; all = refl }, tt), (boolean_formed b k, tt))))
+or_formed place a b h k = (tt, (boolean_formed a h, ((record { not_data = λ c. cc; not_position = λ c. cc; not_last = λ c. cc; all = refl }, tt), (boolean_formed b k, tt))))
 
 one_formed : (place : Place) (make : CoreExpression → CoreExpression) → KeepsOne make → (es : List CoreExpression) → AreWellFormed es → IsWellFormedExpression (of_one place make es)
 one_formed place make f [] h = (tt, tt)
@@ -100,7 +100,7 @@ three_formed place (a ∷ b ∷ c ∷ d ∷ es) h = (tt, tt)
 
 operand_formed : (class : BinaryClass) → KeepsOne (operand_of class)
 operand_formed (Nodes op) e h = h
-operand_formed (Sets op) e h = h
+operand_formed (Combination op) e h = h
 operand_formed _ e h = (tt, (h, tt))
 
 joined_formed : (place : Place) (found : Option BinaryOp) (es : List CoreExpression) → AreWellFormed es → IsWellFormedExpression (joined_at place (joined_by place found) es)
@@ -124,10 +124,10 @@ number_of_all (e ∷ es) = let h : number_of_parts (all_parts es) ≡ length es 
 
 counted_formed : (place : Place) (function : Function) (es : List CoreExpression)
     → (function ≡ functions.Data → ⊥) → (function ≡ functions.Position → ⊥) → (function ≡ functions.Last → ⊥) → AreWellFormed es → IsWellFormedExpression (counted_call place function es)
-counted_formed place function es other position last h = by (length es == arity_of function) refl
+counted_formed place function es not_data position last h = by (length es == arity_of function) refl
   where
     by : (b : Bool) → (length es == arity_of function) ≡ b → IsWellFormedExpression (if b then call_at place function (all_parts es) else empty_at place)
-    by true e = (record { other = other; not_position = position; not_last = last; all = number_of_all es ∙ eqb-true (length es) (arity_of function) e }, all_formed es h)
+    by true e = (record { not_data = not_data; not_position = position; not_last = last; all = number_of_all es ∙ eqb-true (length es) (arity_of function) e }, all_formed es h)
     by false e = (tt, tt)
 
 call_formed : (place : Place) (function : Function) (es : List CoreExpression) → AreWellFormed es → IsWellFormedExpression (call_of place function es)
@@ -171,7 +171,7 @@ ordered_formed false place e h = h
 
 size_formed : (place : Place) (free : ℕ) → KeepsTwo (with_size place free)
 size_formed place free source body h k =
-    (tt, (h, ((tt, ((record { other = λ c. cc; not_position = λ c. cc; not_last = λ c. cc; all = refl }, ((tt, tt), tt)), (k, tt))), tt)))
+    (tt, (h, ((tt, ((record { not_data = λ c. cc; not_position = λ c. cc; not_last = λ c. cc; all = refl }, ((tt, tt), tt)), (k, tt))), tt)))
 
 for_formed : (place : Place) (number position : ℕ) → KeepsTwo (hidden_for place number position)
 for_formed place number position source body h k = (tt, (h, (k, tt)))
@@ -195,7 +195,7 @@ kept_formed : (place : Place) (focus : ContextNumbers) (free : ℕ) → KeepsOne
 kept_formed place focus free condition h =
     let tested : IsWellFormedExpression (position_is place focus free) = (tt, ((tt, tt), (context_formed place focus.position, tt))) in
     let truth : IsWellFormedExpression (call_at place functions.Boolean (one_part (hidden_variable place (free + 1)))) =
-    (record { other = λ c. cc; not_position = λ c. cc; not_last = λ c. cc; all = refl }, ((tt, tt), tt)) in
+    (record { not_data = λ c. cc; not_position = λ c. cc; not_last = λ c. cc; all = refl }, ((tt, tt), tt)) in
     (tt, ((((tt, tt), refl), (h, (tested, (truth, tt)))), (context_formed place focus.item, ((tt, tt), tt))))
 
 filtered_by_formed : (predicate : Predicate) (reverse : Bool) (use' : ContextUse) (place : Place) (free : ℕ) (e : CoreExpression) (condition : CoreExpression × ℕ)

@@ -14,7 +14,7 @@ use Rattle.gx_funcs.specs.Function.{arity_of}
 use Rattle.gx_core.specs.declared.expression.BinaryOp.{BinaryOp}
 use Rattle.gx_core.specs.declared.expression.BinaryOp.TheVariants as core
 use Rattle.gx_core.specs.declared.expression.BinaryClass.{BinaryClass}
-use Rattle.gx_core.specs.declared.expression.BinaryClass.TheVariants.{Nodes, Sets}
+use Rattle.gx_core.specs.declared.expression.BinaryClass.TheVariants.{Nodes, Combination}
 use Rattle.gx_core.specs.BinaryOperators.{class_of}
 use Rattle.gx_core.specs.declared.expression.Binder.{Binder}
 use Rattle.gx_core.specs.declared.operator.Operator.{Operator}
@@ -47,7 +47,7 @@ core_sequence a b = around a operators.Seq (two_parts a b)
 -- an operand of an operator: comparisons and combinations of nodes take it as it is, and all others atomize it
 abbrev pub operand_of : BinaryClass → CoreExpression → CoreExpression
 operand_of (Nodes op) e = e
-operand_of (Sets op) e = e
+operand_of (Combination op) e = e
 operand_of _ e = data_around e
 
 abbrev pub operator_at : Place → BinaryOp → CoreExpression → CoreExpression → CoreExpression

@@ -133,7 +133,7 @@ fn operand_of(
     ensures { IfOk result (λ e. e.value ≡ operand_of class operand.value) }
 {
     match class {
-        BinaryClass::Nodes(_) | BinaryClass::Sets(_) => Ok(operand),
+        BinaryClass::Nodes(_) | BinaryClass::Combination(_) => Ok(operand),
         _ => data_around(alloc, operand),
     }
 }

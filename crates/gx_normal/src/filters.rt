@@ -9,6 +9,7 @@ use gx_base::place::Place;
 use gx_base::type_name::{Builtin, TypeName};
 use gx_core::cases::{Cases, TypeCase};
 use gx_core::expression::{BinaryOp, CoreExpr, Form};
+use gx_core::listed::Listed;
 use gx_funcs::function::Function;
 use gx_num::Number;
 use gx_resolved::tree::{Construct, ResolvedExpr};
@@ -164,5 +165,5 @@ fn decimal_case(alloc: Global, variable: u32) -> Result<Cases, AllocError>
     let kind = Ty::of_item(alloc, item)?;
     let mut cases = Vec::new(alloc);
     cases.push(TypeCase { kind, variable })?;
-    Ok(Cases::from_vec(cases))
+    Ok(Listed::from_vec(cases))
 }

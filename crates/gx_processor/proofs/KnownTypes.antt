@@ -51,7 +51,7 @@ use Rattle.gx_names.specs.Resolution.{declaration_resolved, declarations_resolve
 use Rattle.gx_names.specs.SettingRefusals.{prolog_environment}
 use Rattle.gx_core.specs.declared.expression.BinaryOp.{BinaryOp}
 use Rattle.gx_core.specs.declared.expression.BinaryClass.{BinaryClass}
-use Rattle.gx_core.specs.declared.expression.BinaryClass.TheVariants.{Nodes, Sets}
+use Rattle.gx_core.specs.declared.expression.BinaryClass.TheVariants.{Nodes, Combination}
 use Rattle.gx_core.specs.BinaryOperators.{class_of}
 use Rattle.gx_sorting.specs.declared.keys.KeyOrder.{KeyOrder}
 use Rattle.gx_core.specs.declared.operator.ClauseKind.{ClauseKind}
@@ -307,7 +307,7 @@ module _ (s : SchemaSet) (is : IsSchemaSet s) where
 
   operand_casts : (class : BinaryClass) (e : CoreExpression) → Casts e → Casts (operand_of class e)
   operand_casts (Nodes op) e h = h
-  operand_casts (Sets op) e h = h
+  operand_casts (Combination op) e h = h
   operand_casts _ e h = (tt, (h, tt))
 
   joined_cast : (place : Place) (found : Option BinaryOp) (es : List CoreExpression) → AllCast es → Casts (joined_at place (joined_by place found) es)

@@ -215,7 +215,7 @@ module _ (s : SchemaSet) (g : Grounded (bases_of s)) where
   binary_same (classes.General op) left right m n = general_comparison_same left right m n
   binary_same (classes.Nodes op) left right m n = refl
   binary_same classes.Range left right m n = range_same left right m n
-  binary_same (classes.Sets op) left right m n = refl
+  binary_same (classes.Combination op) left right m n = refl
 
   -- ---- conditionals, paths and casts
 

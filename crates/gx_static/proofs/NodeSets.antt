@@ -14,11 +14,11 @@ use Rattle.gx_model.specs.Belongs.{Belongs}
 use Rattle.gx_model.specs.DocumentOrder.{nodes_from, same_node, in_document_order}
 use Rattle.gx_include.specs.Decision.{is_included}
 use Rattle.gx_core.specs.declared.expression.BinaryClass.TheVariants as classes
-use Rattle.gx_core.specs.declared.expression.SetOperator.{SetOperator}
-use Rattle.gx_core.specs.declared.expression.SetOperator.TheVariants as sets
+use Rattle.gx_core.specs.declared.expression.NodeCombination.{NodeCombination}
+use Rattle.gx_core.specs.declared.expression.NodeCombination.TheVariants as combinations
 use Rattle.gx_core.specs.Outcome.{gives, wrong}
 use Rattle.gx_core.specs.Paths.{is_node, places_of}
-use Rattle.gx_core.specs.NodeSets.{combined}
+use Rattle.gx_core.specs.CombiningNodes.{combined}
 use Rattle.gx_core.specs.Soundness.{typed_setting, Keeps}
 use Rattle.gx_static.specs.Rule.{nodes_type, set_type}
 use Rattle.gx_static.specs.Laws.{NodeSetKeepsType}
@@ -77,17 +77,17 @@ some_belong s forest t xs test nodes b =
 
 -- ---- the law
 
-combined_belong : (s : SchemaSet) (forest : Forest) (op : SetOperator) (t u : SequenceType) (xs ys : Items) → EachItem IsNode xs → EachItem IsNode ys → Belongs s forest xs t → Belongs s forest ys u
+combined_belong : (s : SchemaSet) (forest : Forest) (op : NodeCombination) (t u : SequenceType) (xs ys : Items) → EachItem IsNode xs → EachItem IsNode ys → Belongs s forest xs t → Belongs s forest ys u
     → Belongs s forest (map node (in_document_order forest (combined op (places_of xs) (places_of ys)))) (set_type op t u)
-combined_belong s forest sets.Union t u xs ys h k b c = both_belong s forest t u xs ys h k b c
-combined_belong s forest sets.Intersect t u xs ys h k b c = some_belong s forest t xs (λ n. list_any (same_node n) (places_of ys)) h b
-combined_belong s forest sets.Except t u xs ys h k b c = some_belong s forest t xs (λ n. not (list_any (same_node n) (places_of ys))) h b
+combined_belong s forest combinations.Union t u xs ys h k b c = both_belong s forest t u xs ys h k b c
+combined_belong s forest combinations.Intersect t u xs ys h k b c = some_belong s forest t xs (λ n. list_any (same_node n) (places_of ys)) h b
+combined_belong s forest combinations.Except t u xs ys h k b c = some_belong s forest t xs (λ n. not (list_any (same_node n) (places_of ys))) h b
 
 both_are_nodes : (xs ys : Items) → EachItem IsNode xs → EachItem IsNode ys → (list_all is_node xs && list_all is_node ys) ≡ true
 both_are_nodes xs ys h k = ap (λ (b : Bool). b && list_all is_node ys) (all_are_nodes xs h) ∙ all_are_nodes ys k
 
 pub node_set_keeps : NodeSetKeepsType
-node_set_keeps op s operator g class = pair_keeps s operator (classes.Sets op) class (λ a b t forest xs ys e honest h k.
+node_set_keeps op s operator g class = pair_keeps s operator (classes.Combination op) class (λ a b t forest xs ys e honest h k.
     let r = type_so (is_included s a nodes_type && is_included s b nodes_type) (set_type op a b) t e in
     let both = and_parts (is_included s a nodes_type) (is_included s b nodes_type) r.0 in
     let p = nodes_in_type s forest xs a g honest both.0 h in

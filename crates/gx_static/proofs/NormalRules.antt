@@ -30,9 +30,9 @@ use Rattle.gx_funcs.specs.Function.{parameters_of}
 use Rattle.gx_core.specs.declared.expression.ArithmeticOp.{ArithmeticOp}
 use Rattle.gx_core.specs.declared.expression.ArithmeticOp.TheVariants.{Div, IDiv}
 use Rattle.gx_core.specs.declared.expression.BinaryClass.{BinaryClass}
-use Rattle.gx_core.specs.declared.expression.BinaryClass.TheVariants.{Arithmetic, Value, General, Nodes, Range, Sets}
-use Rattle.gx_core.specs.declared.expression.SetOperator.{SetOperator}
-use Rattle.gx_core.specs.declared.expression.SetOperator.TheVariants as sets
+use Rattle.gx_core.specs.declared.expression.BinaryClass.TheVariants.{Arithmetic, Value, General, Nodes, Range, Combination}
+use Rattle.gx_core.specs.declared.expression.NodeCombination.{NodeCombination}
+use Rattle.gx_core.specs.declared.expression.NodeCombination.TheVariants as combinations
 use Rattle.gx_sorting.specs.declared.keys.KeyOrder.{KeyOrder}
 use Rattle.gx_core.specs.declared.operator.ClauseKind.{ClauseKind}
 use Rattle.gx_types.specs.Occurs.{Occurs}
@@ -89,11 +89,11 @@ compared_is_normal : (s : SchemaSet) (left right : SequenceType) → IsNormalTyp
 compared_is_normal s left right =
     never_or s (same_type never left) (times_of (atomic Boolean) (compared_occur left right)) (times_is_normal s (atomic Boolean) (compared_occur left right) (boolean_is_atomic s))
 
-set_is_normal : (s : SchemaSet) (op : SetOperator) (left right : SequenceType) → IsNormalType s left → IsNormalType s right → IsNormalType s (set_type op left right)
-set_is_normal s sets.Union left right m n =
+set_is_normal : (s : SchemaSet) (op : NodeCombination) (left right : SequenceType) → IsNormalType s left → IsNormalType s right → IsNormalType s (set_type op left right)
+set_is_normal s combinations.Union left right m n =
     times_is_normal s (prime_of (sequence_of left right)) (occurrence_of (sequence_of left right)) (prime_is_normal s (sequence_of left right) (sequence_is_normal s left right m n))
-set_is_normal s sets.Intersect left right m n = times_is_normal s (prime_of left) (occurs 0 (occurrence_of left).greatest) (prime_is_normal s left m)
-set_is_normal s sets.Except left right m n = times_is_normal s (prime_of left) (occurs 0 (occurrence_of left).greatest) (prime_is_normal s left m)
+set_is_normal s combinations.Intersect left right m n = times_is_normal s (prime_of left) (occurs 0 (occurrence_of left).greatest) (prime_is_normal s left m)
+set_is_normal s combinations.Except left right m n = times_is_normal s (prime_of left) (occurs 0 (occurrence_of left).greatest) (prime_is_normal s left m)
 
 binary_is_normal : (s : SchemaSet) (class : BinaryClass) (left right : SequenceType) → IsNormalType s left → IsNormalType s right → GivesNormalType s (binary_rule s class left right)
 binary_is_normal s (Arithmetic operation) left right m n =
@@ -107,7 +107,7 @@ binary_is_normal s (General op) left right m n =
 binary_is_normal s (Nodes op) left right m n =
     type_if_normal s (is_included s left optional_node && is_included s right optional_node) (value_comparison_type left right) (compared_is_normal s left right)
 binary_is_normal s Range left right m n = type_if_normal s (is_optional_in s Integer left && is_optional_in s Integer right) (star (atomic Integer)) (integer_is_atomic s)
-binary_is_normal s (Sets op) left right m n = type_if_normal s (is_included s left nodes_type && is_included s right nodes_type) (set_type op left right) (set_is_normal s op left right m n)
+binary_is_normal s (Combination op) left right m n = type_if_normal s (is_included s left nodes_type && is_included s right nodes_type) (set_type op left right) (set_is_normal s op left right m n)
 
 -- ---- paths
 

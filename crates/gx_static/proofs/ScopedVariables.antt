@@ -70,7 +70,7 @@ binary_code s (classes.Value op) t u code part e = tested_code _ _ XPTY0004 code
 binary_code s (classes.General op) t u code part e = tested_code _ _ XPTY0004 code part (λ x. cc) e
 binary_code s (classes.Nodes op) t u code part e = tested_code _ _ XPTY0004 code part (λ x. cc) e
 binary_code s classes.Range t u code part e = tested_code _ _ XPTY0004 code part (λ x. cc) e
-binary_code s (classes.Sets op) t u code part e = tested_code _ _ XPTY0004 code part (λ x. cc) e
+binary_code s (classes.Combination op) t u code part e = tested_code _ _ XPTY0004 code part (λ x. cc) e
 
 -- parameters none of which has the code
 abbrev HaveOtherCodes : List Parameter → Type 0

@@ -42,7 +42,7 @@ binary_keeps s g operator (classes.Value op) e = value_comparison_keeps op s ope
 binary_keeps s g operator (classes.General op) e = general_comparison_keeps op s operator e
 binary_keeps s g operator (classes.Nodes op) e = node_comparison_keeps op s operator g e
 binary_keeps s g operator classes.Range e = range_keeps s operator e
-binary_keeps s g operator (classes.Sets op) e = node_set_keeps op s operator g e
+binary_keeps s g operator (classes.Combination op) e = node_set_keeps op s operator g e
 
 -- the laws of all operators
 operator_keeps : (s : SchemaSet) → IsSchemaSet s → (operator : Operator) → OperatorKeepsType s operator

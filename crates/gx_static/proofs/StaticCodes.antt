@@ -71,7 +71,7 @@ static_binary s (classes.Value op) t u = static_test _ _ XPTY0004 refl
 static_binary s (classes.General op) t u = static_test _ _ XPTY0004 refl
 static_binary s (classes.Nodes op) t u = static_test _ _ XPTY0004 refl
 static_binary s classes.Range t u = static_test _ _ XPTY0004 refl
-static_binary s (classes.Sets op) t u = static_test _ _ XPTY0004 refl
+static_binary s (classes.Combination op) t u = static_test _ _ XPTY0004 refl
 
 static_order : (s : SchemaSet) (t : SequenceType) → RulesStatically (order_rule s t)
 static_order s t =

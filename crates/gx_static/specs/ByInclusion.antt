@@ -23,7 +23,7 @@ use Rattle.gx_funcs.specs.Function.{parameters_of}
 use Rattle.gx_core.specs.declared.expression.ArithmeticOp.{ArithmeticOp}
 use Rattle.gx_core.specs.declared.expression.ArithmeticOp.TheVariants.{Div, IDiv}
 use Rattle.gx_core.specs.declared.expression.BinaryClass.{BinaryClass}
-use Rattle.gx_core.specs.declared.expression.BinaryClass.TheVariants.{Arithmetic, Value, General, Range, Nodes, Sets}
+use Rattle.gx_core.specs.declared.expression.BinaryClass.TheVariants.{Arithmetic, Value, General, Range, Nodes, Combination}
 use Rattle.gx_core.specs.declared.expression.Binder.{Binder}
 use Rattle.gx_core.specs.declared.expression.Declaration.TheVariants.{Global}
 use Rattle.gx_sorting.specs.declared.keys.KeyOrder.{KeyOrder}
@@ -109,7 +109,7 @@ binary_included schemas (Value op) left right = value_comparison_included schema
 binary_included schemas (General op) left right = general_comparison_included schemas left right
 binary_included schemas (Nodes op) left right = node_comparison_rule schemas left right
 binary_included schemas Range left right = range_included schemas left right
-binary_included schemas (Sets op) left right = set_rule schemas op left right
+binary_included schemas (Combination op) left right = set_rule schemas op left right
 
 -- ---- conditionals, paths and casts
 

@@ -25,7 +25,7 @@ use Rattle.gx_core.specs.declared.expression.BinaryOp.{BinaryOp}
 use Rattle.gx_core.specs.declared.expression.BinaryClass.{BinaryClass}
 use Rattle.gx_core.specs.declared.expression.BinaryClass.TheVariants as classes
 use Rattle.gx_core.specs.declared.expression.NodeComparison.{NodeComparison}
-use Rattle.gx_core.specs.declared.expression.SetOperator.{SetOperator}
+use Rattle.gx_core.specs.declared.expression.NodeCombination.{NodeCombination}
 use Rattle.gx_core.specs.BinaryOperators.{class_of}
 use Rattle.gx_sorting.specs.declared.keys.KeyOrder.{KeyOrder}
 use Rattle.gx_core.specs.declared.operator.ClauseKind.{ClauseKind}
@@ -140,7 +140,7 @@ abbrev pub NodeComparisonKeepsType : Type 0
 NodeComparisonKeepsType = (op : NodeComparison) → NodeClassKeepsType (classes.Nodes op)
 
 abbrev pub NodeSetKeepsType : Type 0
-NodeSetKeepsType = (op : SetOperator) → NodeClassKeepsType (classes.Sets op)
+NodeSetKeepsType = (op : NodeCombination) → NodeClassKeepsType (classes.Combination op)
 
 abbrev pub ConditionalKeepsType : Type 0
 ConditionalKeepsType = (schemas : SchemaSet) → OperatorKeepsType schemas operators.If

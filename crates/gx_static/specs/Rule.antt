@@ -36,9 +36,9 @@ use Rattle.gx_core.specs.declared.expression.ArithmeticOp.{ArithmeticOp}
 use Rattle.gx_core.specs.declared.expression.ArithmeticOp.TheVariants.{Div, IDiv}
 use Rattle.gx_core.specs.declared.expression.BinaryClass.{BinaryClass}
 use Rattle.gx_core.specs.declared.expression.Binder.{Binder}
-use Rattle.gx_core.specs.declared.expression.BinaryClass.TheVariants.{Arithmetic, Value, General, Nodes, Range, Sets}
-use Rattle.gx_core.specs.declared.expression.SetOperator.{SetOperator}
-use Rattle.gx_core.specs.declared.expression.SetOperator.TheVariants as sets
+use Rattle.gx_core.specs.declared.expression.BinaryClass.TheVariants.{Arithmetic, Value, General, Nodes, Range, Combination}
+use Rattle.gx_core.specs.declared.expression.NodeCombination.{NodeCombination}
+use Rattle.gx_core.specs.declared.expression.NodeCombination.TheVariants as combinations
 use Rattle.gx_core.specs.declared.cases.TypeCase.{TypeCase}
 use Rattle.gx_sorting.specs.declared.keys.KeyOrder.{KeyOrder}
 use Rattle.gx_core.specs.declared.operator.ClauseKind.{ClauseKind}
@@ -187,12 +187,12 @@ node_comparison_rule schemas left right =
     type_if (is_included schemas left optional_node && is_included schemas right optional_node) (value_comparison_type left right)
 
 -- items of both operands, and items of the left one
-abbrev pub set_type : SetOperator → (left right : SequenceType) → SequenceType
-set_type sets.Union left right = times_of (prime_of (sequence_of left right)) (occurrence_of (sequence_of left right))
-set_type sets.Intersect left right = times_of (prime_of left) (occurs 0 (occurrence_of left).greatest)
-set_type sets.Except left right = times_of (prime_of left) (occurs 0 (occurrence_of left).greatest)
+abbrev pub set_type : NodeCombination → (left right : SequenceType) → SequenceType
+set_type combinations.Union left right = times_of (prime_of (sequence_of left right)) (occurrence_of (sequence_of left right))
+set_type combinations.Intersect left right = times_of (prime_of left) (occurs 0 (occurrence_of left).greatest)
+set_type combinations.Except left right = times_of (prime_of left) (occurs 0 (occurrence_of left).greatest)
 
-abbrev pub set_rule : SchemaSet → SetOperator → (left right : SequenceType) → Ruling
+abbrev pub set_rule : SchemaSet → NodeCombination → (left right : SequenceType) → Ruling
 set_rule schemas op left right = type_if (is_included schemas left nodes_type && is_included schemas right nodes_type) (set_type op left right)
 
 -- an operator of two operands
@@ -202,7 +202,7 @@ binary_rule schemas (Value op) left right = value_comparison_rule schemas left r
 binary_rule schemas (General op) left right = general_comparison_rule schemas left right
 binary_rule schemas (Nodes op) left right = node_comparison_rule schemas left right
 binary_rule schemas Range left right = range_rule schemas left right
-binary_rule schemas (Sets op) left right = set_rule schemas op left right
+binary_rule schemas (Combination op) left right = set_rule schemas op left right
 
 -- ---- conditionals
 

@@ -14,7 +14,7 @@ use crate::item_tests::{is_at_most_one, no_type};
 use crate::path::{are_nodes, is_all_nodes};
 use crate::rules::sequence_type;
 use gx_base::code::Code;
-use gx_core::expression::SetOperator;
+use gx_core::expression::NodeCombination;
 use gx_include::decision::is_included;
 use gx_steptype::axis_type::node_type;
 use gx_types::occurrence::Occurrence;
@@ -71,7 +71,7 @@ fn has_one_node_item(schemas: &Schemas, t: &Ty) -> bool
 pub(crate) fn node_set_type(
     alloc: Global,
     schemas: &Schemas,
-    operator: SetOperator,
+    operator: NodeCombination,
     left: &Ty,
     right: &Ty,
 ) -> Result<Ty, RuleError>
@@ -86,16 +86,21 @@ pub(crate) fn node_set_type(
 }
 
 // Items of both operands, or of the left one.
-fn set_type(alloc: Global, operator: SetOperator, left: &Ty, right: &Ty) -> Result<Ty, AllocError>
+fn set_type(
+    alloc: Global,
+    operator: NodeCombination,
+    left: &Ty,
+    right: &Ty,
+) -> Result<Ty, AllocError>
     ensures { IfOk result (λ t. t ≡ set_type operator left.now right.now) }
 {
     match operator {
-        SetOperator::Union => {
+        NodeCombination::Union => {
             let both = sequence_type(alloc, left, right)?;
             let items = prime(alloc, &both)?;
             times(alloc, items, occurrence(&both))
         }
-        SetOperator::Intersect | SetOperator::Except => some_of_type(alloc, left),
+        NodeCombination::Intersect | NodeCombination::Except => some_of_type(alloc, left),
     }
 }
 

@@ -119,7 +119,9 @@ pub(crate) fn binary_type(
         BinaryClass::General(_) => general_comparison_type(alloc, schemas, left, right),
         BinaryClass::Nodes(_) => node_comparison_type(alloc, schemas, left, right),
         BinaryClass::Range => range_type(alloc, schemas, left, right),
-        BinaryClass::Sets(operation) => node_set_type(alloc, schemas, operation, left, right),
+        BinaryClass::Combination(operation) => node_set_type(
+            alloc, schemas, operation, left, right,
+        ),
     }
 }
 

@@ -33,12 +33,15 @@ expression::Expr::drop-drop-form-requires-16 g t c κs = λ lives.
     let size : 3 * (expression_size c.args.self + 1) + 0 ≡ t = c.decreases in
     let whole : expression_size c.args.self ≡ 1 + parts_size (parts_of c.self.inside.form) = ap expression_size (sym c.self.view_is) in
     let given = c._form-16-1.given in
-    let parts : parts_size (parts_of c.self.inside.form) ≡ parts_size (all_parts (parts_of_block given.0.0.items given.0.1.0.items given.0.1.1.0.value)) =
-    ap (λ (f : Form g.row.K.Denot). parts_size (parts_of f)) given.1 in (
-      ((omega (arith, clauses_are_smaller (size-Clause g.row.K.Denot) clause_weight given.0.0.items given.0.1.0.items given.0.1.1.0.value), tt), tt),
+    let parts : parts_size (parts_of c.self.inside.form) ≡ parts_size
+    (all_parts (parts_of_block given.0.0.items given.0.1.0.items given.0.1.1.0.value)) =
+    ap (λ (f : Form g.row.K.Denot). parts_size (parts_of f)) given.1 in
+    let clauses = clauses_are_smaller (size-Clause g.row.K.Denot) clause_weight given.0.0.items given.0.1.0.items given.0.1.1.0.value in (
+      ((omega (arith, clauses), tt), tt),
       (
         ⊑_meet _ _ _ (⊑_meet _ _ _ lives (⊑_static _)) (⊑_meet _ _ _ (⊑_meet _ _ _ (⊑_meet _ _ _ lives (⊑_static _)) (⊑_static _))
-            (⊑_meet _ _ _ (⊑_meet _ _ _ (⊑_meet _ _ _ lives (⊑_static _)) (⊑_static _)) (⊑_meet _ _ _ (⊑_meet _ _ _ (⊑_meet _ _ _ lives (⊑_static _)) (⊑_static _)) (⊑_static _)))),
+            (⊑_meet _ _ _ (⊑_meet _ _ _ (⊑_meet _ _ _ lives (⊑_static _)) (⊑_static _))
+            (⊑_meet _ _ _ (⊑_meet _ _ _ (⊑_meet _ _ _ lives (⊑_static _)) (⊑_static _)) (⊑_static _)))),
         ⊑_static _,
       ),
     )
@@ -48,9 +51,15 @@ expression::Expr::drop-drop-form-requires-16-2 g t c κs = λ lives.
     let size : 3 * (expression_size c.args.self + 1) + 0 ≡ t = c.decreases in
     let whole : expression_size c.args.self ≡ 1 + parts_size (parts_of c.self.inside.form) = ap expression_size (sym c.self.view_is) in
     let given = c._form-16-1.given in
-    let parts : parts_size (parts_of c.self.inside.form) ≡ parts_size (all_parts (parts_of_block given.0.0.items given.0.1.0.items given.0.1.1.0.value)) =
-    ap (λ (f : Form g.row.K.Denot). parts_size (parts_of f)) given.1 in
-    (((omega (arith, keys_are_smaller (size-SortKey g.row.K.Denot) key_weight given.0.0.items given.0.1.0.items given.0.1.1.0.value), tt), tt), (⊑_meet _ _ _ (⊑_meet _ _ _ lives (⊑_static _)) (⊑_meet _ _ _ (⊑_meet _ _ _ lives (⊑_static _)) (⊑_static _)), ⊑_static _))
+    let parts : parts_size (parts_of c.self.inside.form) ≡ parts_size
+    (all_parts (parts_of_block given.0.0.items given.0.1.0.items given.0.1.1.0.value)) =
+    ap (λ (f : Form g.row.K.Denot). parts_size (parts_of f)) given.1 in (
+      (
+        (omega (arith, keys_are_smaller (size-SortKey g.row.K.Denot) key_weight given.0.0.items given.0.1.0.items given.0.1.1.0.value), tt),
+        tt,
+      ),
+      (⊑_meet _ _ _ (⊑_meet _ _ _ lives (⊑_static _)) (⊑_meet _ _ _ (⊑_meet _ _ _ lives (⊑_static _)) (⊑_static _)), ⊑_static _),
+    )
 
 pub expression::Expr::drop-drop-form-requires-18 : goal.expression::Expr::drop-drop-form-requires-18
 expression::Expr::drop-drop-form-requires-18 g t c κs = λ lives.

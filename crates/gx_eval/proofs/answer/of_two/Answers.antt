@@ -33,8 +33,8 @@ returns-in-Nodes-clause-value c = λ later x. rw c.in-Nodes.is (c.on_two-in-Node
 pub returns-in-Nodes-clause-failed : goal.returns-in-Nodes-clause-failed
 returns-in-Nodes-clause-failed c = λ later x. rw c.in-Nodes.is (c.on_two-in-Nodes.ensures.failed c.args.store.now later)
 
-pub returns-in-Sets-clause-value : goal.returns-in-Sets-clause-value
-returns-in-Sets-clause-value c = λ later x. rw c.in-Sets.is (c.combined.ensures.value later x)
+pub returns-in-Combination-clause-value : goal.returns-in-Combination-clause-value
+returns-in-Combination-clause-value c = λ later x. rw c.in-Combination.is (c.combined.ensures.value later x)
 
-pub returns-in-Sets-clause-failed : goal.returns-in-Sets-clause-failed
-returns-in-Sets-clause-failed c = λ later x. rw c.in-Sets.is (c.combined.ensures.failed later x)
+pub returns-in-Combination-clause-failed : goal.returns-in-Combination-clause-failed
+returns-in-Combination-clause-failed c = λ later x. rw c.in-Combination.is (c.combined.ensures.failed later x)

@@ -19,8 +19,8 @@ returns-in-Integers c = λ later.
     (subst (λ (z : ℤ). OnOk c.put_integers.result (items_in later c.put_integers.new.values.items ≡ items_in later c.args.values.now.items ++ atoms (integers_from z c.in-Integers.count)))
     (to_z-of_z w128 c.in-Integers.first fits) (c.put_integers.ensures later))
 
-pub returns-in-Nodes : goal.returns-in-Nodes
-returns-in-Nodes c = λ later.
-    rw c.in-Nodes.is
+pub returns-in-NodeSequence : goal.returns-in-NodeSequence
+returns-in-NodeSequence c = λ later.
+    rw c.in-NodeSequence.is
     (subst (λ (ns : List NodeId). OnOk c.append_nodes.result (items_in later c.append_nodes.new.items.items ≡ items_in later c.args.values.now.items ++ map node (node_places later ns)))
     c.as_slice.ensures.value (c.append_nodes.ensures later))

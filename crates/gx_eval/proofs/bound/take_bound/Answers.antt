@@ -1,4 +1,4 @@
-use Rattle.std.proofs.Common.{◌≡◌, List, take, drop, refl, ap, ◌∙◌}
+use Rattle.std.proofs.Common.{List, take, drop, refl, ap, ◌∙◌}
 use Rattle.gx_store.specs.declared.item.Item.{Item}
 use Rattle.gx_store.specs.Items.{items_in}
 use Rattle.gx_eval.proofs.bound.take_bound.Goals as goal

@@ -1,7 +1,7 @@
 use Rattle.std.proofs.Common.{List, ap, sym, ◌∙◌}
 use Rattle.gx_model.specs.DocumentOrder.{in_document_order}
 use Rattle.gx_model.specs.Forest.{PlainNode}
-use Rattle.gx_core.specs.NodeSets.{combined}
+use Rattle.gx_core.specs.CombiningNodes.{combined}
 use Rattle.gx_core.specs.Paths.{places_of}
 use Rattle.gx_store.specs.Items.{items_in}
 use Rattle.gx_store.specs.Places.{node_places}

@@ -1,13 +1,13 @@
 use Rattle.std.proofs.Common.{◌≡◌, ◌++◌, List, map, take, drop, ap, sym, subst, ◌∙◌}
 use Rattle.std.proofs.lemmas.Result.{err_from_is_err_and}
 use Rattle.gx_model.specs.Item.{Items, node}
-use Rattle.gx_core.specs.Meaning.{Context, Bindings}
+use Rattle.gx_core.specs.Meaning.{Context}
 use Rattle.gx_core.specs.Outcome.{gives}
 use Rattle.gx_core.specs.PathLaws.{stepped_from_each}
 use Rattle.gx_store.specs.Items.{items_in}
 use Rattle.gx_store.specs.Places.{node_places}
 use Rattle.gx_store.specs.declared.number.NodeId.{NodeId}
-use Rattle.gx_eval.specs.Resume.{Stacks, context_over, resume, items_of, stacks_of}
+use Rattle.gx_eval.specs.Resume.{context_over, resume, items_of, stacks_of}
 use Rattle.gx_eval.proofs.ManySteps.{goes_on}
 use Rattle.gx_eval.proofs.Resuming.{Rest, fails_also, fails_through}
 use Rattle.gx_eval.proofs.evaluation.Evaluation.apply_steps.Goals as goal

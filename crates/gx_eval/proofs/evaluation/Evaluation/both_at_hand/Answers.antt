@@ -1,10 +1,9 @@
-use Rattle.std.proofs.Common.{◌≡◌, ◌∷◌, [], ap, sym, ◌∙◌}
+use Rattle.std.proofs.Common.{◌≡◌, ap, sym, ◌∙◌}
 use Rattle.std.proofs.lemmas.Result.{err_from_is_err_and}
 use Rattle.gx_model.specs.Item.{Items}
 use Rattle.gx_core.specs.declared.expression.BinaryClass.{BinaryClass}
-use Rattle.gx_core.specs.declared.operator.Operator.TheVariants as operators
 use Rattle.gx_core.specs.Outcome.{gives}
-use Rattle.gx_core.specs.Meaning.{Context, Bindings, binary_meaning, denoted, meaning}
+use Rattle.gx_core.specs.Meaning.{Context, Bindings, binary_meaning, meaning}
 use Rattle.gx_store.specs.Items.{items_in}
 use Rattle.gx_eval.specs.BoundItems.{hand_items}
 use Rattle.gx_eval.specs.Resume.{context_over, items_of}

@@ -1,4 +1,4 @@
-use Rattle.std.proofs.Common.{◌≡◌, ◌++◌, List, drop, ap, ◌∙◌}
+use Rattle.std.proofs.Common.{◌≡◌, ◌++◌, List, drop}
 use Rattle.gx_model.specs.Item.{Items}
 use Rattle.gx_core.specs.Meaning.{Bindings, item_bound}
 use Rattle.gx_store.specs.Items.{items_in}
@@ -18,5 +18,5 @@ returns c = λ k forest later.
     let work : List Pending = c.args.self.now.work in
     let moved : sources ≡ stacks.sources ++ drop c.args.first values = c.in_ok-move_from.ensures.moved later in
     where_put c.push.result (λ (w : List Pending). resume k w front (with_sources stacks sources) bindings forest) _ _ _ c.push.ensures.ok
-    (turns_gathered (λ n x now. walked k c.args.tail (item_bound c.args.variable c.args.position n x ++ bindings) now) values front sources c.args.first c.count_of-start.result stacks forest
+    (turns_gathered (λ n x now. walked k c.args.rest (item_bound c.args.variable c.args.position n x ++ bindings) now) values front sources c.args.first c.count_of-start.result stacks forest
     (λ vs beside left. resume k work vs beside bindings left) (c.in_ok-move_from.ensures.front later) moved (c.count_of-start.ensures later))

@@ -4,7 +4,7 @@ use Rattle.gx_model.specs.Item.{Items, Item as PlainItem}
 use Rattle.gx_core.specs.Meaning.{Bindings, item_bound}
 use Rattle.gx_store.specs.declared.item.Item.{Item}
 use Rattle.gx_store.specs.Items.{item_in, items_in}
-use Rattle.gx_eval.specs.declared.blocks.Step.TheVariants.{Walk}
+use Rattle.gx_eval.specs.declared.blocks.BlockWork.TheVariants.{Walk}
 use Rattle.gx_eval.specs.declared.evaluation.Pending.{Pending}
 use Rattle.gx_eval.specs.declared.evaluation.Pending.TheVariants.{Block}
 use Rattle.gx_eval.specs.FoundTuples.{with_found, walked}
@@ -23,7 +23,7 @@ returns-then-next-len c = λ k forest later.
     let there : c.len.result ≡ length sources = search rules in
     let none : drop c.args.next (items_in later sources) ≡ [] = drop-map (item_in later) c.args.next sources ∙ ap (items_in later) (drop_all c.args.next sources (omega (arith, there))) in
     ap (λ (s : Items). resume k work values (with_sources stacks s) bindings forest) (c.cut_off.ensures later)
-    ∙ turns_end (λ n x now. walked k c.args.tail (item_bound c.args.variable c.args.position n x ++ bindings) now) c.args.number (drop c.args.next stacks.sources) values (with_sources stacks (take c.args.start stacks.sources)) forest
+    ∙ turns_end (λ n x now. walked k c.args.rest (item_bound c.args.variable c.args.position n x ++ bindings) now) c.args.number (drop c.args.next stacks.sources) values (with_sources stacks (take c.args.start stacks.sources)) forest
     (λ vs beside left. resume k work vs beside bindings left) none
 
 pub returns : goal.returns
@@ -40,7 +40,7 @@ returns c = λ k forest later.
     let there : c.len.result ≡ length sources = search rules in
     let source = next_source later sources c.args.next c.in_ok-item.item c.index.result.now (omega (arith, there)) c.index.ensures c.in_ok-item.ensures.cases in
     where_put c.push-2.result (λ (w : List Pending). resume k w values stacks (items_of later c.bind_item.new.scope) forest) _ _ _ c.push-2.ensures.ok
-    (ap (λ (b : Bindings). resume k (Block Walk c.args.tail ∷ behind) values stacks b forest) (c.in_ok-bind_item.ensures later)
-    ∙ turns_go_on (λ n y now. walked k c.args.tail (item_bound c.args.variable c.args.position n y ++ bindings) now) c.args.number c.in-Some.following x (drop (c.args.next + 1) stacks.sources) (drop c.args.next stacks.sources) stacks.found forest
+    (ap (λ (b : Bindings). resume k (Block Walk c.args.rest ∷ behind) values stacks b forest) (c.in_ok-bind_item.ensures later)
+    ∙ turns_go_on (λ n y now. walked k c.args.rest (item_bound c.args.variable c.args.position n y ++ bindings) now) c.args.number c.in-Some.following x (drop (c.args.next + 1) stacks.sources) (drop c.args.next stacks.sources) stacks.found forest
     (λ found left. resume k work values (with_found (with_sources stacks (take c.args.start stacks.sources)) found) bindings left) (λ found left. resume k behind values (with_found stacks found) bound left) following source
     (λ found left. c.in_ok-unbind_item.ensures k values (with_found stacks found) c.args.variable c.args.number x bindings left ∙ ap (λ (w : List Pending). resume k w values (with_found stacks found) bindings left) c.in_ok-push.ensures.ok))

@@ -1,4 +1,4 @@
-use Rattle.std.proofs.Common.{◌≡◌, ◌∷◌, [], ◌++◌, true, false, List, length, take, drop, map, sym, subst, ap, ◌∙◌}
+use Rattle.std.proofs.Common.{◌≡◌, ◌∷◌, [], ◌++◌, List, map, sym, subst, ap, ◌∙◌}
 use Rattle.gx_facets.specs.declared.Atomic.{Atomic}
 use Rattle.gx_model.specs.Item.{Items, atom}
 use Rattle.std.specs.Prelude.{OnOk, IfErr}
@@ -7,15 +7,13 @@ use Rattle.gx_core.specs.declared.cases.TypeCase.{TypeCase}
 use Rattle.gx_core.specs.declared.expression.Clause.{Clause}
 use Rattle.gx_core.specs.declared.expression.SortKey.{SortKey}
 use Rattle.gx_types.specs.SequenceType.{SequenceType}
-use Rattle.gx_core.specs.Outcome.{after}
 use Rattle.gx_core.specs.Soundness.{TypedExpression}
-use Rattle.gx_core.specs.Meaning.{Context, Bindings, Denotation, denoted, switched, meaning}
+use Rattle.gx_core.specs.Meaning.{Context, Denotation, denoted, meaning}
 use Rattle.gx_core.specs.ExpressionView.{kind_of_clause, order_of_key, parts_of_block}
 use Rattle.gx_store.specs.Items.{items_in}
 use Rattle.gx_eval.specs.Failing.{FailsSo}
-use Rattle.gx_eval.specs.declared.evaluation.Pending.{Pending}
-use Rattle.gx_eval.specs.Resume.{Stacks, context_over, outcome_of, outcome_behind, items_of, stacks_of, resume}
-use Rattle.gx_eval.proofs.Resuming.{each_argument, conditional_opens_at, search_opens_at, let_opens_at, switch_opens}
+use Rattle.gx_eval.specs.Resume.{context_over, outcome_of, outcome_behind, items_of, stacks_of, resume}
+use Rattle.gx_eval.proofs.Resuming.{each_argument}
 use Rattle.gx_eval.proofs.evaluation.Evaluation.open.Goals as goal
 
 pub returns-in-Var-clause-value : goal.returns-in-Var-clause-value
@@ -60,28 +58,6 @@ pub returns-in_ok-open_loop-in-For-clause-value : goal.returns-in_ok-open_loop-i
 returns-in_ok-open_loop-in-For-clause-value c = λ later x.
     rw (← c.expression.view_is, c.in-For.is, ← c.deref-in-For.ensures, ← c.deref-in-For-2.ensures) (c.in_ok-open_loop-in-For.ensures (context_over c.args.schemas.now) c.args.store.now later)
 
-pub returns-in_ok-open_part-in-Let-clause-value : goal.returns-in_ok-open_part-in-Let-clause-value
-returns-in_ok-open_part-in-Let-clause-value c = λ later x.
-    let k : Context = context_over c.args.schemas.now in
-    let work : List Pending = c.args.self.now.work in
-    let values : Items = items_in later c.args.self.now.values.items in
-    let stacks : Stacks = stacks_of later c.args.self.now in
-    let bindings : Bindings = items_of later c.args.self.now.scope in
-    c.in_ok-open_part-in-Let.ensures k c.args.store.now later
-    ∙ rw (← c.expression.view_is, c.in-Let.is, ← c.deref-in-Let.ensures, ← c.deref-in-Let-2.ensures)
-    (let_opens_at k c.args.store.now c.in-Let.binder.variable (meaning k c.deref-in-Let.result.now) (meaning k c.deref-in-Let-2.result.now) work values c.count_of-first.result stacks bindings (c.count_of-first.ensures later))
-
-pub returns-in_ok-open_part-in-If-clause-value : goal.returns-in_ok-open_part-in-If-clause-value
-returns-in_ok-open_part-in-If-clause-value c = λ later x.
-    let k : Context = context_over c.args.schemas.now in
-    let work : List Pending = c.args.self.now.work in
-    let values : Items = items_in later c.args.self.now.values.items in
-    let stacks : Stacks = stacks_of later c.args.self.now in
-    let bindings : Bindings = items_of later c.args.self.now.scope in
-    c.in_ok-open_part-in-If.ensures k c.args.store.now later
-    ∙ rw (← c.expression.view_is, c.in-If.is, ← c.deref-in-If.ensures, ← c.deref-in-If-2.ensures, ← c.deref-in-If-3.ensures)
-    (conditional_opens_at k c.args.store.now (meaning k c.deref-in-If.result.now) (meaning k c.deref-in-If-2.result.now) (meaning k c.deref-in-If-3.result.now) work values c.count_of-first.result stacks bindings (c.count_of-first.ensures later))
-
 pub returns-in-Binary-clause-value : goal.returns-in-Binary-clause-value
 returns-in-Binary-clause-value c = λ later x. rw (← c.expression.view_is, c.in-Binary.is, ← c.deref-in-Binary.ensures, ← c.deref-in-Binary-2.ensures) (c.open_binary.ensures.value later x)
 
@@ -101,46 +77,6 @@ returns-in-Step-clause-value c = λ later x. rw (← c.expression.view_is, c.in-
 pub returns-in-Step-clause-failed : goal.returns-in-Step-clause-failed
 returns-in-Step-clause-failed c = λ later x. rw (← c.expression.view_is, c.in-Step.is) (c.append_step.ensures.failed later x)
 
-pub returns-in_ok-open_part-in-SomeIn-clause-value : goal.returns-in_ok-open_part-in-SomeIn-clause-value
-returns-in_ok-open_part-in-SomeIn-clause-value c = λ later x.
-    let k : Context = context_over c.args.schemas.now in
-    let work : List Pending = c.args.self.now.work in
-    let values : Items = items_in later c.args.self.now.values.items in
-    let stacks : Stacks = stacks_of later c.args.self.now in
-    let bindings : Bindings = items_of later c.args.self.now.scope in
-    c.in_ok-open_part-in-SomeIn.ensures k c.args.store.now later
-    ∙ rw (← c.expression.view_is, c.in-SomeIn.is, ← c.deref-in-SomeIn.ensures, ← c.deref-in-SomeIn-2.ensures)
-    (search_opens_at k c.args.store.now c.in-SomeIn.binder.variable true (meaning k c.deref-in-SomeIn.result.now) (meaning k c.deref-in-SomeIn-2.result.now) work values c.count_of-first.result stacks bindings (c.count_of-first.ensures later))
-
-pub returns-in_ok-open_part-in-EveryIn-clause-value : goal.returns-in_ok-open_part-in-EveryIn-clause-value
-returns-in_ok-open_part-in-EveryIn-clause-value c = λ later x.
-    let k : Context = context_over c.args.schemas.now in
-    let work : List Pending = c.args.self.now.work in
-    let values : Items = items_in later c.args.self.now.values.items in
-    let stacks : Stacks = stacks_of later c.args.self.now in
-    let bindings : Bindings = items_of later c.args.self.now.scope in
-    c.in_ok-open_part-in-EveryIn.ensures k c.args.store.now later
-    ∙ rw (← c.expression.view_is, c.in-EveryIn.is, ← c.deref-in-EveryIn.ensures, ← c.deref-in-EveryIn-2.ensures)
-    (search_opens_at k c.args.store.now c.in-EveryIn.binder.variable false (meaning k c.deref-in-EveryIn.result.now) (meaning k c.deref-in-EveryIn-2.result.now) work values c.count_of-first.result stacks bindings (c.count_of-first.ensures later))
-
-pub returns-in_ok-open_part-in-Switch-clause-value : goal.returns-in_ok-open_part-in-Switch-clause-value
-returns-in_ok-open_part-in-Switch-clause-value c = λ later x.
-    let k : Context = context_over c.args.schemas.now in
-    let work : List Pending = c.args.self.now.work in
-    let values : Items = items_in later c.args.self.now.values.items in
-    let stacks : Stacks = stacks_of later c.args.self.now in
-    let bindings : Bindings = items_of later c.args.self.now.scope in
-    let cases : List TypeCase = c.as_slice-in-Switch.result.now in
-    let branches : List TypedExpression = c.as_slice-in-Switch-2.result.now in
-    let operand : Denotation = meaning k c.deref-in-Switch.result.now in
-    let first = c.count_of-first.result in
-    c.in_ok-open_part-in-Switch.ensures k c.args.store.now later
-    ∙ rw (← c.expression.view_is, c.in-Switch.is, ← c.deref-in-Switch.ensures, ← c.as_slice-in-Switch.ensures, ← c.as_slice-in-Switch-2.ensures.value)
-    (subst (λ (parts : List Denotation). after (operand bindings c.args.store.now)
-    (λ xs f. after (switched k.schemas cases c.in-Switch.default (map (meaning k) branches) (drop first (values ++ xs)) bindings f) (λ more left. resume k work (take first (values ++ xs) ++ more) stacks bindings left))
-    ≡ after (after (operand bindings c.args.store.now) (λ xs f. switched k.schemas cases c.in-Switch.default parts xs bindings f)) (λ more left. resume k work (values ++ more) stacks bindings left)) (sym (each_argument k branches))
-    (switch_opens k c.args.store.now operand (λ xs f. switched k.schemas cases c.in-Switch.default (map (meaning k) branches) xs bindings f) work values first stacks bindings (c.count_of-first.ensures later)))
-
 pub returns-in_ok-open_block-in-Block-clause-value : goal.returns-in_ok-open_block-in-Block-clause-value
 returns-in_ok-open_block-in-Block-clause-value c = λ later x.
     let k : Context = context_over c.args.schemas.now in
@@ -150,3 +86,29 @@ returns-in_ok-open_block-in-Block-clause-value c = λ later x.
     (c.in_ok-open_block-in-Block.ensures k c.args.store.now later
     ∙ ap (λ (parts : List Denotation). outcome_behind k later (denoted k (operators.Block (map kind_of_clause clauses) (map order_of_key keys)) parts (items_of later c.args.self.now.scope) c.args.store.now) c.args.self.now)
     (sym (each_argument k (parts_of_block clauses keys c.deref-in-Block-3.result.now))))
+
+pub returns-in_ok-open_let-in-Let-clause-value : goal.returns-in_ok-open_let-in-Let-clause-value
+returns-in_ok-open_let-in-Let-clause-value c = λ later x.
+    rw (← c.expression.view_is, c.in-Let.is, ← c.deref-in-Let.ensures, ← c.deref-in-Let-2.ensures) (c.in_ok-open_let-in-Let.ensures (context_over c.args.schemas.now) c.args.store.now later)
+
+pub returns-in_ok-open_if-in-If-clause-value : goal.returns-in_ok-open_if-in-If-clause-value
+returns-in_ok-open_if-in-If-clause-value c = λ later x.
+    rw (← c.expression.view_is, c.in-If.is, ← c.deref-in-If.ensures, ← c.deref-in-If-2.ensures, ← c.deref-in-If-3.ensures) (c.in_ok-open_if-in-If.ensures (context_over c.args.schemas.now) c.args.store.now later)
+
+pub returns-in_ok-open_search-in-SomeIn-clause-value : goal.returns-in_ok-open_search-in-SomeIn-clause-value
+returns-in_ok-open_search-in-SomeIn-clause-value c = λ later x.
+    rw (← c.expression.view_is, c.in-SomeIn.is, ← c.deref-in-SomeIn.ensures, ← c.deref-in-SomeIn-2.ensures) (c.in_ok-open_search-in-SomeIn.ensures (context_over c.args.schemas.now) c.args.store.now later)
+
+pub returns-in_ok-open_search-in-EveryIn-clause-value : goal.returns-in_ok-open_search-in-EveryIn-clause-value
+returns-in_ok-open_search-in-EveryIn-clause-value c = λ later x.
+    rw (← c.expression.view_is, c.in-EveryIn.is, ← c.deref-in-EveryIn.ensures, ← c.deref-in-EveryIn-2.ensures) (c.in_ok-open_search-in-EveryIn.ensures (context_over c.args.schemas.now) c.args.store.now later)
+
+pub returns-in_ok-open_switch-in-Switch-clause-value : goal.returns-in_ok-open_switch-in-Switch-clause-value
+returns-in_ok-open_switch-in-Switch-clause-value c = λ later x.
+    let k : Context = context_over c.args.schemas.now in
+    let cases : List TypeCase = c.as_slice-in-Switch.result.now in
+    let branches : List TypedExpression = c.as_slice-in-Switch-2.result.now in
+    rw (← c.expression.view_is, c.in-Switch.is, ← c.deref-in-Switch.ensures, ← c.as_slice-in-Switch.ensures, ← c.as_slice-in-Switch-2.ensures.value)
+    (c.in_ok-open_switch-in-Switch.ensures k c.args.store.now later
+    ∙ ap (λ (parts : List Denotation). outcome_behind k later (denoted k (operators.Switch cases c.in-Switch.default) (meaning k c.deref-in-Switch.result.now ∷ parts) (items_of later c.args.self.now.scope) c.args.store.now) c.args.self.now)
+    (sym (each_argument k branches)))

@@ -1,12 +1,12 @@
-use Rattle.std.proofs.Common.{◌≡◌, ◌∷◌, [], List, ap, ◌∙◌}
+use Rattle.std.proofs.Common.{◌≡◌, ◌∷◌, [], ap, ◌∙◌}
 use Rattle.gx_model.specs.Item.{Items}
 use Rattle.gx_core.specs.declared.operator.Operator.TheVariants as operators
 use Rattle.gx_core.specs.Outcome.{gives}
 use Rattle.gx_core.specs.Meaning.{Context, Bindings, denoted, meaning}
 use Rattle.gx_store.specs.Items.{items_in}
 use Rattle.gx_eval.specs.Answering.{answer_items}
-use Rattle.gx_eval.specs.Resume.{Stacks, context_over, resume, items_of, stacks_of}
-use Rattle.gx_eval.proofs.Resuming.{answer_behind, binary_opens_at, fails_through}
+use Rattle.gx_eval.specs.Resume.{context_over, resume, items_of, stacks_of}
+use Rattle.gx_eval.proofs.Resuming.{answer_behind, binary_opens_at}
 use Rattle.gx_eval.proofs.evaluation.Evaluation.open_binary.Goals as goal
 
 pub returns-in-Some-clause-value : goal.returns-in-Some-clause-value

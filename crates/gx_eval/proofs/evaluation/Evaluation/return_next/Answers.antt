@@ -4,9 +4,9 @@ use Rattle.std.proofs.lemmas.List.{length-map, drop-map, take-map, drop_all}
 use Rattle.gx_model.specs.Item.{Items}
 use Rattle.gx_core.specs.Meaning.{Bindings, meaning}
 use Rattle.gx_store.specs.Items.{items_in}
-use Rattle.gx_eval.specs.declared.blocks.Step.TheVariants.{Return}
+use Rattle.gx_eval.specs.declared.blocks.BlockWork.TheVariants.{Return}
 use Rattle.gx_eval.specs.declared.evaluation.Pending.{Pending}
-use Rattle.gx_eval.specs.declared.evaluation.Pending.TheVariants.{Block, Evaluate, UnbindAll}
+use Rattle.gx_eval.specs.declared.evaluation.Pending.TheVariants.{Block, Evaluate, Unbind}
 use Rattle.gx_eval.specs.BoundItems.{bound_items}
 use Rattle.gx_eval.specs.FoundTuples.{Row, row_in, before_returns, with_found}
 use Rattle.gx_eval.specs.Resume.{Stacks, resume, items_of, stacks_of}
@@ -25,7 +25,7 @@ returns-then-next-len-clause-value c = λ k forest later.
     ap (map (row_in later)) c.truncate-then-next-len.ensures.items ∙ sym (take-map (row_in later) c.args.first_row c.args.self.now.tuples.rows.items) in
     ap (λ (rs : List Bindings). resume k work values (with_found stacks (record { keys = stacks.found.keys; rows = rs; numbers = c.truncate.new.self.items })) bindings forest) rows
     ∙ ap (λ (ns : List ℕ). resume k work values (with_found stacks (record { keys = stacks.found.keys; rows = take c.args.first_row stacks.found.rows; numbers = ns })) bindings forest) c.truncate.ensures.items
-    ∙ returns_end (meaning k c.args.tail.body.now) bindings values (drop c.args.first_row stacks.found.rows) (drop c.args.next numbers) (with_found stacks (before_returns stacks.found c.args.start c.args.first_row)) forest
+    ∙ returns_end (meaning k c.args.rest.body.now) bindings values (drop c.args.first_row stacks.found.rows) (drop c.args.next numbers) (with_found stacks (before_returns stacks.found c.args.start c.args.first_row)) forest
     (λ vs beside left. resume k work vs beside bindings left) (drop_all c.args.next numbers (omega (arith, there)))
 
 pub returns-in_default-clause-failed : goal.returns-in_default-clause-failed
@@ -41,7 +41,7 @@ returns-in_default-clause-failed c = λ k forest later.
     let none : slice_get (drop c.args.first_row stacks.found.rows) number ≡ None =
     row_found later own number (drop c.args.first_row stacks.found.rows) None (drop-map (row_in later) c.args.first_row c.args.self.now.tuples.rows.items)
     (sym (c.row_at.ensures ∙ ap (λ (rs : List Row). slice_get rs number) (c.elements_from-rows.ensures ∙ ap (λ (rs : List Row). drop c.args.first_row rs) c.as_slice.ensures.value)) ∙ ap option_copied c.in_default.is) in
-    no_row (meaning k c.args.tail.body.now) bindings values (drop c.args.first_row stacks.found.rows) number (drop (c.args.next + 1) numbers) (drop c.args.next numbers) forest
+    no_row (meaning k c.args.rest.body.now) bindings values (drop c.args.first_row stacks.found.rows) number (drop (c.args.next + 1) numbers) (drop c.args.next numbers) forest
     (λ vs left. resume k c.args.self.now.work vs (with_found stacks (before_returns stacks.found c.args.start c.args.first_row)) bindings left) (next_number numbers c.args.next number within c.index-number.ensures) none
 
 pub returns-clause-value : goal.returns-clause-value
@@ -62,11 +62,11 @@ returns-clause-value c = λ k forest later.
     (sym (c.row_at.ensures ∙ ap (λ (rs : List Row). slice_get rs number) (c.elements_from-rows.ensures ∙ ap (λ (rs : List Row). drop c.args.first_row rs) c.as_slice.ensures.value)) ∙ ap option_copied c.in-Some.is) in
     let counted : count ≡ length bound = (let n : count ≡ length c.in-Some.row.now.items = search rules in n) ∙ sym (length-map c.in-Some.row.now.items (λ binding. (binding.0, bound_items later binding.1))) in
     let scope : items_of later c.bind_row.new.scope ≡ bound ++ bindings = c.in_ok-bind_row.ensures later ∙ ap (λ row. items_of later row ++ bindings) c.as_slice-2.ensures.value in
-    let behind : List Pending = UnbindAll count ∷ Block (Return (c.args.next + 1) c.args.start c.args.first_row) c.args.tail ∷ work in
+    let behind : List Pending = Unbind count ∷ Block (Return (c.args.next + 1) c.args.start c.args.first_row) c.args.rest ∷ work in
     ap (λ (w : List Pending). resume k w values stacks (items_of later c.bind_row.new.scope) forest)
-    (c.in_ok-push-3.ensures.ok ∙ ap (λ (w : List Pending). Evaluate c.args.tail.body ∷ w) (c.in_ok-push-2.ensures.ok ∙ ap (λ (w : List Pending). UnbindAll count ∷ w) c.in_ok-push.ensures.ok))
-    ∙ ap (λ (b : Bindings). resume k (Evaluate c.args.tail.body ∷ behind) values stacks b forest) scope
-    ∙ returns_go_on (meaning k c.args.tail.body.now) bindings values (drop c.args.first_row stacks.found.rows) bound number count (drop (c.args.next + 1) numbers) (drop c.args.next numbers) forest
+    (c.in_ok-push-3.ensures.ok ∙ ap (λ (w : List Pending). Evaluate c.args.rest.body ∷ w) (c.in_ok-push-2.ensures.ok ∙ ap (λ (w : List Pending). Unbind count ∷ w) c.in_ok-push.ensures.ok))
+    ∙ ap (λ (b : Bindings). resume k (Evaluate c.args.rest.body ∷ behind) values stacks b forest) scope
+    ∙ returns_go_on (meaning k c.args.rest.body.now) bindings values (drop c.args.first_row stacks.found.rows) bound number count (drop (c.args.next + 1) numbers) (drop c.args.next numbers) forest
     (λ vs left. resume k work vs (with_found stacks (before_returns stacks.found c.args.start c.args.first_row)) bindings left)
-    (λ vs b left. resume k (Block (Return (c.args.next + 1) c.args.start c.args.first_row) c.args.tail ∷ work) vs stacks b left)
+    (λ vs b left. resume k (Block (Return (c.args.next + 1) c.args.start c.args.first_row) c.args.rest ∷ work) vs stacks b left)
     (next_number numbers c.args.next number within c.index-number.ensures) found counted (λ vs left. refl)

@@ -36,12 +36,12 @@ returns c = λ k forest later.
     let bindings : Bindings = items_of later c.args.self.now.scope in
     let work : List Pending = c.args.self.now.work in
     let x = item_in later c.in_ok-item.item in
-    let down : List Pending = Decide c.args.variable c.args.decisive c.count_of-first.result (c.args.next + 1) c.args.start c.args.test ∷ work in
+    let down : List Pending = Decide (record { variable = c.args.variable; decisive = c.args.decisive; first = c.count_of-first.result; next = c.args.next + 1; start = c.args.start; test = c.args.test }) ∷ work in
     let there : c.len.result ≡ length sources = search rules in
-    let put : c.push-3.new.self ≡ Evaluate c.args.test ∷ Unbind ∷ down =
-    c.in_ok-push-3.ensures.ok ∙ ap (λ (w : List Pending). Evaluate c.args.test ∷ w) (c.in_ok-push-2.ensures.ok ∙ ap (λ (w : List Pending). Unbind ∷ w) c.in_ok-push.ensures.ok) in
+    let put : c.push-3.new.self ≡ Evaluate c.args.test ∷ Unbind 1 ∷ down =
+    c.in_ok-push-3.ensures.ok ∙ ap (λ (w : List Pending). Evaluate c.args.test ∷ w) (c.in_ok-push-2.ensures.ok ∙ ap (λ (w : List Pending). Unbind 1 ∷ w) c.in_ok-push.ensures.ok) in
     let source = next_source later sources c.args.next c.in_ok-item.item c.index.result.now (omega (arith, there)) c.index.ensures c.in_ok-item.ensures.cases in
     ap (λ (w : List Pending). resume k w values stacks (items_of later c.bind.new.self) forest) put
-    ∙ ap (λ scope. resume k (Evaluate c.args.test ∷ Unbind ∷ down) values stacks (items_of later scope) forest) c.in_ok-bind.ensures
+    ∙ ap (λ scope. resume k (Evaluate c.args.test ∷ Unbind 1 ∷ down) values stacks (items_of later scope) forest) c.in_ok-bind.ensures
     ∙ next_test forest c.args.variable c.args.decisive (meaning k c.args.test.now) values c.count_of-first.result x (drop (c.args.next + 1) stacks.sources) (drop c.args.next stacks.sources) bindings
     (λ vs left. resume k work vs (with_sources stacks (take c.args.start stacks.sources)) bindings left) source (c.count_of-first.ensures later)

@@ -7,7 +7,7 @@ use Rattle.gx_core.specs.ExpressionView.{order_of_key}
 use Rattle.gx_core.specs.Outcome.{after}
 use Rattle.gx_core.specs.Meaning.{Bindings, meaning}
 use Rattle.gx_store.specs.Items.{items_in}
-use Rattle.gx_eval.specs.declared.blocks.Step.TheVariants.{Return}
+use Rattle.gx_eval.specs.declared.blocks.BlockWork.TheVariants.{Return}
 use Rattle.gx_eval.specs.declared.evaluation.Pending.{Pending}
 use Rattle.gx_eval.specs.declared.evaluation.Pending.TheVariants.{Block}
 use Rattle.gx_eval.specs.FoundTuples.{Row, row_in, before_block, numbers_in_order, returned_for, with_found}
@@ -21,7 +21,7 @@ returns c = λ k forest later.
     let stacks : Stacks = stacks_of later c.args.self.now in
     let bindings : Bindings = items_of later c.args.self.now.scope in
     let work : List Pending = c.args.self.now.work in
-    let orders : List KeyOrder = map order_of_key c.args.tail.keys.now in
+    let orders : List KeyOrder = map order_of_key c.args.rest.keys.now in
     let keys : List (Option Atomic) = drop c.args.first_key stacks.found.keys in
     let rows : List Bindings = drop c.args.first_row stacks.found.rows in
     let start : ℕ = c.len-start.result in
@@ -33,6 +33,6 @@ returns c = λ k forest later.
     c.in_ok-numbers.ensures ∙ ap (λ (ks : List (Option Atomic)). numbers_in_order orders ks count) (c.elements_from-own_keys.ensures ∙ ap (λ (ks : List (Option Atomic)). drop c.args.first_key ks) c.as_slice.ensures.value) ∙ ap (λ (n : ℕ). numbers_in_order orders keys n) counted in
     let begins : start ≡ length stacks.found.numbers = search rules in
     where_put c.push.result (λ (w : List Pending). resume k w values (with_found stacks (record { keys = c.truncate.new.self.items; rows = stacks.found.rows; numbers = c.append.new.self.items })) bindings forest) _ _ _ c.push.ensures.ok
-    (ap (λ (ks : List (Option Atomic)). resume k (Block (Return start start c.args.first_row) c.args.tail ∷ work) values (with_found stacks (record { keys = ks; rows = stacks.found.rows; numbers = c.append.new.self.items })) bindings forest) c.truncate.ensures.items
-    ∙ returns_begin (meaning k c.args.tail.body.now) bindings values rows c.in_ok-numbers.numbers.items c.append.new.self.items c.args.first_key c.args.first_row start stacks forest (λ vs beside left. resume k work vs beside bindings left) c.in_ok-append.ensures.items begins
-    ∙ ap (λ (ns : List ℕ). after (returned_for (meaning k c.args.tail.body.now) bindings values rows ns forest) (λ vs left. resume k work vs (with_found stacks (before_block stacks.found c.args.first_key c.args.first_row)) bindings left)) own)
+    (ap (λ (ks : List (Option Atomic)). resume k (Block (Return start start c.args.first_row) c.args.rest ∷ work) values (with_found stacks (record { keys = ks; rows = stacks.found.rows; numbers = c.append.new.self.items })) bindings forest) c.truncate.ensures.items
+    ∙ returns_begin (meaning k c.args.rest.body.now) bindings values rows c.in_ok-numbers.numbers.items c.append.new.self.items c.args.first_key c.args.first_row start stacks forest (λ vs beside left. resume k work vs beside bindings left) c.in_ok-append.ensures.items begins
+    ∙ ap (λ (ns : List ℕ). after (returned_for (meaning k c.args.rest.body.now) bindings values rows ns forest) (λ vs left. resume k work vs (with_found stacks (before_block stacks.found c.args.first_key c.args.first_row)) bindings left)) own)

@@ -99,9 +99,9 @@ returns-in-Block-clause-value c = λ later x. rw c.in-Block.is (c.step_block.ens
 pub returns-in-Block-clause-failed : goal.returns-in-Block-clause-failed
 returns-in-Block-clause-failed c = λ later x. rw c.in-Block.is (c.step_block.ensures.failed (context_over c.args.schemas.now) c.args.store.now later)
 
-pub returns-in-UnbindAll-clause-value : goal.returns-in-UnbindAll-clause-value
-returns-in-UnbindAll-clause-value c = λ later x.
+pub returns-in-Unbind-clause-value : goal.returns-in-Unbind-clause-value
+returns-in-Unbind-clause-value c = λ later x.
     let values : Items = items_in later c.args.self.now.values.items in
     let run : Bindings → Outcome Items = λ bindings. resume (context_over c.args.schemas.now) c.args.self.now.work values (stacks_of later c.args.self.now) bindings c.args.store.now in
-    rw c.in-UnbindAll.is
-    (ap (λ scope. run (items_of later scope)) c.unbind_all.ensures ∙ ap run (sym (drop-map (λ (binding : ℕ × Bound). (binding.0, bound_items later binding.1)) c.in-UnbindAll.count c.args.self.now.scope)))
+    rw c.in-Unbind.is
+    (ap (λ scope. run (items_of later scope)) c.unbind_innermost.ensures ∙ ap run (sym (drop-map (λ (binding : ℕ × Bound). (binding.0, bound_items later binding.1)) c.in-Unbind.count c.args.self.now.scope)))

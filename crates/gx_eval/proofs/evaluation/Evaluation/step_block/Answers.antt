@@ -22,10 +22,10 @@ pub returns-in_ok-open_keys-in-Keys-clause-value : goal.returns-in_ok-open_keys-
 returns-in_ok-open_keys-in-Keys-clause-value c = λ k forest later. rw c.in-Keys.is (c.in_ok-open_keys-in-Keys.ensures k forest later)
 
 pub returns-in-TakeKey-clause-value : goal.returns-in-TakeKey-clause-value
-returns-in-TakeKey-clause-value c = λ k forest later. rw c.in-TakeKey.is (c.take_key.ensures.value k forest later)
+returns-in-TakeKey-clause-value c = λ k forest later. rw c.in-TakeKey.is (c.take_key.ensures.value k forest later c.args.rest)
 
 pub returns-in-TakeKey-clause-failed : goal.returns-in-TakeKey-clause-failed
-returns-in-TakeKey-clause-failed c = λ k forest later. rw c.in-TakeKey.is (c.take_key.ensures.failed k forest later)
+returns-in-TakeKey-clause-failed c = λ k forest later. rw c.in-TakeKey.is (c.take_key.ensures.failed k forest later c.args.rest)
 
 pub returns-in_ok-sort-in-Sort-clause-value : goal.returns-in_ok-sort-in-Sort-clause-value
 returns-in_ok-sort-in-Sort-clause-value c = λ k forest later. rw c.in-Sort.is (c.in_ok-sort-in-Sort.ensures k forest later)

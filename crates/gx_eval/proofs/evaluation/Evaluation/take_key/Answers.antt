@@ -11,12 +11,12 @@ use Rattle.gx_eval.proofs.BlockResuming.{none_is_given, key_taken}
 use Rattle.gx_eval.proofs.evaluation.Evaluation.take_key.Goals as goal
 
 pub returns-in_default-clause-failed : goal.returns-in_default-clause-failed
-returns-in_default-clause-failed c = λ k forest later.
+returns-in_default-clause-failed c = λ k forest later rest.
     let values : Items = items_in later c.args.self.now.values.items in
     none_is_given (key_of (drop c.args.first values)) _ (ap key_of (sym (c.values_from-value.ensures later)) ∙ sym (c.in_ok-key.ensures later) ∙ c.in_default.is)
 
 pub returns-clause-value : goal.returns-clause-value
-returns-clause-value c = λ k forest later.
+returns-clause-value c = λ k forest later rest.
     let values : Items = items_in later c.args.self.now.values.items in
     let stacks : Stacks = stacks_of later c.args.self.now in
     let bindings : Bindings = items_of later c.args.self.now.scope in

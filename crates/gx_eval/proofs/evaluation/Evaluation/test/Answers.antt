@@ -3,7 +3,7 @@ use Rattle.gx_model.specs.Item.{Items}
 use Rattle.gx_core.specs.Comparing.{condition_of}
 use Rattle.gx_core.specs.Meaning.{Bindings}
 use Rattle.gx_store.specs.Items.{items_in}
-use Rattle.gx_eval.specs.declared.blocks.Step.TheVariants.{Walk}
+use Rattle.gx_eval.specs.declared.blocks.BlockWork.TheVariants.{Walk}
 use Rattle.gx_eval.specs.declared.evaluation.Pending.{Pending}
 use Rattle.gx_eval.specs.declared.evaluation.Pending.TheVariants.{Block}
 use Rattle.gx_eval.specs.FoundTuples.{walked}
@@ -24,8 +24,8 @@ returns-in_ok-push-clause-value c = λ k forest later.
     let work : List Pending = c.args.self.now.work in
     let holds : condition_of (drop c.args.first values) ≡ Some true = ap condition_of (sym (c.values_from-condition.ensures later)) ∙ sym (c.condition_of.ensures later) ∙ c.in-Some.is ∙ ap (λ t. Some t) c.if-truth.true in
     ap (λ (w : List Pending). resume k w (items_in later c.cut_off.new.values.items) stacks bindings forest) c.in_ok-push.ensures.ok
-    ∙ ap (λ (v : Items). resume k (Block Walk c.args.tail ∷ work) v stacks bindings forest) (c.cut_off.ensures later)
-    ∙ condition_holds (condition_of (drop c.args.first values)) true (λ now. walked k c.args.tail bindings now) forest (with_more (λ vs beside left. resume k work vs beside bindings left) (take c.args.first values) stacks) holds
+    ∙ ap (λ (v : Items). resume k (Block Walk c.args.rest ∷ work) v stacks bindings forest) (c.cut_off.ensures later)
+    ∙ condition_holds (condition_of (drop c.args.first values)) true (λ now. walked k c.args.rest bindings now) forest (with_more (λ vs beside left. resume k work vs beside bindings left) (take c.args.first values) stacks) holds
 
 pub returns-else-truth-clause-value : goal.returns-else-truth-clause-value
 returns-else-truth-clause-value c = λ k forest later.
@@ -35,4 +35,4 @@ returns-else-truth-clause-value c = λ k forest later.
     let work : List Pending = c.args.self.now.work in
     let fails : condition_of (drop c.args.first values) ≡ Some false = ap condition_of (sym (c.values_from-condition.ensures later)) ∙ sym (c.condition_of.ensures later) ∙ c.in-Some.is ∙ ap (λ t. Some t) c.if-truth.false in
     ap (λ (v : Items). resume k work v stacks bindings forest) (c.cut_off.ensures later)
-    ∙ condition_fails (condition_of (drop c.args.first values)) (λ now. walked k c.args.tail bindings now) (take c.args.first values) stacks forest (λ vs beside left. resume k work vs beside bindings left) fails
+    ∙ condition_fails (condition_of (drop c.args.first values)) (λ now. walked k c.args.rest bindings now) (take c.args.first values) stacks forest (λ vs beside left. resume k work vs beside bindings left) fails

@@ -1,5 +1,5 @@
 use Rattle.std.proofs.Common.{◌≡◌, drop}
-use Rattle.gx_eval.proofs.tuples.unbind_all.Given as goal
+use Rattle.gx_eval.proofs.tuples.unbind_innermost.Given as goal
 
 -- what is left to be taken away is so of what is there
 abbrev pub invariant-loop-left : goal.invariant-loop-left

@@ -1,0 +1,18 @@
+use Rattle.std.proofs.Common.{List}
+use Rattle.gx_model.specs.Item.{Items}
+use Rattle.gx_core.specs.Meaning.{Bindings, meaning}
+use Rattle.gx_store.specs.Items.{items_in}
+use Rattle.gx_eval.specs.declared.evaluation.Pending.{Pending}
+use Rattle.gx_eval.specs.Resume.{Stacks, items_of, stacks_of}
+use Rattle.gx_eval.proofs.BlockResuming.{where_done}
+use Rattle.gx_eval.proofs.Resuming.{conditional_opens_at}
+use Rattle.gx_eval.proofs.evaluation.Evaluation.open_if.Goals as goal
+
+pub returns : goal.returns
+returns c = λ k forest later.
+    let work : List Pending = c.args.self.now.work in
+    let values : Items = items_in later c.args.self.now.values.items in
+    let stacks : Stacks = stacks_of later c.args.self.now in
+    let bindings : Bindings = items_of later c.args.self.now.scope in
+    where_done c.open_part.result _ _ _ (c.open_part.ensures k forest later)
+    (conditional_opens_at k forest (meaning k c.args.condition.now) (meaning k c.args.chosen.now) (meaning k c.args.otherwise.now) work values c.count_of-first.result stacks bindings (c.count_of-first.ensures later))
