@@ -22,8 +22,11 @@ use Rattle.gx_xml.specs.Marks.{is_misc}
 use Rattle.gx_xml.specs.Tokens.{maybe_choice, maybe_run, prolog_mark}
 use Rattle.gx_xml.specs.Grammar.{Phrase, on, spaced, past_declaration, past_misc, root_and_behind, behind_prolog, behind_epilog, behind_start, prolog, epilog, element, rules, whole_document, documents}
 use Rattle.gx_xml.specs.declared.refusal.XmlRule.TheVariants as xml_rule
+use Rattle.std.specs.Str.{chars, IsUtf8}
+use Rattle.std.proofs.lemmas.Str.{encodes-chars, scalars-chars}
 use Rattle.gx_xml.specs.declared.refusal.XmlRefusal.{XmlRefusal}
-use Rattle.gx_xml.specs.Reading.{IsDocument, IsTextRefusal, IsRefusalOf, last_less}
+use Rattle.gx_xml.specs.declared.refusal.XmlRefusal.TheVariants.{Refused, Memory}
+use Rattle.gx_xml.specs.Reading.{Encodes, IsDocument, IsDocumentRefusal, IsTextRefusal, IsRefusalOf, last_less}
 use Rattle.gx_xml.proofs.DocumentLevels.{all_low, documents_levelled, documents_readable, takings}
 use Rattle.gx_xml.specs.Standings.{Did, LedTo, WentPast, Chose, HasEndedWith, code_of_rule, reading, read_document_token}
 use Rattle.gx_xml.proofs.Steps.{did_on, did_made, did_both, did_rule, did_empty, did_other}
@@ -147,3 +150,17 @@ refused text t (ended.Faulty xml_rule.DuplicateAttribute left) e h r =
     subst (IsTextRefusal text) (sym r) (record { left = left; fault = h; at = ap (λ n. place_at text (last_less (take (length text - n) text))) (left_within text left h.opens) })
 refused text t (ended.Faulty xml_rule.TooDeep left) e h r =
     subst (IsTextRefusal text) (sym r) (record { left = left; fault = h; at = ap (λ n. place_at text (last_less (take (length text - n) text))) (left_within text left h.opens) })
+
+-- the characters that bytes spell
+pub encodes_own : (text bytes : List ℕ) → IsUtf8 text → bytes ≡ text → Encodes bytes (chars text)
+encodes_own text bytes u e = record { spelled = encodes-chars text u ∙ sym e; scalars = scalars-chars text u }
+
+-- what refuses a text refuses the bytes that spell it
+pub bytes_refused : (bytes text : List ℕ) → Encodes bytes text → (e : XmlRefusal) → IsTextRefusal text e → IsDocumentRefusal bytes e
+bytes_refused bytes text e Memory h = tt
+bytes_refused bytes text e (Refused place xml_rule.NotUtf8) h = absurd h
+bytes_refused bytes text e (Refused place xml_rule.Malformed) h = (text, e, h)
+bytes_refused bytes text e (Refused place xml_rule.Doctype) h = (text, e, h)
+bytes_refused bytes text e (Refused place xml_rule.UnboundPrefix) h = (text, e, h)
+bytes_refused bytes text e (Refused place xml_rule.DuplicateAttribute) h = (text, e, h)
+bytes_refused bytes text e (Refused place xml_rule.TooDeep) h = (text, e, h)

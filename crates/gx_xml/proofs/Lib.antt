@@ -1,4 +1,5 @@
 pub mod RunLemmas
+pub mod SpelledLemmas
 pub mod CharacterLemmas
 pub mod Steps
 pub mod NodeLemmas

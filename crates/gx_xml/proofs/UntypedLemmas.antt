@@ -1,5 +1,5 @@
 -- Children and their trees.
-use Rattle.std.proofs.Common.{◌≡◌, ℕ, zero, suc, ◌<◌, ◌≤◌, List, [], ◌∷◌, length, get_or, refl, ap, map, arith}
+use Rattle.std.proofs.Common.{◌≡◌, ℕ, zero, suc, ◌+◌, ◌<◌, ◌≤◌, List, [], ◌∷◌, length, get_or, refl, ap, map, arith}
 use Rattle.gx_tree.specs.PlainTree.{a_tree, trees_of}
 use Rattle.gx_xml.specs.declared.source.SourceChild.{SourceChild}
 use Rattle.gx_xml.specs.declared.source.SourceChild.TheVariants.{Element, Text}
@@ -25,3 +25,8 @@ pub untyped_contents_trees : (cs : List SourceChild) → untyped_contents (conte
 untyped_contents_trees [] = refl
 untyped_contents_trees (Element t ∷ cs) = ap (a_tree (untyped_element t)) (untyped_contents_trees cs)
 untyped_contents_trees (Text x ∷ cs) = ap (a_tree (untyped_child (Text x))) (untyped_contents_trees cs)
+
+-- the children behind the first one are smaller by it
+pub first_and_others : (cs others : List SourceChild) (c : SourceChild) → cs ≡ c ∷ others → contents_size (contents_of cs) ≡ child_size c + contents_size (contents_of others)
+first_and_others cs others (Element t) e = ap (λ xs. contents_size (contents_of xs)) e
+first_and_others cs others (Text x) e = ap (λ xs. contents_size (contents_of xs)) e

@@ -9,6 +9,7 @@ pub mod Marks
 pub mod Tokens
 pub mod Tags
 pub mod Names
+pub mod Characters
 pub mod Found
 pub mod TagView
 pub mod Gathered

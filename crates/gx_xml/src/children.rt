@@ -1,5 +1,6 @@
 // The children of an element, as far as they were read.
 
+ghost use Rattle.gx_xml.specs.Characters.{spelled};
 ghost use Rattle.gx_xml.specs.Gathered.{children_with, text_part};
 ghost use Rattle.gx_xml.specs.Nodes.{put_characters, section_text};
 ghost use Rattle.gx_xml.specs.Runs.{text_normalised};
@@ -8,6 +9,7 @@ ghost use Rattle.gx_xml.specs.SourceView.{contents_of};
 ghost use Rattle.std.specs.Prelude.{◌≡◌, ◌++◌, ◌∷◌, [], ◌↔◌, IfOk, IsTrue, OnOk, string_bytes};
 ghost use Rattle.std.specs.Str.{chars};
 
+use crate::characters::Characters;
 use crate::source::{SourceChild, SourceElement};
 use crate::tag::push_character;
 use crate::value::push_normalised_text;
@@ -34,19 +36,19 @@ impl Children {
 
     /// Adds the characters of a run, with line ends as line feeds.
     #[tactic(auto, using(crate::proofs::GatherLemmas::put_both))]
-    pub fn push_text(&mut self, run: &[char]) -> Result<(), AllocError>
-        ensures { OnOk result ((cs : SourceContents) → children_with self.new cs ≡ children_with self.old (put_characters (text_normalised run.now) cs)) }
+    pub fn push_text(&mut self, run: Characters<'_>) -> Result<(), AllocError>
+        ensures { OnOk result ((cs : SourceContents) → children_with self.new cs ≡ children_with self.old (put_characters (text_normalised (spelled run.entry)) cs)) }
     {
         push_normalised_text(&mut self.pending, run)
     }
 
     /// Adds the characters of a CDATA section, behind which its two brackets stand.
     #[tactic(auto, using(crate::proofs::GatherLemmas::put_both))]
-    pub fn push_section(&mut self, run: &[char]) -> Result<(), AllocError>
-        ensures { OnOk result ((cs : SourceContents) → children_with self.new cs ≡ children_with self.old (put_characters (section_text run.now) cs)) }
+    pub fn push_section(&mut self, run: Characters<'_>) -> Result<(), AllocError>
+        ensures { OnOk result ((cs : SourceContents) → children_with self.new cs ≡ children_with self.old (put_characters (section_text (spelled run.entry)) cs)) }
     {
         let length = run.len().saturating_sub(2);
-        push_normalised_text(&mut self.pending, &run[..length])
+        push_normalised_text(&mut self.pending, run.up_to(length))
     }
 
     /// Adds a character.

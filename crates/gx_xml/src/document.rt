@@ -5,10 +5,12 @@ ghost use Rattle.gx_grammar.specs.Ran.{left_of};
 ghost use Rattle.gx_grammar.specs.Value.{nothing};
 ghost use Rattle.gx_xml.specs.Grammar.{whole_document, epilog, past_misc, prolog, root_and_behind};
 ghost use Rattle.gx_xml.specs.Nodes.{rooted};
-ghost use Rattle.gx_xml.specs.Reading.{IsDocument, IsDocumentOf, IsDocumentRefusal, IsRefusalOf, IsTextRefusal, last_less};
+ghost use Rattle.gx_xml.specs.Reading.{Encodes, IsDocumentOf, IsDocumentRefusal, IsRefusalOf, last_less};
 ghost use Rattle.gx_xml.specs.Standings.{Did, LedTo, WentPast};
-ghost use Rattle.std.specs.Prelude.{◌≡◌, ◌≤◌, ◌<◌, ◌^◌, ◌-◌, IfOk, MatchResult, length};
+ghost use Rattle.gx_xml.specs.declared.refusal.XmlRefusal.TheVariants.{Memory};
+ghost use Rattle.std.specs.Prelude.{◌≡◌, ◌≤◌, ◌<◌, ◌^◌, ◌-◌, ◌⊎◌, IfOk, List, MatchResult, ℕ, length};
 
+use crate::characters::Characters;
 use crate::declaration::declaration;
 use crate::element::element;
 use crate::marks::{Mark, Maybe};
@@ -23,6 +25,7 @@ use gx_grammar::decode::{DecodeError, decode};
 use gx_grammar::place::place_of;
 use gx_namespaces::bindings::Bindings;
 use std::alloc::{AllocError, Global};
+use std::str::from_utf8;
 
 // Goes past a comment or a processing instruction, whose first word was read.
 fn misc(reader: &mut Reader<'_>, mark: Mark)
@@ -135,18 +138,43 @@ fn refusal(text: &[char], end: End) -> XmlRefusal
     }
 }
 
-// Reads a text.
-fn read_characters(alloc: Global, text: &[char]) -> Result<Source, XmlRefusal>
-    requires { length text.now < 2 ^ 32 - 1 }
-    ensures { MatchResult result (λ s. IsDocument text.now s.root) (λ e. IsTextRefusal text.now e) }
+// The refusal of the bytes of a text, whose reading ended so.
+fn refusal_of(alloc: Global, bytes: &[u8], end: End) -> XmlRefusal
+    requires { length bytes.now < 2 ^ 32 - 1 }
+    ensures { (text : List ℕ) → Encodes bytes.now text → (result ≡ Memory) ⊎ IsRefusalOf text end result }
 {
-    let mut reader = Reader::new(text);
+    match decode(alloc, bytes) {
+        Ok(text) => refusal(&text, end),
+        Err(_) => XmlRefusal::Memory,
+    }
+}
+
+// Reads a text.
+fn read_characters(alloc: Global, text: &str) -> Result<Source, XmlRefusal>
+    requires { length text.now < 2 ^ 32 - 1 }
+    ensures { MatchResult result (λ s. IsDocumentOf text.now s.root) (λ e. IsDocumentRefusal text.now e) }
+{
+    let mut reader = Reader::new(Characters::new(text));
     let Ok(root) = read_text(alloc, &mut reader) else {
         return Err(XmlRefusal::Memory);
     };
     match reader.outcome() {
         None => Ok(Source { root }),
-        Some(end) => Err(refusal(text, end)),
+        Some(end) => Err(refusal_of(alloc, text.as_bytes(), end)),
+    }
+}
+
+// The refusal of bytes that are not UTF-8.
+fn unreadable(alloc: Global, bytes: &[u8]) -> XmlRefusal
+    requires { length bytes.now < 2 ^ 32 - 1 }
+    ensures { IsDocumentRefusal bytes.now result }
+{
+    match decode(alloc, bytes) {
+        Err(DecodeError::NotUtf8(place)) => {
+            let rule = XmlRule::NotUtf8;
+            XmlRefusal::Refused { place, rule }
+        }
+        _ => XmlRefusal::Memory,
     }
 }
 
@@ -158,12 +186,8 @@ pub fn read_document(alloc: Global, bytes: &[u8]) -> Result<Source, XmlRefusal>
     requires { length bytes.now ≤ FILE_BYTES }
     ensures { MatchResult result (λ s. IsDocumentOf bytes.now s.root) (λ e. IsDocumentRefusal bytes.now e) }
 {
-    match decode(alloc, bytes) {
-        Ok(text) => read_characters(alloc, &text),
-        Err(DecodeError::NotUtf8(place)) => {
-            let rule = XmlRule::NotUtf8;
-            Err(XmlRefusal::Refused { place, rule })
-        }
-        Err(DecodeError::Memory) => Err(XmlRefusal::Memory),
+    match from_utf8(bytes) {
+        Ok(text) => read_characters(alloc, text),
+        Err(_) => Err(unreadable(alloc, bytes)),
     }
 }

@@ -3,6 +3,7 @@
 ghost use Rattle.gx_grammar.specs.Grammar.{rule};
 ghost use Rattle.gx_grammar.specs.Ran.{IsDone, left_of};
 ghost use Rattle.gx_tree.specs.Binding.{Binding};
+ghost use Rattle.gx_xml.specs.Characters.{spelled};
 ghost use Rattle.gx_xml.specs.Gathered.{ReadChildren, ReadItem};
 ghost use Rattle.gx_xml.specs.Grammar.{content, element, past_name, tag_ending};
 ghost use Rattle.gx_xml.specs.Marks.{is_item};
@@ -28,16 +29,16 @@ use std::alloc::{AllocError, Global};
 
 // Goes past the name of an end tag.
 fn end_name(reader: &mut Reader<'_>, name: QName<'_>)
-    ensures read { WentPast (past_name name.entry.prefix.now name.entry.local.now) reader.old reader.new }
+    ensures read { WentPast (past_name (spelled name.entry.prefix) (spelled name.entry.local)) reader.old reader.new }
     ensures shrinks { left_of reader.new ≤ left_of reader.old }
 {
     if name.prefix.is_empty() {
-        reader.symbol(name.local);
+        reader.spelling(name.local);
         return;
     }
-    reader.symbol(name.prefix);
+    reader.spelling(name.prefix);
     reader.symbol(&[':']);
-    reader.symbol(name.local);
+    reader.spelling(name.local);
 }
 
 // The first fault of a tag, whose declarations are in force.
@@ -99,8 +100,8 @@ fn declared(
     name: QName<'_>,
     tag: StartTag,
 ) -> Result<SourceElement, AllocError>
-    requires prefix { tag.prefix ≡ name.prefix.now }
-    requires local { tag.local ≡ name.local.now }
+    requires prefix { tag.prefix ≡ spelled name.prefix }
+    requires local { tag.local ≡ spelled name.local }
     ensures read { IfOk result (λ e. (scope : List Binding) → bindings.old ≡ scope ++ map declared_binding tag.declarations.items
         → Did (rooted e) reader.old reader.new (tag_ending (tag_as room scope tag))) }
     ensures kept { OnOk result (bindings.new ≡ bindings.old) }
@@ -137,7 +138,7 @@ fn children(
     mark: Mark,
 ) -> Result<Vec<SourceChild>, AllocError>
     requires { room ≡ 0 → IsDone reader.old }
-    ensures read { IfOk result (λ cs. ReadChildren room bindings.old name.entry.prefix.now name.entry.local.now mark (contents_of cs.items) reader.old reader.new) }
+    ensures read { IfOk result (λ cs. ReadChildren room bindings.old (spelled name.entry.prefix) (spelled name.entry.local) mark (contents_of cs.items) reader.old reader.new) }
     ensures kept { OnOk result (bindings.new ≡ bindings.old) }
     ensures shrinks { left_of reader.new ≤ left_of reader.old }
 {

@@ -1,10 +1,12 @@
 //! Documents: reading XML, with namespaces, and the trees that documents stand for.
 #![tactic(auto)]
 
+mod characters;
 mod children;
 mod declaration;
 pub mod document;
 mod element;
+pub mod into_untyped;
 pub mod laws;
 mod marks;
 mod phrases;

@@ -1,11 +1,13 @@
 // White space, comments, processing instructions, references and names.
 
 ghost use Rattle.gx_grammar.specs.Ran.{IsDone, left_of};
+ghost use Rattle.gx_xml.specs.Characters.{spelled};
 ghost use Rattle.gx_xml.specs.Grammar.{character_of, past_element_name, past_comment, past_equals, past_instruction, past_quote, qualified, past_opening_quote, character_reference, spaced};
 ghost use Rattle.gx_xml.specs.Nodes.{quote_read};
 ghost use Rattle.gx_xml.specs.Standings.{Chose, ChoseName, WentPast};
 ghost use Rattle.std.specs.Prelude.{◌≡◌, ◌≤◌, ◌<◌, ◌⊎◌};
 
+use crate::characters::Characters;
 use crate::marks::{Choice, Mark};
 use crate::reader::{Reader, is_xmlns};
 use crate::runs::{Quote, Run};
@@ -13,8 +15,8 @@ use crate::runs::{Quote, Run};
 /// A name with its prefix, which may be empty.
 #[derive(Clone, Copy)]
 pub struct QName<'a> {
-    pub prefix: &'a [char],
-    pub local: &'a [char],
+    pub prefix: Characters<'a>,
+    pub local: Characters<'a>,
 }
 
 /// Goes past white space, and says whether there was any.
@@ -109,13 +111,13 @@ pub fn reference(reader: &mut Reader<'_>, expected: Option<char>) -> char
 }
 
 /// Reads what is behind the first part of a name (Namespaces in XML 1.0, section 4). Behind `xmlns:` no `xmlns` stands.
-pub fn qualified<'a>(reader: &mut Reader<'a>, first: &'a [char]) -> QName<'a>
-    ensures read { ChoseName result.prefix.now result.local.now (qualified first.now) reader.old reader.new }
+pub fn qualified<'a>(reader: &mut Reader<'a>, first: Characters<'a>) -> QName<'a>
+    ensures read { ChoseName (spelled result.prefix) (spelled result.local) (qualified (spelled first.entry)) reader.old reader.new }
     ensures shrinks { left_of reader.new ≤ left_of reader.old }
 {
     if reader.maybe_run(Run::Colon, 0).is_empty() {
         return QName {
-            prefix: &[],
+            prefix: Characters::none(),
             local: first,
         };
     }
@@ -129,13 +131,13 @@ pub fn qualified<'a>(reader: &mut Reader<'a>, first: &'a [char]) -> QName<'a>
 }
 
 /// Reads the name of an element, whose prefix is not `xmlns`.
-pub fn element_name<'a>(reader: &mut Reader<'a>, first: &'a [char]) -> QName<'a>
-    ensures read { ChoseName result.prefix.now result.local.now (past_element_name first.now) reader.old reader.new }
+pub fn element_name<'a>(reader: &mut Reader<'a>, first: Characters<'a>) -> QName<'a>
+    ensures read { ChoseName (spelled result.prefix) (spelled result.local) (past_element_name (spelled first.entry)) reader.old reader.new }
     ensures shrinks { left_of reader.new ≤ left_of reader.old }
 {
     if is_xmlns(first) {
         return QName {
-            prefix: &[],
+            prefix: Characters::none(),
             local: first,
         };
     }

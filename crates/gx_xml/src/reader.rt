@@ -9,12 +9,15 @@ ghost use Rattle.gx_xml.specs.declared.marks.Mark.TheVariants.{Only};
 ghost use Rattle.gx_xml.specs.Standings.{HasEndedWith, code_of_fault, read_document_token};
 ghost use Rattle.gx_tree.specs.Binding.{xmlns};
 ghost use Rattle.gx_xml.specs.Tokens.{choice, declared_prefix, is_target, maybe_choice, maybe_run, names_character, numeral_value, numeral, prolog_mark, run, symbol, tag_end, target};
+ghost use Rattle.gx_xml.specs.Characters.{spelled};
+ghost use Rattle.std.specs.Str.{chars};
 ghost use Rattle.std.specs.Prelude.{◌≡◌, ◌≤◌, ◌<◌, ◌⊎◌, ◌↔◌, IfSome, IsNone, IsSome, IsTrue, bytes_eq, false, true, length};
 
+use crate::characters::Characters;
 use crate::marks::{Choice, Mark, Maybe};
 use crate::refusal::XmlRule;
 use crate::runs::{Base, Run};
-use crate::scan::{find_run, find_symbol, find_word};
+use crate::scan::{find_run, find_spelling, find_symbol, find_word};
 use gx_base::characters::is_char;
 use std::marker::Model;
 
@@ -22,25 +25,35 @@ use std::marker::Model;
 const DOCTYPE: [char; 9] = ['<', '!', 'D', 'O', 'C', 'T', 'Y', 'P', 'E'];
 
 // Whether the name is not `xml` in any case of letters.
-fn is_target(name: &[char]) -> bool
-    ensures { result ≡ is_target name.now }
+fn is_target(name: Characters<'_>) -> bool
+    ensures { result ≡ is_target (spelled name.entry) }
 {
-    match name {
-        [x, m, l] => {
-            !((*x == 'x' || *x == 'X') && (*m == 'm' || *m == 'M') && (*l == 'l' || *l == 'L'))
-        }
-        _ => true,
+    let Some((x, behind)) = name.first() else {
+        return true;
+    };
+    let Some((m, behind)) = behind.first() else {
+        return true;
+    };
+    let Some((l, behind)) = behind.first() else {
+        return true;
+    };
+    if !behind.is_empty() {
+        return true;
     }
+    !((x == 'x' || x == 'X') && (m == 'm' || m == 'M') && (l == 'l' || l == 'L'))
 }
 
-// The prefix that declares prefixes.
-const XMLNS: [char; 5] = ['x', 'm', 'l', 'n', 's'];
-
 /// Whether the name is `xmlns`.
-pub fn is_xmlns(name: &[char]) -> bool
-    ensures { result ≡ bytes_eq name.now xmlns }
+pub fn is_xmlns(name: Characters<'_>) -> bool
+    ensures { result ≡ bytes_eq (spelled name.entry) xmlns }
 {
-    name == XMLNS.as_slice()
+    is_text_xmlns(name.text)
+}
+
+fn is_text_xmlns(text: &str) -> bool
+    ensures { result ≡ bytes_eq (chars text.now) xmlns }
+{
+    text == "xmlns"
 }
 
 // The character with the number, if it is a Char, and the expected one.
@@ -72,26 +85,27 @@ pub enum End {
 /// has ended.
 #[derive(Drop)]
 pub struct Reader<'a> {
-    rest: &'a [char],
+    rest: Characters<'a>,
     far: usize,
     end: Option<End>,
 }
 
 impl<'a> Model for Reader<'a> {
     ghost use Rattle.gx_grammar.specs.Ran.{Standing};
+    ghost use Rattle.gx_xml.specs.Characters.{spelled};
     ghost use Rattle.gx_xml.specs.Standings.{document_standing};
 
     ghost Value = { Standing };
 
-    ghost view = { λ r. document_standing r.rest.now r.far r.end };
+    ghost view = { λ r. document_standing (spelled r.rest) r.far r.end };
 }
 
 impl<'a> Reader<'a> {
     ghost use Rattle.gx_grammar.specs.Ran.{Going};
 
     /// A reader at the front of a text.
-    pub fn new(text: &'a [char]) -> Reader<'a>
-        ensures { result ≡ Going (start text.now) }
+    pub fn new(text: Characters<'a>) -> Reader<'a>
+        ensures { result ≡ Going (start (spelled text.entry)) }
     {
         Reader {
             rest: text,
@@ -102,13 +116,13 @@ impl<'a> Reader<'a> {
 
     /// Reads a run from a state on.
     #[tactic(auto, unfolding(crate::specs::Standings::read_document_token))]
-    pub fn run(&mut self, kind: Run, state: u32) -> &'a [char]
+    pub fn run(&mut self, kind: Run, state: u32) -> Characters<'a>
         requires { state ≤ 1114111 }
-        ensures read { Ran (characters result.now) self.old self.new (read_document_token (run kind state)) }
+        ensures read { Ran (characters (spelled result)) self.old self.new (read_document_token (run kind state)) }
         ensures shrinks { left_of self.new ≤ left_of self.old }
     {
         if self.end.is_some() {
-            return &[];
+            return Characters::none();
         }
         let found = find_run(kind, state, self.rest);
         self.far = self.far.min(found.behind.len());
@@ -122,13 +136,13 @@ impl<'a> Reader<'a> {
 
     /// Reads a run from a state on, if there is one.
     #[tactic(auto, unfolding(crate::specs::Standings::read_document_token))]
-    pub fn maybe_run(&mut self, kind: Run, state: u32) -> &'a [char]
+    pub fn maybe_run(&mut self, kind: Run, state: u32) -> Characters<'a>
         requires { state ≤ 1114111 }
-        ensures read { Ran (characters result.now) self.old self.new (read_document_token (maybe_run kind state)) }
+        ensures read { Ran (characters (spelled result)) self.old self.new (read_document_token (maybe_run kind state)) }
         ensures shrinks { left_of self.new ≤ left_of self.old }
     {
         if self.end.is_some() {
-            return &[];
+            return Characters::none();
         }
         let found = find_run(kind, state, self.rest);
         self.far = self.far.min(found.behind.len());
@@ -138,12 +152,12 @@ impl<'a> Reader<'a> {
 
     /// Reads the target of a processing instruction.
     #[tactic(auto, unfolding(crate::specs::Standings::read_document_token))]
-    pub fn target(&mut self) -> &'a [char]
-        ensures read { Ran (characters result.now) self.old self.new (read_document_token target) }
+    pub fn target(&mut self) -> Characters<'a>
+        ensures read { Ran (characters (spelled result)) self.old self.new (read_document_token target) }
         ensures shrinks { left_of self.new ≤ left_of self.old }
     {
         if self.end.is_some() {
-            return &[];
+            return Characters::none();
         }
         let found = find_run(Run::Name, 0, self.rest);
         self.far = self.far.min(found.behind.len());
@@ -157,12 +171,12 @@ impl<'a> Reader<'a> {
 
     /// Reads a prefix that may be declared.
     #[tactic(auto, unfolding(crate::specs::Standings::read_document_token))]
-    pub fn declared_prefix(&mut self) -> &'a [char]
-        ensures read { Ran (characters result.now) self.old self.new (read_document_token declared_prefix) }
+    pub fn declared_prefix(&mut self) -> Characters<'a>
+        ensures read { Ran (characters (spelled result)) self.old self.new (read_document_token declared_prefix) }
         ensures shrinks { left_of self.new ≤ left_of self.old }
     {
         if self.end.is_some() {
-            return &[];
+            return Characters::none();
         }
         let found = find_run(Run::Name, 0, self.rest);
         self.far = self.far.min(found.behind.len());
@@ -176,23 +190,23 @@ impl<'a> Reader<'a> {
 
     /// Reads the digits of a character reference, and gives the character with them.
     #[tactic(auto, unfolding(crate::specs::Standings::read_document_token))]
-    pub fn numeral(&mut self, base: Base, expected: Option<char>) -> (&'a [char], char)
-        ensures read { Ran (characters result.0.now) self.old self.new (read_document_token (numeral base expected)) }
-        ensures number { IsDone self.new ⊎ (result.1 ≡ numeral_value base expected result.0.now) }
+    pub fn numeral(&mut self, base: Base, expected: Option<char>) -> (Characters<'a>, char)
+        ensures read { Ran (characters (spelled result.0)) self.old self.new (read_document_token (numeral base expected)) }
+        ensures number { IsDone self.new ⊎ (result.1 ≡ numeral_value base expected (spelled result.0)) }
         ensures shrinks { left_of self.new ≤ left_of self.old }
     {
         if self.end.is_some() {
-            return (&[], '\0');
+            return (Characters::none(), '\0');
         }
         let found = find_run(Run::Numeral(base, expected), 0, self.rest);
         self.far = self.far.min(found.behind.len());
         if found.run.is_empty() {
             self.end = Some(End::Unfit(self.far));
-            return (&[], '\0');
+            return (Characters::none(), '\0');
         }
         let Some(character) = named_character(expected, found.state) else {
             self.end = Some(End::Unfit(self.far));
-            return (&[], '\0');
+            return (Characters::none(), '\0');
         };
         self.rest = found.behind;
         (found.run, character)
@@ -238,6 +252,23 @@ impl Reader<'_> {
             return;
         }
         let found = find_symbol(letters, self.rest);
+        self.far = self.far.min(found.seen);
+        match found.behind {
+            Some(behind) => self.rest = behind,
+            None => self.end = Some(End::Unfit(self.far)),
+        }
+    }
+
+    /// Reads a symbol of these characters.
+    #[tactic(auto, unfolding(crate::specs::Standings::read_document_token))]
+    pub fn spelling(&mut self, letters: Characters<'_>)
+        ensures read { Ran nothing self.old self.new (read_document_token (symbol (spelled letters.entry))) }
+        ensures shrinks { left_of self.new ≤ left_of self.old }
+    {
+        if self.end.is_some() {
+            return;
+        }
+        let found = find_spelling(letters, self.rest);
         self.far = self.far.min(found.seen);
         match found.behind {
             Some(behind) => self.rest = behind,

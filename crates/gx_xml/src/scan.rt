@@ -3,6 +3,7 @@
 ghost use Rattle.gx_grammar.specs.First.{head_passes};
 ghost use Rattle.gx_grammar.specs.Tokens.{behind_common, strip};
 ghost use Rattle.gx_grammar.specs.Walks.{behind_walk, reached, walk_of};
+ghost use Rattle.gx_xml.specs.Characters.{spelled};
 ghost use Rattle.gx_xml.specs.Found.{IsWordFound, Words, entry, stop_characters};
 ghost use Rattle.gx_xml.specs.Marks.{named_entities, number_signs, only_if, mark_word, choice_words};
 ghost use Rattle.gx_xml.specs.Runs.{walk_for};
@@ -10,28 +11,29 @@ ghost use Rattle.gx_xml.specs.declared.marks.Choice.TheVariants as choice_of;
 ghost use Rattle.gx_xml.specs.declared.marks.Choice.TheVariants.{Declaration, DeclarationStart};
 ghost use Rattle.std.specs.Prelude.{◌≡◌, ◌≤◌, ◌<◌, ◌+◌, ◌∷◌, [], ◌++◌, None, Some, false, if◌then◌else◌, length, true, option_map, IfSome, IsNone};
 
+use crate::characters::Characters;
 use crate::marks::{Choice, Mark};
 use crate::runs::{Base, Quote, Run};
 
 /// What is behind a symbol, if it stands at the front, and what is left behind the longest front that opens it.
 #[derive(Clone, Copy)]
 pub struct SymbolFound<'a> {
-    pub behind: Option<&'a [char]>,
+    pub behind: Option<Characters<'a>>,
     pub seen: usize,
 }
 
 /// A run, what is behind it, and the state there.
 #[derive(Clone, Copy)]
 pub struct RunFound<'a> {
-    pub run: &'a [char],
-    pub behind: &'a [char],
+    pub run: Characters<'a>,
+    pub behind: Characters<'a>,
     pub state: u32,
 }
 
 /// A word with what is behind it, if one stands at the front, and what is left behind the longest front that opens one.
 #[derive(Clone, Copy)]
 pub struct WordFound<'a> {
-    pub word: Option<(Mark, &'a [char])>,
+    pub word: Option<(Mark, Characters<'a>)>,
     pub seen: usize,
 }
 
@@ -46,26 +48,43 @@ pub enum Stop {
 }
 
 // What is behind the letters that a text begins with, and whether these are all.
-fn behind_letters<'a>(letters: &[char], text: &'a [char]) -> (&'a [char], bool)
-    ensures common { result.0.now ≡ behind_common letters.now text.now }
-    ensures whole { strip letters.now text.now ≡ (if result.1 then (Some result.0.now) else None) }
+fn behind_letters<'a>(letters: &[char], text: Characters<'a>) -> (Characters<'a>, bool)
+    ensures common { spelled result.0 ≡ behind_common letters.now (spelled text.entry) }
+    ensures whole { strip letters.now (spelled text.entry) ≡ (if result.1 then (Some (spelled result.0)) else None) }
 {
     let mut rest = text;
     for letter in letters {
-        match rest {
-            [character, tail @ ..] if *character == *letter => rest = tail,
+        match rest.first() {
+            Some((character, tail)) if character == *letter => rest = tail,
             _ => return (rest, false),
         }
     }
     (rest, true)
 }
 
+// What is behind the characters that a text begins with, and whether these are all.
+fn behind_spelling<'a>(letters: Characters<'_>, text: Characters<'a>) -> (Characters<'a>, bool)
+    ensures common { spelled result.0 ≡ behind_common (spelled letters.entry) (spelled text.entry) }
+    ensures whole { strip (spelled letters.entry) (spelled text.entry) ≡ (if result.1 then (Some (spelled result.0)) else None) }
+{
+    let mut rest = text;
+    let mut left = letters;
+    while let Some((letter, others)) = left.first() {
+        match rest.first() {
+            Some((character, tail)) if character == letter => rest = tail,
+            _ => return (rest, false),
+        }
+        left = others;
+    }
+    (rest, true)
+}
+
 /// The symbol at the front.
-pub fn find_symbol<'a>(letters: &[char], text: &'a [char]) -> SymbolFound<'a>
-    ensures behind { strip letters.now text.now ≡ option_map (λ r. r.now) result.behind }
-    ensures seen { result.seen ≡ length (behind_common letters.now text.now) }
-    ensures bounded { result.seen ≤ length text.now }
-    ensures shorter { IfSome result.behind (λ rest. length rest.now + length letters.now ≡ length text.now) }
+pub fn find_symbol<'a>(letters: &[char], text: Characters<'a>) -> SymbolFound<'a>
+    ensures behind { strip letters.now (spelled text.entry) ≡ option_map spelled result.behind }
+    ensures seen { result.seen ≡ length (behind_common letters.now (spelled text.entry)) }
+    ensures bounded { result.seen ≤ length (spelled text.entry) }
+    ensures shorter { IfSome result.behind (λ rest. length (spelled rest) + length letters.now ≡ length (spelled text.entry)) }
 {
     let (rest, whole) = behind_letters(letters, text);
     let seen = rest.len();
@@ -73,29 +92,31 @@ pub fn find_symbol<'a>(letters: &[char], text: &'a [char]) -> SymbolFound<'a>
     SymbolFound { behind, seen }
 }
 
-// The first character, and what is behind it.
-fn first(text: &[char]) -> Option<(char, &[char])>
-    ensures some { IfSome result (λ r. text.now ≡ r.0 ∷ r.1.now) }
-    ensures none { IsNone result → text.now ≡ [] }
+/// The symbol of these characters at the front.
+pub fn find_spelling<'a>(letters: Characters<'_>, text: Characters<'a>) -> SymbolFound<'a>
+    ensures behind { strip (spelled letters.entry) (spelled text.entry) ≡ option_map spelled result.behind }
+    ensures seen { result.seen ≡ length (behind_common (spelled letters.entry) (spelled text.entry)) }
+    ensures bounded { result.seen ≤ length (spelled text.entry) }
+    ensures shorter { IfSome result.behind (λ rest. length (spelled rest) + length (spelled letters.entry) ≡ length (spelled text.entry)) }
 {
-    match text {
-        [] => None,
-        [character, tail @ ..] => Some((*character, tail)),
-    }
+    let (rest, whole) = behind_spelling(letters, text);
+    let seen = rest.len();
+    let behind = if whole { Some(rest) } else { None };
+    SymbolFound { behind, seen }
 }
 
 /// The run at the front, from a state on.
-pub fn find_run(run: Run, state: u32, text: &[char]) -> RunFound<'_>
+pub fn find_run(run: Run, state: u32, text: Characters<'_>) -> RunFound<'_>
     requires { state ≤ 1114111 }
-    ensures run { result.run.now ≡ walk_of (walk_for run) state text.now }
-    ensures behind { result.behind.now ≡ behind_walk (walk_for run) state text.now }
-    ensures state { result.state ≡ reached (walk_for run) state (walk_of (walk_for run) state text.now) }
-    ensures whole { text.now ≡ result.run.now ++ result.behind.now }
+    ensures run { spelled result.run ≡ walk_of (walk_for run) state (spelled text.entry) }
+    ensures behind { spelled result.behind ≡ behind_walk (walk_for run) state (spelled text.entry) }
+    ensures state { result.state ≡ reached (walk_for run) state (walk_of (walk_for run) state (spelled text.entry)) }
+    ensures whole { spelled text.entry ≡ spelled result.run ++ spelled result.behind }
 {
     let mut state = state;
     let mut count = 0;
     let mut rest = text;
-    while let Some((character, tail)) = first(rest) {
+    while let Some((character, tail)) = rest.first() {
         if !run.goes(state, character) {
             break;
         }
@@ -103,7 +124,7 @@ pub fn find_run(run: Run, state: u32, text: &[char]) -> RunFound<'_>
         count += 1;
         rest = tail;
     }
-    let run = &text[..count];
+    let run = text.front(count, rest);
     RunFound {
         run,
         behind: rest,
@@ -123,19 +144,19 @@ impl Stop {
     }
 
     // Whether a word may end before this.
-    fn lets(self, rest: &[char]) -> bool
-        ensures { result ≡ (if (head_passes (stop_characters self) rest.now) then false else true) }
+    fn lets(self, rest: Characters<'_>) -> bool
+        ensures { result ≡ (if (head_passes (stop_characters self) (spelled rest.entry)) then false else true) }
     {
-        match rest {
-            [] => true,
-            [character, ..] => !self.stops(*character),
+        match rest.first() {
+            None => true,
+            Some((character, _)) => !self.stops(character),
         }
     }
 }
 
 // No word.
-fn no_word(text: &[char]) -> WordFound<'_>
-    ensures { IsWordFound [] text.now result }
+fn no_word(text: Characters<'_>) -> WordFound<'_>
+    ensures { IsWordFound [] (spelled text.entry) result }
 {
     WordFound {
         word: None,
@@ -149,10 +170,10 @@ fn or_word<'a>(
     stop: Stop,
     mark: Mark,
     others: WordFound<'a>,
-    text: &'a [char],
+    text: Characters<'a>,
 ) -> WordFound<'a>
     requires { 0 < length letters.now }
-    ensures { (es : Words) → IsWordFound es text.now others.entry → IsWordFound (entry letters.now stop mark ∷ es) text.now result }
+    ensures { (es : Words) → IsWordFound es (spelled text.entry) others.entry → IsWordFound (entry letters.now stop mark ∷ es) (spelled text.entry) result }
 {
     let found = find_symbol(letters, text);
     let seen = found.seen.min(others.seen);
@@ -164,15 +185,20 @@ fn or_word<'a>(
 }
 
 // The word with no character that may not stand behind it, or what was found of others.
-fn or<'a>(letters: &[char], mark: Mark, others: WordFound<'a>, text: &'a [char]) -> WordFound<'a>
+fn or<'a>(
+    letters: &[char],
+    mark: Mark,
+    others: WordFound<'a>,
+    text: Characters<'a>,
+) -> WordFound<'a>
     requires { 0 < length letters.now }
-    ensures { (es : Words) → IsWordFound es text.now others.entry → IsWordFound (mark_word letters.now mark ∷ es) text.now result }
+    ensures { (es : Words) → IsWordFound es (spelled text.entry) others.entry → IsWordFound (mark_word letters.now mark ∷ es) (spelled text.entry) result }
 {
     or_word(letters, Stop::Nothing, mark, others, text)
 }
 
-fn declaration_start(text: &[char]) -> WordFound<'_>
-    ensures { IsWordFound (choice_words DeclarationStart) text.now result }
+fn declaration_start(text: Characters<'_>) -> WordFound<'_>
+    ensures { IsWordFound (choice_words DeclarationStart) (spelled text.entry) result }
 {
     let mark = Mark::Declaration;
     let found = no_word(text);
@@ -182,8 +208,8 @@ fn declaration_start(text: &[char]) -> WordFound<'_>
     or(&['<', '?', 'x', 'm', 'l', ' '], mark, found, text)
 }
 
-fn declaration_part(spaced: bool, encoding: bool, text: &[char]) -> WordFound<'_>
-    ensures { IsWordFound (choice_words (Declaration spaced encoding)) text.now result }
+fn declaration_part(spaced: bool, encoding: bool, text: Characters<'_>) -> WordFound<'_>
+    ensures { IsWordFound (choice_words (Declaration spaced encoding)) (spelled text.entry) result }
 {
     let end = &['?', '>'];
     let found = no_word(text);
@@ -201,16 +227,16 @@ fn declaration_part(spaced: bool, encoding: bool, text: &[char]) -> WordFound<'_
     or(end, Mark::Only, found, text)
 }
 
-fn quote(text: &[char]) -> WordFound<'_>
-    ensures { IsWordFound (choice_words choice_of.Quote) text.now result }
+fn quote(text: Characters<'_>) -> WordFound<'_>
+    ensures { IsWordFound (choice_words choice_of.Quote) (spelled text.entry) result }
 {
     let found = no_word(text);
     let found = or(&['\''], Mark::Quote(Quote::Single), found, text);
     or(&['"'], Mark::Quote(Quote::Double), found, text)
 }
 
-fn encoding(text: &[char]) -> WordFound<'_>
-    ensures { IsWordFound (choice_words choice_of.Encoding) text.now result }
+fn encoding(text: Characters<'_>) -> WordFound<'_>
+    ensures { IsWordFound (choice_words choice_of.Encoding) (spelled text.entry) result }
 {
     let found = no_word(text);
     let found = or(&['u', 't', 'f', '-', '8'], Mark::Only, found, text);
@@ -223,16 +249,16 @@ fn encoding(text: &[char]) -> WordFound<'_>
     or(&['U', 'T', 'F', '-', '8'], Mark::Only, found, text)
 }
 
-fn answer(text: &[char]) -> WordFound<'_>
-    ensures { IsWordFound (choice_words choice_of.Answer) text.now result }
+fn answer(text: Characters<'_>) -> WordFound<'_>
+    ensures { IsWordFound (choice_words choice_of.Answer) (spelled text.entry) result }
 {
     let found = no_word(text);
     let found = or(&['n', 'o'], Mark::Only, found, text);
     or(&['y', 'e', 's'], Mark::Only, found, text)
 }
 
-fn prolog(text: &[char]) -> WordFound<'_>
-    ensures { IsWordFound (choice_words choice_of.Prolog) text.now result }
+fn prolog(text: Characters<'_>) -> WordFound<'_>
+    ensures { IsWordFound (choice_words choice_of.Prolog) (spelled text.entry) result }
 {
     let found = no_word(text);
     let found = or_word(&['<'], Stop::Markup, Mark::StartTag, found, text);
@@ -240,16 +266,16 @@ fn prolog(text: &[char]) -> WordFound<'_>
     or(&['<', '!', '-', '-'], Mark::Comment, found, text)
 }
 
-fn epilog(text: &[char]) -> WordFound<'_>
-    ensures { IsWordFound (choice_words choice_of.Epilog) text.now result }
+fn epilog(text: Characters<'_>) -> WordFound<'_>
+    ensures { IsWordFound (choice_words choice_of.Epilog) (spelled text.entry) result }
 {
     let found = no_word(text);
     let found = or(&['<', '?'], Mark::Instruction, found, text);
     or(&['<', '!', '-', '-'], Mark::Comment, found, text)
 }
 
-fn tag_end(text: &[char]) -> WordFound<'_>
-    ensures { IsWordFound (choice_words choice_of.TagEnd) text.now result }
+fn tag_end(text: Characters<'_>) -> WordFound<'_>
+    ensures { IsWordFound (choice_words choice_of.TagEnd) (spelled text.entry) result }
 {
     let found = no_word(text);
     let found = or(&['/', '>'], Mark::Empty, found, text);
@@ -262,10 +288,10 @@ fn or_if<'a>(
     letters: &[char],
     mark: Mark,
     others: WordFound<'a>,
-    text: &'a [char],
+    text: Characters<'a>,
 ) -> WordFound<'a>
     requires { 0 < length letters.now }
-    ensures { (es : Words) → IsWordFound es text.now others.entry → IsWordFound (only_if may_stand (mark_word letters.now mark) ++ es) text.now result }
+    ensures { (es : Words) → IsWordFound es (spelled text.entry) others.entry → IsWordFound (only_if may_stand (mark_word letters.now mark) ++ es) (spelled text.entry) result }
 {
     if may_stand {
         or(letters, mark, others, text)
@@ -274,16 +300,16 @@ fn or_if<'a>(
     }
 }
 
-fn behind_value(quote: Quote, closes: bool, refers: bool, text: &[char]) -> WordFound<'_>
-    ensures { IsWordFound (choice_words (choice_of.Value quote closes refers)) text.now result }
+fn behind_value(quote: Quote, closes: bool, refers: bool, text: Characters<'_>) -> WordFound<'_>
+    ensures { IsWordFound (choice_words (choice_of.Value quote closes refers)) (spelled text.entry) result }
 {
     let found = no_word(text);
     let found = or_if(refers, &['&'], Mark::Reference, found, text);
     or_if(closes, &[quote.character()], Mark::Only, found, text)
 }
 
-fn entities(text: &[char]) -> WordFound<'_>
-    ensures { IsWordFound named_entities text.now result }
+fn entities(text: Characters<'_>) -> WordFound<'_>
+    ensures { IsWordFound named_entities (spelled text.entry) result }
 {
     let found = no_word(text);
     let found = or(
@@ -304,16 +330,16 @@ fn entities(text: &[char]) -> WordFound<'_>
 }
 
 // A number sign, or what was found of others.
-fn number_sign<'a>(others: WordFound<'a>, text: &'a [char]) -> WordFound<'a>
-    ensures { (es : Words) → IsWordFound es text.now others.entry → IsWordFound (number_signs ++ es) text.now result }
+fn number_sign<'a>(others: WordFound<'a>, text: Characters<'a>) -> WordFound<'a>
+    ensures { (es : Words) → IsWordFound es (spelled text.entry) others.entry → IsWordFound (number_signs ++ es) (spelled text.entry) result }
 {
     let decimal = Mark::Numeral(Base::Decimal);
     let found = or_word(&['#'], Stop::LetterX, decimal, others, text);
     or(&['#', 'x'], Mark::Numeral(Base::Hexadecimal), found, text)
 }
 
-fn reference(named: bool, text: &[char]) -> WordFound<'_>
-    ensures { IsWordFound (choice_words (choice_of.Reference named)) text.now result }
+fn reference(named: bool, text: Characters<'_>) -> WordFound<'_>
+    ensures { IsWordFound (choice_words (choice_of.Reference named)) (spelled text.entry) result }
 {
     if named {
         return number_sign(entities(text), text);
@@ -321,8 +347,8 @@ fn reference(named: bool, text: &[char]) -> WordFound<'_>
     number_sign(no_word(text), text)
 }
 
-fn content(text: &[char]) -> WordFound<'_>
-    ensures { IsWordFound (choice_words choice_of.Content) text.now result }
+fn content(text: Characters<'_>) -> WordFound<'_>
+    ensures { IsWordFound (choice_words choice_of.Content) (spelled text.entry) result }
 {
     let found = no_word(text);
     let found = or(&['<', '?'], Mark::Instruction, found, text);
@@ -339,8 +365,8 @@ fn content(text: &[char]) -> WordFound<'_>
 }
 
 /// The word of a choice that stands at the front.
-pub fn find_word(choice: Choice, text: &[char]) -> WordFound<'_>
-    ensures { IsWordFound (choice_words choice) text.now result }
+pub fn find_word(choice: Choice, text: Characters<'_>) -> WordFound<'_>
+    ensures { IsWordFound (choice_words choice) (spelled text.entry) result }
 {
     match choice {
         Choice::DeclarationStart => declaration_start(text),

@@ -1,10 +1,10 @@
 // Texts of names, of which equal ones share their characters.
 
+ghost use Rattle.gx_xml.specs.Characters.{spelled};
 ghost use Rattle.std.specs.Prelude.{◌≡◌, ◌<◌, ◌↔◌, IfOk, IsTrue};
 ghost use Rattle.std.specs.Str.{chars};
 
-use crate::tag::text_of;
-use gx_base::characters::next_character;
+use crate::characters::Characters;
 use gx_base::text::Text;
 use std::alloc::{AllocError, Global};
 
@@ -28,8 +28,8 @@ impl SharedTexts {
     }
 
     /// The text of characters, which shares those of an equal text that is kept.
-    pub fn text_of(&mut self, alloc: Global, characters: &[char]) -> Result<Text, AllocError>
-        ensures { IfOk result (λ t. t ≡ characters.now) }
+    pub fn text_of(&mut self, alloc: Global, characters: Characters<'_>) -> Result<Text, AllocError>
+        ensures { IfOk result (λ t. t ≡ spelled characters.entry) }
     {
         let slot = slot_of(characters);
         if let Some(Some(text)) = self.kept.get(slot)
@@ -37,7 +37,7 @@ impl SharedTexts {
         {
             return text.clone();
         }
-        let text = text_of(alloc, characters)?;
+        let text = Text::from_str(alloc, characters.text)?;
         if let Some(place) = self.kept.get_mut(slot) {
             *place = Some(text.clone()?);
         }
@@ -46,34 +46,26 @@ impl SharedTexts {
 }
 
 // The slot of characters.
-fn slot_of(characters: &[char]) -> usize
+fn slot_of(characters: Characters<'_>) -> usize
     ensures { result < SLOTS }
 {
     let mut slot = 0;
-    for c in characters {
-        slot = (slot * 31 + *c as usize) % SLOTS;
+    for byte in characters.text.as_bytes() {
+        slot = (slot * 31 + *byte as usize) % SLOTS;
     }
     slot
 }
 
 // Whether a text has these characters.
-#[tactic(auto, using(gx_base::proofs::TextLemmas::string_rules))]
-fn has_characters(text: &Text, characters: &[char]) -> bool
-    ensures { IsTrue result ↔ (text.now ≡ characters.now) }
+fn has_characters(text: &Text, characters: Characters<'_>) -> bool
+    ensures { IsTrue result ↔ (text.now ≡ spelled characters.entry) }
 {
-    spells(text.as_str(), characters)
+    spells(text, characters.text)
 }
 
-// Whether a string spells these characters.
-fn spells(text: &str, characters: &[char]) -> bool
-    ensures { IsTrue result ↔ (chars text.now ≡ characters.now) }
+#[tactic(auto, using(gx_base::proofs::TextLemmas::string_rules))]
+fn spells(text: &Text, characters: &str) -> bool
+    ensures { IsTrue result ↔ (text.now ≡ chars characters.now) }
 {
-    let mut rest = text.chars();
-    for c in characters {
-        match next_character(&mut rest) {
-            Some(other) if other == *c => {}
-            _ => return false,
-        }
-    }
-    next_character(&mut rest).is_none()
+    text.as_str() == characters
 }

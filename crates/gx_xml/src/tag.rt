@@ -1,10 +1,12 @@
 // Start tags.
 
 ghost use Rattle.gx_grammar.specs.Ran.{IsDone, left_of};
+ghost use Rattle.gx_xml.specs.Characters.{spelled};
 ghost use Rattle.gx_xml.specs.TagView.{HasAdded, ReadAttribute, ReadAttributes};
 ghost use Rattle.std.specs.Prelude.{◌≡◌, ◌≤◌, ◌<◌, ◌⊎◌, [], ◌∷◌, ◌++◌, IfOk, OnOk, OnErr, string_bytes};
 ghost use Rattle.std.specs.Str.{chars};
 
+use crate::characters::Characters;
 use crate::phrases::{QName, equals, qualified, quote, space};
 use crate::reader::Reader;
 use crate::runs::Run;
@@ -57,8 +59,8 @@ pub fn begun(
     texts: &mut SharedTexts,
     name: QName<'_>,
 ) -> Result<StartTag, AllocError>
-    ensures prefix { IfOk result (λ t. t.prefix ≡ name.entry.prefix.now) }
-    ensures local { IfOk result (λ t. t.local ≡ name.entry.local.now) }
+    ensures prefix { IfOk result (λ t. t.prefix ≡ (spelled name.entry.prefix)) }
+    ensures local { IfOk result (λ t. t.local ≡ (spelled name.entry.local)) }
     ensures declarations { IfOk result (λ t. t.declarations.items ≡ []) }
     ensures attributes { IfOk result (λ t. t.attributes.items ≡ []) }
 {
@@ -80,14 +82,14 @@ fn add(
     name: QName<'_>,
     value: &[char],
 ) -> Result<(), AllocError>
-    ensures added { OnOk result (HasAdded name.entry.prefix.now name.entry.local.now value.now tag.old tag.new) }
+    ensures added { OnOk result (HasAdded (spelled name.entry.prefix) (spelled name.entry.local) value.now tag.old tag.new) }
     ensures prefix { OnOk result (tag.new.prefix ≡ tag.old.prefix) }
     ensures local { OnOk result (tag.new.local ≡ tag.old.local) }
 {
     let value = text_of(alloc, value)?;
     match purpose_of(name) {
         Purpose::Default => {
-            let prefix = texts.text_of(alloc, &[])?;
+            let prefix = texts.text_of(alloc, Characters::none())?;
             let uri = value;
             tag.declarations.push(Declaration { prefix, uri })?;
         }
@@ -115,9 +117,9 @@ fn attribute<'a>(
     reader: &mut Reader<'a>,
     texts: &mut SharedTexts,
     tag: &mut StartTag,
-    first: &'a [char],
+    first: Characters<'a>,
 ) -> Result<(), AllocError>
-    ensures read { OnOk result (ReadAttribute first.now tag.old tag.new reader.old reader.new) }
+    ensures read { OnOk result (ReadAttribute (spelled first.entry) tag.old tag.new reader.old reader.new) }
     ensures prefix { OnOk result (tag.new.prefix ≡ tag.old.prefix) }
     ensures local { OnOk result (tag.new.local ≡ tag.old.local) }
     ensures shrinks { left_of reader.new ≤ left_of reader.old }

@@ -84,7 +84,7 @@ fn untyped_attributes(
 }
 
 #[tactic(auto, unfolding(crate::specs::Untyped::is_instance_namespace))]
-fn is_instance_namespace(uri: &Text) -> bool
+pub(crate) fn is_instance_namespace(uri: &Text) -> bool
     ensures { result ≡ is_instance_namespace uri.now }
 {
     uri.as_str() == "http://www.w3.org/2001/XMLSchema-instance"

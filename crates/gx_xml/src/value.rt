@@ -4,6 +4,7 @@ ghost use Rattle.gx_grammar.specs.Grammar.{rule};
 ghost use Rattle.gx_grammar.specs.Ran.{Ran, left_of, IsDone};
 ghost use Rattle.gx_grammar.specs.Value.{characters};
 ghost use Rattle.gx_tree.specs.Binding.{xml, xml_uri, xmlns_uri};
+ghost use Rattle.gx_xml.specs.Characters.{spelled};
 ghost use Rattle.gx_xml.specs.Grammar.{expected_at, may_refer, value, value_run};
 ghost use Rattle.gx_xml.specs.Names.{purpose_as};
 ghost use Rattle.gx_xml.specs.Runs.{character_kept, normalised, text_normalised};
@@ -13,6 +14,7 @@ ghost use Rattle.std.specs.Prelude.{◌≡◌, ◌≤◌, ◌<◌, ◌⊎◌, �
 ghost use Rattle.std.specs.Str.{chars};
 ghost use Rattle.std.specs.Option.{option_to_list};
 
+use crate::characters::Characters;
 use crate::marks::{Choice, Mark};
 use crate::phrases::{QName, reference};
 use crate::reader::{Reader, is_xmlns};
@@ -26,12 +28,9 @@ pub enum Purpose<'a> {
     /// It declares the default namespace.
     Default,
     /// It declares a prefix.
-    Prefix(&'a [char]),
+    Prefix(Characters<'a>),
     Ordinary,
 }
-
-// The prefix that is always bound.
-const XML: [char; 3] = ['x', 'm', 'l'];
 
 // The URI of the prefix `xmlns`.
 const XMLNS_URI: [char; 29] = [
@@ -41,7 +40,7 @@ const XMLNS_URI: [char; 29] = [
 
 /// What an attribute of this name is for (Namespaces in XML 1.0, section 3).
 pub fn purpose_of<'a>(name: QName<'a>) -> Purpose<'a>
-    ensures { purpose_as result ≡ purpose_of name.entry.prefix.now name.entry.local.now }
+    ensures { purpose_as result ≡ purpose_of (spelled name.entry.prefix) (spelled name.entry.local) }
 {
     if is_xmlns(name.prefix) {
         return Purpose::Prefix(name.local);
@@ -52,10 +51,16 @@ pub fn purpose_of<'a>(name: QName<'a>) -> Purpose<'a>
     Purpose::Ordinary
 }
 
-fn is_xml(prefix: &[char]) -> bool
-    ensures { result ≡ bytes_eq prefix.now xml }
+fn is_xml(prefix: Characters<'_>) -> bool
+    ensures { result ≡ bytes_eq (spelled prefix.entry) xml }
 {
-    prefix == XML.as_slice()
+    is_text_xml(prefix.text)
+}
+
+fn is_text_xml(text: &str) -> bool
+    ensures { result ≡ bytes_eq (chars text.now) xml }
+{
+    text == "xml"
 }
 
 fn is_uri_of_xml(uri: &[char]) -> bool
@@ -128,8 +133,13 @@ fn expected_at(of_xml: bool, position: usize) -> Option<char>
 }
 
 // Reads the characters of a value up to a reference or the quote, behind so many.
-fn value_run<'a>(reader: &mut Reader<'a>, of_xml: bool, quote: Quote, position: usize) -> &'a [char]
-    ensures read { Ran (characters result.now) reader.old reader.new (read_document_token (value_run of_xml quote position)) }
+fn value_run<'a>(
+    reader: &mut Reader<'a>,
+    of_xml: bool,
+    quote: Quote,
+    position: usize,
+) -> Characters<'a>
+    ensures read { Ran (characters (spelled result)) reader.old reader.new (read_document_token (value_run of_xml quote position)) }
     ensures shrinks { left_of reader.new ≤ left_of reader.old }
 {
     if of_xml {
@@ -171,15 +181,21 @@ fn push_kept(out: &mut Vec<char>, kept: Option<char>) -> Result<(), AllocError>
 }
 
 /// Adds the characters of a run, with line ends as line feeds, and in a value with spaces for tabs and line feeds.
-pub fn push_normalised(out: &mut Vec<char>, run: &[char], spaces: bool) -> Result<(), AllocError>
-    ensures { OnOk result (out.new.items ≡ out.old.items ++ normalised spaces false run.now) }
+pub fn push_normalised(
+    out: &mut Vec<char>,
+    run: Characters<'_>,
+    spaces: bool,
+) -> Result<(), AllocError>
+    ensures { OnOk result (out.new.items ≡ out.old.items ++ normalised spaces false (spelled run.entry)) }
 {
     out.reserve(run.len())?;
     let mut behind_return = false;
-    for c in run {
-        let (kept, returned) = normalised_step(spaces, behind_return, *c);
+    let mut left = run;
+    while let Some((c, others)) = left.first() {
+        let (kept, returned) = normalised_step(spaces, behind_return, c);
         push_kept(out, kept)?;
         behind_return = returned;
+        left = others;
     }
     Ok(())
 }
@@ -194,15 +210,17 @@ fn push_kept_text(out: &mut String, kept: Option<char>) -> Result<(), AllocError
 }
 
 /// Adds the characters of a run of a text, with line ends as line feeds.
-pub fn push_normalised_text(out: &mut String, run: &[char]) -> Result<(), AllocError>
-    ensures { OnOk result (chars (string_bytes out.new) ≡ chars (string_bytes out.old) ++ text_normalised run.now) }
+pub fn push_normalised_text(out: &mut String, run: Characters<'_>) -> Result<(), AllocError>
+    ensures { OnOk result (chars (string_bytes out.new) ≡ chars (string_bytes out.old) ++ text_normalised (spelled run.entry)) }
 {
-    out.reserve(run.len())?;
+    out.reserve(run.text.len())?;
     let mut behind_return = false;
-    for c in run {
-        let (kept, returned) = normalised_step(false, behind_return, *c);
+    let mut left = run;
+    while let Some((c, others)) = left.first() {
+        let (kept, returned) = normalised_step(false, behind_return, c);
         push_kept_text(out, kept)?;
         behind_return = returned;
+        left = others;
     }
     Ok(())
 }
@@ -215,7 +233,7 @@ pub fn value(
     name: QName<'_>,
     quote: Quote,
 ) -> Result<Vec<char>, AllocError>
-    ensures read { IfOk result (λ v. ReadValue name.entry.prefix.now name.entry.local.now quote [] v.items reader.old reader.new) }
+    ensures read { IfOk result (λ v. ReadValue (spelled name.entry.prefix) (spelled name.entry.local) quote [] v.items reader.old reader.new) }
     ensures shrinks { left_of reader.new ≤ left_of reader.old }
     ensures shorter { OnOk result (IsDone reader.new ⊎ (left_of reader.new < left_of reader.old)) }
 {

@@ -1,8 +1,8 @@
-use Rattle.std.proofs.Common.{◌≤◌, List, ℕ, length, arith, ap, subst}
-use Rattle.std.proofs.lemmas.Str.{length-le-encodes}
+use Rattle.std.proofs.Common.{List, ℕ, subst}
+use Rattle.std.specs.Prelude.{MatchResult}
+use Rattle.gx_xml.specs.Reading.{IsDocumentOf, IsDocumentRefusal}
 use Rattle.gx_xml.proofs.document.read_document.Goals as goal
 
-pub read_characters-requires : goal.read_characters-requires
-read_characters-requires c =
-    let shorter : length c.in-Ok.text.items ≤ length c.args.bytes.now = subst (λ (bs : List ℕ). length c.in-Ok.text.items ≤ length bs) c.in-Ok.ensures.text (length-le-encodes c.in-Ok.text.items) in
-    omega (arith, c.requires, shorter, ap length c.deref.ensures.value)
+pub returns-in-Ok : goal.returns-in-Ok
+returns-in-Ok c =
+    subst (λ (bytes : List ℕ). MatchResult c.read_characters.result (λ s. IsDocumentOf bytes s.root) (λ e. IsDocumentRefusal bytes e)) c.in-Ok.ensures.cases.0 c.read_characters.ensures

@@ -1,5 +1,6 @@
 use Rattle.std.proofs.Common.{subst}
 use Rattle.gx_grammar.specs.Value.{characters}
+use Rattle.gx_xml.specs.Characters.{spelled}
 use Rattle.gx_xml.specs.Standings.{Did}
 use Rattle.gx_xml.specs.declared.runs.Run.TheVariants.{Space}
 use Rattle.gx_xml.specs.Tokens.{maybe_run}
@@ -9,5 +10,5 @@ use Rattle.gx_xml.proofs.phrases.space.Goals as goal
 
 pub returns-clause-read : goal.returns-clause-read
 returns-clause-read c = λ k w after h.
-    did_on (maybe_run Space 0) _ (characters c.maybe_run.result.now) w _ _ _ c.maybe_run.ensures.read
-    (subst (λ b. Did w c.maybe_run.new.self after (k b)) (some_there c.maybe_run.result.now c.is_empty.result c.is_empty.ensures) h)
+    did_on (maybe_run Space 0) _ (characters (spelled c.maybe_run.result)) w _ _ _ c.maybe_run.ensures.read
+    (subst (λ b. Did w c.maybe_run.new.self after (k b)) (some_there (spelled c.maybe_run.result) c.is_empty.result c.is_empty.ensures) h)

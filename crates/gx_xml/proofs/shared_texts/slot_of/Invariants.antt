@@ -1,5 +1,5 @@
 use Rattle.std.proofs.Common.{◌<◌}
 use Rattle.gx_xml.proofs.shared_texts.slot_of.Given as goal
 
-abbrev pub invariant-loop-c : goal.invariant-loop-c
-invariant-loop-c l = l.slot < 1024
+abbrev pub invariant-loop-byte : goal.invariant-loop-byte
+invariant-loop-byte l = l.slot < 1024

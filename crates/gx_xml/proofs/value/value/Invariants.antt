@@ -1,11 +1,12 @@
 use Rattle.std.proofs.Common.{◌≤◌}
 use Rattle.gx_grammar.specs.Ran.{left_of}
+use Rattle.gx_xml.specs.Characters.{spelled}
 use Rattle.gx_xml.specs.Standings.{ReadSoFar}
 use Rattle.gx_xml.proofs.value.value.Given as goal
 
 abbrev pub invariant-loop-so_far : goal.invariant-loop-so_far
 invariant-loop-so_far l = record {
-  read : ReadSoFar l.fn.name.prefix.now l.fn.name.local.now l.quote l.so_far.items l.fn.reader l.reader;
+  read : ReadSoFar (spelled l.fn.name.prefix) (spelled l.fn.name.local) l.quote l.so_far.items l.fn.reader l.reader;
   shrinks : left_of l.reader ≤ left_of l.fn.reader;
 }
 
