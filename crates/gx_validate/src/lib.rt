@@ -6,6 +6,7 @@ mod attributes;
 mod child_kinds;
 mod children;
 mod content;
+pub mod into_valid;
 pub mod invalid;
 pub mod laws;
 mod path;

@@ -47,7 +47,7 @@ pub fn validate(
 }
 
 // The document node over a tree.
-fn document(alloc: Global, tree: Tree) -> Result<Tree, AllocError>
+pub(crate) fn document(alloc: Global, tree: Tree) -> Result<Tree, AllocError>
     ensures { IfOk result (λ t. t ≡ document (a_tree tree no_trees)) }
 {
     let mut children = Vec::new(alloc);
@@ -75,7 +75,7 @@ fn typed_root(
 }
 
 // The declared type of a root of a name.
-fn root_type(schemas: &Schemas, root: &Name) -> Result<TypeName, AllocError>
+pub(crate) fn root_type(schemas: &Schemas, root: &Name) -> Result<TypeName, AllocError>
     ensures { IfOk result (λ t. t ≡ root_type schemas.now root.now) }
 {
     match schemas.global(root) {
@@ -85,7 +85,7 @@ fn root_type(schemas: &Schemas, root: &Name) -> Result<TypeName, AllocError>
 }
 
 // That a rule is broken at the element itself.
-fn broken_here(alloc: Global, rule: InvalidRule) -> Invalid
+pub(crate) fn broken_here(alloc: Global, rule: InvalidRule) -> Invalid
     ensures { IsRefusedHere rule result }
 {
     match Text::empty(alloc) {
@@ -149,7 +149,7 @@ fn typed_in_scope<'a>(
 }
 
 // The type of an element with its declaration, or the first rule that it breaks.
-fn element_judged<'a, 's>(
+pub(crate) fn element_judged<'a, 's>(
     alloc: Global,
     takers: &mut Takers<'s>,
     scope: &Scope<'a>,
@@ -226,7 +226,7 @@ fn typed_child<'a>(
 }
 
 // Adds a text where it is part of the content.
-fn add_text(done: &mut Vec<Tree>, texts: Texts, text: &Text) -> Result<(), AllocError>
+pub(crate) fn add_text(done: &mut Vec<Tree>, texts: Texts, text: &Text) -> Result<(), AllocError>
     ensures { OnOk result (done.new.items ≡ with_kept_text texts done.old.items text.now) }
 {
     if is_ignored(texts, text) {
@@ -236,7 +236,7 @@ fn add_text(done: &mut Vec<Tree>, texts: Texts, text: &Text) -> Result<(), Alloc
     add_tree(done, Tree { node })
 }
 
-fn add_tree(done: &mut Vec<Tree>, tree: Tree) -> Result<(), AllocError>
+pub(crate) fn add_tree(done: &mut Vec<Tree>, tree: Tree) -> Result<(), AllocError>
     ensures { OnOk result (done.new.items ≡ done.old.items ++ tree ∷ []) }
 {
     Ok(done.push(tree)?)
