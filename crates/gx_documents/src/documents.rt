@@ -24,12 +24,12 @@ use gx_store::number::NodeId;
 use gx_store::store::Store;
 use gx_tree::tree::Tree;
 use gx_types::schemas::Schemas;
+use gx_validate::into_valid::into_valid;
 use gx_validate::invalid::{Invalid, InvalidRule};
-use gx_validate::validate::validate;
 use gx_xml::document::read_document;
+use gx_xml::into_untyped::into_untyped;
 use gx_xml::refusal::{XmlRefusal, XmlRule};
 use gx_xml::source::Source;
-use gx_xml::untyped::untyped;
 use std::alloc::{AllocError, Global};
 
 /// The form in which the tree of a document is kept.
@@ -198,8 +198,8 @@ impl<'s> Kept for Trees<'s> {
         source: Source,
     ) -> Result<Tree, TreeError> {
         match request.form {
-            DocumentForm::Untyped => Ok(untyped(alloc, &source)?),
-            DocumentForm::Valid(root) => valid_tree(alloc, self.schemas, root, &source),
+            DocumentForm::Untyped => Ok(into_untyped(alloc, source)?),
+            DocumentForm::Valid(root) => valid_tree(alloc, self.schemas, root, source),
         }
     }
 }
@@ -245,12 +245,12 @@ fn valid_tree(
     alloc: Global,
     schemas: &Schemas,
     root: &Name,
-    source: &Source,
+    source: Source,
 ) -> Result<Tree, TreeError>
     requires { IsSome (global_type schemas.now root.now) }
-    ensures { MatchResult result (λ t. validated schemas.now root.now source.now.root ≡ Ok t) (IsInvalidSo (validated schemas.now root.now source.now.root)) }
+    ensures { MatchResult result (λ t. validated schemas.now root.now source.root ≡ Ok t) (IsInvalidSo (validated schemas.now root.now source.root)) }
 {
-    match validate(alloc, schemas, root, source) {
+    match into_valid(alloc, schemas, root, source) {
         Ok(tree) => Ok(tree),
         Err(Invalid::Refused { rule, path }) => {
             Err(TreeError::Fault(DocumentFault::Invalid(rule, path)))
@@ -346,25 +346,27 @@ fn document<K: Kept, L: Library>(
         (λ e. TreeReason (L.files library.old) (K.asks form.now request.now) (Rose (L.faults library.old) (L.faults library.new)) e) }
 {
     match library.load(alloc, form.file(request), FILE_BYTES) {
-        Ok(bytes) => kept_of(alloc, form, request, bytes.as_slice()),
+        Ok(bytes) => kept_of(alloc, form, request, bytes),
         Err(LoadError::TooLong { .. }) => Err(TreeError::Fault(DocumentFault::TooLong)),
         Err(LoadError::Failed) => Err(TreeError::Fault(DocumentFault::Unread)),
         Err(LoadError::Memory) => Err(TreeError::Memory),
     }
 }
 
-// What is kept of the bytes of a document.
+// What is kept of a document, whose bytes are let go once they are read.
 fn kept_of<K: Kept>(
     alloc: Global,
     form: &K,
     request: &K::Wanted,
-    bytes: &[u8],
+    bytes: Vec<u8>,
 ) -> Result<K::Form, TreeError>
     requires asked { K.can_ask form.now request.now }
-    requires within { length bytes.now ≤ FILE_BYTES }
-    ensures { MatchResult result (λ kept. (root : SourceTree) × IsDocumentOf bytes.now root × ((K.asks form.now request.now).outcome root ≡ Ok kept)) (IsRefusedSo (K.asks form.now request.now) bytes.now) }
+    requires within { length bytes.items ≤ FILE_BYTES }
+    ensures { MatchResult result (λ kept. (root : SourceTree) × IsDocumentOf bytes.items root × ((K.asks form.now request.now).outcome root ≡ Ok kept)) (IsRefusedSo (K.asks form.now request.now) bytes.items) }
 {
-    match read_document(alloc, bytes) {
+    let read = read_document(alloc, bytes.as_slice());
+    drop(bytes);
+    match read {
         Ok(source) => form.kept(alloc, request, source),
         Err(XmlRefusal::Refused { place, rule }) => {
             Err(TreeError::Fault(DocumentFault::Refused(rule, place)))
