@@ -10,6 +10,7 @@ ghost use Rattle.std.specs.Prelude.{◌≡◌, ◌++◌, ◌∷◌, [], ◌↔�
 ghost use Rattle.std.specs.Str.{chars};
 
 use crate::characters::Characters;
+use crate::shared_texts::SharedTexts;
 use crate::source::{SourceChild, SourceElement};
 use crate::tag::push_character;
 use crate::value::push_normalised_text;
@@ -59,33 +60,42 @@ impl Children {
     }
 
     // Makes a text of the characters behind the last child, if there are any.
-    fn flush(&mut self, alloc: Global) -> Result<(), AllocError>
+    fn flush(&mut self, alloc: Global, texts: &mut SharedTexts) -> Result<(), AllocError>
         ensures done { OnOk result (self.new.done.items ≡ self.old.done.items ++ text_part (chars (string_bytes self.old.pending))) }
         ensures pending { OnOk result (chars (string_bytes self.new.pending) ≡ []) }
     {
         if is_empty(&self.pending) {
             return Ok(());
         }
-        let text = taken(alloc, &mut self.pending)?;
+        let text = taken(alloc, texts, &mut self.pending)?;
         make_room(&mut self.done)?;
         self.done.push(SourceChild::Text(text))?;
         Ok(())
     }
 
     /// Adds an element.
-    pub fn push_element(&mut self, alloc: Global, element: SourceElement) -> Result<(), AllocError>
+    pub fn push_element(
+        &mut self,
+        alloc: Global,
+        texts: &mut SharedTexts,
+        element: SourceElement,
+    ) -> Result<(), AllocError>
         ensures { OnOk result ((cs : SourceContents) → children_with self.new cs ≡ children_with self.old (a_child element cs)) }
     {
-        self.flush(alloc)?;
+        self.flush(alloc, texts)?;
         self.done.push(SourceChild::Element(element))?;
         Ok(())
     }
 
     /// All children.
-    pub fn finish(mut self, alloc: Global) -> Result<Vec<SourceChild>, AllocError>
+    pub fn finish(
+        mut self,
+        alloc: Global,
+        texts: &mut SharedTexts,
+    ) -> Result<Vec<SourceChild>, AllocError>
         ensures { IfOk result (λ v. contents_of v.items ≡ children_with self no_content) }
     {
-        self.flush(alloc)?;
+        self.flush(alloc, texts)?;
         let Children {
             mut done,
             pending: _,
@@ -103,12 +113,12 @@ fn is_empty(text: &String) -> bool
 }
 
 // The text of the characters of a string, which is empty then.
-fn taken(alloc: Global, pending: &mut String) -> Result<Text, AllocError>
+fn taken(alloc: Global, texts: &mut SharedTexts, pending: &mut String) -> Result<Text, AllocError>
     ensures text { IfOk result (λ t. t ≡ chars (string_bytes pending.old)) }
     ensures empty { string_bytes pending.new ≡ [] }
 {
     let characters = replace(pending, String::new(alloc));
-    Text::from_string(alloc, characters)
+    texts.text_of_string(alloc, characters)
 }
 
 // Makes room for a child, and for one alone where it is the first.

@@ -171,7 +171,7 @@ fn content(
         children.push_text(run)?;
         let mark = reader.choice(Choice::Content);
         if reader.has_ended() || !mark.is_item() {
-            return children.finish(alloc);
+            return children.finish(alloc, texts);
         }
         item(alloc, reader, texts, bindings, room, &mut children, mark)?;
     }
@@ -207,7 +207,7 @@ fn item(
         }
         Mark::StartTag => {
             let child = element(alloc, reader, texts, bindings, room)?;
-            children.push_element(alloc, child)?;
+            children.push_element(alloc, texts, child)?;
         }
         _ => {}
     }

@@ -1,7 +1,7 @@
-// Texts of names, of which equal ones share their characters.
+// Texts of names and short values, of which equal ones share their characters.
 
 ghost use Rattle.gx_xml.specs.Characters.{spelled};
-ghost use Rattle.std.specs.Prelude.{◌≡◌, ◌<◌, ◌↔◌, IfOk, IsTrue};
+ghost use Rattle.std.specs.Prelude.{◌≡◌, ◌<◌, ◌↔◌, IfOk, IsTrue, string_bytes};
 ghost use Rattle.std.specs.Str.{chars};
 
 use crate::characters::Characters;
@@ -9,7 +9,10 @@ use gx_base::text::Text;
 use std::alloc::{AllocError, Global};
 
 // How many texts are kept.
-const SLOTS: usize = 1024;
+const SLOTS: usize = 16384;
+
+// Up to so many bytes a value is short.
+const SHORT: usize = 16;
 
 /// Texts that were made, each in the slot of its characters: of those of one slot the last is kept.
 #[derive(Drop)]
@@ -42,6 +45,17 @@ impl SharedTexts {
             *place = Some(text.clone()?);
         }
         Ok(text)
+    }
+
+    /// The text of a string, which shares the characters of an equal text that is kept where it is short.
+    #[tactic(auto, using(gx_base::proofs::TextLemmas::string_rules))]
+    pub fn text_of_string(&mut self, alloc: Global, string: String) -> Result<Text, AllocError>
+        ensures { IfOk result (λ t. t ≡ chars (string_bytes string)) }
+    {
+        if string.len() > SHORT {
+            return Text::from_string(alloc, string);
+        }
+        self.text_of(alloc, Characters::new(string.as_str()))
     }
 }
 

@@ -42,15 +42,15 @@ pub fn push_character(out: &mut String, character: char) -> Result<(), AllocErro
     Ok(out.push(character)?)
 }
 
-/// The text of characters.
-pub fn text_of(alloc: Global, characters: &[char]) -> Result<Text, AllocError>
-    ensures { IfOk result (λ t. t ≡ characters.now) }
+// The string of characters.
+fn string_of(alloc: Global, characters: &[char]) -> Result<String, AllocError>
+    ensures { IfOk result (λ s. chars (string_bytes s) ≡ characters.now) }
 {
     let mut text = String::with_capacity(alloc, characters.len())?;
     for c in characters {
         push_character(&mut text, *c)?;
     }
-    Text::from_string(alloc, text)
+    Ok(text)
 }
 
 /// A start tag behind its name.
@@ -86,7 +86,8 @@ fn add(
     ensures prefix { OnOk result (tag.new.prefix ≡ tag.old.prefix) }
     ensures local { OnOk result (tag.new.local ≡ tag.old.local) }
 {
-    let value = text_of(alloc, value)?;
+    let value = string_of(alloc, value)?;
+    let value = texts.text_of_string(alloc, value)?;
     match purpose_of(name) {
         Purpose::Default => {
             let prefix = texts.text_of(alloc, Characters::none())?;
