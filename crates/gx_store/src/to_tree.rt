@@ -200,6 +200,7 @@ impl Store {
             return Ok(());
         };
         if let Form::Attribute { label: _, value } = &row.form {
+            make_room(list)?;
             list.push(attribute(self.label_of(node), value, annotations)?)?;
         }
         Ok(())
@@ -212,8 +213,19 @@ fn put_copy(opened: &mut Stack<Copying>, outer: Copying, tree: Tree) -> Result<(
     ensures less { (forest : PlainForest) → OnOk result (left_to_copy forest opened.new ≡ left_to_copy forest (outer ∷ opened.old)) }
 {
     let mut here = outer;
+    make_room(&mut here.copied)?;
     here.copied.push(tree)?;
     opened.push(here)
+}
+
+// Makes room for one more, and for one alone where it is the first.
+fn make_room<T: Drop>(items: &mut Vec<T>) -> Result<(), AllocError>
+    ensures { items.new.items ≡ items.old.items }
+{
+    if items.is_empty() {
+        items.reserve_exact(1)?;
+    }
+    Ok(())
 }
 
 fn attribute(label: &Label, value: &Text, annotations: Annotations) -> Result<Attribute, AllocError>
