@@ -46,8 +46,8 @@ impl<'a, 's> Resolving<'a, 's> {
         cases: &'a [Case],
         head: &'a DefaultHead,
         otherwise: &'a Expr,
-    ) -> Result<(), AllocError>
-        ensures refusals { OnOk result (refusals_of_rest self.new ≡ form_refusals self.old.names place (typeswitch operand.now (cases_of cases.now) head.now otherwise.now) ++ refusals_of_rest self.old) }
+    ) -> Result<(), NameRefusal>
+        ensures refusals { Proceeds result (form_refusals self.old.names place (typeswitch operand.now (cases_of cases.now) head.now otherwise.now) ++ refusals_of_rest self.old) (refusals_of_rest self.new) }
         ensures trees { OnOk result (trees_of_rest self.new ≡ trees_behind (form_resolved self.old.names place (typeswitch operand.now (cases_of cases.now) head.now otherwise.now)) self.old) }
     {
         let tasks = &mut self.tasks;
@@ -56,7 +56,7 @@ impl<'a, 's> Resolving<'a, 's> {
         let first = Task::Cases(cases);
         let second = Task::Default(head, otherwise);
         open_two(alloc, tasks, unfinished, place, construct, first, second)?;
-        self.tasks.push(Task::Tree(operand))
+        Ok(self.tasks.push(Task::Tree(operand))?)
     }
 
     // The first case, or none.

@@ -154,7 +154,12 @@ impl<'a, 's> Resolving<'a, 's> {
         }
     }
 
-    fn text(&mut self, alloc: Global, place: Place, text: &Text) -> Result<(), AllocError>
+    pub(crate) fn text(
+        &mut self,
+        alloc: Global,
+        place: Place,
+        text: &Text,
+    ) -> Result<(), AllocError>
         ensures refusals { OnOk result (refusals_of_rest self.new ≡ refusals_of_rest self.old) }
         ensures trees { OnOk result (trees_of_rest self.new ≡ trees_behind (text_resolved place text.now) self.old) }
     {

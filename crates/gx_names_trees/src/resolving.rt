@@ -1,6 +1,9 @@
 // A resolution in its midst: the tasks that are left, and the trees in the making.
 
-ghost use Rattle.std.specs.Prelude.{◌≡◌, ◌≢◌, [], ◌∷◌, ◌++◌, OnOk, IfOk, Some};
+ghost use Rattle.std.specs.Prelude.{◌≡◌, ◌≢◌, [], ◌∷◌, ◌++◌, OnOk, IfOk, Some, unwrap_or};
+ghost use Rattle.gx_base.specs.declared.code.Code.TheVariants as codes;
+ghost use Rattle.gx_names_scope.specs.Environment.{binder_of};
+ghost use Rattle.gx_names_scope.specs.Refusing.{unless_found};
 ghost use Rattle.gx_ast.specs.SyntaxTree.{call, cast_as, castable_as, conditional, filtered, instance_of, treat_as};
 ghost use Rattle.gx_ast.specs.SyntaxView.{keys_of, trees_of};
 ghost use Rattle.gx_names_scope.specs.declared.tasks.Task.TheVariants as task;
@@ -19,7 +22,7 @@ use gx_ast::expression::{Binding, Clause, Expr, ExprNode};
 use gx_ast::name::QName;
 use gx_ast::sequence_type::{AxisStep, SequenceType, SingleType};
 use gx_base::code::Code;
-use gx_base::name::SharedName;
+use gx_base::name::{Name, SharedName};
 use gx_base::place::Place;
 use gx_base::stack::Stack;
 use gx_funcs::function::find_local;
@@ -91,27 +94,26 @@ impl<'a, 's> Resolving<'a, 's> {
         ensures refusals { Proceeds result (refusals_with task.entry self.old) (refusals_of_rest self.new) }
         ensures trees { OnOk result (trees_of_rest self.new ≡ trees_with task.entry self.old) }
     {
-        match task {
-            Task::Tree(tree) => self.open_tree(alloc, tree),
-            Task::Trees(trees) => Ok(self.open_trees(trees)?),
-            Task::Clauses(rest) => self.open_rest(alloc, rest),
-            Task::Keys(keys) => Ok(self.open_keys(alloc, keys)?),
-            Task::Cases(cases) => self.open_cases(alloc, cases),
-            Task::Default(head, otherwise) => self.open_default(alloc, head, otherwise),
-            Task::Bind(variable) => Ok(self.names.bind_variable(alloc, variable)?),
-            Task::BindOptional(variable) => Ok(self.names.bind_optional(alloc, variable)?),
-            Task::Unbind => Ok(self.names.unbind_variable()?),
-            Task::UnbindOptional(variable) => Ok(self.names.unbind_optional(variable)?),
-            Task::Written(kind) => self.check_type(alloc, kind),
-            Task::Target(target) => self.check_target(alloc, target),
-            Task::Attributes(attributes) => self.open_attributes(alloc, attributes),
-            Task::AttributeParts(value, place) => Ok(self.open_attribute_parts(
-                alloc, value, place,
-            )?),
-            Task::Parts(content, place) => Ok(self.open_parts(alloc, content, place)?),
-            Task::LeaveTag(attributes) => Ok(leave_namespaces(&mut self.names, attributes)?),
-            Task::Close => Ok(close(&mut self.unfinished)?),
-        }
+        let done = match task {
+            Task::Tree(tree) => return self.open_tree(alloc, tree),
+            Task::Trees(trees) => self.open_trees(trees),
+            Task::Clauses(rest) => return self.open_rest(alloc, rest),
+            Task::Keys(keys) => self.open_keys(alloc, keys),
+            Task::Cases(cases) => return self.open_cases(alloc, cases),
+            Task::Default(head, otherwise) => return self.open_default(alloc, head, otherwise),
+            Task::Bind(variable) => self.names.bind_variable(alloc, variable),
+            Task::BindOptional(variable) => self.names.bind_optional(alloc, variable),
+            Task::Unbind => self.names.unbind_variable(),
+            Task::UnbindOptional(variable) => self.names.unbind_optional(variable),
+            Task::Written(kind) => return self.check_type(alloc, kind),
+            Task::Target(target) => return self.check_target(alloc, target),
+            Task::Attributes(attributes) => return self.open_attributes(alloc, attributes),
+            Task::AttributeParts(value, place) => self.open_attribute_parts(alloc, value, place),
+            Task::Parts(content, place) => self.open_parts(alloc, content, place),
+            Task::LeaveTag(attributes) => leave_namespaces(&mut self.names, attributes),
+            Task::Close => close(&mut self.unfinished),
+        };
+        Ok(done?)
     }
 
     #[tactic(auto, using(gx_names_scope::proofs::RefusalLemmas::judged_proceeds))]
@@ -148,8 +150,8 @@ impl<'a, 's> Resolving<'a, 's> {
         test: &'a Expr,
         chosen: &'a Expr,
         otherwise: &'a Expr,
-    ) -> Result<(), AllocError>
-        ensures refusals { OnOk result (refusals_of_rest self.new ≡ form_refusals self.old.names place (conditional test.now chosen.now otherwise.now) ++ refusals_of_rest self.old) }
+    ) -> Result<(), NameRefusal>
+        ensures refusals { Proceeds result (form_refusals self.old.names place (conditional test.now chosen.now otherwise.now) ++ refusals_of_rest self.old) (refusals_of_rest self.new) }
         ensures trees { OnOk result (trees_of_rest self.new ≡ trees_behind (form_resolved self.old.names place (conditional test.now chosen.now otherwise.now)) self.old) }
     {
         let tasks = &mut self.tasks;
@@ -165,7 +167,7 @@ impl<'a, 's> Resolving<'a, 's> {
             first,
             second,
         )?;
-        self.tasks.push(Task::Tree(test))
+        Ok(self.tasks.push(Task::Tree(test))?)
     }
 
     // Opens a tree, and puts its parts to the tasks.
@@ -174,35 +176,20 @@ impl<'a, 's> Resolving<'a, 's> {
         ensures trees { OnOk result (trees_of_rest self.new ≡ trees_with (task.Tree tree.entry) self.old) }
     {
         let place = tree.place;
-        let tasks = &mut self.tasks;
-        let unfinished = &mut self.unfinished;
         match &tree.node {
-            ExprNode::Number(value) => Ok(leaf(
-                alloc,
-                unfinished,
-                place,
-                Construct::Number(**value),
-            )?),
-            ExprNode::String(text) => {
-                let text = text.clone()?;
-                Ok(leaf(alloc, unfinished, place, Construct::String(text))?)
-            }
+            ExprNode::Number(value) => self.add_leaf(alloc, place, Construct::Number(**value)),
+            ExprNode::String(text) => Ok(self.text(alloc, place, text)?),
             ExprNode::Variable(name) => self.variable(alloc, place, name),
             ExprNode::Parenthesised(inner) => {
-                let inside = Task::Tree(inner);
-                let construct = Construct::Parenthesised;
-                Ok(open_one(alloc, tasks, unfinished, place, construct, inside)?)
+                self.open_with_one(alloc, place, Construct::Parenthesised, inner)
             }
-            ExprNode::Empty => Ok(leaf(alloc, unfinished, place, Construct::Empty)?),
-            ExprNode::Context => Ok(leaf(alloc, unfinished, place, Construct::Context)?),
+            ExprNode::Empty => self.add_leaf(alloc, place, Construct::Empty),
+            ExprNode::Context => self.add_leaf(alloc, place, Construct::Context),
             ExprNode::Call(call) => {
                 self.open_call(alloc, place, &call.name, call.arguments.as_slice())
             }
             ExprNode::Sequence(first, second) => {
-                let construct = Construct::Sequence;
-                let first = Task::Tree(first);
-                let second = Task::Tree(second);
-                Ok(open_two(alloc, tasks, unfinished, place, construct, first, second)?)
+                self.open_with_two(alloc, place, Construct::Sequence, first, second)
             }
             ExprNode::Flwor(flwor) => {
                 let rest = Rest {
@@ -212,7 +199,7 @@ impl<'a, 's> Resolving<'a, 's> {
                     keys: flwor.keys.as_slice(),
                     returned: &flwor.returned,
                 };
-                Ok(self.open_bindings(alloc, place, Construct::Flwor, rest)?)
+                self.open_bindings(alloc, place, Construct::Flwor, rest)
             }
             ExprNode::Quantified(quantified) => {
                 let rest = Rest {
@@ -223,49 +210,37 @@ impl<'a, 's> Resolving<'a, 's> {
                     returned: &quantified.condition,
                 };
                 let construct = Construct::Quantified(quantified.every);
-                Ok(self.open_bindings(alloc, place, construct, rest)?)
+                self.open_bindings(alloc, place, construct, rest)
             }
-            ExprNode::Typeswitch(switch) => Ok(self.open_typeswitch(
+            ExprNode::Typeswitch(switch) => self.open_typeswitch(
                 alloc,
                 place,
                 &switch.operand,
                 switch.cases.as_slice(),
                 &switch.default,
                 &switch.otherwise,
-            )?),
+            ),
             ExprNode::If(test, chosen, otherwise) => {
-                Ok(self.open_three(alloc, place, test, chosen, otherwise)?)
+                self.open_three(alloc, place, test, chosen, otherwise)
             }
             ExprNode::Binary(operator, left, right) => {
-                let construct = Construct::Binary(*operator);
-                let first = Task::Tree(left);
-                let second = Task::Tree(right);
-                Ok(open_two(alloc, tasks, unfinished, place, construct, first, second)?)
+                self.open_with_two(alloc, place, Construct::Binary(*operator), left, right)
             }
-            ExprNode::InstanceOf(operand, kind) => Ok(self.open_instance(
-                alloc, place, operand, kind,
-            )?),
-            ExprNode::TreatAs(operand, kind) => Ok(self.open_treat(alloc, place, operand, kind)?),
-            ExprNode::CastableAs(operand, kind) => Ok(self.open_castable(
-                alloc, place, operand, kind,
-            )?),
-            ExprNode::CastAs(operand, kind) => Ok(self.open_cast(alloc, place, operand, kind)?),
+            ExprNode::InstanceOf(operand, kind) => self.open_instance(alloc, place, operand, kind),
+            ExprNode::TreatAs(operand, kind) => self.open_treat(alloc, place, operand, kind),
+            ExprNode::CastableAs(operand, kind) => self.open_castable(alloc, place, operand, kind),
+            ExprNode::CastAs(operand, kind) => self.open_cast(alloc, place, operand, kind),
             ExprNode::Signed(minus, operand) => {
-                let inside = Task::Tree(operand);
-                let construct = Construct::Signed(*minus);
-                Ok(open_one(alloc, tasks, unfinished, place, construct, inside)?)
+                self.open_with_one(alloc, place, Construct::Signed(*minus), operand)
             }
             ExprNode::Path(descendants, left, right) => {
-                let construct = Construct::Path(*descendants);
-                let first = Task::Tree(left);
-                let second = Task::Tree(right);
-                Ok(open_two(alloc, tasks, unfinished, place, construct, first, second)?)
+                self.open_with_two(alloc, place, Construct::Path(*descendants), left, right)
             }
             ExprNode::Step(step) => self.step_from_context(alloc, place, step),
-            ExprNode::ParentStep => Ok(leaf(alloc, unfinished, place, Construct::ParentStep)?),
+            ExprNode::ParentStep => self.add_leaf(alloc, place, Construct::ParentStep),
             ExprNode::Filtered(filtered) => {
                 let predicates = filtered.predicates.as_slice();
-                Ok(self.open_filtered(alloc, place, &filtered.operand, predicates)?)
+                self.open_filtered(alloc, place, &filtered.operand, predicates)
             }
             ExprNode::Direct(element) => {
                 let attributes = element.attributes.as_slice();
@@ -273,22 +248,71 @@ impl<'a, 's> Resolving<'a, 's> {
                 self.open_direct(alloc, place, &element.name, attributes, content)
             }
             ExprNode::Document(content) => {
-                let inside = Task::Tree(content);
-                let construct = Construct::Document;
-                Ok(open_one(alloc, tasks, unfinished, place, construct, inside)?)
+                self.open_with_one(alloc, place, Construct::Document, content)
             }
             ExprNode::TextNode(content) => {
-                let inside = Task::Tree(content);
-                let construct = Construct::TextNode;
-                Ok(open_one(alloc, tasks, unfinished, place, construct, inside)?)
+                self.open_with_one(alloc, place, Construct::TextNode, content)
             }
-            ExprNode::Element(name, content) => { self.open_element(alloc, place, name, content) }
+            ExprNode::Element(name, content) => self.open_element(alloc, place, name, content),
             ExprNode::EmptyElement(name) => self.empty_element(alloc, place, name),
-            ExprNode::Attribute(name, content) => {
-                self.open_attribute(alloc, place, name, content)
-            }
+            ExprNode::Attribute(name, content) => self.open_attribute(alloc, place, name, content),
             ExprNode::EmptyAttribute(name) => self.empty_attribute(alloc, place, name),
         }
+    }
+
+    // A tree without parts.
+    fn add_leaf(
+        &mut self,
+        alloc: Global,
+        place: Place,
+        construct: Construct,
+    ) -> Result<(), NameRefusal>
+        ensures refusals { Proceeds result (refusals_of_rest self.old) (refusals_of_rest self.new) }
+        ensures trees { OnOk result (trees_of_rest self.new ≡ trees_behind (resolved_at place construct no_resolved) self.old) }
+    {
+        Ok(leaf(alloc, &mut self.unfinished, place, construct)?)
+    }
+
+    // A tree of one part.
+    fn open_with_one(
+        &mut self,
+        alloc: Global,
+        place: Place,
+        construct: Construct,
+        part: &'a Expr,
+    ) -> Result<(), NameRefusal>
+        ensures refusals { Proceeds result (tree_refusals self.old.names part.now ++ refusals_of_rest self.old) (refusals_of_rest self.new) }
+        ensures trees { OnOk result (trees_of_rest self.new ≡ trees_behind (resolved_at place construct (one_resolved (tree_resolved self.old.names part.now))) self.old) }
+    {
+        let tasks = &mut self.tasks;
+        let inside = Task::Tree(part);
+        Ok(open_one(alloc, tasks, &mut self.unfinished, place, construct, inside)?)
+    }
+
+    // A tree of two parts.
+    fn open_with_two(
+        &mut self,
+        alloc: Global,
+        place: Place,
+        construct: Construct,
+        first: &'a Expr,
+        second: &'a Expr,
+    ) -> Result<(), NameRefusal>
+        ensures refusals { Proceeds result ((tree_refusals self.old.names first.now ++ tree_refusals self.old.names second.now) ++ refusals_of_rest self.old) (refusals_of_rest self.new) }
+        ensures trees { OnOk result (trees_of_rest self.new ≡ trees_behind (resolved_at place construct (two_resolved (tree_resolved self.old.names first.now) (tree_resolved self.old.names second.now))) self.old) }
+    {
+        let tasks = &mut self.tasks;
+        let first = Task::Tree(first);
+        let second = Task::Tree(second);
+        Ok(open_two(
+            alloc,
+            tasks,
+            &mut self.unfinished,
+            place,
+            construct,
+            first,
+            second,
+        )?)
     }
 
     fn open_cast(
@@ -297,8 +321,8 @@ impl<'a, 's> Resolving<'a, 's> {
         place: Place,
         operand: &'a Expr,
         kind: &'a SingleType,
-    ) -> Result<(), AllocError>
-        ensures refusals { OnOk result (refusals_of_rest self.new ≡ form_refusals self.old.names place (cast_as operand.now kind.now) ++ refusals_of_rest self.old) }
+    ) -> Result<(), NameRefusal>
+        ensures refusals { Proceeds result (form_refusals self.old.names place (cast_as operand.now kind.now) ++ refusals_of_rest self.old) (refusals_of_rest self.new) }
         ensures trees { OnOk result (trees_of_rest self.new ≡ trees_behind (form_resolved self.old.names place (cast_as operand.now kind.now)) self.old) }
     {
         let target = atomic_named(alloc, &self.names, &kind.name)?;
@@ -307,7 +331,7 @@ impl<'a, 's> Resolving<'a, 's> {
         let construct = Construct::CastAs(target, kind.optional);
         let first = Task::Tree(operand);
         let second = Task::Target(&kind.name);
-        open_two(alloc, tasks, unfinished, place, construct, first, second)
+        Ok(open_two(alloc, tasks, unfinished, place, construct, first, second)?)
     }
 
     fn open_castable(
@@ -316,8 +340,8 @@ impl<'a, 's> Resolving<'a, 's> {
         place: Place,
         operand: &'a Expr,
         kind: &'a SingleType,
-    ) -> Result<(), AllocError>
-        ensures refusals { OnOk result (refusals_of_rest self.new ≡ form_refusals self.old.names place (castable_as operand.now kind.now) ++ refusals_of_rest self.old) }
+    ) -> Result<(), NameRefusal>
+        ensures refusals { Proceeds result (form_refusals self.old.names place (castable_as operand.now kind.now) ++ refusals_of_rest self.old) (refusals_of_rest self.new) }
         ensures trees { OnOk result (trees_of_rest self.new ≡ trees_behind (form_resolved self.old.names place (castable_as operand.now kind.now)) self.old) }
     {
         let target = atomic_named(alloc, &self.names, &kind.name)?;
@@ -326,7 +350,7 @@ impl<'a, 's> Resolving<'a, 's> {
         let construct = Construct::CastableAs(target, kind.optional);
         let first = Task::Tree(operand);
         let second = Task::Target(&kind.name);
-        open_two(alloc, tasks, unfinished, place, construct, first, second)
+        Ok(open_two(alloc, tasks, unfinished, place, construct, first, second)?)
     }
 
     fn open_instance(
@@ -335,8 +359,8 @@ impl<'a, 's> Resolving<'a, 's> {
         place: Place,
         operand: &'a Expr,
         kind: &'a SequenceType,
-    ) -> Result<(), AllocError>
-        ensures refusals { OnOk result (refusals_of_rest self.new ≡ form_refusals self.old.names place (instance_of operand.now kind.now) ++ refusals_of_rest self.old) }
+    ) -> Result<(), NameRefusal>
+        ensures refusals { Proceeds result (form_refusals self.old.names place (instance_of operand.now kind.now) ++ refusals_of_rest self.old) (refusals_of_rest self.new) }
         ensures trees { OnOk result (trees_of_rest self.new ≡ trees_behind (form_resolved self.old.names place (instance_of operand.now kind.now)) self.old) }
     {
         let written = type_written(alloc, &self.names, kind)?;
@@ -345,7 +369,7 @@ impl<'a, 's> Resolving<'a, 's> {
         let construct = Construct::InstanceOf(written);
         let first = Task::Tree(operand);
         let second = Task::Written(kind);
-        open_two(alloc, tasks, unfinished, place, construct, first, second)
+        Ok(open_two(alloc, tasks, unfinished, place, construct, first, second)?)
     }
 
     fn open_treat(
@@ -354,8 +378,8 @@ impl<'a, 's> Resolving<'a, 's> {
         place: Place,
         operand: &'a Expr,
         kind: &'a SequenceType,
-    ) -> Result<(), AllocError>
-        ensures refusals { OnOk result (refusals_of_rest self.new ≡ form_refusals self.old.names place (treat_as operand.now kind.now) ++ refusals_of_rest self.old) }
+    ) -> Result<(), NameRefusal>
+        ensures refusals { Proceeds result (form_refusals self.old.names place (treat_as operand.now kind.now) ++ refusals_of_rest self.old) (refusals_of_rest self.new) }
         ensures trees { OnOk result (trees_of_rest self.new ≡ trees_behind (form_resolved self.old.names place (treat_as operand.now kind.now)) self.old) }
     {
         let written = type_written(alloc, &self.names, kind)?;
@@ -364,7 +388,7 @@ impl<'a, 's> Resolving<'a, 's> {
         let construct = Construct::TreatAs(written);
         let first = Task::Tree(operand);
         let second = Task::Written(kind);
-        open_two(alloc, tasks, unfinished, place, construct, first, second)
+        Ok(open_two(alloc, tasks, unfinished, place, construct, first, second)?)
     }
 
     // An expression with its predicates.
@@ -375,8 +399,8 @@ impl<'a, 's> Resolving<'a, 's> {
         place: Place,
         operand: &'a Expr,
         predicates: &'a [Expr],
-    ) -> Result<(), AllocError>
-        ensures refusals { OnOk result (refusals_of_rest self.new ≡ form_refusals self.old.names place (filtered place operand.now (trees_of predicates.now)) ++ refusals_of_rest self.old) }
+    ) -> Result<(), NameRefusal>
+        ensures refusals { Proceeds result (form_refusals self.old.names place (filtered place operand.now (trees_of predicates.now)) ++ refusals_of_rest self.old) (refusals_of_rest self.new) }
         ensures trees { OnOk result (trees_of_rest self.new ≡ trees_behind (form_resolved self.old.names place (filtered place operand.now (trees_of predicates.now))) self.old) }
     {
         let tasks = &mut self.tasks;
@@ -384,22 +408,16 @@ impl<'a, 's> Resolving<'a, 's> {
         let construct = Construct::Filtered;
         let first = Task::Tree(operand);
         let second = Task::Trees(predicates);
-        open_two(alloc, tasks, unfinished, place, construct, first, second)
+        Ok(open_two(alloc, tasks, unfinished, place, construct, first, second)?)
     }
 
     // A use of a variable.
+    #[tactic(auto, using(gx_names_scope::proofs::RefusalLemmas::refused_before))]
     fn variable(&mut self, alloc: Global, place: Place, name: &QName) -> Result<(), NameRefusal>
         ensures refusals { Proceeds result (use_refusals self.old.names place name.now ++ refusals_of_rest self.old) (refusals_of_rest self.new) }
         ensures trees { OnOk result (trees_of_rest self.new ≡ trees_behind (resolved_at place (use_resolved self.old.names place name.now) no_resolved) self.old) }
     {
-        let Some(name) = self.names.plain_name(name)? else {
-            return Err(refused(place, Code::XPST0081));
-        };
-        let name = SharedName::new(alloc, name)?;
-        let Some(binder) = self.names.binder(&name) else {
-            return Err(refused(place, Code::XPST0008));
-        };
-        let construct = Construct::Variable(name, *binder);
+        let construct = used(alloc, &self.names, place, name)?;
         Ok(leaf(alloc, &mut self.unfinished, place, construct)?)
     }
 
@@ -454,13 +472,13 @@ impl<'a, 's> Resolving<'a, 's> {
         place: Place,
         construct: Construct,
         rest: Rest<'a>,
-    ) -> Result<(), AllocError>
-        ensures refusals { OnOk result (refusals_of_rest self.new ≡ rest_refusals self.old.names rest.entry ++ refusals_of_rest self.old) }
+    ) -> Result<(), NameRefusal>
+        ensures refusals { Proceeds result (rest_refusals self.old.names rest.entry ++ refusals_of_rest self.old) (refusals_of_rest self.new) }
         ensures trees { OnOk result (trees_of_rest self.new ≡ trees_behind (resolved_at place construct (rest_resolved self.old.names rest.entry)) self.old) }
     {
         let tasks = &mut self.tasks;
         let inside = Task::Clauses(rest);
-        open_one(alloc, tasks, &mut self.unfinished, place, construct, inside)
+        Ok(open_one(alloc, tasks, &mut self.unfinished, place, construct, inside)?)
     }
 
     // Puts the next operand to the tasks, or, where all variables are bound, the sort keys and what is returned.
@@ -557,6 +575,39 @@ impl<'a, 's> Resolving<'a, 's> {
             }
             Err(refusal) => Err(refusal),
         }
+    }
+}
+
+// The variable that is used.
+fn used(
+    alloc: Global,
+    names: &Names<'_>,
+    place: Place,
+    name: &QName,
+) -> Result<Construct, NameRefusal>
+    ensures refusals { Judges result (use_refusals names.now place name.now) }
+    ensures construct { IfOk result (λ construct. construct ≡ use_resolved names.now place name.now) }
+{
+    match names.plain_name(name)? {
+        Some(name) => used_by_name(alloc, names, place, name),
+        None => Err(refused(place, Code::XPST0081)),
+    }
+}
+
+// The variable that has this name in scope.
+fn used_by_name(
+    alloc: Global,
+    names: &Names<'_>,
+    place: Place,
+    name: Name,
+) -> Result<Construct, NameRefusal>
+    ensures refusals { Judges result (unless_found (binder_of names.now.variables name) place codes.XPST0008) }
+    ensures construct { IfOk result (λ construct. construct ≡ constructs.Variable name (unwrap_or (binder_of names.now.variables name) place)) }
+{
+    let name = SharedName::new(alloc, name)?;
+    match names.binder(&name) {
+        Some(binder) => Ok(Construct::Variable(name, *binder)),
+        None => Err(refused(place, Code::XPST0008)),
     }
 }
 
