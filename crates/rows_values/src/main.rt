@@ -3,6 +3,7 @@
 #![tactic(auto)]
 
 mod casts;
+mod codes;
 mod comparisons;
 mod names;
 mod numbers;
@@ -10,8 +11,9 @@ mod sorting;
 mod values;
 
 use casts::{cast_row, effective_row, fits_row};
+use codes::code_row;
 use comparisons::{any_row, single_row};
-use names::{build_row, code_row, names_row, texts_row, type_names_row};
+use names::{build_row, names_row, texts_row, type_names_row};
 use numbers::{number, one_number, two_numbers};
 use rows_words::not_a_row;
 use rows_words::words::words;
@@ -47,17 +49,35 @@ fn answer(alloc: Global, words: &[&str]) -> Result<String, AllocError> {
         ["names", a, b] => names_row(alloc, a, b),
         ["type_names", a, b] => type_names_row(alloc, a, b),
         ["code", name] => code_row(alloc, name),
+        _ => value_answer(alloc, words),
+    }
+}
+
+fn value_answer(alloc: Global, words: &[&str]) -> Result<String, AllocError> {
+    match words {
         ["read_value", kind, text] => value_row(alloc, kind, text),
-        ["compare_values", t, a, u, b] => { order_row(alloc, (t, a), (u, b)) }
+        ["compare_values", t, a, u, b] => order_row(alloc, (t, a), (u, b)),
         ["admits", facets @ .., "of", kind, text] => admits_row(alloc, facets, kind, text),
         ["admits_list", facets @ .., "of", kind, text] => {
             admits_list_row(alloc, facets, kind, text)
         }
+        _ => operation_answer(alloc, words),
+    }
+}
+
+fn operation_answer(alloc: Global, words: &[&str]) -> Result<String, AllocError> {
+    match words {
         ["cast", kind, text, to] => cast_row(alloc, kind, text, to),
         ["fits", kind, text, to] => fits_row(alloc, kind, text, to),
         ["effective", kind, text] => effective_row(alloc, kind, text),
         ["single", op, t, a, u, b] => single_row(alloc, op, (t, a), (u, b)),
         ["any", op, lists @ ..] => any_row(alloc, op, lists),
+        _ => sorting_answer(alloc, words),
+    }
+}
+
+fn sorting_answer(alloc: Global, words: &[&str]) -> Result<String, AllocError> {
+    match words {
         ["sort", words @ ..] => sort_row(alloc, words),
         ["compare_keys", words @ ..] => keys_row(alloc, words),
         [call, a] => one_number(alloc, call, a),
