@@ -1,7 +1,7 @@
 // The text of a query: its version declaration and its declarations, each behind its place and in front of a `;`, and its
 // body.
 
-use crate::show::{show, show_named, show_place};
+use crate::show::{show, show_named, show_place, show_word};
 use gx_ast::query::{
     Definition, DefinitionNode, Initialiser, Parameter, Query, SchemaPrefix, Setting, SettingNode,
     Version,
@@ -31,7 +31,7 @@ fn show_version(out: &mut String, version: &Version) -> Result<(), AllocError> {
     if let Some(encoding) = &version.encoding {
         show_text(out, encoding)?;
     }
-    Ok(out.push_str("; ")?)
+    show_word(out, "; ")
 }
 
 fn show_text(out: &mut String, text: &Text) -> Result<(), AllocError> {
@@ -52,10 +52,10 @@ fn show_setting(out: &mut String, setting: &Setting) -> Result<(), AllocError> {
             show_text(out, uri)
         }
         SettingNode::BoundarySpace(preserved) => write!(out, "boundary-space {preserved:?}"),
-        SettingNode::Construction => Ok(out.push_str("construction")?),
-        SettingNode::Ordering => Ok(out.push_str("ordering")?),
+        SettingNode::Construction => show_word(out, "construction"),
+        SettingNode::Ordering => show_word(out, "ordering"),
         SettingNode::EmptyOrder(order) => write!(out, "empty {order:?}"),
-        SettingNode::CopyNamespaces => Ok(out.push_str("copy-namespaces")?),
+        SettingNode::CopyNamespaces => show_word(out, "copy-namespaces"),
         SettingNode::Schema(prefix, uri, locations) => {
             show_schema(out, prefix, uri, locations.as_slice())
         }
@@ -122,7 +122,7 @@ fn show_initialiser(
     value: &Initialiser,
 ) -> Result<(), AllocError> {
     match value {
-        Initialiser::External => Ok(out.push_str("external")?),
+        Initialiser::External => show_word(out, "external"),
         Initialiser::Value(value) => show(alloc, out, value),
     }
 }

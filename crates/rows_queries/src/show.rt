@@ -1,9 +1,11 @@
 // The text of a syntax tree: each node in brackets behind its place, its parts in the order written.
 
 use gx_ast::expression::{
-    AttributePart, Binding, Case, Clause, DirectAttribute, Expr, ExprNode, Key, Part,
+    AttributePart, Binding, Case, Clause, DirectAttribute, DirectElement, Expr, ExprNode, Flwor,
+    Key, Part, Quantified, Typeswitch,
 };
 use gx_ast::name::QName;
+use gx_ast::sequence_type::{SequenceType, SingleType};
 use gx_base::place::Place;
 use std::alloc::{AllocError, Global};
 
@@ -41,20 +43,9 @@ fn show_piece<'a>(
     pieces: &mut Vec<Piece<'a>>,
 ) -> Result<(), AllocError> {
     match piece {
-        Piece::Tree(tree) => {
-            out.push('[')?;
-            show_place(out, &tree.place)?;
-            pieces.push(Piece::Word("]"))?;
-            show_node(out, &tree.node, pieces)
-        }
-        Piece::Word(word) => Ok(out.push_str(word)?),
-        Piece::Trees(trees) => match trees.split_first() {
-            None => Ok(()),
-            Some((first, others)) => {
-                pieces.push(Piece::Trees(others))?;
-                Ok(pieces.push(Piece::Tree(first))?)
-            }
-        },
+        Piece::Tree(tree) => show_tree(out, tree, pieces),
+        Piece::Word(word) => show_word(out, word),
+        Piece::Trees(trees) => put_trees(trees, pieces),
         Piece::Keys(keys) => show_keys(out, keys, pieces),
         Piece::Cases(cases) => show_cases(out, cases, pieces),
         Piece::Clauses(clauses) => show_clauses(out, clauses, pieces),
@@ -62,6 +53,24 @@ fn show_piece<'a>(
         Piece::Attributes(attributes) => show_attributes(out, attributes, pieces),
         Piece::Values(values) => show_values(out, values, pieces),
         Piece::Parts(parts) => show_parts(out, parts, pieces),
+    }
+}
+
+fn show_tree<'a>(
+    out: &mut String,
+    tree: &'a Expr,
+    pieces: &mut Vec<Piece<'a>>,
+) -> Result<(), AllocError> {
+    out.push('[')?;
+    show_place(out, &tree.place)?;
+    pieces.push(Piece::Word("]"))?;
+    show_node(out, &tree.node, pieces)
+}
+
+fn put_trees<'a>(trees: &'a [Expr], pieces: &mut Vec<Piece<'a>>) -> Result<(), AllocError> {
+    match trees.split_first() {
+        None => Ok(()),
+        Some((first, others)) => put_two(pieces, Piece::Tree(first), Piece::Trees(others)),
     }
 }
 
@@ -75,9 +84,9 @@ fn show_node<'a>(
         ExprNode::Number(value) => write!(out, "{value:?}"),
         ExprNode::String(text) => write!(out, "{:?}", text.as_str()),
         ExprNode::Variable(name) => show_named(out, "$", name),
-        ExprNode::Empty => Ok(out.push_str("()")?),
-        ExprNode::Context => Ok(out.push('.')?),
-        ExprNode::ParentStep => Ok(out.push_str("..")?),
+        ExprNode::Empty => show_word(out, "()"),
+        ExprNode::Context => show_word(out, "."),
+        ExprNode::ParentStep => show_word(out, ".."),
         ExprNode::Step(step) => write!(out, "{step:?}"),
         ExprNode::EmptyElement(name) => show_named(out, "element ", name),
         ExprNode::EmptyAttribute(name) => show_named(out, "attribute ", name),
@@ -87,24 +96,43 @@ fn show_node<'a>(
         ExprNode::Signed(true, inner) => show_of(out, "- ", inner, pieces),
         ExprNode::Signed(false, inner) => show_of(out, "+ ", inner, pieces),
         ExprNode::Call(call) => {
-            show_named(out, "call ", &call.name)?;
-            Ok(pieces.push(Piece::Trees(call.arguments.as_slice()))?)
+            let arguments = Piece::Trees(call.arguments.as_slice());
+            show_named_with(out, "call ", &call.name, arguments, pieces)
         }
         ExprNode::Element(name, content) => {
-            show_named(out, "element ", name)?;
-            Ok(pieces.push(Piece::Tree(content))?)
+            show_named_with(out, "element ", name, Piece::Tree(content), pieces)
         }
         ExprNode::Attribute(name, content) => {
-            show_named(out, "attribute ", name)?;
-            Ok(pieces.push(Piece::Tree(content))?)
+            show_named_with(out, "attribute ", name, Piece::Tree(content), pieces)
         }
-        ExprNode::Direct(element) => {
-            show_named(out, "<", &element.name)?;
-            pieces.push(Piece::Parts(element.content.as_slice()))?;
-            Ok(pieces.push(Piece::Attributes(element.attributes.as_slice()))?)
-        }
+        ExprNode::Direct(element) => show_direct(out, element, pieces),
         _ => show_operator(out, node, pieces),
     }
+}
+
+fn show_named_with<'a>(
+    out: &mut String,
+    word: &str,
+    name: &QName,
+    inside: Piece<'a>,
+    pieces: &mut Vec<Piece<'a>>,
+) -> Result<(), AllocError> {
+    show_named(out, word, name)?;
+    put(pieces, inside)
+}
+
+fn show_direct<'a>(
+    out: &mut String,
+    element: &'a DirectElement,
+    pieces: &mut Vec<Piece<'a>>,
+) -> Result<(), AllocError> {
+    show_named(out, "<", &element.name)?;
+    let content = Piece::Parts(element.content.as_slice());
+    put_two(
+        pieces,
+        Piece::Attributes(element.attributes.as_slice()),
+        content,
+    )
 }
 
 // An operator over its operands.
@@ -122,28 +150,42 @@ fn show_operator<'a>(
             show_both(out, "", left, right, pieces)
         }
         ExprNode::InstanceOf(operand, kind) => {
-            write!(out, "instance of {kind:?} ")?;
-            Ok(pieces.push(Piece::Tree(operand))?)
+            show_typed(out, "instance of", kind, operand, pieces)
         }
-        ExprNode::TreatAs(operand, kind) => {
-            write!(out, "treat as {kind:?} ")?;
-            Ok(pieces.push(Piece::Tree(operand))?)
-        }
+        ExprNode::TreatAs(operand, kind) => show_typed(out, "treat as", kind, operand, pieces),
         ExprNode::CastableAs(operand, kind) => {
-            write!(out, "castable as {kind:?} ")?;
-            Ok(pieces.push(Piece::Tree(operand))?)
+            show_targeted(out, "castable as", kind, operand, pieces)
         }
-        ExprNode::CastAs(operand, kind) => {
-            write!(out, "cast as {kind:?} ")?;
-            Ok(pieces.push(Piece::Tree(operand))?)
-        }
+        ExprNode::CastAs(operand, kind) => show_targeted(out, "cast as", kind, operand, pieces),
         ExprNode::Filtered(filtered) => {
             out.push_str("filtered ")?;
-            pieces.push(Piece::Trees(filtered.predicates.as_slice()))?;
-            Ok(pieces.push(Piece::Tree(&filtered.operand))?)
+            let predicates = Piece::Trees(filtered.predicates.as_slice());
+            put_two(pieces, Piece::Tree(&filtered.operand), predicates)
         }
         _ => show_binder(out, node, pieces),
     }
+}
+
+fn show_typed<'a>(
+    out: &mut String,
+    word: &str,
+    kind: &SequenceType,
+    operand: &'a Expr,
+    pieces: &mut Vec<Piece<'a>>,
+) -> Result<(), AllocError> {
+    write!(out, "{word} {kind:?} ")?;
+    put(pieces, Piece::Tree(operand))
+}
+
+fn show_targeted<'a>(
+    out: &mut String,
+    word: &str,
+    target: &SingleType,
+    operand: &'a Expr,
+    pieces: &mut Vec<Piece<'a>>,
+) -> Result<(), AllocError> {
+    write!(out, "{word} {target:?} ")?;
+    put(pieces, Piece::Tree(operand))
 }
 
 // A conditional, or what binds variables.
@@ -154,31 +196,61 @@ fn show_binder<'a>(
 ) -> Result<(), AllocError> {
     match node {
         ExprNode::If(test, chosen, otherwise) => {
-            out.push_str("if ")?;
-            pieces.push(Piece::Tree(otherwise))?;
-            pieces.push(Piece::Tree(chosen))?;
-            Ok(pieces.push(Piece::Tree(test))?)
+            put(pieces, Piece::Tree(otherwise))?;
+            show_both(out, "if ", test, chosen, pieces)
         }
-        ExprNode::Flwor(flwor) => {
-            pieces.push(Piece::Tree(&flwor.returned))?;
-            pieces.push(Piece::Word("return "))?;
-            pieces.push(Piece::Keys(flwor.keys.as_slice()))?;
-            pieces.push(Piece::Word(if flwor.stable { "stable " } else { "" }))?;
-            Ok(pieces.push(Piece::Clauses(flwor.clauses.as_slice()))?)
-        }
-        ExprNode::Quantified(quantified) => {
-            out.push_str(if quantified.every { "every " } else { "some " })?;
-            pieces.push(Piece::Tree(&quantified.condition))?;
-            Ok(pieces.push(Piece::Bindings(quantified.bindings.as_slice()))?)
-        }
-        ExprNode::Typeswitch(switch) => {
-            write!(out, "typeswitch {:?} ", switch.default)?;
-            pieces.push(Piece::Tree(&switch.otherwise))?;
-            pieces.push(Piece::Cases(switch.cases.as_slice()))?;
-            Ok(pieces.push(Piece::Tree(&switch.operand))?)
-        }
+        ExprNode::Flwor(flwor) => show_flwor(flwor, pieces),
+        ExprNode::Quantified(quantified) => show_quantified(out, quantified, pieces),
+        ExprNode::Typeswitch(switch) => show_typeswitch(out, switch, pieces),
         _ => Ok(()),
     }
+}
+
+fn show_flwor<'a>(flwor: &'a Flwor, pieces: &mut Vec<Piece<'a>>) -> Result<(), AllocError> {
+    let stable = Piece::Word(if flwor.stable { "stable " } else { "" });
+    let returned = Piece::Tree(&flwor.returned);
+    put_two(pieces, Piece::Word("return "), returned)?;
+    put_two(pieces, stable, Piece::Keys(flwor.keys.as_slice()))?;
+    put(pieces, Piece::Clauses(flwor.clauses.as_slice()))
+}
+
+fn show_quantified<'a>(
+    out: &mut String,
+    quantified: &'a Quantified,
+    pieces: &mut Vec<Piece<'a>>,
+) -> Result<(), AllocError> {
+    out.push_str(if quantified.every { "every " } else { "some " })?;
+    let bindings = Piece::Bindings(quantified.bindings.as_slice());
+    put_two(pieces, bindings, Piece::Tree(&quantified.condition))
+}
+
+fn show_typeswitch<'a>(
+    out: &mut String,
+    switch: &'a Typeswitch,
+    pieces: &mut Vec<Piece<'a>>,
+) -> Result<(), AllocError> {
+    write!(out, "typeswitch {:?} ", switch.default)?;
+    put(pieces, Piece::Tree(&switch.otherwise))?;
+    let cases = Piece::Cases(switch.cases.as_slice());
+    put_two(pieces, Piece::Tree(&switch.operand), cases)
+}
+
+fn put<'a>(pieces: &mut Vec<Piece<'a>>, piece: Piece<'a>) -> Result<(), AllocError> {
+    Ok(pieces.push(piece)?)
+}
+
+// Puts two pieces, the first to be shown first.
+fn put_two<'a>(
+    pieces: &mut Vec<Piece<'a>>,
+    first: Piece<'a>,
+    second: Piece<'a>,
+) -> Result<(), AllocError> {
+    pieces.push(second)?;
+    put(pieces, first)
+}
+
+pub fn show_word(out: &mut String, word: &str) -> Result<(), AllocError> {
+    Ok(out.push_str(word)?)
 }
 
 fn show_of<'a>(
@@ -188,7 +260,7 @@ fn show_of<'a>(
     pieces: &mut Vec<Piece<'a>>,
 ) -> Result<(), AllocError> {
     out.push_str(word)?;
-    Ok(pieces.push(Piece::Tree(inner))?)
+    put(pieces, Piece::Tree(inner))
 }
 
 fn show_both<'a>(
@@ -199,8 +271,7 @@ fn show_both<'a>(
     pieces: &mut Vec<Piece<'a>>,
 ) -> Result<(), AllocError> {
     out.push_str(word)?;
-    pieces.push(Piece::Tree(second))?;
-    Ok(pieces.push(Piece::Tree(first))?)
+    put_two(pieces, Piece::Tree(first), Piece::Tree(second))
 }
 
 fn show_keys<'a>(
@@ -212,8 +283,7 @@ fn show_keys<'a>(
         return Ok(());
     };
     write!(out, "{:?} ", first.order)?;
-    pieces.push(Piece::Keys(others))?;
-    Ok(pieces.push(Piece::Tree(&first.value))?)
+    put_two(pieces, Piece::Tree(&first.value), Piece::Keys(others))
 }
 
 fn show_cases<'a>(
@@ -225,8 +295,7 @@ fn show_cases<'a>(
         return Ok(());
     };
     write!(out, "{:?} ", first.head)?;
-    pieces.push(Piece::Cases(others))?;
-    Ok(pieces.push(Piece::Tree(&first.body))?)
+    put_two(pieces, Piece::Tree(&first.body), Piece::Cases(others))
 }
 
 fn show_clauses<'a>(
@@ -240,20 +309,28 @@ fn show_clauses<'a>(
     pieces.push(Piece::Clauses(others))?;
     match first {
         Clause::For(place, bindings) => {
-            show_place(out, place)?;
-            out.push_str("for ")?;
-            Ok(pieces.push(Piece::Bindings(bindings.as_slice()))?)
+            show_clause(out, "for ", place, bindings.as_slice(), pieces)
         }
         Clause::Let(place, bindings) => {
-            show_place(out, place)?;
-            out.push_str("let ")?;
-            Ok(pieces.push(Piece::Bindings(bindings.as_slice()))?)
+            show_clause(out, "let ", place, bindings.as_slice(), pieces)
         }
         Clause::Where(place, condition) => {
             show_place(out, place)?;
             show_of(out, "where ", condition, pieces)
         }
     }
+}
+
+fn show_clause<'a>(
+    out: &mut String,
+    word: &str,
+    place: &Place,
+    bindings: &'a [Binding],
+    pieces: &mut Vec<Piece<'a>>,
+) -> Result<(), AllocError> {
+    show_place(out, place)?;
+    out.push_str(word)?;
+    put(pieces, Piece::Bindings(bindings))
 }
 
 fn show_bindings<'a>(
@@ -265,8 +342,7 @@ fn show_bindings<'a>(
         return Ok(());
     };
     write!(out, "{:?} ", first.bound)?;
-    pieces.push(Piece::Bindings(others))?;
-    Ok(pieces.push(Piece::Tree(&first.value))?)
+    put_two(pieces, Piece::Tree(&first.value), Piece::Bindings(others))
 }
 
 fn show_attributes<'a>(
@@ -278,8 +354,8 @@ fn show_attributes<'a>(
         return Ok(());
     };
     show_named(out, " @", &first.name)?;
-    pieces.push(Piece::Attributes(others))?;
-    Ok(pieces.push(Piece::Values(first.value.as_slice()))?)
+    let value = Piece::Values(first.value.as_slice());
+    put_two(pieces, value, Piece::Attributes(others))
 }
 
 fn show_values<'a>(
