@@ -1,6 +1,6 @@
 // What is written of types and of lists of attributes.
 
-ghost use Rattle.std.specs.Prelude.{◌≡◌, ◌++◌, ◌||◌, IfOk, OnOk, codes, option_map};
+ghost use Rattle.std.specs.Prelude.{◌≡◌, ◌++◌, ◌||◌, IfOk, OnOk, Some, codes, option_map};
 ghost use Rattle.gx_xml.specs.SourceTree.{SourceTree, tree_name};
 ghost use Rattle.gx_xml.specs.SourceView.{contents_of};
 ghost use Rattle.gx_schema_syntax.specs.Contents.{given_value};
@@ -8,6 +8,7 @@ ghost use Rattle.gx_schema_syntax.specs.Numbers.{numbers_behind, numbers_behind_
 ghost use Rattle.gx_qnames.specs.ScopeView.{declared_in};
 ghost use Rattle.gx_schema_syntax.specs.Types.{attribute_group, attribute_use, body_of, complex_type_by, complex_type_with, definition_written, derived_body, facet_by_kind, facet_named, facets_written, first_part, first_particle, is_part_named, is_particle, is_true, member_written, members_written, method_of, next_element, own_type, simple_type_by, type_name_written, type_declaration, types_among, types_written, usage_of};
 ghost use Rattle.gx_schema_syntax.specs.OpenedView.{opened_part};
+ghost use Rattle.gx_schema_syntax.specs.declared.written.TypeDefinition.TheVariants as definitions;
 
 use crate::children::{given_value, is_given};
 use crate::context::Context;
@@ -130,9 +131,20 @@ fn usage_of(attributes: &[SourceAttribute]) -> Usage
     ensures { result ≡ usage_of (given_value (codes "use") attributes.now) }
 {
     match given_value("use", attributes) {
-        Some(value) if has_spelling("required", value) => Usage::Required,
-        Some(value) if has_spelling("prohibited", value) => Usage::Prohibited,
-        _ => Usage::Optional,
+        Some(value) => usage_named(value),
+        None => Usage::Optional,
+    }
+}
+
+fn usage_named(value: &Text) -> Usage
+    ensures { result ≡ usage_of (Some value.now) }
+{
+    if has_spelling("required", value) {
+        Usage::Required
+    } else if has_spelling("prohibited", value) {
+        Usage::Prohibited
+    } else {
+        Usage::Optional
     }
 }
 
@@ -458,11 +470,44 @@ fn definition_written<'a>(
     let scope = within(alloc, scope, &element.declarations)?;
     let inside = numbers_inside(at, element)?;
     let children = element.children.as_slice();
-    if !is_schema_element("complexType", &element.name) {
-        return Ok(TypeDefinition::Simple(simple_type(alloc, &scope, inside, children)?));
+    if is_schema_element("complexType", &element.name) {
+        complex_definition(
+            alloc,
+            context,
+            &scope,
+            inside,
+            &element.attributes,
+            children,
+        )
+    } else {
+        simple_definition(alloc, &scope, inside, children)
     }
-    let is_mixed = is_mixed(&element.attributes);
-    let definition = complex_type(alloc, context, is_mixed, &scope, inside, children)?;
+}
+
+fn simple_definition<'a>(
+    alloc: Global,
+    scope: &Scope<'a>,
+    at: Numbers,
+    children: &'a [SourceChild],
+) -> Result<TypeDefinition, AllocError>
+    ensures { IfOk result (λ definition. definition ≡ definitions.Simple (simple_type_by (first_part (contents_of children.entry.now)) (declared_in scope.entry.now) at)) }
+{
+    let definition = simple_type(alloc, scope, at, children)?;
+    Ok(TypeDefinition::Simple(definition))
+}
+
+fn complex_definition<'a>(
+    alloc: Global,
+    context: &Context,
+    scope: &Scope<'a>,
+    at: Numbers,
+    attributes: &[SourceAttribute],
+    children: &'a [SourceChild],
+) -> Result<TypeDefinition, AllocError>
+    ensures { IfOk result (λ definition. definition ≡ definitions.Complex (complex_type_by context.entry.now (is_true (given_value (codes "mixed") attributes.entry.now)) (body_of (declared_in scope.entry.now) at (contents_of children.entry.now)))) }
+{
+    let is_mixed = is_mixed(attributes);
+    let definition = complex_type(alloc, context, is_mixed, scope, at, children)?;
     Ok(TypeDefinition::Complex(definition))
 }
 
