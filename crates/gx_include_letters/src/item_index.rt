@@ -159,8 +159,13 @@ fn add_item(items: &mut Vec<ItemType>, item: &ItemType) -> Result<(), AllocError
     ensures { OnOk result (items.new.items ≡ items.old.items ++ item.now ∷ []) }
 {
     let item = item.clone()?;
-    items.push(item)?;
-    Ok(())
+    put_last(items, item)
+}
+
+fn put_last<T: Drop>(items: &mut Vec<T>, item: T) -> Result<(), AllocError>
+    ensures { OnOk result (items.new.items ≡ items.old.items ++ item ∷ []) }
+{
+    Ok(items.push(item)?)
 }
 
 // Puts the numbers of item types into a table by the names that they ask for.
