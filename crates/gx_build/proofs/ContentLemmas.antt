@@ -10,7 +10,7 @@ use Rattle.gx_tree.specs.declared.tree.TreeNode.TheVariants.{Document, Element, 
 use Rattle.gx_tree.specs.Erasure.{erased}
 use Rattle.gx_tree.specs.TreeView.{plain_tree_of}
 use Rattle.gx_model.proofs.ListLemmas.{append_none}
-use Rattle.gx_build.specs.Built.{children_or_self, copies_of, joined_content, text_before, merged_content}
+use Rattle.gx_core.specs.Constructing.{children_or_self, copies_of, joined_content, text_before, merged_content}
 use Rattle.gx_build.specs.Making.{content_seen, content_with, merged_with, content_if, space_if, text_if}
 use Rattle.gx_build.specs.declared.content.Content.{Content}
 

@@ -4,7 +4,7 @@ use Rattle.std.specs.Prelude.{not}
 use Rattle.std.proofs.lemmas.Bool.{ltb-true, ltb-false, lt-ltb, le-ltb}
 use Rattle.gx_tree.specs.declared.attribute.Attribute.{Attribute}
 use Rattle.gx_tree.specs.PlainTree.{PlainTree, PlainTrees, document, element, attribute, text, a_tree, tree_size}
-use Rattle.gx_build.specs.Built.{depth_of_attributes, depth_of_tree, depth_of_trees}
+use Rattle.gx_core.specs.Constructing.{depth_of_attributes, depth_of_tree, depth_of_trees}
 
 pub lt_none : (limit : ℕ) → nat_lt limit 0 ≡ false
 lt_none limit = le-ltb limit 0 (omega arith)

@@ -3,7 +3,7 @@ use Rattle.std.proofs.Common.{◌≡◌, ℕ, zero, suc, ◌+◌, ◌<◌, List,
 use Rattle.std.specs.List.{prefix_len}
 use Rattle.gx_tree.specs.PlainTree.{PlainTree, document, element, attribute, text}
 use Rattle.gx_nodes.specs.Rows.{attributes_among}
-use Rattle.gx_build.specs.Built.{leading_attributes, behind_attributes, is_attribute}
+use Rattle.gx_core.specs.Constructing.{leading_attributes, behind_attributes, is_attribute}
 
 pub leading_are : (ts : List PlainTree) → attributes_among (take (prefix_len is_attribute ts) ts) ≡ leading_attributes ts
 leading_are [] = refl

@@ -10,7 +10,7 @@ use Rattle.gx_nodes.specs.Entries.{place_of_number}
 use Rattle.gx_store.specs.declared.item.Item.{Item}
 use Rattle.gx_store.specs.declared.item.Item.TheVariants.{Atom, Node}
 use Rattle.gx_store.specs.Items.{items_in}
-use Rattle.gx_build.specs.Built.{copies_of, spaced_values, joined_content, content_after, text_before, merged_content}
+use Rattle.gx_core.specs.Constructing.{copies_of, spaced_values, joined_content, content_after, text_before, merged_content}
 use Rattle.gx_build.specs.Making.{content_with, merged_with, space_if, items_content}
 use Rattle.gx_build.specs.declared.content.Content.{Content}
 use Rattle.gx_build.proofs.ContentLemmas.{no_text, text_twice, merged_front}

@@ -15,7 +15,7 @@ use Rattle.gx_store.specs.declared.item.Item.TheVariants.{Atom, Node}
 use Rattle.gx_store.specs.Items.{items_in}
 use Rattle.gx_store.proofs.StoreLemmas.{found_later, not_found_later}
 use Rattle.gx_store.proofs.ValueLemmas.{extends_itself}
-use Rattle.gx_build.specs.Built.{Built, wrong_content, copies_of, spaced_values, joined_content, content_after, content_of_parts, merged_content, then_built, depth_limit, built_element, built_document, built, document_built}
+use Rattle.gx_core.specs.Constructing.{Built, wrong_content, copies_of, spaced_values, joined_content, content_after, content_of_parts, merged_content, then_built, depth_limit, built_element, built_document, built, document_built}
 use Rattle.gx_build.specs.Parts.{parts_in}
 
 -- a node of the forest is found by its place in either, and another one in neither

@@ -1,7 +1,7 @@
 -- A refusal that is handed on.
 use Rattle.std.proofs.Common.{◌≡◌, sym, subst}
 use Rattle.std.specs.Prelude.{Result, Ok, Err, IfErr, IsErrAnd}
-use Rattle.gx_build.specs.Built.{Built}
+use Rattle.gx_core.specs.Constructing.{Built}
 use Rattle.gx_build.specs.Made.{RefusesTree}
 use Rattle.gx_build.specs.declared.error.BuildError.{BuildError}
 

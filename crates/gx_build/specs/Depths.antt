@@ -1,7 +1,7 @@
 -- Levels of a tree that are gone over, each with the depth that is left there.
 use Rattle.std.specs.Prelude.{ℕ, suc, ◌+◌, ◌*◌, Bool, false, ◌||◌, nat_lt, List, [], ◌∷◌}
 use Rattle.gx_tree.specs.PlainTree.{trees_of, trees_size}
-use Rattle.gx_build.specs.Built.{depth_of_trees}
+use Rattle.gx_core.specs.Constructing.{depth_of_trees}
 use Rattle.gx_build.specs.declared.depth.Level.{Level}
 
 -- a tree of a level is too deep

@@ -1,4 +1,3 @@
-pub mod Built
 pub mod Making
 pub mod Made
 pub mod Depths

@@ -2,7 +2,7 @@
 use Rattle.std.specs.Prelude.{◌≡◌, ℕ, [], ◌∷◌, ◌++◌}
 use Rattle.gx_model.specs.Forest.{Forest}
 use Rattle.gx_nodes.specs.Entries.{count_in}
-use Rattle.gx_build.specs.Built.{Built, built_tree, repeated_name, too_deep, wrong_content}
+use Rattle.gx_core.specs.Constructing.{Built, built_tree, repeated_name, too_deep, wrong_content}
 use Rattle.gx_build.specs.declared.error.BuildError.{BuildError}
 use Rattle.gx_build.specs.declared.error.BuildError.TheVariants as errors
 

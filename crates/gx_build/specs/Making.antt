@@ -7,7 +7,7 @@ use Rattle.gx_model.specs.Forest.{Forest, node_in}
 use Rattle.gx_nodes.specs.Entries.{place_of_number}
 use Rattle.gx_store.specs.declared.item.Item.{Item}
 use Rattle.gx_store.specs.declared.item.Item.TheVariants.{Atom, Node}
-use Rattle.gx_build.specs.Built.{copies_of, joined_content, text_before, merged_content}
+use Rattle.gx_core.specs.Constructing.{copies_of, joined_content, text_before, merged_content}
 use Rattle.gx_build.specs.declared.content.Content.{Content}
 
 -- what the content comes to with nodes behind it

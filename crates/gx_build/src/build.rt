@@ -6,7 +6,7 @@ ghost use Rattle.gx_model.specs.Forest.{Forest as PlainForest};
 ghost use Rattle.gx_model.specs.Growth.{Extends};
 ghost use Rattle.gx_nodes.specs.Entries.{count_in};
 ghost use Rattle.gx_store.specs.Items.{items_in};
-ghost use Rattle.gx_build.specs.Built.{attribute_built, built, document_built, built_element, built_document, built_within, depth_limit};
+ghost use Rattle.gx_core.specs.Constructing.{attribute_built, built, document_built, built_element, built_document, built_within, depth_limit};
 ghost use Rattle.gx_build.specs.Parts.{parts_in};
 ghost use Rattle.gx_build.specs.Made.{IsMade, RefusesTree};
 

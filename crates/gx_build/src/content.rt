@@ -7,7 +7,7 @@ ghost use Rattle.gx_tree.specs.PlainTree.{PlainTree, text as a_text};
 ghost use Rattle.gx_model.specs.Forest.{node_in};
 ghost use Rattle.gx_nodes.specs.Entries.{place_of_number};
 ghost use Rattle.gx_store.specs.Items.{items_in};
-ghost use Rattle.gx_build.specs.Built.{children_or_self, copies_of, content_after, content_of_parts, merged_content};
+ghost use Rattle.gx_core.specs.Constructing.{children_or_self, copies_of, content_after, content_of_parts, merged_content};
 ghost use Rattle.gx_build.specs.Parts.{parts_in};
 ghost use Rattle.gx_build.specs.Making.{content_seen, content_with, content_if, space_if, text_if, is_atom as is_atomic_value, item_content};
 

@@ -2,7 +2,7 @@
 
 ghost use Rattle.std.specs.Prelude.{◌≡◌, suc, ◌+◌, ◌*◌, ◌<◌, ◌∷◌, IfOk, OnOk, true, not, nat_lt, ◌||◌};
 ghost use Rattle.gx_tree.specs.PlainTree.{tree_size, trees_of, trees_size};
-ghost use Rattle.gx_build.specs.Built.{depth_of_tree, depth_of_trees};
+ghost use Rattle.gx_core.specs.Constructing.{depth_of_tree, depth_of_trees};
 ghost use Rattle.gx_build.specs.Depths.{are_too_deep, levels_left};
 
 use gx_base::stack::Stack;

@@ -4,7 +4,7 @@ ghost use Rattle.std.specs.Prelude.{◌≡◌, ◌≤◌, ◌++◌, ◌∷◌, [
 ghost use Rattle.std.specs.List.{prefix_len};
 ghost use Rattle.gx_tree.specs.OwnNames.{has_attribute};
 ghost use Rattle.gx_nodes.specs.Rows.{attributes_among};
-ghost use Rattle.gx_build.specs.Built.{leading_attributes, behind_attributes, is_attribute as is_attribute_tree, holds_attribute as list_holds_attribute, repeats_name as list_repeats_name};
+ghost use Rattle.gx_core.specs.Constructing.{leading_attributes, behind_attributes, is_attribute as is_attribute_tree, holds_attribute as list_holds_attribute, repeats_name as list_repeats_name};
 
 use gx_tree::attribute::Attribute;
 use gx_tree::tree::{Tree, TreeNode};

@@ -325,7 +325,7 @@ same_branches schemas parts others (case ∷ cases) default part [] (e ∷ es) x
 same_branches schemas parts others (case ∷ cases) default part (d ∷ ds) [] xs bindings forest n here there all = absurd (cc)
 same_branches schemas parts others (case ∷ cases) default part (d ∷ ds) (e ∷ es) xs bindings forest n here there all =
     let bound : Bindings = position_bound case.variable xs ++ bindings in
-    elim (is_instance schemas case.kind xs) as
+    elim (is_instance schemas forest case.kind xs) as
     (λ (b : Bool). AllByRecursion (AgreeAt parts others)
     (if b then evaluation_of_part part bound forest ∷ [] else branch_evaluations schemas cases default (suc part) ds xs bindings forest)
     → Same (if b then d bound forest else switched schemas cases default ds xs bindings forest)

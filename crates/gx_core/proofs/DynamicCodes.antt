@@ -4,7 +4,7 @@ use Rattle.std.proofs.Common.{Option, None, Some, Result, Ok, Err, refl, subst, 
 use Rattle.std.specs.Prelude.{ℕ, suc, nat_le, option_map}
 use Rattle.std.specs.List.{list_all, list_any}
 use Rattle.gx_base.specs.declared.code.Code.{Code}
-use Rattle.gx_base.specs.declared.code.Code.TheVariants.{GLXD0002}
+use Rattle.gx_base.specs.declared.code.Code.TheVariants.{GLXD0002, XPDY0050}
 use Rattle.gx_base.specs.Code.{is_dynamic}
 use Rattle.gx_base.specs.declared.type_name.TypeName.{TypeName}
 use Rattle.gx_base.specs.declared.limits.TheConstants.{RANGE_ITEMS}
@@ -23,8 +23,10 @@ use Rattle.gx_atomic.specs.Cast.{cast_of}
 use Rattle.gx_atomic.specs.Comparison.{Decision, value_comparison, general_comparison}
 use Rattle.gx_funcs.specs.declared.function.Function.{Function}
 use Rattle.gx_funcs.specs.declared.function.Function.TheVariants as functions
-use Rattle.gx_funcs.specs.Function.{ItemView, effective_boolean, string_of_items, one_answer, truth_atom, string_atom, applied}
-use Rattle.gx_model.specs.Forest.{Forest, PlainNode}
+use Rattle.gx_funcs.specs.Function.{ItemView, effective_boolean, string_of_items, one_answer, truth_atom, string_atom, applied, text_function_of}
+use Rattle.gx_model.specs.Forest.{Forest, PlainNode, then_found}
+use Rattle.gx_funcs.specs.declared.text_function.TextFunction.{TextFunction}
+use Rattle.gx_funcs.specs.Texts.{text_answer}
 use Rattle.gx_model.specs.Item.{Item, atom, node, Items, atoms}
 use Rattle.gx_model.specs.Atomization.{atomized}
 use Rattle.gx_model.specs.DocumentOrder.{in_document_order}
@@ -43,6 +45,10 @@ use Rattle.gx_core.specs.declared.expression.Declaration.TheVariants.{Global}
 use Rattle.gx_core.specs.Queries.{CoreDeclaration}
 use Rattle.gx_core.specs.BinaryOperators.{class_of}
 use Rattle.gx_core.specs.Expression.{Expression, At, Parts, no_parts, a_part}
+use Rattle.gx_core.specs.declared.constructor.Constructor.{Constructor}
+use Rattle.gx_core.specs.declared.constructor.Constructor.TheVariants as constructors
+use Rattle.gx_core.specs.Constructing.{Built, built_tree, repeated_name, too_deep, wrong_content, built, document_built, attribute_built}
+use Rattle.gx_core.specs.Constructing.{texts_of_parts, tree_appended, built_outcome, text_outcome, constructor_outcome}
 use Rattle.gx_core.specs.Outcome.{Outcome, gives, raises, wrong, after, given}
 use Rattle.gx_core.specs.Operands.{on_one, on_two}
 use Rattle.gx_core.specs.Arithmetic.{number_of_item, computed, result_of, computed_of_items, negation_of_item}
@@ -52,7 +58,7 @@ use Rattle.gx_core.specs.ComparingNodes.{compared_nodes}
 use Rattle.gx_core.specs.CombiningNodes.{combined}
 use Rattle.gx_core.specs.Ranging.{integer_of_item, range_length, integers_from, range_between, range_of_items}
 use Rattle.gx_core.specs.Casting.{cast_outcome, cast_items, castable_items}
-use Rattle.gx_core.specs.Calling.{views_of, answered}
+use Rattle.gx_core.specs.Calling.{views_of, answered, all_argument_texts, called_as}
 use Rattle.gx_core.specs.Paths.{is_node, places_of, stepped, put_in_order}
 use Rattle.gx_core.specs.declared.cases.TypeCase.{TypeCase}
 use Rattle.gx_core.specs.Instances.{is_instance}
@@ -225,6 +231,39 @@ dynamic_call functions.Exists (items ∷ []) forest = tt
 dynamic_call functions.String (items ∷ []) forest = dynamic_answer (string_of_items items) string_atom forest
 dynamic_call _ _ forest = tt
 
+-- ---- constructors
+
+dynamic_built : (b : Built) (forest : Forest) → IsDynamic (built_outcome b forest)
+dynamic_built (built_tree t) forest = tt
+dynamic_built repeated_name forest = refl
+dynamic_built too_deep forest = refl
+dynamic_built wrong_content forest = tt
+
+dynamic_text : (values : List Atomic) (forest : Forest) → IsDynamic (text_outcome values forest)
+dynamic_text [] forest = tt
+dynamic_text (a ∷ values) forest = tt
+
+dynamic_constructor : (schemas : SchemaSet) (constructor : Constructor) (parts : List Items) (forest : Forest)
+    → IsDynamic (constructor_outcome schemas constructor parts forest)
+dynamic_constructor schemas (constructors.Element name) parts forest = dynamic_built (built name parts forest) forest
+dynamic_constructor schemas (constructors.Attribute name) parts forest =
+    dynamic_given (texts_of_parts schemas forest parts) (λ value. tree_appended (attribute_built name value) forest) (λ value. tt)
+dynamic_constructor schemas constructors.Text (content ∷ []) forest =
+    dynamic_given (then_found (atomized schemas forest content) atoms_among) (λ values. text_outcome values forest)
+    (λ values. dynamic_text values forest)
+dynamic_constructor schemas constructors.Document (content ∷ []) forest = dynamic_built (document_built content forest) forest
+dynamic_constructor schemas _ parts forest = tt
+
+-- ---- functions over strings
+
+dynamic_called : (schemas : SchemaSet) (function : Function) (texts : Option TextFunction) (values : List Items) (forest : Forest)
+    → IsDynamic (called_as texts schemas function values forest)
+dynamic_called schemas function None values forest = dynamic_call function (map (views_of forest) values) forest
+dynamic_called schemas function (Some texts) values forest =
+    dynamic_given (all_argument_texts schemas forest values)
+    (λ arguments. given (text_answer texts arguments) (λ answer. gives (atom answer ∷ []) forest))
+    (λ arguments. dynamic_given (text_answer texts arguments) (λ answer. gives (atom answer ∷ []) forest) (λ answer. tt))
+
 -- ---- operators
 
 dynamic_act : (context : Context) (operator : Operator) (values : List Items) (forest : Forest)
@@ -240,9 +279,13 @@ dynamic_act context operators.DataOf (xs ∷ []) forest =
     dynamic_given (atomized context.schemas forest xs) (λ ys. gives ys forest) (λ ys. tt)
 dynamic_act context (operators.Cast kind optional) (xs ∷ []) forest = dynamic_cast context.schemas kind optional xs forest
 dynamic_act context (operators.Castable kind optional) (xs ∷ []) forest = dynamic_castable context.schemas kind optional xs forest
-dynamic_act context (operators.Call function) values forest = dynamic_call function (map (views_of forest) values) forest
+dynamic_act context (operators.Treat kind) (xs ∷ []) forest =
+    dynamic_choice (is_instance context.schemas forest kind xs) (gives xs forest) (raises XPDY0050) tt refl
+dynamic_act context (operators.Call function) values forest = dynamic_called context.schemas function (text_function_of function) values forest
 dynamic_act context operators.Neg (xs ∷ []) forest = dynamic_on_one xs forest negation_of_item (λ x. dynamic_negation x forest)
 dynamic_act context (operators.Binary operator) (xs ∷ ys ∷ []) forest = dynamic_binary (class_of operator) xs ys forest
+dynamic_act context (operators.Construct constructor count) values forest =
+    dynamic_constructor context.schemas constructor values forest
 dynamic_act context _ _ forest = tt
 
 -- each part raises the codes of dynamic errors alone, wherever it stands
@@ -287,7 +330,7 @@ dynamic_switched : (schemas : SchemaSet) (cases : List TypeCase) (default : ℕ)
     → AreDynamic branches → IsDynamic (switched schemas cases default branches xs bindings forest)
 dynamic_switched schemas [] default (otherwise ∷ []) xs bindings forest h = h.0 (position_bound default xs ++ bindings) forest
 dynamic_switched schemas (c ∷ cases) default (chosen ∷ branches) xs bindings forest h =
-    dynamic_choice (is_instance schemas c.kind xs) (chosen (position_bound c.variable xs ++ bindings) forest)
+    dynamic_choice (is_instance schemas forest c.kind xs) (chosen (position_bound c.variable xs ++ bindings) forest)
     (switched schemas cases default branches xs bindings forest)
     (h.0 (position_bound c.variable xs ++ bindings) forest) (dynamic_switched schemas cases default branches xs bindings forest h.1)
 dynamic_switched schemas [] default [] xs bindings forest h = tt

@@ -116,7 +116,7 @@ same_switched schemas all default (case ∷ cases) seen (chosen ∷ branches) bi
     forest in
     let next = same_switched schemas all default cases (seen ++ tt ∷ []) branches bindings others xs forest
     (λ more. ap (λ (b : List (Unit {0})). branch_numbers all default b) (append_assoc seen (tt ∷ []) more) ∙ rest (tt ∷ more)) h.1 in
-    λ i. if is_instance schemas case.kind xs then first i else next i
+    λ i. if is_instance schemas forest case.kind xs then first i else next i
 
 -- ---- blocks
 

@@ -1,4 +1,5 @@
 pub mod CallSizes
+pub mod InstanceLemmas
 pub mod PlainMeaning
 pub mod KeptFacts
 pub mod SoundQueries
@@ -9,3 +10,5 @@ pub mod DecidingParts
 pub mod FreeMeaning
 pub mod StepLoops
 pub mod StepsInOrder
+pub mod HonestTrees
+pub mod ContentOrder

@@ -1,9 +1,14 @@
 -- Calls of built-in functions (XQuery 1.0, section 3.1.5).
-use Rattle.std.specs.Prelude.{List, map, Result, Ok, Err}
+use Rattle.std.specs.Prelude.{ℕ, List, [], ◌∷◌, map, Option, None, Some, option_map, Result, Ok, Err}
 use Rattle.gx_base.specs.declared.code.Code.{Code}
 use Rattle.gx_facets.specs.declared.Atomic.{Atomic}
 use Rattle.gx_funcs.specs.declared.function.Function.{Function}
-use Rattle.gx_funcs.specs.Function.{ItemView, atomic_view, node_view, applied}
+use Rattle.gx_facets.specs.Value.{printed_value}
+use Rattle.gx_types.specs.SchemaSet.{SchemaSet}
+use Rattle.gx_funcs.specs.declared.text_function.TextFunction.{TextFunction}
+use Rattle.gx_funcs.specs.Function.{ItemView, atomic_view, node_view, applied, text_function_of}
+use Rattle.gx_funcs.specs.Texts.{text_answer}
+use Rattle.gx_model.specs.Atomization.{atomized}
 use Rattle.gx_model.specs.Forest.{Forest, node_in}
 use Rattle.gx_model.specs.Item.{Item, atom, node, Items, atoms}
 use Rattle.gx_model.specs.TypedValue.{found_string_value}
@@ -21,7 +26,36 @@ abbrev pub answered : Result (List Atomic) Code → Forest → Outcome Items
 answered (Ok items) forest = gives (atoms items) forest
 answered (Err code) forest = raises code
 
+-- ---- functions over strings, whose arguments are atomized (XQuery 1.0, section 3.1.5): an untyped value stands for the string of its
+-- characters
+
+abbrev pub text_of_value : Item → List ℕ
+text_of_value (atom a) = printed_value a.value
+text_of_value (node place) = []
+
+-- the texts of the typed values of an argument, if it has any
+abbrev pub argument_texts : SchemaSet → Forest → Items → Option (List (List ℕ))
+argument_texts schemas forest items = option_map (map text_of_value) (atomized schemas forest items)
+
+abbrev pub texts_behind : Option (List (List ℕ)) → Option (List (List (List ℕ))) → Option (List (List (List ℕ)))
+texts_behind None others = None
+texts_behind (Some texts) None = None
+texts_behind (Some texts) (Some others) = Some (texts ∷ others)
+
+abbrev pub all_argument_texts : SchemaSet → Forest → List Items → Option (List (List (List ℕ)))
+all_argument_texts schemas forest [] = Some []
+all_argument_texts schemas forest (value ∷ values) = texts_behind (argument_texts schemas forest value) (all_argument_texts schemas forest values)
+
+abbrev pub text_called : SchemaSet → TextFunction → List Items → Forest → Outcome Items
+text_called schemas function values forest =
+    given (all_argument_texts schemas forest values) (λ texts. given (text_answer function texts) (λ answer. gives (atom answer ∷ []) forest))
+
+-- ---- calls
+
+abbrev pub called_as : Option TextFunction → SchemaSet → Function → List Items → Forest → Outcome Items
+called_as (Some texts) schemas function values forest = text_called schemas texts values forest
+called_as None schemas function values forest = given (applied function (map (views_of forest) values)) (λ answer. answered answer forest)
+
 -- what a function makes of its arguments
-abbrev pub called : Function → List Items → Forest → Outcome Items
-called function values forest =
-    given (applied function (map (views_of forest) values)) (λ answer. answered answer forest)
+abbrev pub called : SchemaSet → Function → List Items → Forest → Outcome Items
+called schemas function values forest = called_as (text_function_of function) schemas function values forest

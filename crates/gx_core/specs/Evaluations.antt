@@ -74,7 +74,7 @@ abbrev pub branch_evaluations : SchemaSet → List TypeCase → (default part : 
 branch_evaluations schemas [] default part (otherwise ∷ []) xs bindings forest =
     evaluation_of_part part (position_bound default xs ++ bindings) forest ∷ []
 branch_evaluations schemas (case ∷ cases) default part (chosen ∷ branches) xs bindings forest =
-    if is_instance schemas case.kind xs then evaluation_of_part part (position_bound case.variable xs ++ bindings) forest ∷ []
+    if is_instance schemas forest case.kind xs then evaluation_of_part part (position_bound case.variable xs ++ bindings) forest ∷ []
     else branch_evaluations schemas cases default (suc part) branches xs bindings forest
 branch_evaluations schemas _ default part _ xs bindings forest = []
 

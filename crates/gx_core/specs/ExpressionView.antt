@@ -1,5 +1,5 @@
 -- The plain tree that an expression stands for.
-use Rattle.std.specs.Prelude.{List, [], ◌∷◌, ◌++◌, map}
+use Rattle.std.specs.Prelude.{List, [], ◌∷◌, ◌++◌, map, length}
 use Rattle.gx_sorting.specs.declared.keys.KeyOrder.{KeyOrder}
 use Rattle.gx_core.specs.declared.operator.Operator.{Operator}
 use Rattle.gx_core.specs.declared.operator.Operator.TheVariants as operators
@@ -9,9 +9,9 @@ use Rattle.gx_core.specs.declared.expression.Clause.{Clause}
 use Rattle.gx_core.specs.declared.expression.Clause.TheVariants as clauses
 use Rattle.gx_core.specs.declared.expression.SortKey.{SortKey}
 use Rattle.gx_core.specs.declared.expression.Form.{Form}
-use Rattle.gx_core.specs.declared.expression.Form.TheVariants.{Lit, Var, Empty, Seq, For, Let, If, Cast, Castable}
+use Rattle.gx_core.specs.declared.expression.Form.TheVariants.{Lit, Var, Empty, Seq, For, Let, If, Cast, Castable, Treat}
 use Rattle.gx_core.specs.declared.expression.Form.TheVariants.{Step, Nodes, Order, SomeIn, EveryIn, Switch, Nth}
-use Rattle.gx_core.specs.declared.expression.Form.TheVariants.{Final, DataOf, NoContext, Call, Neg, Binary, Block}
+use Rattle.gx_core.specs.declared.expression.Form.TheVariants.{Final, DataOf, NoContext, Call, Neg, Binary, Block, Construct}
 use Rattle.gx_core.specs.declared.expression.Expr.TheInside.{Inside}
 use Rattle.gx_core.specs.Expression.{Expression, At, Parts, no_parts, a_part, one_part, two_parts, three_parts, all_parts}
 
@@ -46,6 +46,7 @@ operator_of (Let v a b) = operators.Let v
 operator_of (If a b c) = operators.If
 operator_of (Cast a kind optional) = operators.Cast kind optional
 operator_of (Castable a kind optional) = operators.Castable kind optional
+operator_of (Treat a kind) = operators.Treat kind
 operator_of (Step axis t n) = operators.Step axis t n
 operator_of (Nodes a) = operators.Nodes
 operator_of (Order a) = operators.Order
@@ -60,6 +61,7 @@ operator_of NoContext = operators.NoContext
 operator_of (Call function es) = operators.Call function
 operator_of (Neg a) = operators.Neg
 operator_of (Binary o a b) = operators.Binary o
+operator_of (Construct c es) = operators.Construct c (length es.items)
 
 abbrev pub parts_of : {A : Type 0} → Form A → Parts A
 parts_of (Lit a) = no_parts
@@ -71,6 +73,7 @@ parts_of (Let v a b) = two_parts a.value b.value
 parts_of (If a b c) = three_parts a.value b.value c.value
 parts_of (Cast a kind optional) = one_part a.value
 parts_of (Castable a kind optional) = one_part a.value
+parts_of (Treat a kind) = one_part a.value
 parts_of (Step axis t n) = no_parts
 parts_of (Nodes a) = one_part a.value
 parts_of (Order a) = one_part a.value
@@ -85,6 +88,7 @@ parts_of NoContext = no_parts
 parts_of (Call function es) = all_parts es.items
 parts_of (Neg a) = one_part a.value
 parts_of (Binary o a b) = two_parts a.value b.value
+parts_of (Construct c es) = all_parts es.items
 
 abbrev pub expression_of : {A : Type 0} → Inside A → Expression A
 expression_of e = At e.place e.outer e.kind (operator_of e.form) (parts_of e.form)

@@ -19,7 +19,6 @@ use Rattle.gx_core.specs.Queries.{Core, CoreDeclaration}
 use Rattle.gx_core.specs.declared.expression.Declaration.TheVariants.{Global}
 use Rattle.gx_core.specs.Expression.{Expression, At, Parts, no_parts, a_part, CoreExpression}
 use Rattle.gx_core.specs.Bindings.{numbers_bound_by, numbers_new_in}
-use Rattle.gx_core.specs.Instances.{AreAtomicCases}
 
 abbrev pub is_among : List ℕ → ℕ → Bool
 is_among numbers number = list_any (λ other. nat_eq other number) numbers
@@ -122,7 +121,7 @@ pub record IsTableCall (function : Function) (arguments : ℕ) : Type 0 where
 abbrev pub IsWellFormedOver : Operator → (parts : ℕ) → Type 0
 IsWellFormedOver (operators.Lit value) parts = IsCoreLiteral value
 IsWellFormedOver (operators.Call function) parts = IsTableCall function parts
-IsWellFormedOver (operators.Switch cases default) parts = AreAtomicCases cases × (parts ≡ 2 + length cases)
+IsWellFormedOver (operators.Switch cases default) parts = parts ≡ 2 + length cases
 IsWellFormedOver _ parts = Unit {0}
 
 abbrev pub number_of_parts : {A : Type 0} → Parts A → ℕ

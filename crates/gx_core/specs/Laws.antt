@@ -1,20 +1,28 @@
 -- What outcomes keep.
-use Rattle.std.specs.Prelude.{◌≡◌, ℕ, true, List, [], ◌∷◌, length}
+use Rattle.std.specs.Prelude.{◌≡◌, ◌↔◌, ℕ, true, List, [], ◌∷◌, length}
 use Rattle.std.specs.List.{AllByRecursion}
 use Rattle.gx_base.specs.declared.code.Code.{Code}
 use Rattle.gx_base.specs.Code.{is_dynamic}
+use Rattle.gx_types.specs.SchemaSet.{SchemaSet}
 use Rattle.gx_types.specs.SequenceType.{SequenceType}
 use Rattle.gx_model.specs.Forest.{Forest}
 use Rattle.gx_model.specs.Honest.{IsHonest}
 use Rattle.gx_model.specs.Item.{Items}
-use Rattle.gx_model.specs.Belongs.{Belongs}
+use Rattle.gx_types.specs.declared.shape.Shape.{Shape}
+use Rattle.gx_types.specs.SchemaSet.{SchemaSet}
+use Rattle.gx_types.specs.Derivation.{bases_of}
+use Rattle.gx_types.specs.Grounded.{Grounded}
+use Rattle.gx_model.specs.Belongs.{HaveShapes, Belongs}
 use Rattle.gx_model.specs.Growth.{Extends}
 use Rattle.gx_core.specs.declared.expression.Binder.{Binder}
 use Rattle.gx_core.specs.Expression.{CoreExpression, plain}
 use Rattle.gx_core.specs.declared.operator.Operator.{Operator}
 use Rattle.gx_core.specs.Bindings.{Types, look_up}
-use Rattle.gx_core.specs.Outcome.{Outcome, raises, after}
+use Rattle.gx_core.specs.Instances.{is_instance, IsWrittenType}
+use Rattle.gx_core.specs.Outcome.{Outcome, raises, after, gives}
 use Rattle.gx_core.specs.Meaning.{Context, Bindings, Denotation, all_of, denoted, meaning}
+use Rattle.gx_core.specs.Constructing.{constructor_outcome}
+use Rattle.gx_core.specs.declared.constructor.Constructor.{Constructor}
 use Rattle.gx_core.specs.Evaluations.{PartEvaluation, evaluations, evaluated_as}
 use Rattle.gx_core.specs.FreeVariables.{is_free_in}
 use Rattle.gx_core.specs.Soundness.{TypedExpression, Setting, KeepsFact, AreOfTypes, Keeps, Fits, Situation}
@@ -72,6 +80,13 @@ ExpressionsRaiseDynamicCodes =
     (context : Context) (e : CoreExpression) (bindings : Bindings) (forest : Forest)
     → RaisesDynamicCodes (meaning context e bindings forest)
 
+-- a constructor puts an honest tree behind those of an honest forest, or leaves the forest as it is
+abbrev pub ConstructorsKeepForestsHonest : Type 0
+ConstructorsKeepForestsHonest =
+    (schemas : SchemaSet) (constructor : Constructor) (parts : List Items) (forest now : Forest) (result : Items)
+    → constructor_outcome schemas constructor parts forest ≡ gives result now → IsHonest schemas forest
+    → Extends forest now × IsHonest schemas now
+
 -- parts that come to the same in an evaluation
 abbrev pub AgreeAt : (parts others : List Denotation) → PartEvaluation → Type 0
 AgreeAt parts others evaluation = evaluated_as parts evaluation ≡ evaluated_as others evaluation
@@ -92,3 +107,15 @@ MeaningLooksAtFreeVariables =
     (context : Context) (e : CoreExpression) (bindings others : Bindings) (forest : Forest)
     → ((number : ℕ) → is_free_in e number ≡ true → look_up bindings number ≡ look_up others number)
     → meaning context e bindings forest ≡ meaning context e others forest
+
+-- what is an instance of a type belongs to it, where its items have shapes; the other way round too, where the type can be written
+abbrev pub InstancesBelong : Type 0
+InstancesBelong =
+    (schemas : SchemaSet) (forest : Forest) (t : SequenceType) (value : Items) (seen : List Shape) → HaveShapes schemas forest value seen
+    → is_instance schemas forest t value ≡ true → Belongs schemas forest value t
+
+abbrev pub InstancesAreExact : Type 0
+InstancesAreExact =
+    (schemas : SchemaSet) (forest : Forest) (t : SequenceType) (value : Items) (seen : List Shape)
+    → Grounded (bases_of schemas) → IsWrittenType t → HaveShapes schemas forest value seen
+    → ((is_instance schemas forest t value ≡ true) ↔ Belongs schemas forest value t)

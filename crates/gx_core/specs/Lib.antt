@@ -19,6 +19,9 @@ pub mod ComparingNodes
 pub mod CombiningNodes
 pub mod Filtering
 pub mod Instances
+pub mod Treating
+pub mod WrittenTypes
+pub mod Constructing
 pub mod Denotations
 pub mod Blocks
 pub mod Meaning

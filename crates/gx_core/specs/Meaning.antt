@@ -21,7 +21,9 @@ use Rattle.gx_core.specs.Calling.{called}
 use Rattle.gx_core.specs.Paths.{stepped, nodes_alone, put_in_order}
 use Rattle.gx_core.specs.CombiningNodes.{nodes_combined}
 use Rattle.gx_core.specs.Filtering.{nth_of, final_of}
+use Rattle.gx_core.specs.Treating.{treated}
 use Rattle.gx_core.specs.Instances.{is_instance}
+use Rattle.gx_core.specs.Constructing.{constructor_outcome}
 use Rattle.gx_core.specs.declared.cases.TypeCase.{TypeCase}
 pub use Rattle.gx_core.specs.Denotations.{Bindings, Denotation, item_bound}
 use Rattle.gx_core.specs.Blocks.{block_denoted}
@@ -51,9 +53,11 @@ acts context (operators.Final reverse) (xs ∷ []) forest = gives (final_of reve
 acts context operators.DataOf (xs ∷ []) forest = given (atomized context.schemas forest xs) (λ ys. gives ys forest)
 acts context (operators.Cast kind optional) (xs ∷ []) forest = cast_items context.schemas kind optional xs forest
 acts context (operators.Castable kind optional) (xs ∷ []) forest = castable_items context.schemas kind optional xs forest
-acts context (operators.Call function) values forest = called function values forest
+acts context (operators.Treat kind) (xs ∷ []) forest = treated context.schemas kind xs forest
+acts context (operators.Call function) values forest = called context.schemas function values forest
 acts context operators.Neg (xs ∷ []) forest = negation xs forest
 acts context (operators.Binary operator) (xs ∷ ys ∷ []) forest = binary_meaning (class_of operator) xs ys forest
+acts context (operators.Construct constructor count) values forest = constructor_outcome context.schemas constructor values forest
 acts context _ _ forest = wrong
 
 -- the values of parts, from the left, each in the forest that the part before it leaves
@@ -88,7 +92,7 @@ branch false chosen otherwise = otherwise
 abbrev pub switched : SchemaSet → List TypeCase → (default : ℕ) → (branches : List Denotation) → Items → Bindings → Forest → Outcome Items
 switched schemas [] default (otherwise ∷ []) xs bindings forest = otherwise (position_bound default xs ++ bindings) forest
 switched schemas (case ∷ cases) default (chosen ∷ branches) xs bindings forest =
-    if is_instance schemas case.kind xs then chosen (position_bound case.variable xs ++ bindings) forest
+    if is_instance schemas forest case.kind xs then chosen (position_bound case.variable xs ++ bindings) forest
     else switched schemas cases default branches xs bindings forest
 switched schemas _ default _ xs bindings forest = wrong
 

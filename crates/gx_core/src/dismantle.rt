@@ -51,6 +51,10 @@ fn set_aside<K: Drop>(alloc: Global, form: Form<K>, parts: &mut Vec<Part<K>>) {
             set_boxed_part_aside(operand, parts),
         Form::Cast(operand, _target, _) | Form::Castable(operand, _target, _) =>
             set_boxed_part_aside(operand, parts),
+        Form::Treat(operand, kind) => {
+            drop(kind);
+            set_boxed_part_aside(operand, parts);
+        }
         Form::Nth(operand, _, _) | Form::Final(operand, _) => set_boxed_part_aside(operand, parts),
         Form::Switch(operand, cases, _, branches) => {
             drop(cases);
@@ -79,6 +83,10 @@ fn set_aside<K: Drop>(alloc: Global, form: Form<K>, parts: &mut Vec<Part<K>>) {
             let _kept = parts.push(body);
         }
         Form::Call(_, arguments) => set_arguments_aside(alloc, arguments, parts),
+        Form::Construct(constructor, content) => {
+            drop(constructor);
+            set_arguments_aside(alloc, content, parts);
+        }
     }
 }
 

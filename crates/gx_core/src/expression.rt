@@ -4,6 +4,7 @@ ghost use Rattle.std.specs.Prelude.{◌≡◌};
 ghost use Rattle.gx_core.specs.BinaryOperators.{class_of};
 
 use crate::cases::Cases;
+use crate::constructor::Constructor;
 use crate::listed::Listed;
 use gx_atomic::Op;
 use gx_base::name::Name;
@@ -247,6 +248,10 @@ pub enum Form<K> {
     Neg(Part<K>),
     /// An operator of two operands.
     Binary(BinaryOp, Part<K>, Part<K>),
+    /// A constructor of a node, over the parts of its content.
+    Construct(Constructor, Vec<Expr<K>>),
+    /// An operand that is an instance of a type; any other one is an error.
+    Treat(Part<K>, Ty),
 }
 
 /// A clause of a block (XQuery 1.0, sections 3.8.1 and 3.8.2).

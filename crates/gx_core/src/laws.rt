@@ -1,7 +1,7 @@
 // Laws of the meaning of Core.
 
 ghost use Rattle.gx_core.specs.Laws.{MeaningLooksAtNoType, AfterKeeps, BindingsFitStill, BindingFits, OperandsKeepTheirTypes};
-ghost use Rattle.gx_core.specs.Laws.{ExpressionsRaiseDynamicCodes, PartsDecide, MeaningLooksAtFreeVariables};
+ghost use Rattle.gx_core.specs.Laws.{ExpressionsRaiseDynamicCodes, PartsDecide, MeaningLooksAtFreeVariables, InstancesBelong, InstancesAreExact, ConstructorsKeepForestsHonest};
 ghost use Rattle.gx_core.specs.PathLaws.{StepsAreInOrder, LoopsOfStepsAreSteps, SlashesAreDescendants};
 ghost use Rattle.gx_core.specs.QueryMeaning.{NoneNeedsNoDocument, SoundQueriesKeepTheirTypes, QueriesRaiseDynamicCodes};
 
@@ -73,4 +73,20 @@ pub fn loops_of_steps_are_steps()
 /// the descendant axis from each node of `E` (XQuery 1.0, section 3.2).
 pub fn slashes_are_descendants()
     ensures { SlashesAreDescendants }
+{}
+
+/// A value that is an instance of a type belongs to it (XQuery 1.0, section 2.5.4).
+pub fn instances_belong()
+    ensures { InstancesBelong }
+{}
+
+/// A value is an instance of a type that can be written in a query exactly where it belongs to the type (XQuery 1.0, section 2.5.4).
+pub fn instances_are_exact()
+    ensures { InstancesAreExact }
+{}
+
+/// A constructor puts an honest tree behind those of an honest forest, or leaves the forest as it is (XQuery 1.0 and XPath 2.0 Data
+/// Model, sections 6.1 to 6.3 and 6.7).
+pub fn constructors_keep_forests_honest()
+    ensures { ConstructorsKeepForestsHonest }
 {}

@@ -2,6 +2,7 @@
 #![tactic(auto)]
 
 pub mod cases;
+pub mod constructor;
 pub mod dismantle;
 pub mod dyn_error;
 pub mod expression;

@@ -1,12 +1,14 @@
 // Core operators.
 
 use crate::cases::Cases;
+use crate::constructor::Constructor;
 use crate::expression::{BinaryOp, Binder};
 use crate::listed::Listed;
 use gx_base::type_name::TypeName;
 use gx_facets::Atomic;
 use gx_funcs::function::Function;
 use gx_sorting::KeyOrder;
+use gx_types::sequence_type::Ty;
 use gx_types::step::{Axis, Test};
 
 /// One operator of Core, with what it has beside its parts: one variant for each form of an expression. The parts of an
@@ -36,6 +38,9 @@ pub enum Operator {
     Call(Function),
     Neg,
     Binary(BinaryOp),
+    /// A constructor over so many parts.
+    Construct(Constructor, usize),
+    Treat(Ty),
 }
 
 /// What a clause of a block has beside its part.

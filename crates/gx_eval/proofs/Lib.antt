@@ -1,3 +1,4 @@
+pub mod Matching
 pub mod Outcomes
 pub mod AtHand
 pub mod LaterItems
@@ -10,3 +11,5 @@ pub mod Ranges
 pub mod Globals
 pub mod Picked
 pub mod ManySteps
+pub mod MadeTrees
+pub mod ArgumentTexts

@@ -6,7 +6,9 @@ use Rattle.std.proofs.lemmas.Bool.{eqb-true, eq-eqb, ltb-false, true≢false}
 use Rattle.std.proofs.lemmas.List.{take-append-drop}
 use Rattle.gx_types.specs.declared.step.Axis.{Axis}
 use Rattle.gx_types.specs.declared.step.Test.{Test}
+use Rattle.gx_base.specs.declared.code.Code.TheVariants.{XPDY0050}
 use Rattle.gx_types.specs.SchemaSet.{SchemaSet}
+use Rattle.gx_types.specs.SequenceType.{SequenceType}
 use Rattle.gx_model.specs.Forest.{Forest, PlainNode}
 use Rattle.gx_model.specs.Item.{Item, atom, node, Items}
 use Rattle.gx_model.specs.Axes.{on_axis}
@@ -16,7 +18,8 @@ use Rattle.gx_model.proofs.OrderLemmas.{not_before_itself, nodes_same, node_itse
 use Rattle.gx_core.specs.declared.expression.NodeCombination.{NodeCombination}
 use Rattle.gx_core.specs.declared.operator.Operator.{Operator}
 use Rattle.gx_core.specs.declared.operator.Operator.TheVariants as operators
-use Rattle.gx_core.specs.Outcome.{Outcome, gives, wrong, after, given}
+use Rattle.gx_core.specs.Instances.{is_instance}
+use Rattle.gx_core.specs.Outcome.{Outcome, gives, raises, wrong, after, given}
 use Rattle.gx_core.specs.Meaning.{Context, Bindings, Denotation, acts, denoted}
 use Rattle.gx_core.specs.Paths.{is_node, places_of, put_in_order, stepped}
 use Rattle.gx_core.specs.CombiningNodes.{combined, nodes_combined}
@@ -108,6 +111,13 @@ nodes_stay k first values forest h = stays k operators.Nodes first values forest
 
 pub others_are_wrong : (k : Context) (first : ℕ) (values : Items) (forest : Forest) → list_all is_node (drop first values) ≡ false → acts k operators.Nodes (drop first values ∷ []) forest ≡ wrong
 others_are_wrong k first values forest h = ap (λ (b : Bool). if b then gives (drop first values) forest else wrong) h
+
+-- what is treated as a type
+pub instances_stay : (k : Context) (kind : SequenceType) (first : ℕ) (values : Items) (forest : Forest) → is_instance k.schemas forest kind (drop first values) ≡ true → changed k (operators.Treat kind) first values forest ≡ gives values forest
+instances_stay k kind first values forest h = stays k (operators.Treat kind) first values forest (ap (λ (b : Bool). if b then gives (drop first values) forest else raises XPDY0050) h)
+
+pub others_are_raised : (k : Context) (kind : SequenceType) (first : ℕ) (values : Items) (forest : Forest) → is_instance k.schemas forest kind (drop first values) ≡ false → acts k (operators.Treat kind) (drop first values ∷ []) forest ≡ raises XPDY0050
+others_are_raised k kind first values forest h = ap (λ (b : Bool). if b then gives (drop first values) forest else raises XPDY0050) h
 
 pub order_stays : (k : Context) (first : ℕ) (values : Items) (forest : Forest) → put_in_order (drop first values) forest ≡ gives (drop first values) forest → changed k operators.Order first values forest ≡ gives values forest
 order_stays k first values forest e = stays k operators.Order first values forest e

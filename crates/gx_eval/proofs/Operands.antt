@@ -165,27 +165,27 @@ the_single {A = A} (y ∷ []) x l e = ap (λ (z : A). z ∷ []) (sym e)
 the_single (y ∷ z ∷ xs) x l e = absurd (omega (arith, l))
 
 -- what `boolean` and `not` answer
-pub boolean_called : (forest : Forest) (xs : Items) (truth : Bool) (a : Atomic) → effective_boolean (views_of forest xs) ≡ Some truth → a ≡ truth_atom truth → called functions.Boolean (xs ∷ []) forest ≡ gives (atom a ∷ []) forest
-boolean_called forest xs truth a e f =
+pub boolean_called : (s : SchemaSet) (forest : Forest) (xs : Items) (truth : Bool) (a : Atomic) → effective_boolean (views_of forest xs) ≡ Some truth → a ≡ truth_atom truth → called s functions.Boolean (xs ∷ []) forest ≡ gives (atom a ∷ []) forest
+boolean_called s forest xs truth a e f =
     ap (λ (o : Option Bool). given (option_map (λ t. one_answer (truth_atom t)) o) (λ answer. answered answer forest)) e ∙ ap (λ (b : Atomic). gives (atom b ∷ []) forest) (sym f)
 
-pub no_boolean : (forest : Forest) (xs : Items) → effective_boolean (views_of forest xs) ≡ None → called functions.Boolean (xs ∷ []) forest ≡ wrong
-no_boolean forest xs e = ap (λ (o : Option Bool). given (option_map (λ t. one_answer (truth_atom t)) o) (λ answer. answered answer forest)) e
+pub no_boolean : (s : SchemaSet) (forest : Forest) (xs : Items) → effective_boolean (views_of forest xs) ≡ None → called s functions.Boolean (xs ∷ []) forest ≡ wrong
+no_boolean s forest xs e = ap (λ (o : Option Bool). given (option_map (λ t. one_answer (truth_atom t)) o) (λ answer. answered answer forest)) e
 
-pub contrary_called : (forest : Forest) (xs : Items) (truth : Bool) (a : Atomic) → effective_boolean (views_of forest xs) ≡ Some truth → a ≡ truth_atom (not truth) → called functions.Not (xs ∷ []) forest ≡ gives (atom a ∷ []) forest
-contrary_called forest xs truth a e f =
+pub contrary_called : (s : SchemaSet) (forest : Forest) (xs : Items) (truth : Bool) (a : Atomic) → effective_boolean (views_of forest xs) ≡ Some truth → a ≡ truth_atom (not truth) → called s functions.Not (xs ∷ []) forest ≡ gives (atom a ∷ []) forest
+contrary_called s forest xs truth a e f =
     ap (λ (o : Option Bool). given (option_map (λ t. one_answer (truth_atom (not t))) o) (λ answer. answered answer forest)) e ∙ ap (λ (b : Atomic). gives (atom b ∷ []) forest) (sym f)
 
-pub no_contrary : (forest : Forest) (xs : Items) → effective_boolean (views_of forest xs) ≡ None → called functions.Not (xs ∷ []) forest ≡ wrong
-no_contrary forest xs e = ap (λ (o : Option Bool). given (option_map (λ t. one_answer (truth_atom (not t))) o) (λ answer. answered answer forest)) e
+pub no_contrary : (s : SchemaSet) (forest : Forest) (xs : Items) → effective_boolean (views_of forest xs) ≡ None → called s functions.Not (xs ∷ []) forest ≡ wrong
+no_contrary s forest xs e = ap (λ (o : Option Bool). given (option_map (λ t. one_answer (truth_atom (not t))) o) (λ answer. answered answer forest)) e
 
 -- what `string` answers
-pub string_called : (forest : Forest) (xs : Items) (text : List ℕ) (a : Atomic) → string_of_items (views_of forest xs) ≡ Some text → a ≡ string_atom text → called functions.String (xs ∷ []) forest ≡ gives (atom a ∷ []) forest
-string_called forest xs text a e f =
+pub string_called : (s : SchemaSet) (forest : Forest) (xs : Items) (text : List ℕ) (a : Atomic) → string_of_items (views_of forest xs) ≡ Some text → a ≡ string_atom text → called s functions.String (xs ∷ []) forest ≡ gives (atom a ∷ []) forest
+string_called s forest xs text a e f =
     ap (λ (o : Option (List ℕ)). given (option_map (λ t. one_answer (string_atom t)) o) (λ answer. answered answer forest)) e ∙ ap (λ (b : Atomic). gives (atom b ∷ []) forest) (sym f)
 
-pub no_string : (forest : Forest) (xs : Items) → string_of_items (views_of forest xs) ≡ None → called functions.String (xs ∷ []) forest ≡ wrong
-no_string forest xs e = ap (λ (o : Option (List ℕ)). given (option_map (λ t. one_answer (string_atom t)) o) (λ answer. answered answer forest)) e
+pub no_string : (s : SchemaSet) (forest : Forest) (xs : Items) → string_of_items (views_of forest xs) ≡ None → called s functions.String (xs ∷ []) forest ≡ wrong
+no_string s forest xs e = ap (λ (o : Option (List ℕ)). given (option_map (λ t. one_answer (string_atom t)) o) (λ answer. answered answer forest)) e
 
 -- atomic values among items
 after_atoms : (xs : List Atomic) (ys : Items) → atoms_among (atoms xs ++ ys) ≡ option_map (λ zs. xs ++ zs) (atoms_among ys)

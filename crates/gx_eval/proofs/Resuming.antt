@@ -3,9 +3,11 @@ use Rattle.std.proofs.Common.{◌≡◌, ◌≤◌, ℕ, zero, suc, ◌+◌, ari
 use Rattle.std.proofs.Math.Seq.{take-append_seam, drop-append_seam}
 use Rattle.gx_base.specs.declared.code.Code.{Code}
 use Rattle.gx_facets.specs.declared.Atomic.{Atomic}
+use Rattle.gx_types.specs.SchemaSet.{SchemaSet}
 use Rattle.gx_funcs.specs.declared.function.Function.{Function}
 use Rattle.gx_funcs.specs.declared.function.Function.TheVariants as functions
-use Rattle.gx_funcs.specs.Function.{ItemView, applied as applied_function}
+use Rattle.gx_funcs.specs.declared.text_function.TextFunction.{TextFunction}
+use Rattle.gx_funcs.specs.Function.{ItemView, text_function_of, applied as applied_function}
 use Rattle.gx_model.specs.Forest.{Forest}
 use Rattle.gx_model.specs.Item.{Item, Items}
 use Rattle.gx_core.specs.declared.expression.BinaryOp.{BinaryOp}
@@ -17,7 +19,7 @@ use Rattle.gx_core.specs.Instances.{is_instance}
 use Rattle.gx_core.specs.Outcome.{Outcome, gives, raises, wrong, after, given}
 use Rattle.gx_core.specs.BinaryOperators.{class_of}
 use Rattle.gx_core.specs.Comparing.{truth_value, condition_of}
-use Rattle.gx_core.specs.Calling.{views_of, answered, called}
+use Rattle.gx_core.specs.Calling.{views_of, answered, called_as, called}
 use Rattle.gx_core.specs.Soundness.{TypedExpression}
 use Rattle.gx_core.specs.Expression.{all_parts}
 use Rattle.gx_core.specs.Meaning.{Context, Bindings, Denotation, binary_meaning, acts, all_of, branch, switched, denoted, for_each, decides, any_decides, meaning, meanings}
@@ -166,6 +168,7 @@ change_denoted k changes.OnlyNodes operand bindings forest = refl
 change_denoted k changes.Order operand bindings forest = refl
 change_denoted k (changes.Nth number reverse) operand bindings forest = refl
 change_denoted k (changes.Final reverse) operand bindings forest = refl
+change_denoted k (changes.Treat kind) operand bindings forest = refl
 
 pub change_opens : (k : Context) (forest : Forest) (operator : Change) (operand : Denotation) (work : List Pending) (values : Items) (first : ℕ) (stacks : Stacks) (bindings : Bindings) → first ≡ length values
     → after (operand bindings forest) (λ xs f. resume k (Altering operator first ∷ work) (values ++ xs) stacks bindings f)
@@ -225,9 +228,22 @@ binary_opens_at k forest operator left right work values first stacks bindings h
 -- ---- calls of no argument, and of more than one
 
 pub none_applies : (k : Context) (forest : Forest) (function : Function) (work : List Pending) (values answer : Items) (stacks : Stacks) (bindings : Bindings)
-    → called function [] forest ≡ gives answer forest
+    → called k.schemas function [] forest ≡ gives answer forest
     → resume k work (values ++ answer) stacks bindings forest ≡ after (denoted k (operators.Call function) [] bindings forest) (λ more left. resume k work (values ++ more) stacks bindings left)
-none_applies k forest function work values answer stacks bindings e = answer_behind (called function [] forest) forest values answer (λ vs left. resume k work vs stacks bindings left) e
+none_applies k forest function work values answer stacks bindings e = answer_behind (called k.schemas function [] forest) forest values answer (λ vs left. resume k work vs stacks bindings left) e
+
+no_second : (function : Function) (a b : List ItemView) (others : List (List ItemView)) → applied_function function (a ∷ b ∷ others) ≡ None
+no_second functions.True a b others = refl
+no_second functions.False a b others = refl
+no_second _ a b others = refl
+
+-- a function that is none over strings has one parameter at most
+pub too_many : (s : SchemaSet) (function : Function) (forest : Forest) (all : List Items) → text_function_of function ≡ None → 2 ≤ length all → called s function all forest ≡ wrong
+too_many s function forest [] e h = absurd (omega (arith, h))
+too_many s function forest (x ∷ []) e h = absurd (omega (arith, h))
+too_many s function forest (x ∷ y ∷ all) e h =
+    ap (λ (o : Option TextFunction). called_as o s function (x ∷ y ∷ all) forest) e
+    ∙ ap (λ (found : Option (Result (List Atomic) Code)). given found (λ answer. answered answer forest)) (no_second function (views_of forest x) (views_of forest y) (map (views_of forest) all))
 
 all_wrong : (n : ℕ) (marks : List ℕ) (values : Items) (operands : List Items) (next : List Items → List ℕ → Items → Outcome Items)
     → ((all : List Items) (below : List ℕ) (rest : Items) → n + length operands ≤ length all → next all below rest ≡ wrong) → between_marks n marks values operands next ≡ wrong
@@ -235,22 +251,21 @@ all_wrong zero marks values operands next h = h operands marks values (omega ari
 all_wrong (suc n) [] values operands next h = refl
 all_wrong (suc n) (mark ∷ marks) values operands next h = all_wrong n marks (take mark values) (drop mark values ∷ operands) next (λ all below rest l. h all below rest (omega (arith, l)))
 
-no_second : (function : Function) (a b : List ItemView) (others : List (List ItemView)) → applied_function function (a ∷ b ∷ others) ≡ None
-no_second functions.True a b others = refl
-no_second functions.False a b others = refl
-no_second _ a b others = refl
-
-too_many : (function : Function) (forest : Forest) (all : List Items) → 2 ≤ length all → called function all forest ≡ wrong
-too_many function forest [] h = absurd (omega (arith, h))
-too_many function forest (x ∷ []) h = absurd (omega (arith, h))
-too_many function forest (x ∷ y ∷ all) h =
-    ap (λ (found : Option (Result (List Atomic) Code)). given found (λ answer. answered answer forest)) (no_second function (views_of forest x) (views_of forest y) (map (views_of forest) all))
-
 pub more_are_wrong : (k : Context) (forest : Forest) (function : Function) (work : List Pending) (values : Items) (stacks : Stacks) (bindings : Bindings) (more : ℕ)
-    → resume k (Call function more ∷ work) values stacks bindings forest ≡ wrong
-more_are_wrong k forest function work values stacks bindings more =
+    → text_function_of function ≡ None → resume k (Call function more ∷ work) values stacks bindings forest ≡ wrong
+more_are_wrong k forest function work values stacks bindings more e =
     all_wrong (more + 2) stacks.marks values [] (λ operands below rest. operated k (operators.Call function) operands rest forest (λ vs left. resume k work vs (with_marks stacks below) bindings left))
-    (λ all below rest l. ap (λ (o : Outcome Items). after o (λ more left. resume k work (rest ++ more) (with_marks stacks below) bindings left)) (too_many function forest all (omega (arith, l))))
+    (λ all below rest l. ap (λ (o : Outcome Items). after o (λ more left. resume k work (rest ++ more) (with_marks stacks below) bindings left)) (too_many k.schemas function forest all e (omega (arith, l))))
+
+-- what a function answers of operands goes behind the values below them
+pub many_apply : (k : Context) (forest : Forest) (function : Function) (work : List Pending) (operands : List Items) (rest answer : Items) (stacks : Stacks) (bindings : Bindings)
+    → called k.schemas function operands forest ≡ gives answer forest
+    → resume k work (rest ++ answer) stacks bindings forest ≡ operated k (operators.Call function) operands rest forest (λ vs left. resume k work vs stacks bindings left)
+many_apply k forest function work operands rest answer stacks bindings e = answer_behind (called k.schemas function operands forest) forest rest answer (λ vs left. resume k work vs stacks bindings left) e
+
+pub many_fail : (k : Context) (forest : Forest) (function : Function) (work : List Pending) (operands : List Items) (rest : Items) (stacks : Stacks) (bindings : Bindings) (e : Failure)
+    → FailsSo e (called k.schemas function operands forest) → FailsSo e (operated k (operators.Call function) operands rest forest (λ vs left. resume k work vs stacks bindings left))
+many_fail k forest function work operands rest stacks bindings e h = fails_through (called k.schemas function operands forest) (λ more left. resume k work (rest ++ more) stacks bindings left) e h
 
 -- ---- several arguments, opened
 
@@ -276,7 +291,7 @@ counted [] n = omega arith
 counted (part ∷ parts) n = omega (arith, counted parts (suc n))
 
 -- what follows the operands of an operator between the last marks
-abbrev operands_between : Context → Operator → List Pending → Stacks → ℕ → Items → List ℕ → Bindings → Forest → Outcome Items
+abbrev pub operands_between : Context → Operator → List Pending → Stacks → ℕ → Items → List ℕ → Bindings → Forest → Outcome Items
 operands_between k operator work stacks n vs ms bs f =
     between_marks n ms vs [] (λ operands below rest. operated k operator operands rest f (λ ws left. resume k work ws (with_marks stacks below) bs left))
 
@@ -313,6 +328,16 @@ each_argument k (e ∷ es) = ap (λ ds. meaning k e ∷ ds) (each_argument k es)
 -- what is left to do over the values and marks that are there
 abbrev pub resume_marked : Context → List Pending → Stacks → Items → List ℕ → Bindings → Forest → Outcome Items
 resume_marked k work stacks values marks bindings forest = resume k work values (with_marks stacks marks) bindings forest
+
+-- operands that are evaluated in order, and the operator between their marks
+pub operands_open : (k : Context) (operator : Operator) (work : List Pending) (values : Items) (stacks : Stacks) (bindings : Bindings) (forest : Forest) (parts : List Denotation) (count : ℕ) → count ≡ length parts
+    → in_order parts (operands_between k operator work stacks count) values stacks.marks bindings forest
+    ≡ after (after (all_of parts bindings forest) (acts k operator)) (λ more left. resume k work (values ++ more) stacks bindings left)
+operands_open k operator work values stacks bindings forest parts count e =
+    let n : count ≡ count_with parts 0 = omega (arith, e, counted parts 0) in
+    ap (λ (m : ℕ). in_order parts (operands_between k operator work stacks m) values stacks.marks bindings forest) n
+    ∙ parts_in_order k operator work stacks values stacks.marks bindings parts 0 values stacks.marks (λ operands. operands) forest (λ operands next. refl)
+    ∙ after_after (all_of parts bindings forest) (acts k operator) (λ more left. resume k work (values ++ more) stacks bindings left)
 
 pub call_opens : (k : Context) (function : Function) (more : ℕ) (work : List Pending) (values : Items) (stacks : Stacks) (bindings : Bindings) (forest : Forest) (parts : List Denotation) → more + 2 ≡ length parts
     → in_order parts (resume_marked k (Call function more ∷ work) stacks) values stacks.marks bindings forest
@@ -388,7 +413,7 @@ switch_opens k forest operand chosen work values first stacks bindings h =
 
 -- the branch that a switch chooses
 pub first_case : (k : Context) (forest : Forest) (default : ℕ) (cases rest : List TypeCase) (case : TypeCase) (branches others : List TypedExpression) (branch : TypedExpression) (xs : Items) (bindings : Bindings) (next : Rest)
-    → cases ≡ case ∷ rest → branches ≡ branch ∷ others → is_instance k.schemas case.kind xs ≡ true
+    → cases ≡ case ∷ rest → branches ≡ branch ∷ others → is_instance k.schemas forest case.kind xs ≡ true
     → after (meaning k branch (position_bound case.variable xs ++ bindings) forest) next ≡ after (switched k.schemas cases default (map (meaning k) branches) xs bindings forest) next
 first_case k forest default cases rest case branches others branch xs bindings next e f h =
     sym (ap (λ (cs : List TypeCase). after (switched k.schemas cs default (map (meaning k) branches) xs bindings forest) next) e
@@ -396,7 +421,7 @@ first_case k forest default cases rest case branches others branch xs bindings n
     ∙ ap (λ (b : Bool). after (if b then meaning k branch (position_bound case.variable xs ++ bindings) forest else switched k.schemas rest default (map (meaning k) others) xs bindings forest) next) h)
 
 pub later_case : (k : Context) (forest : Forest) (default : ℕ) (cases rest : List TypeCase) (case : TypeCase) (branches others : List TypedExpression) (branch : TypedExpression) (xs : Items) (bindings : Bindings) (next : Rest)
-    → cases ≡ case ∷ rest → branches ≡ branch ∷ others → is_instance k.schemas case.kind xs ≡ false
+    → cases ≡ case ∷ rest → branches ≡ branch ∷ others → is_instance k.schemas forest case.kind xs ≡ false
     → after (switched k.schemas rest default (map (meaning k) others) xs bindings forest) next ≡ after (switched k.schemas cases default (map (meaning k) branches) xs bindings forest) next
 later_case k forest default cases rest case branches others branch xs bindings next e f h =
     sym (ap (λ (cs : List TypeCase). after (switched k.schemas cs default (map (meaning k) branches) xs bindings forest) next) e

@@ -1,12 +1,13 @@
 -- What a strict operator makes of its operands.
-use Rattle.std.specs.Prelude.{ℕ, ◌<◌, ℤ, ◌+ℤ◌, pos, FitsSigned, [], ◌∷◌, map}
+use Rattle.std.specs.Prelude.{ℕ, ◌<◌, ℤ, ◌+ℤ◌, pos, FitsSigned, [], ◌∷◌, map, Option}
 use Rattle.std.specs.Int.{w128}
 use Rattle.gx_base.specs.declared.code.Code.TheVariants as codes
+use Rattle.gx_facets.specs.declared.Atomic.{Atomic}
 use Rattle.gx_atomic.specs.declared.casting.CastError.{CastError}
 use Rattle.gx_atomic.specs.declared.casting.CastError.TheVariants as casts
 use Rattle.gx_model.specs.Forest.{Forest}
 use Rattle.gx_model.specs.Item.{Item, atom, node, Items, atoms}
-use Rattle.gx_core.specs.Outcome.{Outcome}
+use Rattle.gx_core.specs.Outcome.{Outcome, gives, given}
 use Rattle.gx_core.specs.Arithmetic.{computed_of_items}
 use Rattle.gx_core.specs.Comparing.{compared_items}
 use Rattle.gx_core.specs.ComparingNodes.{compared_nodes}
@@ -46,3 +47,7 @@ failure_of casts.FOCA0001 = Raised codes.FOCA0001
 failure_of casts.FOCA0003 = Raised codes.FOCA0003
 failure_of casts.FOCA0006 = Raised codes.FOCA0006
 failure_of casts.Memory = Memory
+
+-- the one answer of a function over strings
+abbrev pub answer_found : Option Atomic → Forest → Outcome Items
+answer_found found forest = given found (λ answer. gives (atom answer ∷ []) forest)

@@ -8,3 +8,6 @@ pub mod Operators
 pub mod StepLoops
 pub mod FoundTuples
 pub mod Resume
+pub mod BuildFailures
+pub mod MadeNodes
+pub mod Growing

@@ -19,3 +19,4 @@ changing_operator changes.OnlyNodes = operators.Nodes
 changing_operator changes.Order = operators.Order
 changing_operator (changes.Nth number reverse) = operators.Nth number reverse
 changing_operator (changes.Final reverse) = operators.Final reverse
+changing_operator (changes.Treat kind) = operators.Treat kind.now

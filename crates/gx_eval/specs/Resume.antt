@@ -21,7 +21,7 @@ pub use Rattle.gx_eval.specs.FoundTuples.{Stacks, with_sources}
 use Rattle.gx_eval.specs.FoundTuples.{found_in, none_found, block_resumed}
 use Rattle.gx_eval.specs.Operators.{single_operator, changing_operator}
 use Rattle.gx_eval.specs.declared.evaluation.Pending.{Pending}
-use Rattle.gx_eval.specs.declared.evaluation.Pending.TheVariants.{Evaluate, Change, Steps, Single as Operate, Right, Binary, Choose, Switch, Mark, Call, Gather, Each, Decide, Bind, Unbind, Declare, External, Block}
+use Rattle.gx_eval.specs.declared.evaluation.Pending.TheVariants.{Evaluate, Change, Steps, Single as Operate, Right, Binary, Choose, Switch, Mark, Call, Construct, Gather, Each, Decide, Bind, Unbind, Declare, External, Block}
 use Rattle.gx_eval.specs.declared.evaluation.Evaluation.{Evaluation}
 use Rattle.gx_eval.specs.declared.looping.Loop.{Loop}
 use Rattle.gx_eval.specs.declared.looping.Loop.TheVariants.{For, Search}
@@ -127,6 +127,9 @@ resume k (Mark ∷ work) values stacks bindings forest = resume k work values (w
 resume k (Call function more ∷ work) values stacks bindings forest =
     between_marks (more + 2) stacks.marks values []
     (λ operands below rest. operated k (operators.Call function) operands rest forest (λ vs left. resume k work vs (with_marks stacks below) bindings left))
+resume k (Construct constructor count ∷ work) values stacks bindings forest =
+    between_marks count stacks.marks values []
+    (λ operands below rest. operated k (operators.Construct constructor.now count) operands rest forest (λ vs left. resume k work vs (with_marks stacks below) bindings left))
 resume k (Gather repeated first body ∷ work) values stacks bindings forest =
     after (looped (meaning k body.now) repeated bindings (take first values) (drop first values) forest) (λ vs left. resume k work vs stacks bindings left)
 resume k (Each repeated next start body ∷ work) values stacks bindings forest =

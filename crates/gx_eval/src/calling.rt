@@ -1,55 +1,67 @@
 // Calls of built-in functions.
 
-ghost use Rattle.std.specs.Prelude.{◌≡◌, ◌∷◌, [], IfOk, IfErr, ◌≤◌, length, map, OnOk};
+ghost use Rattle.std.specs.Prelude.{◌≡◌, ◌∷◌, [], IfOk, IfErr, ◌≤◌, length, map, OnOk, List, Some};
 ghost use Rattle.gx_funcs.specs.Function.{effective_boolean as boolean_of_views, string_of_item as string_of_view, string_of_items as string_of_views};
 ghost use Rattle.gx_model.specs.Forest.{Forest as PlainForest};
 ghost use Rattle.gx_model.specs.Growth.{Extends};
-ghost use Rattle.gx_core.specs.Calling.{called, view_of, views_of};
-ghost use Rattle.gx_core.specs.Outcome.{gives};
+ghost use Rattle.gx_types.specs.SchemaSet.{SchemaSet};
+ghost use Rattle.gx_funcs.specs.Texts.{Text as Characters, texts_of, text_answer};
+ghost use Rattle.gx_core.specs.Calling.{called, text_called, argument_texts, text_of_value, view_of, views_of};
+ghost use Rattle.gx_model.specs.Item.{Items};
+ghost use Rattle.gx_build.specs.Parts.{parts_in};
+ghost use Rattle.gx_core.specs.Outcome.{Outcome, gives, given};
 ghost use Rattle.gx_core.specs.declared.operator.Operator.TheVariants as operators;
 ghost use Rattle.gx_core.specs.Meaning.{Context, denoted, meaning};
 ghost use Rattle.gx_store.specs.Items.{item_in, items_in};
-ghost use Rattle.gx_eval.specs.Answering.{answer_items, AnswerFits};
+ghost use Rattle.gx_eval.specs.Answering.{answer_items, AnswerFits, answer_found};
 ghost use Rattle.gx_eval.specs.Failing.{FailsSo};
 ghost use Rattle.gx_eval.specs.Resume.{context_over, items_of, outcome_of, outcome_with, outcome_behind};
 ghost use Rattle.gx_eval.specs.declared.evaluation.Pending.TheVariants as work;
 
 use crate::answer::{Answer, put};
+use crate::constructing::take_operands;
 use crate::evaluation::{Evaluation, Pending};
 use crate::failure::Failure;
+use crate::nodes::atomized;
 use crate::single::Single;
 use gx_atomic::effective_boolean_value;
 use gx_base::text::Text;
 use gx_core::expression::TypedExpr;
 use gx_facets::print_value;
 use gx_funcs::function::{Function, apply_to_none, integer_atom, string_atom, truth_atom};
+use gx_funcs::text_function::TextFunction;
+use gx_funcs::texts::apply_to_texts;
 use gx_store::item::Item;
 use gx_store::store::Store;
 use gx_types::schemas::Schemas;
 use std::alloc::{AllocError, Global};
 
 // What a function answers of no argument.
-pub(crate) fn called_with_none(function: Function) -> Result<Answer, Failure>
-    ensures value { (forest later : PlainForest) → IfOk result (λ r. called function [] forest ≡ gives (answer_items later r) forest) }
+pub(crate) fn called_with_none(alloc: Global, function: Function) -> Result<Answer, Failure>
+    ensures value { (schemas : SchemaSet) (forest later : PlainForest) → IfOk result (λ r. called schemas function [] forest ≡ gives (answer_items later r) forest) }
     ensures fits { IfOk result (λ r. AnswerFits r) }
-    ensures failed { (forest : PlainForest) → IfErr result (λ e. FailsSo e (called function [] forest)) }
+    ensures failed { (schemas : SchemaSet) (forest : PlainForest) → IfErr result (λ e. FailsSo e (called schemas function [] forest)) }
 {
-    match apply_to_none(function) {
-        Some(answer) => Ok(Answer::One(answer)),
-        None => Err(Failure::Wrong),
+    match function.text_function() {
+        Some(texts) => text_answer(alloc, texts, &[]),
+        None => match apply_to_none(function) {
+            Some(answer) => Ok(Answer::One(answer)),
+            None => Err(Failure::Wrong),
+        },
     }
 }
 
 // What a function answers of one argument.
 pub(crate) fn called_with_one(
     alloc: Global,
+    schemas: &Schemas,
     store: &Store,
     function: Function,
     argument: &[Item],
 ) -> Result<Answer, Failure>
-    ensures value { (later : PlainForest) → Extends store.now later → IfOk result (λ r. called function (items_in later argument.now ∷ []) store.now ≡ gives (answer_items later r) store.now) }
+    ensures value { (later : PlainForest) → Extends store.now later → IfOk result (λ r. called schemas.now function (items_in later argument.now ∷ []) store.now ≡ gives (answer_items later r) store.now) }
     ensures fits { IfOk result (λ r. AnswerFits r) }
-    ensures failed { (later : PlainForest) → Extends store.now later → IfErr result (λ e. FailsSo e (called function (items_in later argument.now ∷ []) store.now)) }
+    ensures failed { (later : PlainForest) → Extends store.now later → IfErr result (λ e. FailsSo e (called schemas.now function (items_in later argument.now ∷ []) store.now)) }
 {
     match function {
         Function::Boolean => match effective_boolean(argument) {
@@ -69,6 +81,96 @@ pub(crate) fn called_with_one(
         },
         Function::True | Function::False | Function::Data | Function::Position | Function::Last =>
             Err(Failure::Wrong),
+        Function::OfTexts(texts) => called_with_text(alloc, schemas, store, texts, argument),
+    }
+}
+
+// What a function over strings answers of one argument.
+fn called_with_text(
+    alloc: Global,
+    schemas: &Schemas,
+    store: &Store,
+    function: TextFunction,
+    argument: &[Item],
+) -> Result<Answer, Failure>
+    ensures value { (later : PlainForest) → Extends store.now later → IfOk result (λ r. text_called schemas.now function (items_in later argument.now ∷ []) store.now ≡ gives (answer_items later r) store.now) }
+    ensures fits { IfOk result (λ r. AnswerFits r) }
+    ensures failed { (later : PlainForest) → Extends store.now later → IfErr result (λ e. FailsSo e (text_called schemas.now function (items_in later argument.now ∷ []) store.now)) }
+{
+    let texts = argument_texts(alloc, schemas, store, argument)?;
+    let mut arguments = Vec::with_capacity(alloc, 1)?;
+    arguments.push(texts)?;
+    text_answer(alloc, function, arguments.as_slice())
+}
+
+// What a function over strings answers of several arguments.
+fn called_with_texts(
+    alloc: Global,
+    schemas: &Schemas,
+    store: &Store,
+    function: TextFunction,
+    operands: &[Vec<Item>],
+) -> Result<Answer, Failure>
+    ensures value { (later : PlainForest) → Extends store.now later → IfOk result (λ r. text_called schemas.now function (parts_in later operands.now) store.now ≡ gives (answer_items later r) store.now) }
+    ensures fits { IfOk result (λ r. AnswerFits r) }
+    ensures failed { (later : PlainForest) → Extends store.now later → IfErr result (λ e. FailsSo e (text_called schemas.now function (parts_in later operands.now) store.now)) }
+{
+    let mut arguments = Vec::with_capacity(alloc, operands.len())?;
+    let mut left = operands;
+    while let Some((operand, others)) = left.split_first() {
+        arguments.push(argument_texts(alloc, schemas, store, operand.as_slice())?)?;
+        left = others;
+    }
+    text_answer(alloc, function, arguments.as_slice())
+}
+
+// What a function over strings answers of texts.
+fn text_answer(
+    alloc: Global,
+    function: TextFunction,
+    arguments: &[Vec<Text>],
+) -> Result<Answer, Failure>
+    ensures value { (forest later : PlainForest) → IfOk result (λ r. answer_found (text_answer function (texts_of arguments.now)) forest ≡ gives (answer_items later r) forest) }
+    ensures fits { IfOk result (λ r. AnswerFits r) }
+    ensures failed { (forest : PlainForest) → IfErr result (λ e. FailsSo e (answer_found (text_answer function (texts_of arguments.now)) forest)) }
+{
+    match apply_to_texts(alloc, function, arguments)? {
+        Some(answer) => Ok(Answer::One(answer)),
+        None => Err(Failure::Wrong),
+    }
+}
+
+// The texts of the typed values of an argument.
+fn argument_texts(
+    alloc: Global,
+    schemas: &Schemas,
+    store: &Store,
+    argument: &[Item],
+) -> Result<Vec<Text>, Failure>
+    ensures value { (later : PlainForest) → Extends store.now later → IfOk result (λ texts. argument_texts schemas.now store.now (items_in later argument.now) ≡ Some texts.items) }
+    ensures failed { (later : PlainForest) → Extends store.now later → IfErr result (λ e. (next : List Characters → Outcome Items) → FailsSo e (given (argument_texts schemas.now store.now (items_in later argument.now)) next)) }
+{
+    let typed = atomized(alloc, schemas, store, argument)?;
+    Ok(printed(alloc, typed.as_slice())?)
+}
+
+// The printed forms of values.
+fn printed(alloc: Global, values: &[Item]) -> Result<Vec<Text>, AllocError>
+    ensures { (later : PlainForest) → IfOk result (λ texts. texts.items ≡ map text_of_value (items_in later values.now)) }
+{
+    let mut texts = Vec::with_capacity(alloc, values.len())?;
+    for value in values {
+        texts.push(printed_item(alloc, value)?)?;
+    }
+    Ok(texts)
+}
+
+fn printed_item(alloc: Global, value: &Item) -> Result<Text, AllocError>
+    ensures { (later : PlainForest) → IfOk result (λ text. text ≡ text_of_value (item_in later value.now)) }
+{
+    match value {
+        Item::Atom(value) => print_value(alloc, &value.value),
+        Item::Node(_) => Text::empty(alloc),
     }
 }
 
@@ -125,7 +227,7 @@ impl<'a> Evaluation<'a> {
     {
         match arguments {
             [] => {
-                let answer = called_with_none(function)?;
+                let answer = called_with_none(alloc, function)?;
                 Ok(put(answer, &mut self.values)?)
             }
             [argument] => self.open_single(alloc, schemas, store, Single::Call(function), argument),
@@ -153,12 +255,26 @@ impl<'a> Evaluation<'a> {
         Ok(())
     }
 
-    // No function has more than one argument as yet.
-    #[tactic(auto, using(crate::proofs::Resuming::more_are_wrong))]
-    pub(crate) fn apply_call(&mut self, _function: Function, _more: usize) -> Result<(), Failure>
-        ensures value { (k : Context) (forest later : PlainForest) → OnOk result (outcome_of k forest later self.new ≡ outcome_with k forest later (work.Call _function _more) self.old) }
-        ensures failed { (k : Context) (forest later : PlainForest) → IfErr result (λ e. FailsSo e (outcome_with k forest later (work.Call _function _more) self.old)) }
+    // A call of several arguments: functions over strings alone have so many.
+    pub(crate) fn apply_call(
+        &mut self,
+        alloc: Global,
+        schemas: &Schemas,
+        store: &Store,
+        function: Function,
+        more: usize,
+    ) -> Result<(), Failure>
+        ensures value { let k = context_over schemas.now in (later : PlainForest) → Extends store.now later → OnOk result (outcome_of k store.now later self.new ≡ outcome_with k store.now later (work.Call function more) self.old) }
+        ensures failed { let k = context_over schemas.now in (later : PlainForest) → Extends store.now later → IfErr result (λ e. FailsSo e (outcome_with k store.now later (work.Call function more) self.old)) }
     {
-        Err(Failure::Wrong)
+        let Some(texts) = function.text_function() else {
+            return Err(Failure::Wrong);
+        };
+        let Some(count) = more.checked_add(2) else {
+            return Err(Failure::Memory);
+        };
+        let operands = take_operands(alloc, count, &mut self.marks, &mut self.values)?;
+        let answer = called_with_texts(alloc, schemas, store, texts, operands.as_slice())?;
+        Ok(put(answer, &mut self.values)?)
     }
 }

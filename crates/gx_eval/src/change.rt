@@ -13,21 +13,25 @@ ghost use Rattle.gx_eval.specs.Resume.{changed, context_over};
 
 use crate::failure::Failure;
 use crate::filtering::{keep_last, keep_nth};
+use crate::instances::is_instance;
 use crate::nodes::{append_nodes, atomized, put_in_order};
 use crate::operand::{all_nodes, any_node, cut_off, move_behind, values_from};
+use gx_base::code::Code;
 use gx_store::item::Item;
 use gx_store::store::Store;
 use gx_types::schemas::Schemas;
+use gx_types::sequence_type::Ty;
 use std::alloc::Global;
 
-// Atomization, the test that all items are nodes, document order, the item of a number, or the last one.
+// Atomization, the test that all items are nodes, document order, the item of a number, the last one, or the test of a type.
 #[derive(Clone, Copy)]
-pub(crate) enum Change {
+pub(crate) enum Change<'a> {
     Data,
     OnlyNodes,
     Order,
     Nth(i128, bool),
     Final(bool),
+    Treat(&'a Ty),
 }
 
 // Changes the values from a number of them on.
@@ -35,12 +39,12 @@ pub(crate) fn change_values(
     alloc: Global,
     schemas: &Schemas,
     store: &Store,
-    operator: Change,
+    operator: Change<'_>,
     first: usize,
     values: &mut Vec<Item>,
 ) -> Result<(), Failure>
-    ensures value { (later : PlainForest) → Extends store.now later → OnOk result (changed (context_over schemas.now) (changing_operator operator) first (items_in later values.old.items) store.now ≡ gives (items_in later values.new.items) store.now) }
-    ensures failed { (later : PlainForest) → Extends store.now later → IfErr result (λ e. FailsSo e (acts (context_over schemas.now) (changing_operator operator) (drop first (items_in later values.old.items) ∷ []) store.now)) }
+    ensures value { (later : PlainForest) → Extends store.now later → OnOk result (changed (context_over schemas.now) (changing_operator operator.entry) first (items_in later values.old.items) store.now ≡ gives (items_in later values.new.items) store.now) }
+    ensures failed { (later : PlainForest) → Extends store.now later → IfErr result (λ e. FailsSo e (acts (context_over schemas.now) (changing_operator operator.entry) (drop first (items_in later values.old.items) ∷ []) store.now)) }
 {
     match operator {
         Change::Data => atomize(alloc, schemas, store, first, values),
@@ -48,6 +52,7 @@ pub(crate) fn change_values(
         Change::Order => order(alloc, store, first, values),
         Change::Nth(number, reverse) => Ok(keep_nth(number, reverse, first, values)?),
         Change::Final(reverse) => Ok(keep_last(reverse, first, values)?),
+        Change::Treat(kind) => treat(schemas, store, kind, first, values),
     }
 }
 
@@ -93,4 +98,23 @@ fn order(alloc: Global, store: &Store, first: usize, values: &mut Vec<Item>) -> 
     };
     cut_off(values, first);
     Ok(append_nodes(nodes.as_slice(), values)?)
+}
+
+// An instance of a type stays where it stands; any other value is an error.
+fn treat(
+    schemas: &Schemas,
+    store: &Store,
+    kind: &Ty,
+    first: usize,
+    values: &mut Vec<Item>,
+) -> Result<(), Failure>
+    ensures value { (later : PlainForest) → Extends store.now later → OnOk result (changed (context_over schemas.now) (operators.Treat kind.now) first (items_in later values.old.items) store.now ≡ gives (items_in later values.new.items) store.now) }
+    ensures failed { (later : PlainForest) → Extends store.now later → IfErr result (λ e. FailsSo e (acts (context_over schemas.now) (operators.Treat kind.now) (drop first (items_in later values.old.items) ∷ []) store.now)) }
+{
+    let operand = values_from(values, first);
+    if is_instance(schemas, store, kind, operand) {
+        Ok(())
+    } else {
+        Err(Failure::Raised(Code::XPDY0050))
+    }
 }

@@ -1,11 +1,12 @@
 // An evaluation in its midst: the work that is left, and the values that are there.
 
-ghost use Rattle.std.specs.Prelude.{◌≡◌, ◌∷◌, [], List, IfOk, OnOk, IfErr};
+ghost use Rattle.std.specs.Prelude.{◌≡◌, ◌⊎◌, ◌∷◌, [], List, IfOk, OnOk, IfErr};
 ghost use Rattle.gx_model.specs.Forest.{Forest as PlainForest, PlainNode};
 ghost use Rattle.gx_model.specs.Growth.{Extends};
 ghost use Rattle.gx_core.specs.Meaning.{Context, Bindings};
 ghost use Rattle.gx_store.specs.Places.{node_places};
 ghost use Rattle.gx_eval.specs.Failing.{FailsSo};
+ghost use Rattle.gx_eval.specs.Growing.{GrowsHonestly};
 ghost use Rattle.gx_eval.specs.Resume.{resume, context_over, declared_then, only_documents, typed_outcome, outcome_of, outcome_with};
 ghost use Rattle.gx_eval.specs.declared.evaluation.Pending.TheVariants as work;
 
@@ -19,6 +20,7 @@ use crate::single::Single;
 use crate::switching::Choice;
 use crate::tuples::{Tuples, unbind_innermost};
 use gx_base::stack::Stack;
+use gx_core::constructor::Constructor;
 use gx_core::expression::{BinaryOp, TypedCore, TypedDeclaration, TypedExpr};
 use gx_core::scope::Scope;
 use gx_funcs::function::Function;
@@ -35,7 +37,7 @@ pub(crate) enum Pending<'a> {
     // Evaluates an expression.
     Evaluate(&'a TypedExpr),
     // Changes an operand where it stands.
-    Change(Change, usize),
+    Change(Change<'a>, usize),
     // Takes a step from each node of an operand.
     Steps(Axis, &'a Test, usize),
     // Applies an operator of one operand.
@@ -52,6 +54,8 @@ pub(crate) enum Pending<'a> {
     Mark,
     // Calls a function of two arguments and so many more, which stand behind the last marks.
     Call(Function, usize),
+    // Makes a node of so many operands, which stand behind the last marks.
+    Construct(&'a Constructor, usize),
     // Puts the items of an operand aside for a loop.
     Gather(Loop, usize, &'a TypedExpr),
     // Repeats a body for each item put aside from the first number on; the items of this loop begin at the second.
@@ -76,7 +80,7 @@ pub(crate) enum Pending<'a> {
 pub(crate) struct Evaluation<'a> {
     pub(crate) work: Stack<Pending<'a>>,
     pub(crate) values: Vec<Item>,
-    marks: Stack<usize>,
+    pub(crate) marks: Stack<usize>,
     pub(crate) sources: Vec<Item>,
     pub(crate) documents: &'a [NodeId],
     pub(crate) scope: Scope<Bound>,
@@ -109,11 +113,12 @@ impl<'a> Evaluation<'a> {
         &mut self,
         alloc: Global,
         schemas: &Schemas,
-        store: &Store,
+        store: &mut Store,
         pending: Pending<'a>,
     ) -> Result<(), Failure>
-        ensures value { (later : PlainForest) → Extends store.now later → OnOk result (outcome_of (context_over schemas.now) store.now later self.new ≡ outcome_with (context_over schemas.now) store.now later pending.entry self.old) }
-        ensures failed { (later : PlainForest) → Extends store.now later → IfErr result (λ e. FailsSo e (outcome_with (context_over schemas.now) store.now later pending.entry self.old)) }
+        ensures grows { (store.new ≡ store.old) ⊎ GrowsHonestly schemas.now store.old store.new }
+        ensures value { (later : PlainForest) → Extends store.new later → OnOk result (outcome_of (context_over schemas.now) store.new later self.new ≡ outcome_with (context_over schemas.now) store.old later pending.entry self.old) }
+        ensures failed { (later : PlainForest) → Extends store.new later → IfErr result (λ e. FailsSo e (outcome_with (context_over schemas.now) store.old later pending.entry self.old)) }
     {
         match pending {
             Pending::Evaluate(expression) => self.open(alloc, schemas, store, expression),
@@ -133,9 +138,14 @@ impl<'a> Evaluation<'a> {
                 self.apply_binary(alloc, store, operator, first, second)
             }
             Pending::Choose(first, chosen, otherwise) => self.choose(first, chosen, otherwise),
-            Pending::Switch(first, choice) => self.switch(alloc, schemas, first, choice),
+            Pending::Switch(first, choice) => { self.switch(alloc, schemas, store, first, choice) },
             Pending::Mark => Ok(self.marks.push(count_of(&self.values))?),
-            Pending::Call(function, more) => self.apply_call(function, more),
+            Pending::Construct(constructor, count) => {
+                self.construct(alloc, schemas, store, constructor, count)
+            }
+            Pending::Call(function, more) => {
+                self.apply_call(alloc, schemas, store, function, more)
+            }
             Pending::Gather(repeated, first, body) => {
                 Ok(self.gather(alloc, repeated, first, body)?)
             }

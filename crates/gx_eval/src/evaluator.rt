@@ -12,6 +12,7 @@ ghost use Rattle.gx_nodes.specs.Entries.{count_in};
 ghost use Rattle.gx_store.specs.Items.{items_in};
 ghost use Rattle.gx_store.specs.Places.{node_places};
 ghost use Rattle.gx_eval.specs.Failing.{FailsSo};
+ghost use Rattle.gx_eval.specs.Growing.{GrowsHonestly};
 ghost use Rattle.gx_eval.specs.Resume.{context_over, typed_outcome};
 
 use crate::evaluation::Evaluation;
@@ -61,13 +62,14 @@ fn value_of(
     alloc: Global,
     schemas: &Schemas,
     core: &TypedCore,
-    store: &Store,
+    store: &mut Store,
     documents: &[NodeId],
 ) -> Result<Vec<Item>, Failure>
-    ensures value { (later : PlainForest) → Extends store.now later → IfOk result (λ v.
-        typed_outcome (context_over schemas.now) core.now (node_places later documents.now) store.now ≡ gives (items_in later v.items) store.now) }
-    ensures failed { (later : PlainForest) → Extends store.now later → IfErr result (λ e.
-        FailsSo e (typed_outcome (context_over schemas.now) core.now (node_places later documents.now) store.now)) }
+    ensures grows { GrowsHonestly schemas.now store.old store.new }
+    ensures value { (later : PlainForest) → Extends store.new later → IfOk result (λ v.
+        typed_outcome (context_over schemas.now) core.now (node_places later documents.now) store.old ≡ gives (items_in later v.items) store.new) }
+    ensures failed { (later : PlainForest) → Extends store.new later → IfErr result (λ e.
+        FailsSo e (typed_outcome (context_over schemas.now) core.now (node_places later documents.now) store.old)) }
 {
     let mut evaluation = Evaluation::new(alloc, core, documents)?;
     for _ in 0..u64::MAX {

@@ -65,6 +65,7 @@ impl<'a> Evaluation<'a> {
                 let castable = Single::Castable(kind, *allows_empty);
                 self.open_single(alloc, schemas, store, castable, operand)
             }
+            Form::Treat(operand, kind) => Ok(self.open_change(Change::Treat(kind), operand)?),
             Form::Step(axis, test, from) => self.append_step(schemas, store, *axis, test, *from),
             Form::Nodes(operand) => Ok(self.open_change(Change::OnlyNodes, operand)?),
             Form::Order(operand) => Ok(self.open_ordered(operand)?),
@@ -78,6 +79,9 @@ impl<'a> Evaluation<'a> {
             Form::NoContext => Err(Failure::Wrong),
             Form::Call(function, arguments) => {
                 self.open_call(alloc, schemas, store, *function, arguments.as_slice())
+            }
+            Form::Construct(constructor, parts) => {
+                Ok(self.open_construct(constructor, parts.as_slice())?)
             }
             Form::Neg(operand) => self.open_single(alloc, schemas, store, Single::Neg, operand),
             Form::Binary(operator, left, right) => {

@@ -206,11 +206,11 @@ impl<'a> Evaluation<'a> {
     // An operand that is to be changed where it stands.
     pub(crate) fn open_change(
         &mut self,
-        operator: Change,
+        operator: Change<'a>,
         operand: &'a TypedExpr,
     ) -> Result<(), AllocError>
         ensures { (k : Context) (forest later : PlainForest) → OnOk result (outcome_of k forest later self.new
-            ≡ outcome_behind k later (denoted k (changing_operator operator) (meaning k operand.now ∷ []) (items_of later self.old.scope) forest) self.old) }
+            ≡ outcome_behind k later (denoted k (changing_operator operator.entry) (meaning k operand.now ∷ []) (items_of later self.old.scope) forest) self.old) }
     {
         self.work
             .push(Pending::Change(operator, count_of(&self.values)))?;
@@ -223,11 +223,11 @@ impl<'a> Evaluation<'a> {
         alloc: Global,
         schemas: &Schemas,
         store: &Store,
-        operator: Change,
+        operator: Change<'a>,
         first: usize,
     ) -> Result<(), Failure>
-        ensures value { let k = context_over schemas.now in (later : PlainForest) → Extends store.now later → OnOk result (outcome_of k store.now later self.new ≡ outcome_with k store.now later (work.Change operator first) self.old) }
-        ensures failed { let k = context_over schemas.now in (later : PlainForest) → Extends store.now later → IfErr result (λ e. FailsSo e (outcome_with k store.now later (work.Change operator first) self.old)) }
+        ensures value { let k = context_over schemas.now in (later : PlainForest) → Extends store.now later → OnOk result (outcome_of k store.now later self.new ≡ outcome_with k store.now later (work.Change operator.entry first) self.old) }
+        ensures failed { let k = context_over schemas.now in (later : PlainForest) → Extends store.now later → IfErr result (λ e. FailsSo e (outcome_with k store.now later (work.Change operator.entry first) self.old)) }
     {
         change_values(alloc, schemas, store, operator, first, &mut self.values)?;
         Ok(())

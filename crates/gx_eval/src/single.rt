@@ -62,7 +62,7 @@ pub(crate) fn of_one(
         Single::Castable(kind, allows_empty) => {
             castable(alloc, schemas, kind, allows_empty, operand)
         }
-        Single::Call(function) => called_with_one(alloc, store, function, operand),
+        Single::Call(function) => called_with_one(alloc, schemas, store, function, operand),
     }
 }
 

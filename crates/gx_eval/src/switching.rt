@@ -2,24 +2,21 @@
 
 ghost use Rattle.std.specs.Prelude.{◌≡◌, ◌∷◌, [], OnOk, IfErr, map};
 ghost use Rattle.gx_model.specs.Forest.{Forest as PlainForest};
-ghost use Rattle.gx_core.specs.Instances.{is_instance, is_item_instance};
+ghost use Rattle.gx_model.specs.Growth.{Extends};
 ghost use Rattle.gx_core.specs.declared.operator.Operator.TheVariants as operators;
 ghost use Rattle.gx_core.specs.Meaning.{Context, denoted, meaning};
-ghost use Rattle.gx_store.specs.Items.{items_in};
 ghost use Rattle.gx_eval.specs.Failing.{FailsSo};
 ghost use Rattle.gx_eval.specs.Resume.{context_over, items_of, outcome_of, outcome_behind, outcome_with, branch_outcome};
 ghost use Rattle.gx_eval.specs.declared.evaluation.Pending.TheVariants as work;
 
 use crate::evaluation::{Evaluation, Pending};
 use crate::failure::Failure;
+use crate::instances::is_instance;
 use crate::operand::{condition_of, count_of, cut_off, values_from};
 use gx_core::cases::TypeCase;
 use gx_core::expression::TypedExpr;
-use gx_store::item::Item;
-use gx_types::derivation::derives;
-use gx_types::item_type::ItemType;
+use gx_store::store::Store;
 use gx_types::schemas::Schemas;
-use gx_types::sequence_type::{Ty, TyNode};
 use std::alloc::{AllocError, Global};
 
 // The cases that are left, with a branch for each and one behind them for the default, and the variable of the default, or 0.
@@ -28,26 +25,6 @@ pub(crate) struct Choice<'a> {
     pub(crate) cases: &'a [TypeCase],
     pub(crate) default: u32,
     pub(crate) branches: &'a [TypedExpr],
-}
-
-// Whether a value is of the type of a case.
-pub(crate) fn is_instance(schemas: &Schemas, kind: &Ty, values: &[Item]) -> bool
-    ensures { (later : PlainForest) → result ≡ is_instance schemas.now kind.now (items_in later values.now) }
-{
-    match &kind.node {
-        TyNode::Item(kind) => is_item_instance(schemas, kind, values),
-        _ => false,
-    }
-}
-
-// Whether a value is an item of a type.
-fn is_item_instance(schemas: &Schemas, kind: &ItemType, values: &[Item]) -> bool
-    ensures { (later : PlainForest) → result ≡ is_item_instance schemas.now kind.now (items_in later values.now) }
-{
-    match (kind, values) {
-        (ItemType::Atom(kind), [Item::Atom(value)]) => derives(schemas, &value.kind, kind),
-        _ => false,
-    }
 }
 
 impl<'a> Evaluation<'a> {
@@ -112,11 +89,12 @@ impl<'a> Evaluation<'a> {
         &mut self,
         alloc: Global,
         schemas: &Schemas,
+        store: &Store,
         first: usize,
         choice: Choice<'a>,
     ) -> Result<(), Failure>
-        ensures value { let k = context_over schemas.now in (forest later : PlainForest) → OnOk result (outcome_of k forest later self.new ≡ outcome_with k forest later (work.Switch first choice.entry) self.old) }
-        ensures failed { let k = context_over schemas.now in (forest later : PlainForest) → IfErr result (λ e. FailsSo e (outcome_with k forest later (work.Switch first choice.entry) self.old)) }
+        ensures value { let k = context_over schemas.now in (later : PlainForest) → Extends store.now later → OnOk result (outcome_of k store.now later self.new ≡ outcome_with k store.now later (work.Switch first choice.entry) self.old) }
+        ensures failed { let k = context_over schemas.now in (later : PlainForest) → Extends store.now later → IfErr result (λ e. FailsSo e (outcome_with k store.now later (work.Switch first choice.entry) self.old)) }
     {
         let Some((branch, others)) = choice.branches.split_first() else {
             return Err(Failure::Wrong);
@@ -127,7 +105,8 @@ impl<'a> Evaluation<'a> {
             }
             return Ok(self.choose_branch(alloc, first, choice.default, branch)?);
         };
-        if is_instance(schemas, &case.kind, values_from(&self.values, first)) {
+        let values = values_from(&self.values, first);
+        if is_instance(schemas, store, &case.kind, values) {
             return Ok(self.choose_branch(alloc, first, case.variable, branch)?);
         }
         let next = Choice {

@@ -1,1 +1,3 @@
 pub mod FunctionLemmas
+pub mod ListedTexts
+pub mod TextLemmas

@@ -1,5 +1,5 @@
--- The table of built-in functions: the name and the parameters of each, the type of its result, and what it answers (Functions and Operators, sections 2.3, 2.4, 9.1, 9.3, 15.1, 15.4, 16.1 and 16.2).
-use Rattle.std.specs.Prelude.{ℕ, ℤ, pos, Bool, true, false, not, ◌&&◌, ◌==◌, List, [], ◌∷◌, length, codes, bytes_eq, encode_utf8_all, Option, Some, None, option_map, Result, Ok, if◌then◌else◌}
+-- The table of built-in functions: the name and the parameters of each, the type of its result, and what it answers (Functions and Operators, sections 2.3, 2.4, 7.4, 7.5, 9.1, 9.3, 15.1, 15.4, 16.1 and 16.2).
+use Rattle.std.specs.Prelude.{ℕ, ℤ, pos, Bool, true, false, not, ◌&&◌, ◌==◌, ◌≤◌, nat_le, List, [], ◌∷◌, length, replicate, codes, bytes_eq, encode_utf8_all, Option, Some, None, option_map, Result, Ok, if◌then◌else◌}
 use Rattle.gx_base.specs.declared.code.Code.{Code}
 use Rattle.gx_base.specs.declared.code.Code.TheVariants.{XPTY0004, FORG0006}
 use Rattle.gx_base.specs.declared.type_name.Builtin.{Builtin}
@@ -14,14 +14,31 @@ use Rattle.gx_funcs.specs.declared.function.Function.{Function}
 use Rattle.gx_funcs.specs.declared.function.Function.TheVariants as functions
 use Rattle.gx_funcs.specs.declared.function.Parameter.{Parameter}
 use Rattle.gx_funcs.specs.declared.function.ParameterType.TheVariants as parameters
+use Rattle.gx_funcs.specs.declared.text_function.TextFunction.{TextFunction}
+use Rattle.gx_funcs.specs.declared.text_function.TextFunction.TheVariants as texts
 
--- all functions
+-- all functions but `concat`, which there is for each number of arguments from two on
 abbrev pub all_functions : List Function
 all_functions =
     functions.True ∷ functions.False ∷ functions.Boolean ∷ functions.Not ∷ functions.Count ∷ functions.Empty ∷ functions.Exists ∷ functions.Data ∷ functions.String
-    ∷ functions.Position ∷ functions.Last ∷ []
+    ∷ functions.Position ∷ functions.Last
+    ∷ functions.OfTexts texts.StringLength ∷ functions.OfTexts texts.StringJoin ∷ functions.OfTexts texts.NormalizeSpace ∷ functions.OfTexts texts.Translate
+    ∷ functions.OfTexts texts.Contains ∷ functions.OfTexts texts.StartsWith ∷ functions.OfTexts texts.EndsWith
+    ∷ functions.OfTexts texts.SubstringBefore ∷ functions.OfTexts texts.SubstringAfter ∷ []
 
 -- ---- names
+
+abbrev pub text_function_name : TextFunction → List ℕ
+text_function_name texts.StringLength = codes "string-length"
+text_function_name (texts.Concat count) = codes "concat"
+text_function_name texts.StringJoin = codes "string-join"
+text_function_name texts.NormalizeSpace = codes "normalize-space"
+text_function_name texts.Translate = codes "translate"
+text_function_name texts.Contains = codes "contains"
+text_function_name texts.StartsWith = codes "starts-with"
+text_function_name texts.EndsWith = codes "ends-with"
+text_function_name texts.SubstringBefore = codes "substring-before"
+text_function_name texts.SubstringAfter = codes "substring-after"
 
 -- the local name of a function
 abbrev pub function_name : Function → List ℕ
@@ -36,6 +53,7 @@ function_name functions.Data = codes "data"
 function_name functions.String = codes "string"
 function_name functions.Position = codes "position"
 function_name functions.Last = codes "last"
+function_name (functions.OfTexts function) = text_function_name function
 
 -- ---- parameters
 
@@ -51,6 +69,31 @@ one_item_at_most = record { takes = parameters.OptionalItem; code = XPTY0004 }
 abbrev pub truth_valued : Parameter
 truth_valued = record { takes = parameters.TruthValue; code = FORG0006 }
 
+-- at most one string, one string, any strings, and at most one atomic value, each after atomization
+abbrev pub string_at_most : Parameter
+string_at_most = record { takes = parameters.OptionalText; code = XPTY0004 }
+
+abbrev pub one_string : Parameter
+one_string = record { takes = parameters.OneText; code = XPTY0004 }
+
+abbrev pub any_strings : Parameter
+any_strings = record { takes = parameters.Texts; code = XPTY0004 }
+
+abbrev pub value_at_most : Parameter
+value_at_most = record { takes = parameters.OptionalValue; code = XPTY0004 }
+
+abbrev pub text_parameters_of : TextFunction → List Parameter
+text_parameters_of texts.StringLength = string_at_most ∷ []
+text_parameters_of (texts.Concat count) = replicate count value_at_most
+text_parameters_of texts.StringJoin = any_strings ∷ one_string ∷ []
+text_parameters_of texts.NormalizeSpace = string_at_most ∷ []
+text_parameters_of texts.Translate = string_at_most ∷ one_string ∷ one_string ∷ []
+text_parameters_of texts.Contains = string_at_most ∷ string_at_most ∷ []
+text_parameters_of texts.StartsWith = string_at_most ∷ string_at_most ∷ []
+text_parameters_of texts.EndsWith = string_at_most ∷ string_at_most ∷ []
+text_parameters_of texts.SubstringBefore = string_at_most ∷ string_at_most ∷ []
+text_parameters_of texts.SubstringAfter = string_at_most ∷ string_at_most ∷ []
+
 abbrev pub parameters_of : Function → List Parameter
 parameters_of functions.True = []
 parameters_of functions.False = []
@@ -63,6 +106,7 @@ parameters_of functions.Data = any_items ∷ []
 parameters_of functions.String = one_item_at_most ∷ []
 parameters_of functions.Position = []
 parameters_of functions.Last = []
+parameters_of (functions.OfTexts function) = text_parameters_of function
 
 -- how many arguments a function has
 abbrev pub arity_of : Function → ℕ
@@ -76,11 +120,37 @@ abbrev pub first_named : List Function → (local : List ℕ) → (arity : ℕ) 
 first_named [] local arity = None
 first_named (function ∷ functions) local arity = if is_of_name local arity function then Some function else first_named functions local arity
 
+-- `concat` of so many arguments
+abbrev pub concat_named : (local : List ℕ) → (arity : ℕ) → Option Function
+concat_named local arity =
+    if bytes_eq (encode_utf8_all local) (codes "concat") && nat_le 2 arity then Some (functions.OfTexts (texts.Concat arity)) else None
+
+abbrev pub found_or : Option Function → Option Function → Option Function
+found_or None other = other
+found_or (Some function) other = Some function
+
 -- the function of this local name that has so many parameters
 unfoldable pub function_named : (local : List ℕ) → (arity : ℕ) → Option Function
-function_named local arity = first_named all_functions local arity
+function_named local arity = found_or (first_named all_functions local arity) (concat_named local arity)
+
+-- a function of the table: `concat` has two arguments at least
+abbrev pub IsInTable : Function → Type 0
+IsInTable (functions.OfTexts (texts.Concat count)) = 2 ≤ count
+IsInTable function = Unit {0}
 
 -- ---- results
+
+abbrev pub text_answer_type_of : TextFunction → Builtin
+text_answer_type_of texts.StringLength = types.Integer
+text_answer_type_of (texts.Concat count) = types.Str
+text_answer_type_of texts.StringJoin = types.Str
+text_answer_type_of texts.NormalizeSpace = types.Str
+text_answer_type_of texts.Translate = types.Str
+text_answer_type_of texts.Contains = types.Boolean
+text_answer_type_of texts.StartsWith = types.Boolean
+text_answer_type_of texts.EndsWith = types.Boolean
+text_answer_type_of texts.SubstringBefore = types.Str
+text_answer_type_of texts.SubstringAfter = types.Str
 
 -- the type of the one atomic value that a function answers; what `data` answers is of the type of its argument
 abbrev pub answer_type_of : Function → Option Builtin
@@ -95,8 +165,14 @@ answer_type_of functions.Data = None
 answer_type_of functions.String = Some types.Str
 answer_type_of functions.Position = Some types.Integer
 answer_type_of functions.Last = Some types.Integer
+answer_type_of (functions.OfTexts function) = Some (text_answer_type_of function)
 
 -- ---- values
+
+-- the function over strings that a function is, if it is one
+abbrev pub text_function_of : Function → Option TextFunction
+text_function_of (functions.OfTexts function) = Some function
+text_function_of function = None
 
 -- an item as a function looks at it: an atomic value, or a node with its string value
 pub data ItemView : Type 0 where
@@ -140,8 +216,8 @@ abbrev pub one_answer : Atomic → Result (List Atomic) Code
 one_answer a = Ok (a ∷ [])
 
 -- what a function answers of its arguments, a value or the code of a dynamic error; nothing where their number is another one
--- or they are not of the types of its parameters, and of `data`, which is an operator of its own, and `position` and `last`, which are
--- variables
+-- or they are not of the types of its parameters, of `data`, which is an operator of its own, of `position` and `last`, which are variables,
+-- and of functions over strings, which look at texts
 abbrev pub applied : Function → List (List ItemView) → Option (Result (List Atomic) Code)
 applied functions.True [] = Some (one_answer (truth_atom true))
 applied functions.False [] = Some (one_answer (truth_atom false))

@@ -1,2 +1,4 @@
 pub mod Function
+pub mod Texts
+pub mod Targets
 pub mod Laws

@@ -1,16 +1,18 @@
 // The table of built-in functions.
 
-ghost use Rattle.std.specs.Prelude.{◌≡◌, [], ℕ, List, encode_utf8_all, Some, None, MatchOption};
-ghost use Rattle.gx_funcs.specs.Function.{applied, arity_of, function_name, function_named, integer_atom, is_of_name, one_answer, parameters_of, answer_type_of, string_atom, truth_atom};
+ghost use Rattle.std.specs.Prelude.{◌≡◌, [], ℕ, List, encode_utf8_all, Some, None, MatchOption, slice_get, length};
+ghost use Rattle.gx_funcs.specs.Function.{applied, arity_of, concat_named, first_named, all_functions, function_name, function_named, integer_atom, is_of_name, one_answer, parameters_of, answer_type_of, string_atom, truth_atom};
+ghost use Rattle.gx_funcs.specs.Function.{text_function_name, text_function_of, text_parameters_of, text_answer_type_of};
 
+use crate::text_function::TextFunction;
 use gx_base::code::Code;
 use gx_base::text::Text;
 use gx_base::type_name::{Builtin, TypeName};
 use gx_facets::{AtomValue, Atomic};
 use gx_num::Number;
 
-/// A built-in function: one variant for each name and number of arguments (Functions and Operators, sections 2.3, 2.4, 9.1,
-/// 9.3, 15.1, 15.4, 16.1 and 16.2).
+/// A built-in function, with a name and a number of arguments (Functions and Operators, sections 2.3, 2.4, 7.4, 7.5, 9.1, 9.3, 15.1,
+/// 15.4, 16.1 and 16.2).
 #[derive(Clone, Copy, PartialEq, Eq)]
 pub enum Function {
     /// `fn:true()`.
@@ -35,6 +37,8 @@ pub enum Function {
     Position,
     /// `fn:last()`, the number of the items that the context item is one of, which is a variable of Core.
     Last,
+    /// A function over strings.
+    OfTexts(TextFunction),
 }
 
 /// What the values of a parameter are.
@@ -46,6 +50,14 @@ pub enum ParameterType {
     OptionalItem,
     /// The types that have an effective boolean value (XQuery 1.0, section 2.4.3).
     TruthValue,
+    /// `xs:string?`: the argument is atomized, and an untyped value is a string (XQuery 1.0, section 3.1.5).
+    OptionalText,
+    /// `xs:string`, likewise.
+    OneText,
+    /// `xs:string*`, likewise.
+    Texts,
+    /// `xs:anyAtomicType?`: the argument is atomized.
+    OptionalValue,
 }
 
 /// A parameter of a function: what its values are, and the code of an argument of another type.
@@ -55,8 +67,8 @@ pub struct Parameter {
     pub code: Code,
 }
 
-// All functions, each once.
-const FUNCTIONS: [Function; 11] = [
+// All functions but `concat`, each once.
+const FUNCTIONS: [Function; 20] = [
     Function::True,
     Function::False,
     Function::Boolean,
@@ -68,6 +80,15 @@ const FUNCTIONS: [Function; 11] = [
     Function::String,
     Function::Position,
     Function::Last,
+    Function::OfTexts(TextFunction::StringLength),
+    Function::OfTexts(TextFunction::StringJoin),
+    Function::OfTexts(TextFunction::NormalizeSpace),
+    Function::OfTexts(TextFunction::Translate),
+    Function::OfTexts(TextFunction::Contains),
+    Function::OfTexts(TextFunction::StartsWith),
+    Function::OfTexts(TextFunction::EndsWith),
+    Function::OfTexts(TextFunction::SubstringBefore),
+    Function::OfTexts(TextFunction::SubstringAfter),
 ];
 
 const ANY_ITEMS: Parameter = Parameter {
@@ -84,6 +105,102 @@ const TRUTH_VALUED: Parameter = Parameter {
     takes: ParameterType::TruthValue,
     code: Code::FORG0006,
 };
+
+const STRING_AT_MOST: Parameter = Parameter {
+    takes: ParameterType::OptionalText,
+    code: Code::XPTY0004,
+};
+
+const ONE_STRING: Parameter = Parameter {
+    takes: ParameterType::OneText,
+    code: Code::XPTY0004,
+};
+
+const ANY_STRINGS: Parameter = Parameter {
+    takes: ParameterType::Texts,
+    code: Code::XPTY0004,
+};
+
+const VALUE_AT_MOST: Parameter = Parameter {
+    takes: ParameterType::OptionalValue,
+    code: Code::XPTY0004,
+};
+
+impl TextFunction {
+    // Its local name.
+    fn name(self) -> &'static str
+        ensures { result.now ≡ text_function_name self }
+    {
+        match self {
+            TextFunction::StringLength => "string-length",
+            TextFunction::Concat(_) => "concat",
+            TextFunction::StringJoin => "string-join",
+            TextFunction::NormalizeSpace => "normalize-space",
+            TextFunction::Translate => "translate",
+            TextFunction::Contains => "contains",
+            TextFunction::StartsWith => "starts-with",
+            TextFunction::EndsWith => "ends-with",
+            TextFunction::SubstringBefore => "substring-before",
+            TextFunction::SubstringAfter => "substring-after",
+        }
+    }
+
+    // Its parameter with this number.
+    #[tactic(auto, using(crate::proofs::FunctionLemmas::parameter_there, crate::proofs::FunctionLemmas::no_parameter_there))]
+    fn parameter(self, index: usize) -> Option<Parameter>
+        ensures { result ≡ slice_get (text_parameters_of self) index }
+    {
+        match self {
+            TextFunction::Concat(count) if index < count => Some(VALUE_AT_MOST),
+            TextFunction::Concat(_) => None,
+            TextFunction::StringLength | TextFunction::NormalizeSpace => [STRING_AT_MOST]
+                .get(index)
+                .copied(),
+            TextFunction::StringJoin => [ANY_STRINGS, ONE_STRING].get(index).copied(),
+            TextFunction::Translate => [STRING_AT_MOST, ONE_STRING, ONE_STRING].get(index).copied(),
+            TextFunction::Contains
+            | TextFunction::StartsWith
+            | TextFunction::EndsWith
+            | TextFunction::SubstringBefore
+            | TextFunction::SubstringAfter => [STRING_AT_MOST, STRING_AT_MOST].get(index).copied(),
+        }
+    }
+
+    // How many arguments it has.
+    #[tactic(auto, using(crate::proofs::FunctionLemmas::concat_arity))]
+    fn arity(self) -> usize
+        ensures { result ≡ length (text_parameters_of self) }
+    {
+        match self {
+            TextFunction::Concat(count) => count,
+            TextFunction::StringLength | TextFunction::NormalizeSpace => 1,
+            TextFunction::Translate => 3,
+            TextFunction::StringJoin
+            | TextFunction::Contains
+            | TextFunction::StartsWith
+            | TextFunction::EndsWith
+            | TextFunction::SubstringBefore
+            | TextFunction::SubstringAfter => 2,
+        }
+    }
+
+    // The type of what it answers.
+    fn result(self) -> Builtin
+        ensures { result ≡ text_answer_type_of self }
+    {
+        match self {
+            TextFunction::StringLength => Builtin::Integer,
+            TextFunction::Contains | TextFunction::StartsWith | TextFunction::EndsWith =>
+                Builtin::Boolean,
+            TextFunction::Concat(_)
+            | TextFunction::StringJoin
+            | TextFunction::NormalizeSpace
+            | TextFunction::Translate
+            | TextFunction::SubstringBefore
+            | TextFunction::SubstringAfter => Builtin::Str,
+        }
+    }
+}
 
 impl Function {
     /// Its local name, in the namespace of functions.
@@ -102,18 +219,22 @@ impl Function {
             Function::String => "string",
             Function::Position => "position",
             Function::Last => "last",
+            Function::OfTexts(function) => function.name(),
         }
     }
 
-    /// Its parameters, in order.
-    pub fn parameters(self) -> &'static [Parameter]
-        ensures { result.now ≡ parameters_of self }
+    /// Its parameter with this number, counted from 0; None from the number of its parameters on.
+    pub fn parameter(self, index: usize) -> Option<Parameter>
+        ensures { result ≡ slice_get (parameters_of self) index }
     {
         match self {
-            Function::True | Function::False | Function::Position | Function::Last => &[],
-            Function::Boolean | Function::Not => &[TRUTH_VALUED],
-            Function::Count | Function::Empty | Function::Exists | Function::Data => &[ANY_ITEMS],
-            Function::String => &[ONE_ITEM_AT_MOST],
+            Function::True | Function::False | Function::Position | Function::Last => None,
+            Function::Boolean | Function::Not => [TRUTH_VALUED].get(index).copied(),
+            Function::Count | Function::Empty | Function::Exists | Function::Data => [ANY_ITEMS]
+                .get(index)
+                .copied(),
+            Function::String => [ONE_ITEM_AT_MOST].get(index).copied(),
+            Function::OfTexts(function) => function.parameter(index),
         }
     }
 
@@ -121,7 +242,27 @@ impl Function {
     pub fn arity(self) -> usize
         ensures { result ≡ arity_of self }
     {
-        self.parameters().len()
+        match self {
+            Function::True | Function::False | Function::Position | Function::Last => 0,
+            Function::Boolean
+            | Function::Not
+            | Function::Count
+            | Function::Empty
+            | Function::Exists
+            | Function::Data
+            | Function::String => 1,
+            Function::OfTexts(function) => function.arity(),
+        }
+    }
+
+    /// The function over strings that it is, if it is one.
+    pub fn text_function(self) -> Option<TextFunction>
+        ensures { result ≡ text_function_of self }
+    {
+        match self {
+            Function::OfTexts(function) => Some(function),
+            _ => None,
+        }
     }
 
     /// The type of the one atomic value that it answers; none of `data`, whose values are of the types of its argument.
@@ -137,6 +278,7 @@ impl Function {
             | Function::Exists => Some(Builtin::Boolean),
             Function::Count | Function::Position | Function::Last => Some(Builtin::Integer),
             Function::String => Some(Builtin::Str),
+            Function::OfTexts(function) => Some(function.result()),
             Function::Data => None,
         }
     }
@@ -149,12 +291,10 @@ fn is_of_name(local: &str, arity: usize, function: Function) -> bool
     local == function.name() && function.arity() == arity
 }
 
-/// The function of this local name in the namespace of functions that has so many parameters.
-#[tactic(auto, unfolding(crate::specs::Function::function_named))]
-pub fn find_local(local: &Text, arity: usize) -> Option<Function>
-    ensures { result ≡ function_named local.now arity }
+// The function of this local name with so many parameters, among those that are not `concat`.
+fn find_fixed(local: &str, arity: usize) -> Option<Function>
+    ensures { (characters : List ℕ) → local.now ≡ encode_utf8_all characters → result ≡ first_named all_functions characters arity }
 {
-    let local = local.as_str();
     let mut left: &[Function] = &FUNCTIONS;
     while let Some((function, others)) = left.split_first() {
         if is_of_name(local, arity, *function) {
@@ -163,6 +303,29 @@ pub fn find_local(local: &Text, arity: usize) -> Option<Function>
         left = others;
     }
     None
+}
+
+// `concat` of so many arguments, if it is meant.
+fn find_concat(local: &str, arity: usize) -> Option<Function>
+    ensures { (characters : List ℕ) → local.now ≡ encode_utf8_all characters → result ≡ concat_named characters arity }
+{
+    if local == "concat" && arity >= 2 {
+        Some(Function::OfTexts(TextFunction::Concat(arity)))
+    } else {
+        None
+    }
+}
+
+/// The function of this local name in the namespace of functions that has so many parameters.
+#[tactic(auto, unfolding(crate::specs::Function::function_named))]
+pub fn find_local(local: &Text, arity: usize) -> Option<Function>
+    ensures { result ≡ function_named local.now arity }
+{
+    let local = local.as_str();
+    match find_fixed(local, arity) {
+        Some(function) => Some(function),
+        None => find_concat(local, arity),
+    }
 }
 
 /// A boolean as an atomic value.

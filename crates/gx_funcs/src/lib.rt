@@ -3,3 +3,5 @@
 
 pub mod function;
 pub mod laws;
+pub mod text_function;
+pub mod texts;

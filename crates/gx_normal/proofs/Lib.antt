@@ -1,4 +1,4 @@
+pub mod SwitchLemmas
 pub mod MakingLemmas
 pub mod NumberedVariables
-pub mod SearchLemmas
 pub mod WellFormedCores

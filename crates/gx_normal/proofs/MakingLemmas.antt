@@ -1,7 +1,10 @@
 -- Parts that are added one by one, the last first.
-use Rattle.std.proofs.Common.{◌≡◌, ◌≢◌, ℕ, Bool, None, Some, List, [], ◌∷◌, ◌++◌, length, reverse, Result, Ok, Err, OnOk, refl, sym, ap, subst, ◌∙◌, arith, ◌≤◌}
+use Rattle.std.proofs.Common.{◌≡◌, ◌≢◌, ℕ, Bool, true, false, None, Some, List, [], ◌∷◌, ◌++◌, length, reverse, Result, Ok, Err, OnOk, refl, sym, ap, subst, ◌∙◌, arith, ◌≤◌}
 use Rattle.std.proofs.lemmas.List.{reverse-reverse}
 use mathlib.Core.List.{reverse_aux}
+use Rattle.std.proofs.lemmas.Bool.{false≢true}
+use Rattle.gx_funcs.specs.declared.function.Function.TheVariants as functions
+use Rattle.gx_normal.specs.Making.{is_of_parts}
 use Rattle.gx_base.specs.declared.place.Place.{Place}
 use Rattle.gx_resolved.specs.declared.tree.Construct.{Construct}
 use Rattle.gx_resolved.specs.declared.tree.Construct.TheVariants as written
@@ -13,7 +16,7 @@ use Rattle.gx_normal.specs.declared.clauses.Ending.{Ending}
 use Rattle.gx_normal.specs.Clauses.{Numbers, clause_part, clause_numbers, behind_clause, clause_at, ended}
 use Rattle.gx_normal.specs.declared.filters.Predicate.TheVariants.{Condition}
 use Rattle.gx_normal.specs.Filters.{predicate_of}
-use Rattle.gx_normal.specs.Normalisation.{constructed, of_three, core_of, clauses_core, path_core}
+use Rattle.gx_normal.specs.Normalisation.{constructed, of_three, is_kept_part, parts_with, cores_of, core_of, clauses_core, path_core}
 use Rattle.gx_normal.specs.Constructs.{empty_at}
 use Rattle.gx_normal.specs.Normalising.{Made, added, all_added, last_ended, construct_finished}
 
@@ -37,6 +40,16 @@ not_of_three place make (a ∷ []) h = refl
 not_of_three place make (a ∷ b ∷ []) h = refl
 not_of_three place make (a ∷ b ∷ c ∷ []) h = absurd (h refl)
 not_of_three place make (a ∷ b ∷ c ∷ d ∷ es) h = refl
+
+-- ---- parts that stay, and boundary white space
+
+pub kept_in_front : (first : ResolvedTree) (others : ResolvedTrees) (numbers : Numbers) (focus : Focus) (free : ℕ) → is_kept_part focus first ≡ true
+    → cores_of (a_resolved first others) numbers focus free ≡ parts_with true (core_of first numbers focus free) (cores_of others numbers focus) free
+kept_in_front first others numbers focus free e = ap (λ (b : Bool). parts_with b (core_of first numbers focus free) (cores_of others numbers focus) free) e
+
+pub left_out : (first : ResolvedTree) (others : ResolvedTrees) (numbers : Numbers) (focus : Focus) (free : ℕ) → is_kept_part focus first ≡ false
+    → cores_of (a_resolved first others) numbers focus free ≡ cores_of others numbers focus free
+left_out first others numbers focus free e = ap (λ (b : Bool). parts_with b (core_of first numbers focus free) (cores_of others numbers focus) free) e
 
 -- ---- the first of several clauses
 
@@ -130,3 +143,21 @@ pub condition_of_more : (place : Place) (parts : List ResolvedTree) → 2 ≤ le
 condition_of_more place [] h = absurd (omega (arith, h))
 condition_of_more place (a ∷ []) h = absurd (omega (arith, h))
 condition_of_more place (a ∷ b ∷ parts) h = refl
+
+-- ---- constructs of all their parts
+
+pub core_of_parts : (place : Place) (construct : Construct) (parts : ResolvedTrees) (numbers : Numbers) (focus : Focus) (free : ℕ) → is_of_parts construct ≡ true
+    → core_of (resolved_at place construct parts) numbers focus free ≡ (let cores = cores_of parts numbers focus free in let made : CoreExpression × ℕ = (constructed place construct cores.0, cores.1) in made)
+core_of_parts place (written.Variable name binder) parts numbers focus free e = absurd (false≢true e)
+core_of_parts place written.Context parts numbers focus free e = absurd (false≢true e)
+core_of_parts place (written.Call functions.Position) parts numbers focus free e = absurd (false≢true e)
+core_of_parts place (written.Call functions.Last) parts numbers focus free e = absurd (false≢true e)
+core_of_parts place (written.Step axis asks) parts numbers focus free e = absurd (false≢true e)
+core_of_parts place written.ParentStep parts numbers focus free e = absurd (false≢true e)
+core_of_parts place written.Flwor parts numbers focus free e = absurd (false≢true e)
+core_of_parts place (written.Quantified every) parts numbers focus free e = absurd (false≢true e)
+core_of_parts place (written.Path descendants) parts numbers focus free e = absurd (false≢true e)
+core_of_parts place written.Filtered parts numbers focus free e = absurd (false≢true e)
+core_of_parts place (written.Case bound kind) parts numbers focus free e = absurd (false≢true e)
+core_of_parts place (written.Default bound) parts numbers focus free e = absurd (false≢true e)
+core_of_parts place _ parts numbers focus free e = refl

@@ -6,6 +6,7 @@ use Rattle.gx_base.specs.declared.place.Place.{Place}
 use Rattle.gx_base.specs.declared.type_name.TypeName.{TypeName}
 use Rattle.gx_ast.specs.declared.expression.BinaryOperator.{BinaryOperator}
 use Rattle.gx_ast.specs.declared.expression.BinaryOperator.TheVariants as operator
+use Rattle.gx_types.specs.SequenceType.{SequenceType}
 use Rattle.gx_types.specs.declared.step.Axis.{Axis}
 use Rattle.gx_types.specs.declared.step.Axis.TheVariants as axes
 use Rattle.gx_types.specs.declared.step.Test.{Test}
@@ -23,16 +24,20 @@ use Rattle.gx_core.specs.declared.expression.BinaryOp.{BinaryOp}
 use Rattle.gx_core.specs.declared.expression.BinaryClass.{BinaryClass}
 use Rattle.gx_core.specs.declared.expression.BinaryClass.TheVariants.{Nodes, Combination}
 use Rattle.gx_core.specs.BinaryOperators.{class_of}
+use Rattle.gx_core.specs.declared.cases.TypeCase.{TypeCase}
 use Rattle.gx_core.specs.Queries.{Core, CoreDeclaration}
 use Rattle.gx_core.specs.declared.expression.Declaration.TheVariants.{Global}
 use Rattle.gx_sorting.specs.declared.keys.KeyOrder.{KeyOrder}
 use Rattle.gx_core.specs.declared.operator.ClauseKind.{ClauseKind}
 use Rattle.gx_core.specs.declared.operator.ClauseKind.TheVariants as kinds
-use Rattle.gx_core.specs.Bindings.{clause_numbers_bound, block_numbers_bound, block_numbers_new}
+use Rattle.gx_core.specs.Bindings.{position_numbers, branch_numbers, clause_numbers_bound, block_numbers_bound, block_numbers_new}
 use Rattle.gx_core.specs.declared.operator.Operator.TheVariants as operators
 use Rattle.gx_core.specs.Expression.{CoreExpression, At, no_parts, one_part, three_parts, all_parts, core_at, outer_of, Parts, a_part}
 use Rattle.gx_core.specs.Invariant.{is_among, IsScoped, ArePartsScoped, numbers_bound, numbers_bound_in, AreDistinct, scope_behind, AreValuesScoped, declared_numbers, HasValueOrType, HasQueryVariablesInOrder}
-use Rattle.gx_normal.specs.Constructs.{within, data_around, boolean_around, core_sequence, operator_at, call_at, call_of, empty_at, of_one, data_at, conditional_at, counted_call, and_at, or_at, signed_at, cast_at, castable_at, for_at, let_at, quantifier_at, operator_in_core, joined_by, joining, context_item_at, step_at, nodes_at, operand_of}
+use Rattle.gx_normal.specs.Constructs.{within, data_around, boolean_around, core_sequence, operator_at, call_at, call_of, empty_at, of_one, data_at, conditional_at, counted_call, and_at, or_at, signed_at, cast_at, castable_at, for_at, let_at, quantifier_at, operator_in_core, joined_by, joining, context_item_at, step_at, nodes_at, operand_of, constructor_at}
+use Rattle.gx_normal.specs.Switches.{instance_at, treat_at, branch_at, case_in_front, branches_joined, over_operand, typeswitch_at, branch_or}
+use Rattle.gx_core.specs.declared.constructor.Constructor.{Constructor}
+use Rattle.gx_core.specs.declared.constructor.Constructor.TheVariants as constructors
 use Rattle.gx_normal.specs.declared.focus.Focus.{Focus}
 use Rattle.gx_normal.specs.declared.clauses.Ending.{Ending}
 use Rattle.gx_normal.specs.declared.clauses.Ending.TheVariants.{Returned, Condition, Sorted}
@@ -45,7 +50,7 @@ use Rattle.gx_normal.specs.declared.filters.Predicate.{Predicate}
 use Rattle.gx_normal.specs.declared.filters.Predicate.TheVariants as predicates
 use Rattle.gx_normal.specs.Contexts.{asks_context, path_use, predicate_use, no_focus, focus_with, behind_context, hidden_variable, hidden_let, hidden_for, ordered_if, with_size, position_from_end, loop_at, path_with, context_numbers}
 use Rattle.gx_normal.specs.Filters.{decimal_case, predicate_of, is_reverse_step, position_is, holds_at, kept_at, filtered_by}
-use Rattle.gx_normal.specs.Normalisation.{same_place, number_at, variable_at, of_two, of_three, joined_at, constructed, is_to_descendants, left_of_path, core_of, construct_core, cores_of, clauses_core, path_core, predicates_core, filtered_core, external_binder, declarations_of, behind_declarations, main_core}
+use Rattle.gx_normal.specs.Normalisation.{same_place, number_at, variable_at, of_two, of_three, joined_at, constructed, is_to_descendants, left_of_path, core_of, construct_core, cores_of, clauses_core, branch_core, path_core, predicates_core, filtered_core, external_binder, declarations_of, behind_declarations, main_core, is_kept_part, parts_with}
 
 -- numbers that rise from one on, below another
 abbrev Rise : ℕ → ℕ → List ℕ → Type 0
@@ -252,6 +257,114 @@ call_numbered place functions.Position scope free next es h = record { scoped = 
 call_numbered place functions.Last scope free next es h = record { scoped = (tt, tt); rising = least scope free next es h }
 call_numbered place function scope free next es h = counted_call_numbered place function scope free next es h
 
+-- ---- types
+
+instance_numbered : (place : Place) (kind : SequenceType) → JoinsOne (instance_at place kind)
+instance_numbered place kind scope free next e h = record { scoped = (tt, (h.scoped, ((tt, tt), ((tt, tt), tt)))); rising = rise_alone free next (numbers_bound e) h.rising }
+
+treat_numbered : (place : Place) (kind : SequenceType) → JoinsOne (treat_at place kind)
+treat_numbered place kind scope free next e h = record { scoped = (tt, (h.scoped, tt)); rising = rise_alone free next (numbers_bound e) h.rising }
+
+rise_split : (low high : ℕ) (ns ms : List ℕ) → Rise low high (ns ++ ms) → (middle : ℕ) × Rise low middle ns × Rise middle high ms
+rise_split low high [] ms r = let l : low ≤ low = omega arith in (low, l, r)
+rise_split low high (n ∷ ns) ms r = let q = rise_split (n + 1) high ns ms r.1 in (q.0, (r.0, q.1), q.2)
+
+-- the branches of a switch with one more case in front
+parts_scoped_further : (case : TypeCase) (cases : List TypeCase) (default : ℕ) (scope : List ℕ) (before : List (Unit {0})) (parts : Parts (Unit {0}))
+    → ArePartsScoped scope (operators.Switch cases default) (tt ∷ before) parts → ArePartsScoped scope (operators.Switch (case ∷ cases) default) (tt ∷ tt ∷ before) parts
+parts_scoped_further case cases default scope before no_parts h = tt
+parts_scoped_further case cases default scope before (a_part first others) h = (h.0, parts_scoped_further case cases default scope (before ++ tt ∷ []) others h.1)
+
+same_numbers_further : (case : TypeCase) (cases : List TypeCase) (default : ℕ) (before : List (Unit {0})) (parts : Parts (Unit {0}))
+    → numbers_bound_in (operators.Switch cases default) (tt ∷ before) parts ≡ numbers_bound_in (operators.Switch (case ∷ cases) default) (tt ∷ tt ∷ before) parts
+same_numbers_further case cases default before no_parts = refl
+same_numbers_further case cases default before (a_part first others) =
+    ap (λ (l : List ℕ). branch_numbers cases default before ++ numbers_bound first ++ l) (same_numbers_further case cases default (before ++ tt ∷ []) others)
+
+case_in_front_numbered : (place : Place) → JoinsTwo (case_in_front place)
+case_in_front_numbered place scope free middle next (At there outer mark (operators.Switch (case ∷ more) number) (a_part nothing (a_part body others)))
+    (At behind other unit (operators.Switch cases default) (a_part none branches)) h k =
+    let b : List ℕ = numbers_bound_in (operators.Switch cases default) (tt ∷ []) branches in
+    let rest : List ℕ = numbers_bound_in (operators.Switch (case ∷ more) number) (tt ∷ tt ∷ []) others in
+    let new : List ℕ = position_numbers case.variable ++ numbers_bound body in
+    let p = rise_split free middle (numbers_bound nothing) (new ++ rest) h.rising in
+    let r = rise_split p.0 middle new rest p.2 in
+    let u = rise_split middle next (numbers_bound none) b k.rising in
+    let l : r.0 ≤ u.0 = omega (arith, rising_order r.0 middle rest r.2, rising_order middle u.0 (numbers_bound none) u.1) in
+    let w : Rise r.0 next b = rise_weaker u.0 r.0 next b l u.2 in
+    record {
+      scoped = (tt, (h.scoped.1.0, (h.scoped.1.1.0, parts_scoped_further case cases default scope [] branches k.scoped.1.1)));
+      rising = subst (λ (ns : List ℕ). Rise free next (numbers_bound nothing ++ (new ++ ns))) (same_numbers_further case cases default [] branches)
+          (rise_joined free p.0 next (numbers_bound nothing) (new ++ b) p.1 (rise_joined p.0 r.0 next new b r.1 w));
+    }
+case_in_front_numbered place scope free middle next (At there outer mark operator parts) (At behind other unit another others) h k =
+    empty_numbered place scope free next (omega (
+      arith,
+      rising_order free middle (numbers_bound (At there outer mark operator parts)) h.rising,
+      rising_order middle next (numbers_bound (At behind other unit another others)) k.rising,
+    ))
+
+branches_numbered : (place : Place) (scope : List ℕ) (free next : ℕ) (es : List CoreExpression) → AreNumbered scope free next es → IsNumbered scope free next (branches_joined place es)
+branches_numbered place scope free next [] h = empty_numbered place scope free next h
+branches_numbered place scope free next (a ∷ []) h = wider scope free h.0 next a h.1 h.2
+branches_numbered place scope free next (a ∷ b ∷ es) h =
+    case_in_front_numbered place scope free h.0 next a (branches_joined place (b ∷ es)) h.1 (branches_numbered place scope h.0 next (b ∷ es) h.2)
+
+over_operand_numbered : (place : Place) → JoinsTwo (over_operand place)
+over_operand_numbered place scope free middle next operand (At there outer tt (operators.Switch cases default) (a_part nothing branches)) h k =
+    let b : List ℕ = numbers_bound_in (operators.Switch cases default) (tt ∷ []) branches in
+    let u = rise_split middle next (numbers_bound nothing) b k.rising in
+    record {
+      scoped = (tt, (h.scoped, k.scoped.1.1));
+      rising = rise_joined free middle next (numbers_bound operand) b h.rising (rise_weaker u.0 middle next b (rising_order middle u.0 (numbers_bound nothing) u.1) u.2);
+    }
+over_operand_numbered place scope free middle next operand (At there outer tt operator parts) h k =
+    empty_numbered place scope free next (omega (arith, rising_order free middle (numbers_bound operand) h.rising, rising_order middle next (numbers_bound (At there outer tt operator parts)) k.rising))
+
+typeswitch_numbered : (place : Place) (scope : List ℕ) (free next : ℕ) (es : List CoreExpression) → AreNumbered scope free next es → IsNumbered scope free next (typeswitch_at place es)
+typeswitch_numbered place scope free next [] h = empty_numbered place scope free next h
+typeswitch_numbered place scope free next (operand ∷ branches) h =
+    over_operand_numbered place scope free h.0 next operand (branches_joined place branches) h.1 (branches_numbered place scope h.0 next branches h.2)
+
+-- a branch by itself, whose variable has the free number, if it has one
+abbrev branch_scope : Option BoundName → (free : ℕ) → List ℕ → List ℕ
+branch_scope None free scope = scope
+branch_scope (Some bound) free scope = free ∷ scope
+
+abbrev behind_branch : Option BoundName → (free : ℕ) → ℕ
+behind_branch None free = free
+behind_branch (Some bound) free = free + 1
+
+case_numbered : (place : Place) (bound : Option BoundName) (kind : SequenceType) (scope : List ℕ) (free next : ℕ) (body : CoreExpression) → 1 ≤ free
+    → IsNumbered (branch_scope bound free scope) (behind_branch bound free) next body → IsNumbered scope free next (branch_at place (written.Case bound kind) free body)
+case_numbered place None kind scope free next body p h = record { scoped = (tt, ((tt, tt), (h.scoped, ((tt, tt), tt)))); rising = rise_alone free next (numbers_bound body) h.rising }
+case_numbered place (Some bound) kind scope zero next body p h = absurd (omega (arith, p))
+case_numbered place (Some bound) kind scope (suc free) next body p h =
+    record { scoped = (tt, ((tt, tt), (h.scoped, ((tt, tt), tt)))); rising = (omega arith, rise_alone (suc free + 1) next (numbers_bound body) h.rising) }
+
+default_numbered : (place : Place) (bound : Option BoundName) (scope : List ℕ) (free next : ℕ) (body : CoreExpression) → 1 ≤ free
+    → IsNumbered (branch_scope bound free scope) (behind_branch bound free) next body → IsNumbered scope free next (branch_at place (written.Default bound) free body)
+default_numbered place None scope free next body p h = record { scoped = (tt, ((tt, tt), (h.scoped, tt))); rising = rise_alone free next (numbers_bound body) h.rising }
+default_numbered place (Some bound) scope zero next body p h = absurd (omega (arith, p))
+default_numbered place (Some bound) scope (suc free) next body p h =
+    record { scoped = (tt, ((tt, tt), (h.scoped, tt))); rising = (omega arith, rise_alone (suc free + 1) next (numbers_bound body) h.rising) }
+
+-- the parts of a constructor
+content_scoped : (constructor : Constructor) (count : ℕ) (scope : List ℕ) (free next : ℕ) (before : List (Unit {0})) (es : List CoreExpression) → AreNumbered scope free next es → ArePartsScoped scope (operators.Construct constructor count) before (all_parts es)
+content_scoped constructor count scope free next before [] h = tt
+content_scoped constructor count scope free next before (e ∷ es) h = (h.1.scoped, content_scoped constructor count scope h.0 next (before ++ tt ∷ []) es h.2)
+
+content_rising : (constructor : Constructor) (count : ℕ) (scope : List ℕ) (free next : ℕ) (before : List (Unit {0})) (es : List CoreExpression) → AreNumbered scope free next es
+    → Rise free next (numbers_bound_in (operators.Construct constructor count) before (all_parts es))
+content_rising constructor count scope free next before [] h = h
+content_rising constructor count scope free next before (e ∷ es) h =
+    rise_joined free h.0 next (numbers_bound e) (numbers_bound_in (operators.Construct constructor count) (before ++ tt ∷ []) (all_parts es)) h.1.rising
+    (content_rising constructor count scope h.0 next (before ++ tt ∷ []) es h.2)
+
+constructor_numbered : (place : Place) (constructor : Constructor) (scope : List ℕ) (free next : ℕ) (es : List CoreExpression) → AreNumbered scope free next es → IsNumbered scope free next (constructor_at place constructor es)
+constructor_numbered place constructor scope free next es h =
+    record { scoped = (tt, content_scoped constructor (length es) scope free next [] es h); rising = content_rising constructor (length es) scope free next [] es h }
+
 constructed_numbered : (place : Place) (construct : Construct) (scope : List ℕ) (free next : ℕ) (es : List CoreExpression) → AreNumbered scope free next es → IsNumbered scope free next (constructed place construct es)
 constructed_numbered place (written.Number value) scope free next es h = record { scoped = (tt, tt); rising = least scope free next es h }
 constructed_numbered place (written.String characters) scope free next es h = record { scoped = (tt, tt); rising = least scope free next es h }
@@ -262,7 +375,17 @@ constructed_numbered place written.If scope free next es h = three_numbered plac
 constructed_numbered place (written.Binary o) scope free next es h = joining_numbered place o scope free next es h
 constructed_numbered place (written.CastableAs kind optional) scope free next es h = one_numbered place (castable_at place kind optional) (castable_numbered place kind optional) scope free next es h
 constructed_numbered place (written.CastAs kind optional) scope free next es h = one_numbered place (cast_at place kind optional) (cast_numbered place kind optional) scope free next es h
+constructed_numbered place (written.InstanceOf kind) scope free next es h = one_numbered place (instance_at place kind) (instance_numbered place kind) scope free next es h
+constructed_numbered place (written.TreatAs kind) scope free next es h = one_numbered place (treat_at place kind) (treat_numbered place kind) scope free next es h
+constructed_numbered place written.Typeswitch scope free next es h = typeswitch_numbered place scope free next es h
 constructed_numbered place (written.Signed minus) scope free next es h = one_numbered place (signed_at place minus) (signed_numbered place minus) scope free next es h
+constructed_numbered place written.Document scope free next es h = constructor_numbered place constructors.Document scope free next es h
+constructed_numbered place written.TextNode scope free next es h = constructor_numbered place constructors.Text scope free next es h
+constructed_numbered place (written.Element name) scope free next es h = constructor_numbered place (constructors.Element name) scope free next es h
+constructed_numbered place (written.Attribute name) scope free next es h = constructor_numbered place (constructors.Attribute name) scope free next es h
+constructed_numbered place (written.DirectElement name) scope free next es h = constructor_numbered place (constructors.Element name) scope free next es h
+constructed_numbered place (written.DirectAttribute name) scope free next es h = constructor_numbered place (constructors.Attribute name) scope free next es h
+constructed_numbered place (written.Blank characters) scope free next es h = record { scoped = (tt, tt); rising = least scope free next es h }
 constructed_numbered place _ scope free next es h = empty_numbered place scope free next (least scope free next es h)
 
 -- an operator that binds variables for its second part, to which the numbers from one on are given
@@ -498,8 +621,8 @@ covered_with uses.Backwards scope numbers focus n h = record {
   size = there (scope_with uses.Backwards n scope) (n + 1) (among_more (n + 4) (n + 1) ((n + 2) ∷ (n + 3) ∷ (n + 1) ∷ n ∷ scope) (third_among (n + 2) (n + 3) (n + 1) (n ∷ scope)));
 }
 
-covered_without : (numbers : Numbers) (greatest : Bool) → IsCovered (numbers_of numbers) numbers (no_focus greatest)
-covered_without numbers greatest = record { bound = found_among numbers; item = nowhere (numbers_of numbers); position = nowhere (numbers_of numbers); size = nowhere (numbers_of numbers) }
+covered_without : (numbers : Numbers) (greatest blanks : Bool) → IsCovered (numbers_of numbers) numbers (no_focus greatest blanks)
+covered_without numbers greatest blanks = record { bound = found_among numbers; item = nowhere (numbers_of numbers); position = nowhere (numbers_of numbers); size = nowhere (numbers_of numbers) }
 
 found_numbered : (place : Place) (scope : List ℕ) (free : ℕ) (found : Option ℕ) → ((k : ℕ) → found ≡ Some k → is_among scope k ≡ true) → IsNumbered scope free free (variable_at place found)
 found_numbered place scope free None h = empty_numbered place scope free free (omega arith)
@@ -677,190 +800,258 @@ construct_numbered place (written.Path descendants) scope numbers focus free par
 construct_numbered place written.Filtered scope numbers focus free parts clauses path filtered c h k l m = m
 construct_numbered place construct scope numbers focus free parts clauses path filtered c h k l m = constructed_numbered place construct scope free parts.1 parts.0 h
 
+-- where a number is free, the one behind an expression is
+later_on : (scope : List ℕ) (free next : ℕ) (e : CoreExpression) → 1 ≤ free → IsNumbered scope free next e → 1 ≤ next
+later_on scope free next e p h = omega (arith, p, rising_order free next (numbers_bound e) h.rising)
+
+filtered_later : (predicate : Predicate) (reverse : Bool) (use' : ContextUse) (place : Place) (n : ℕ) (e : CoreExpression) (condition : CoreExpression × ℕ) → 1 ≤ n → 1 ≤ condition.1
+    → 1 ≤ (filtered_by predicate reverse use' place n e condition).1
+filtered_later (predicates.Numbered number) reverse use' place n e condition p q = p
+filtered_later predicates.Last reverse use' place n e condition p q = p
+filtered_later predicates.Condition reverse use' place n e condition p q = omega (arith, q)
+
+-- what stands for nothing has the numbers of what stands there
+nothing_numbered : (place : Place) (scope inner : List ℕ) (free low next : ℕ) (e : CoreExpression) → free ≤ low → IsNumbered inner low next e → IsNumbered scope free next (empty_at place)
+nothing_numbered place scope inner free low next e l h = empty_numbered place scope free next (omega (arith, l, rising_order low next (numbers_bound e) h.rising))
+
+branch_or_numbered : (construct : Construct) (scope : List ℕ) (free : ℕ) (branch other : CoreExpression × ℕ) → IsNumberedCore scope free branch → IsNumberedCore scope free other → IsNumberedCore scope free (branch_or construct branch other)
+branch_or_numbered (written.Case bound kind) scope free branch other h k = h
+branch_or_numbered (written.Default bound) scope free branch other h k = h
+branch_or_numbered construct scope free branch other h k = k
+
+-- a part that stays, or not, in front of others
+parts_with_numbered : (scope : List ℕ) (free : ℕ) (stays : Bool) (e : CoreExpression × ℕ) (others : ℕ → List CoreExpression × ℕ) → 1 ≤ free → IsNumberedCore scope free e
+    → ((n : ℕ) → 1 ≤ n → AreNumbered scope n (others n).1 (others n).0) → AreNumbered scope free (parts_with stays e others free).1 (parts_with stays e others free).0
+parts_with_numbered scope free true e others p h k = (e.1, h, k e.1 (later_on scope free e.1 e.0 p h))
+parts_with_numbered scope free false e others p h k = k free p
+
 mutual
-  core_numbered : (tree : ResolvedTree) (scope : List ℕ) (numbers : Numbers) (focus : Focus) (free : ℕ) → IsCovered scope numbers focus → IsNumberedCore scope free (core_of tree numbers focus free)
-  core_numbered (resolved_at place construct parts) scope numbers focus free c =
-      construct_numbered place construct scope numbers focus free (cores_of parts numbers focus free) (clauses_core (ending_of_clauses construct parts focus.greatest) place parts numbers focus free) (path_core (is_to_descendants construct) place parts numbers focus free)
+  core_numbered : (tree : ResolvedTree) (scope : List ℕ) (numbers : Numbers) (focus : Focus) (free : ℕ) → IsCovered scope numbers focus → 1 ≤ free → IsNumberedCore scope free (core_of tree numbers focus free)
+  core_numbered (resolved_at place construct parts) scope numbers focus free c p =
+      branch_or_numbered construct scope free (branch_core place construct parts numbers focus free)
+      (construct_core place construct numbers focus free (cores_of parts numbers focus free) (clauses_core (ending_of_clauses construct parts focus.greatest) place parts numbers focus free) (path_core (is_to_descendants construct) place parts numbers focus free)
+      (predicates_core place parts numbers focus free))
+      (branch_core_numbered place construct parts scope numbers focus free c p)
+      (construct_numbered place construct scope numbers focus free (cores_of parts numbers focus free) (clauses_core (ending_of_clauses construct parts focus.greatest) place parts numbers focus free) (path_core (is_to_descendants construct) place parts numbers focus free)
       (predicates_core place parts numbers focus free) c
-      (cores_numbered parts scope numbers focus free c) (clauses_numbered (ending_of_clauses construct parts focus.greatest) place parts scope numbers focus free c) (path_parts_numbered (is_to_descendants construct) place parts scope numbers focus free c)
-      (predicates_numbered place parts scope numbers focus free c)
+      (cores_numbered parts scope numbers focus free c p) (clauses_numbered (ending_of_clauses construct parts focus.greatest) place parts scope numbers focus free c p) (path_parts_numbered (is_to_descendants construct) place parts scope numbers focus free c p)
+      (predicates_numbered place parts scope numbers focus free c p))
 
-  cores_numbered : (parts : ResolvedTrees) (scope : List ℕ) (numbers : Numbers) (focus : Focus) (free : ℕ) → IsCovered scope numbers focus
+  cores_numbered : (parts : ResolvedTrees) (scope : List ℕ) (numbers : Numbers) (focus : Focus) (free : ℕ) → IsCovered scope numbers focus → 1 ≤ free
       → AreNumbered scope free (cores_of parts numbers focus free).1 (cores_of parts numbers focus free).0
-  cores_numbered no_resolved scope numbers focus free c = omega arith
-  cores_numbered (a_resolved first others) scope numbers focus free c =
-      ((core_of first numbers focus free).1, core_numbered first scope numbers focus free c, cores_numbered others scope numbers focus (core_of first numbers focus free).1 c)
+  cores_numbered no_resolved scope numbers focus free c p = omega arith
+  cores_numbered (a_resolved first others) scope numbers focus free c p =
+      parts_with_numbered scope free (is_kept_part focus first) (core_of first numbers focus free) (cores_of others numbers focus) p (core_numbered first scope numbers focus free c p)
+      (λ n q. cores_numbered others scope numbers focus n c q)
 
-  clauses_numbered : (ending : Ending) (place : Place) (parts : ResolvedTrees) (scope : List ℕ) (numbers : Numbers) (focus : Focus) (free : ℕ) → IsCovered scope numbers focus
+  clauses_numbered : (ending : Ending) (place : Place) (parts : ResolvedTrees) (scope : List ℕ) (numbers : Numbers) (focus : Focus) (free : ℕ) → IsCovered scope numbers focus → 1 ≤ free
       → IsNumberedCore scope free (clauses_core ending place parts numbers focus free)
-  clauses_numbered ending place no_resolved scope numbers focus free c = empty_numbered place scope free free (omega arith)
-  clauses_numbered (Sorted greatest) place (a_resolved (resolved_at there (written.For bound None) (a_resolved source more)) others) scope numbers focus free c =
+  clauses_numbered ending place no_resolved scope numbers focus free c p = empty_numbered place scope free free (omega arith)
+  clauses_numbered (Sorted greatest) place (a_resolved (resolved_at there (written.For bound None) (a_resolved source more)) others) scope numbers focus free c p =
       let middle = (core_of source numbers focus free).1 in
       let rest = clauses_core (Sorted greatest) place others ((bound.place, middle) ∷ numbers) focus (middle + 1) in
-      clause_in_front_numbered place (kinds.For (numbered_binder bound middle) 0) scope free middle (middle + 1) rest.1 (core_of source numbers focus free).0 rest.0 (core_numbered source scope numbers focus free c) (omega arith, omega arith)
-      (clauses_numbered (Sorted greatest) place others (middle ∷ scope) ((bound.place, middle) ∷ numbers) focus (middle + 1) (covered_more scope numbers focus bound.place middle c))
-  clauses_numbered (Sorted greatest) place (a_resolved (resolved_at there (written.For bound (Some position)) (a_resolved source more)) others) scope numbers focus free c =
+      clause_in_front_numbered place (kinds.For (numbered_binder bound middle) 0) scope free middle (middle + 1) rest.1 (core_of source numbers focus free).0 rest.0 (core_numbered source scope numbers focus free c p) (omega arith, omega arith)
+      (clauses_numbered (Sorted greatest) place others (middle ∷ scope) ((bound.place, middle) ∷ numbers) focus (middle + 1) (covered_more scope numbers focus bound.place middle c) (omega arith))
+  clauses_numbered (Sorted greatest) place (a_resolved (resolved_at there (written.For bound (Some position)) (a_resolved source more)) others) scope numbers focus free c p =
       let middle = (core_of source numbers focus free).1 in
       let inner : Numbers = (position.place, middle + 1) ∷ (bound.place, middle) ∷ numbers in
       let rest = clauses_core (Sorted greatest) place others inner focus (middle + 2) in
       let r = clauses_numbered (Sorted greatest) place others (middle ∷ (middle + 1) ∷ scope) inner focus (middle + 2)
       (covered_turned middle (middle + 1) scope inner focus
-      (covered_more (middle ∷ scope) ((bound.place, middle) ∷ numbers) focus position.place (middle + 1) (covered_more scope numbers focus bound.place middle c))) in
+      (covered_more (middle ∷ scope) ((bound.place, middle) ∷ numbers) focus position.place (middle + 1) (covered_more scope numbers focus bound.place middle c))) (omega arith) in
       subst (λ (number : ℕ). IsNumbered scope free rest.1 (clause_in_front place (kinds.For (numbered_binder bound middle) number) (core_of source numbers focus free).0 rest.0)) (sym (add-one middle))
-      (clause_in_front_numbered place (kinds.For (numbered_binder bound middle) (suc middle)) scope free middle (middle + 2) rest.1 (core_of source numbers focus free).0 rest.0 (core_numbered source scope numbers focus free c)
+      (clause_in_front_numbered place (kinds.For (numbered_binder bound middle) (suc middle)) scope free middle (middle + 2) rest.1 (core_of source numbers focus free).0 rest.0 (core_numbered source scope numbers focus free c p)
       (omega arith, (omega arith, omega arith)) (subst (λ (number : ℕ). IsNumbered (middle ∷ number ∷ scope) (middle + 2) rest.1 rest.0) (add-one middle) r))
-  clauses_numbered (Sorted greatest) place (a_resolved (resolved_at there (written.Let bound) (a_resolved value more)) others) scope numbers focus free c =
+  clauses_numbered (Sorted greatest) place (a_resolved (resolved_at there (written.Let bound) (a_resolved value more)) others) scope numbers focus free c p =
       let middle = (core_of value numbers focus free).1 in
       let rest = clauses_core (Sorted greatest) place others ((bound.place, middle) ∷ numbers) focus (middle + 1) in
-      clause_in_front_numbered place (kinds.Let (numbered_binder bound middle)) scope free middle (middle + 1) rest.1 (core_of value numbers focus free).0 rest.0 (core_numbered value scope numbers focus free c) (omega arith, omega arith)
-      (clauses_numbered (Sorted greatest) place others (middle ∷ scope) ((bound.place, middle) ∷ numbers) focus (middle + 1) (covered_more scope numbers focus bound.place middle c))
-  clauses_numbered (Sorted greatest) place (a_resolved (resolved_at there written.Where (a_resolved condition more)) others) scope numbers focus free c =
+      clause_in_front_numbered place (kinds.Let (numbered_binder bound middle)) scope free middle (middle + 1) rest.1 (core_of value numbers focus free).0 rest.0 (core_numbered value scope numbers focus free c p) (omega arith, omega arith)
+      (clauses_numbered (Sorted greatest) place others (middle ∷ scope) ((bound.place, middle) ∷ numbers) focus (middle + 1) (covered_more scope numbers focus bound.place middle c) (omega arith))
+  clauses_numbered (Sorted greatest) place (a_resolved (resolved_at there written.Where (a_resolved condition more)) others) scope numbers focus free c p =
       let middle = (core_of condition numbers focus free).1 in
       let rest = clauses_core (Sorted greatest) place others numbers focus middle in
       clause_in_front_numbered place kinds.Where scope free middle middle rest.1 (boolean_around (core_of condition numbers focus free).0) rest.0
-      (boolean_numbered scope free middle (core_of condition numbers focus free).0 (core_numbered condition scope numbers focus free c)) (omega arith)
-      (clauses_numbered (Sorted greatest) place others scope numbers focus middle c)
-  clauses_numbered (Sorted greatest) place (a_resolved (resolved_at there (written.Key order) (a_resolved key more)) others) scope numbers focus free c =
+      (boolean_numbered scope free middle (core_of condition numbers focus free).0 (core_numbered condition scope numbers focus free c p)) (omega arith)
+      (clauses_numbered (Sorted greatest) place others scope numbers focus middle c (later_on scope free middle (core_of condition numbers focus free).0 p (core_numbered condition scope numbers focus free c p)))
+  clauses_numbered (Sorted greatest) place (a_resolved (resolved_at there (written.Key order) (a_resolved key more)) others) scope numbers focus free c p =
       let middle = (core_of key numbers focus free).1 in
       let rest = clauses_core (Sorted greatest) place others numbers focus middle in
       key_in_front_numbered place (key_order greatest order) scope free middle rest.1 (data_around (core_of key numbers focus free).0) rest.0
-      (data_numbered scope free middle (core_of key numbers focus free).0 (core_numbered key scope numbers focus free c)) (clauses_numbered (Sorted greatest) place others scope numbers focus middle c)
-  clauses_numbered ending place (a_resolved (resolved_at there (written.Key order) (a_resolved key more)) others) scope numbers focus free c =
+      (data_numbered scope free middle (core_of key numbers focus free).0 (core_numbered key scope numbers focus free c p)) (clauses_numbered (Sorted greatest) place others scope numbers focus middle c (later_on scope free middle (core_of key numbers focus free).0 p (core_numbered key scope numbers focus free c p)))
+  clauses_numbered ending place (a_resolved (resolved_at there (written.Key order) (a_resolved key more)) others) scope numbers focus free c p =
       let middle = (core_of key numbers focus free).1 in
-      let rest = clauses_numbered ending place others scope numbers focus middle c in
-      let l = rising_order free middle (numbers_bound (core_of key numbers focus free).0) (core_numbered key scope numbers focus free c).rising in
+      let rest = clauses_numbered ending place others scope numbers focus middle c (later_on scope free middle (core_of key numbers focus free).0 p (core_numbered key scope numbers focus free c p)) in
+      let l = rising_order free middle (numbers_bound (core_of key numbers focus free).0) (core_numbered key scope numbers focus free c p).rising in
       let m = rising_order middle (clauses_core ending place others numbers focus middle).1 (numbers_bound (clauses_core ending place others numbers focus middle).0) rest.rising in
       empty_numbered place scope free (clauses_core ending place others numbers focus middle).1 (omega (arith, l, m))
-  clauses_numbered ending place (a_resolved (resolved_at there (written.For bound None) (a_resolved source more)) others) scope numbers focus free c =
+  clauses_numbered ending place (a_resolved (resolved_at there (written.For bound None) (a_resolved source more)) others) scope numbers focus free c p =
       let middle = (core_of source numbers focus free).1 in
       let rest = clauses_core ending place others ((bound.place, middle) ∷ numbers) focus (middle + 1) in
-      for_numbered place bound scope free middle rest.1 (core_of source numbers focus free).0 rest.0 (core_numbered source scope numbers focus free c)
-      (clauses_numbered ending place others (middle ∷ scope) ((bound.place, middle) ∷ numbers) focus (middle + 1) (covered_more scope numbers focus bound.place middle c))
-  clauses_numbered ending place (a_resolved (resolved_at there (written.For bound (Some position)) (a_resolved source more)) others) scope numbers focus free c =
+      for_numbered place bound scope free middle rest.1 (core_of source numbers focus free).0 rest.0 (core_numbered source scope numbers focus free c p)
+      (clauses_numbered ending place others (middle ∷ scope) ((bound.place, middle) ∷ numbers) focus (middle + 1) (covered_more scope numbers focus bound.place middle c) (omega arith))
+  clauses_numbered ending place (a_resolved (resolved_at there (written.For bound (Some position)) (a_resolved source more)) others) scope numbers focus free c p =
       let middle = (core_of source numbers focus free).1 in
       let inner : Numbers = (position.place, middle + 1) ∷ (bound.place, middle) ∷ numbers in
       let rest = clauses_core ending place others inner focus (middle + 2) in
-      for_position_numbered place bound scope free middle rest.1 (core_of source numbers focus free).0 rest.0 (core_numbered source scope numbers focus free c)
+      for_position_numbered place bound scope free middle rest.1 (core_of source numbers focus free).0 rest.0 (core_numbered source scope numbers focus free c p)
       (clauses_numbered ending place others (middle ∷ (middle + 1) ∷ scope) inner focus (middle + 2)
       (covered_turned middle (middle + 1) scope inner focus
-      (covered_more (middle ∷ scope) ((bound.place, middle) ∷ numbers) focus position.place (middle + 1) (covered_more scope numbers focus bound.place middle c))))
-  clauses_numbered ending place (a_resolved (resolved_at there (written.Let bound) (a_resolved value more)) others) scope numbers focus free c =
+      (covered_more (middle ∷ scope) ((bound.place, middle) ∷ numbers) focus position.place (middle + 1) (covered_more scope numbers focus bound.place middle c))) (omega arith))
+  clauses_numbered ending place (a_resolved (resolved_at there (written.Let bound) (a_resolved value more)) others) scope numbers focus free c p =
       let middle = (core_of value numbers focus free).1 in
       let rest = clauses_core ending place others ((bound.place, middle) ∷ numbers) focus (middle + 1) in
-      let_numbered place bound scope free middle rest.1 (core_of value numbers focus free).0 rest.0 (core_numbered value scope numbers focus free c)
-      (clauses_numbered ending place others (middle ∷ scope) ((bound.place, middle) ∷ numbers) focus (middle + 1) (covered_more scope numbers focus bound.place middle c))
-  clauses_numbered ending place (a_resolved (resolved_at there written.Where (a_resolved condition more)) others) scope numbers focus free c =
+      let_numbered place bound scope free middle rest.1 (core_of value numbers focus free).0 rest.0 (core_numbered value scope numbers focus free c p)
+      (clauses_numbered ending place others (middle ∷ scope) ((bound.place, middle) ∷ numbers) focus (middle + 1) (covered_more scope numbers focus bound.place middle c) (omega arith))
+  clauses_numbered ending place (a_resolved (resolved_at there written.Where (a_resolved condition more)) others) scope numbers focus free c p =
       let middle = (core_of condition numbers focus free).1 in
       let rest = clauses_core ending place others numbers focus middle in
-      let r = clauses_numbered ending place others scope numbers focus middle c in
-      conditional_numbered place scope free middle rest.1 rest.1 (core_of condition numbers focus free).0 rest.0 (empty_at place) (core_numbered condition scope numbers focus free c) r
+      let r = clauses_numbered ending place others scope numbers focus middle c (later_on scope free middle (core_of condition numbers focus free).0 p (core_numbered condition scope numbers focus free c p)) in
+      conditional_numbered place scope free middle rest.1 rest.1 (core_of condition numbers focus free).0 rest.0 (empty_at place) (core_numbered condition scope numbers focus free c p) r
       (empty_numbered place scope rest.1 rest.1 (omega arith))
-  clauses_numbered Returned place (a_resolved (resolved_at there (written.In bound) (a_resolved source more)) others) scope numbers focus free c =
+  clauses_numbered Returned place (a_resolved (resolved_at there (written.In bound) (a_resolved source more)) others) scope numbers focus free c p =
       let middle = (core_of source numbers focus free).1 in
-      let rest = clauses_numbered Returned place others (middle ∷ scope) ((bound.place, middle) ∷ numbers) focus (middle + 1) (covered_more scope numbers focus bound.place middle c) in
-      let s = core_numbered source scope numbers focus free c in
+      let rest = clauses_numbered Returned place others (middle ∷ scope) ((bound.place, middle) ∷ numbers) focus (middle + 1) (covered_more scope numbers focus bound.place middle c) (omega arith) in
+      let s = core_numbered source scope numbers focus free c p in
       let l = rising_order free middle (numbers_bound (core_of source numbers focus free).0) s.rising in
       let m = rising_order (middle + 1) (clauses_core Returned place others ((bound.place, middle) ∷ numbers) focus (middle + 1)).1 (numbers_bound (clauses_core Returned place others ((bound.place, middle) ∷ numbers) focus (middle + 1)).0) rest.rising in
       empty_numbered place scope free (clauses_core Returned place others ((bound.place, middle) ∷ numbers) focus (middle + 1)).1 (omega (arith, l, m))
-  clauses_numbered (Sorted greatest) place (a_resolved (resolved_at there (written.In bound) (a_resolved source more)) others) scope numbers focus free c =
+  clauses_numbered (Sorted greatest) place (a_resolved (resolved_at there (written.In bound) (a_resolved source more)) others) scope numbers focus free c p =
       let middle = (core_of source numbers focus free).1 in
-      let rest = clauses_numbered (Sorted greatest) place others (middle ∷ scope) ((bound.place, middle) ∷ numbers) focus (middle + 1) (covered_more scope numbers focus bound.place middle c) in
-      let s = core_numbered source scope numbers focus free c in
+      let rest = clauses_numbered (Sorted greatest) place others (middle ∷ scope) ((bound.place, middle) ∷ numbers) focus (middle + 1) (covered_more scope numbers focus bound.place middle c) (omega arith) in
+      let s = core_numbered source scope numbers focus free c p in
       let l = rising_order free middle (numbers_bound (core_of source numbers focus free).0) s.rising in
       let m = rising_order (middle + 1) (clauses_core (Sorted greatest) place others ((bound.place, middle) ∷ numbers) focus (middle + 1)).1 (numbers_bound (clauses_core (Sorted greatest) place others ((bound.place, middle) ∷ numbers) focus (middle + 1)).0) rest.rising in
       empty_numbered place scope free (clauses_core (Sorted greatest) place others ((bound.place, middle) ∷ numbers) focus (middle + 1)).1 (omega (arith, l, m))
-  clauses_numbered (Condition every) place (a_resolved (resolved_at there (written.In bound) (a_resolved source more)) others) scope numbers focus free c =
+  clauses_numbered (Condition every) place (a_resolved (resolved_at there (written.In bound) (a_resolved source more)) others) scope numbers focus free c p =
       let middle = (core_of source numbers focus free).1 in
       let rest = clauses_core (Condition every) place others ((bound.place, middle) ∷ numbers) focus (middle + 1) in
-      quantifier_numbered every place bound scope free middle rest.1 (core_of source numbers focus free).0 rest.0 (core_numbered source scope numbers focus free c)
-      (clauses_numbered (Condition every) place others (middle ∷ scope) ((bound.place, middle) ∷ numbers) focus (middle + 1) (covered_more scope numbers focus bound.place middle c))
-  clauses_numbered Returned place (a_resolved last others) scope numbers focus free c = core_numbered last scope numbers focus free c
-  clauses_numbered (Sorted greatest) place (a_resolved last others) scope numbers focus free c =
-      sorted_numbered greatest scope free (core_of last numbers focus free).1 (core_of last numbers focus free).0 (core_numbered last scope numbers focus free c)
-  clauses_numbered (Condition every) place (a_resolved last others) scope numbers focus free c =
-      boolean_numbered scope free (core_of last numbers focus free).1 (core_of last numbers focus free).0 (core_numbered last scope numbers focus free c)
+      quantifier_numbered every place bound scope free middle rest.1 (core_of source numbers focus free).0 rest.0 (core_numbered source scope numbers focus free c p)
+      (clauses_numbered (Condition every) place others (middle ∷ scope) ((bound.place, middle) ∷ numbers) focus (middle + 1) (covered_more scope numbers focus bound.place middle c) (omega arith))
+  clauses_numbered Returned place (a_resolved last others) scope numbers focus free c p = core_numbered last scope numbers focus free c p
+  clauses_numbered (Sorted greatest) place (a_resolved last others) scope numbers focus free c p =
+      sorted_numbered greatest scope free (core_of last numbers focus free).1 (core_of last numbers focus free).0 (core_numbered last scope numbers focus free c p)
+  clauses_numbered (Condition every) place (a_resolved last others) scope numbers focus free c p =
+      boolean_numbered scope free (core_of last numbers focus free).1 (core_of last numbers focus free).0 (core_numbered last scope numbers focus free c p)
 
-  path_parts_numbered : (descendants : Bool) (place : Place) (parts : ResolvedTrees) (scope : List ℕ) (numbers : Numbers) (focus : Focus) (free : ℕ) → IsCovered scope numbers focus
+  branch_core_numbered : (place : Place) (construct : Construct) (parts : ResolvedTrees) (scope : List ℕ) (numbers : Numbers) (focus : Focus) (free : ℕ) → IsCovered scope numbers focus → 1 ≤ free
+      → IsNumberedCore scope free (branch_core place construct parts numbers focus free)
+  branch_core_numbered place (written.Case None kind) (a_resolved body no_resolved) scope numbers focus free c p =
+      case_numbered place None kind scope free (core_of body numbers focus free).1 (core_of body numbers focus free).0 p (core_numbered body scope numbers focus free c p)
+  branch_core_numbered place (written.Case (Some bound) kind) (a_resolved body no_resolved) scope numbers focus free c p =
+      let inner : Numbers = (bound.place, free) ∷ numbers in
+      case_numbered place (Some bound) kind scope free (core_of body inner focus (free + 1)).1 (core_of body inner focus (free + 1)).0 p
+      (core_numbered body (free ∷ scope) inner focus (free + 1) (covered_more scope numbers focus bound.place free c) (omega arith))
+  branch_core_numbered place (written.Default None) (a_resolved body no_resolved) scope numbers focus free c p =
+      default_numbered place None scope free (core_of body numbers focus free).1 (core_of body numbers focus free).0 p (core_numbered body scope numbers focus free c p)
+  branch_core_numbered place (written.Default (Some bound)) (a_resolved body no_resolved) scope numbers focus free c p =
+      let inner : Numbers = (bound.place, free) ∷ numbers in
+      default_numbered place (Some bound) scope free (core_of body inner focus (free + 1)).1 (core_of body inner focus (free + 1)).0 p
+      (core_numbered body (free ∷ scope) inner focus (free + 1) (covered_more scope numbers focus bound.place free c) (omega arith))
+  branch_core_numbered place construct (a_resolved body (a_resolved other more)) scope numbers focus free c p = empty_numbered place scope free free (omega arith)
+  branch_core_numbered place construct no_resolved scope numbers focus free c p = empty_numbered place scope free free (omega arith)
+  branch_core_numbered place (written.For bound None) (a_resolved body no_resolved) scope numbers focus free c p =
+      let inner : Numbers = (bound.place, free) ∷ numbers in
+      nothing_numbered place scope (free ∷ scope) free (free + 1) (core_of body inner focus (free + 1)).1 (core_of body inner focus (free + 1)).0 (omega arith)
+      (core_numbered body (free ∷ scope) inner focus (free + 1) (covered_more scope numbers focus bound.place free c) (omega arith))
+  branch_core_numbered place (written.For bound (Some position)) (a_resolved body no_resolved) scope numbers focus free c p =
+      let inner : Numbers = (position.place, free + 1) ∷ (bound.place, free) ∷ numbers in
+      nothing_numbered place scope ((free + 1) ∷ free ∷ scope) free (free + 2) (core_of body inner focus (free + 2)).1 (core_of body inner focus (free + 2)).0 (omega arith)
+      (core_numbered body ((free + 1) ∷ free ∷ scope) inner focus (free + 2)
+      (covered_more (free ∷ scope) ((bound.place, free) ∷ numbers) focus position.place (free + 1) (covered_more scope numbers focus bound.place free c)) (omega arith))
+  branch_core_numbered place (written.Let bound) (a_resolved body no_resolved) scope numbers focus free c p =
+      let inner : Numbers = (bound.place, free) ∷ numbers in
+      nothing_numbered place scope (free ∷ scope) free (free + 1) (core_of body inner focus (free + 1)).1 (core_of body inner focus (free + 1)).0 (omega arith)
+      (core_numbered body (free ∷ scope) inner focus (free + 1) (covered_more scope numbers focus bound.place free c) (omega arith))
+  branch_core_numbered place (written.In bound) (a_resolved body no_resolved) scope numbers focus free c p =
+      let inner : Numbers = (bound.place, free) ∷ numbers in
+      nothing_numbered place scope (free ∷ scope) free (free + 1) (core_of body inner focus (free + 1)).1 (core_of body inner focus (free + 1)).0 (omega arith)
+      (core_numbered body (free ∷ scope) inner focus (free + 1) (covered_more scope numbers focus bound.place free c) (omega arith))
+  branch_core_numbered place construct (a_resolved body no_resolved) scope numbers focus free c p =
+      nothing_numbered place scope scope free free (core_of body numbers focus free).1 (core_of body numbers focus free).0 (omega arith) (core_numbered body scope numbers focus free c p)
+
+  path_parts_numbered : (descendants : Bool) (place : Place) (parts : ResolvedTrees) (scope : List ℕ) (numbers : Numbers) (focus : Focus) (free : ℕ) → IsCovered scope numbers focus → 1 ≤ free
       → IsNumberedCore scope free (path_core descendants place parts numbers focus free)
-  path_parts_numbered descendants place (a_resolved first (a_resolved second no_resolved)) scope numbers focus free c =
+  path_parts_numbered descendants place (a_resolved first (a_resolved second no_resolved)) scope numbers focus free c p =
       let a = left_of_path descendants place (core_of first numbers focus free) in
       let use' = path_use (asks_context asked.Position second) (asks_context asked.Last second) in
       let b = core_of second numbers (focus_with focus use' a.1) (behind_context use' a.1) in
-      path_numbered use' place scope free a.1 b.1 a.0 b.0 (left_numbered descendants place scope free (core_of first numbers focus free) (core_numbered first scope numbers focus free c))
-      (core_numbered second (scope_with use' a.1 scope) numbers (focus_with focus use' a.1) (behind_context use' a.1) (covered_with use' scope numbers focus a.1 c))
-  path_parts_numbered descendants place _ scope numbers focus free c = empty_numbered place scope free free (omega arith)
+      path_numbered use' place scope free a.1 b.1 a.0 b.0 (left_numbered descendants place scope free (core_of first numbers focus free) (core_numbered first scope numbers focus free c p))
+      (core_numbered second (scope_with use' a.1 scope) numbers (focus_with focus use' a.1) (behind_context use' a.1) (covered_with use' scope numbers focus a.1 c) (behind_some use' a.1))
+  path_parts_numbered descendants place _ scope numbers focus free c p = empty_numbered place scope free free (omega arith)
 
-  predicates_numbered : (place : Place) (parts : ResolvedTrees) (scope : List ℕ) (numbers : Numbers) (focus : Focus) (free : ℕ) → IsCovered scope numbers focus → IsNumberedCore scope free (predicates_core place parts numbers focus free)
-  predicates_numbered place no_resolved scope numbers focus free c = empty_numbered place scope free free (omega arith)
-  predicates_numbered place (a_resolved operand predicates) scope numbers focus free c =
+  predicates_numbered : (place : Place) (parts : ResolvedTrees) (scope : List ℕ) (numbers : Numbers) (focus : Focus) (free : ℕ) → IsCovered scope numbers focus → 1 ≤ free → IsNumberedCore scope free (predicates_core place parts numbers focus free)
+  predicates_numbered place no_resolved scope numbers focus free c p = empty_numbered place scope free free (omega arith)
+  predicates_numbered place (a_resolved operand predicates) scope numbers focus free c p =
       let e = core_of operand numbers focus free in
-      filtered_numbered (is_reverse_step operand) place e.0 predicates scope numbers focus free e.1 c (core_numbered operand scope numbers focus free c)
+      filtered_numbered (is_reverse_step operand) place e.0 predicates scope numbers focus free e.1 c (later_on scope free e.1 e.0 p (core_numbered operand scope numbers focus free c p)) (core_numbered operand scope numbers focus free c p)
 
-  filtered_numbered : (reverse : Bool) (place : Place) (e : CoreExpression) (predicates : ResolvedTrees) (scope : List ℕ) (numbers : Numbers) (focus : Focus) (free n : ℕ) → IsCovered scope numbers focus → IsNumbered scope free n e
+  filtered_numbered : (reverse : Bool) (place : Place) (e : CoreExpression) (predicates : ResolvedTrees) (scope : List ℕ) (numbers : Numbers) (focus : Focus) (free n : ℕ) → IsCovered scope numbers focus → 1 ≤ n → IsNumbered scope free n e
       → IsNumberedCore scope free (filtered_core reverse place e predicates numbers focus n)
-  filtered_numbered reverse place e no_resolved scope numbers focus free n c h = h
-  filtered_numbered reverse place e (a_resolved predicate others) scope numbers focus free n c h =
+  filtered_numbered reverse place e no_resolved scope numbers focus free n c p h = h
+  filtered_numbered reverse place e (a_resolved predicate others) scope numbers focus free n c p h =
       let use' = predicate_use reverse (asks_context asked.Last predicate) in
       let condition = core_of predicate numbers (focus_with focus use' n) (behind_context use' n) in
       let f = filtered_by (predicate_of predicate) reverse use' place n e condition in
+      let inner = core_numbered predicate (scope_with use' n scope) numbers (focus_with focus use' n) (behind_context use' n) (covered_with use' scope numbers focus n c) (behind_some use' n) in
       filtered_numbered reverse place f.0 others scope numbers focus free f.1 c
-      (filtered_by_numbered (predicate_of predicate) reverse use' place scope numbers focus free n e condition c h
-      (core_numbered predicate (scope_with use' n scope) numbers (focus_with focus use' n) (behind_context use' n) (covered_with use' scope numbers focus n c)))
+      (filtered_later (predicate_of predicate) reverse use' place n e condition p (later_on (scope_with use' n scope) (behind_context use' n) condition.1 condition.0 (behind_some use' n) inner))
+      (filtered_by_numbered (predicate_of predicate) reverse use' place scope numbers focus free n e condition c h inner)
 
 -- ---- whole queries
 
-abbrev scope_of : (greatest : Bool) → List Declaration → Numbers → ℕ → List ℕ
-scope_of greatest declarations numbers free = numbers_of (behind_declarations (no_focus greatest) declarations numbers free).0
+abbrev scope_of : (greatest blanks : Bool) → List Declaration → Numbers → ℕ → List ℕ
+scope_of greatest blanks declarations numbers free = numbers_of (behind_declarations (no_focus greatest blanks) declarations numbers free).0
 
-scope_is : (greatest : Bool) (ds : List Declaration) (numbers : Numbers) (free : ℕ) → scope_behind (declarations_of (no_focus greatest) ds numbers free) (numbers_of numbers) ≡ scope_of greatest ds numbers free
-scope_is greatest [] numbers free = refl
-scope_is greatest (declared.Global g ∷ ds) numbers free =
-    let middle = (core_of g.value numbers (no_focus greatest) free).1 in scope_is greatest ds ((g.bound.place, middle) ∷ numbers) (middle + 1)
-scope_is greatest (declared.External e ∷ ds) numbers free = scope_is greatest ds ((e.bound.place, free) ∷ numbers) (free + 1)
-scope_is greatest (declared.Function f ∷ ds) numbers free = scope_is greatest ds numbers free
+scope_is : (greatest blanks : Bool) (ds : List Declaration) (numbers : Numbers) (free : ℕ) → scope_behind (declarations_of (no_focus greatest blanks) ds numbers free) (numbers_of numbers) ≡ scope_of greatest blanks ds numbers free
+scope_is greatest blanks [] numbers free = refl
+scope_is greatest blanks (declared.Global g ∷ ds) numbers free =
+    let middle = (core_of g.value numbers (no_focus greatest blanks) free).1 in scope_is greatest blanks ds ((g.bound.place, middle) ∷ numbers) (middle + 1)
+scope_is greatest blanks (declared.External e ∷ ds) numbers free = scope_is greatest blanks ds ((e.bound.place, free) ∷ numbers) (free + 1)
+scope_is greatest blanks (declared.Function f ∷ ds) numbers free = scope_is greatest blanks ds numbers free
 
-values_scoped : (greatest : Bool) (ds : List Declaration) (numbers : Numbers) (free : ℕ) → AreValuesScoped (numbers_of numbers) (declarations_of (no_focus greatest) ds numbers free)
-values_scoped greatest [] numbers free = tt
-values_scoped greatest (declared.Global g ∷ ds) numbers free =
-    let middle = (core_of g.value numbers (no_focus greatest) free).1 in
-    ((core_numbered g.value (numbers_of numbers) numbers (no_focus greatest) free (covered_without numbers greatest)).scoped, values_scoped greatest ds ((g.bound.place, middle) ∷ numbers) (middle + 1))
-values_scoped greatest (declared.External e ∷ ds) numbers free = (tt, values_scoped greatest ds ((e.bound.place, free) ∷ numbers) (free + 1))
-values_scoped greatest (declared.Function f ∷ ds) numbers free = values_scoped greatest ds numbers free
+values_scoped : (greatest blanks : Bool) (ds : List Declaration) (numbers : Numbers) (free : ℕ) → 1 ≤ free → AreValuesScoped (numbers_of numbers) (declarations_of (no_focus greatest blanks) ds numbers free)
+values_scoped greatest blanks [] numbers free p = tt
+values_scoped greatest blanks (declared.Global g ∷ ds) numbers free p =
+    let middle = (core_of g.value numbers (no_focus greatest blanks) free).1 in
+    ((core_numbered g.value (numbers_of numbers) numbers (no_focus greatest blanks) free (covered_without numbers greatest blanks) p).scoped, values_scoped greatest blanks ds ((g.bound.place, middle) ∷ numbers) (middle + 1) (omega arith))
+values_scoped greatest blanks (declared.External e ∷ ds) numbers free p = (tt, values_scoped greatest blanks ds ((e.bound.place, free) ∷ numbers) (free + 1) (omega arith))
+values_scoped greatest blanks (declared.Function f ∷ ds) numbers free p = values_scoped greatest blanks ds numbers free p
 
-variables_rising : (greatest : Bool) (ds : List Declaration) (numbers : Numbers) (free : ℕ) → Rise free (behind_declarations (no_focus greatest) ds numbers free).1 (declared_numbers (declarations_of (no_focus greatest) ds numbers free))
-variables_rising greatest [] numbers free = omega arith
-variables_rising greatest (declared.Global g ∷ ds) numbers free =
-    let middle = (core_of g.value numbers (no_focus greatest) free).1 in
-    let next = (behind_declarations (no_focus greatest) ds ((g.bound.place, middle) ∷ numbers) (middle + 1)).1 in
-    rise_joined free middle next (numbers_bound (core_of g.value numbers (no_focus greatest) free).0) (middle ∷ declared_numbers (declarations_of (no_focus greatest) ds ((g.bound.place, middle) ∷ numbers) (middle + 1)))
-    (core_numbered g.value (numbers_of numbers) numbers (no_focus greatest) free (covered_without numbers greatest)).rising (omega arith, variables_rising greatest ds ((g.bound.place, middle) ∷ numbers) (middle + 1))
-variables_rising greatest (declared.External e ∷ ds) numbers free = (omega arith, variables_rising greatest ds ((e.bound.place, free) ∷ numbers) (free + 1))
-variables_rising greatest (declared.Function f ∷ ds) numbers free = variables_rising greatest ds numbers free
+variables_rising : (greatest blanks : Bool) (ds : List Declaration) (numbers : Numbers) (free : ℕ) → 1 ≤ free → Rise free (behind_declarations (no_focus greatest blanks) ds numbers free).1 (declared_numbers (declarations_of (no_focus greatest blanks) ds numbers free))
+variables_rising greatest blanks [] numbers free p = omega arith
+variables_rising greatest blanks (declared.Global g ∷ ds) numbers free p =
+    let middle = (core_of g.value numbers (no_focus greatest blanks) free).1 in
+    let next = (behind_declarations (no_focus greatest blanks) ds ((g.bound.place, middle) ∷ numbers) (middle + 1)).1 in
+    rise_joined free middle next (numbers_bound (core_of g.value numbers (no_focus greatest blanks) free).0) (middle ∷ declared_numbers (declarations_of (no_focus greatest blanks) ds ((g.bound.place, middle) ∷ numbers) (middle + 1)))
+    (core_numbered g.value (numbers_of numbers) numbers (no_focus greatest blanks) free (covered_without numbers greatest blanks) p).rising (omega arith, variables_rising greatest blanks ds ((g.bound.place, middle) ∷ numbers) (middle + 1) (omega arith))
+variables_rising greatest blanks (declared.External e ∷ ds) numbers free p = (omega arith, variables_rising greatest blanks ds ((e.bound.place, free) ∷ numbers) (free + 1) (omega arith))
+variables_rising greatest blanks (declared.Function f ∷ ds) numbers free p = variables_rising greatest blanks ds numbers free p
 
-have_values : (greatest : Bool) (ds : List Declaration) (numbers : Numbers) (free : ℕ) → All HasValueOrType (declarations_of (no_focus greatest) ds numbers free)
-have_values greatest [] numbers free = All-nil HasValueOrType
-have_values greatest (declared.Global g ∷ ds) numbers free =
-    let v = core_of g.value numbers (no_focus greatest) free in
+have_values : (greatest blanks : Bool) (ds : List Declaration) (numbers : Numbers) (free : ℕ) → All HasValueOrType (declarations_of (no_focus greatest blanks) ds numbers free)
+have_values greatest blanks [] numbers free = All-nil HasValueOrType
+have_values greatest blanks (declared.Global g ∷ ds) numbers free =
+    let v = core_of g.value numbers (no_focus greatest blanks) free in
     let d : CoreDeclaration = Global g.bound.name (numbered_binder g.bound v.1) (Some v.0) in
-    All-cons HasValueOrType d (declarations_of (no_focus greatest) ds ((g.bound.place, v.1) ∷ numbers) (v.1 + 1)) tt (have_values greatest ds ((g.bound.place, v.1) ∷ numbers) (v.1 + 1))
-have_values greatest (declared.External e ∷ ds) numbers free =
+    All-cons HasValueOrType d (declarations_of (no_focus greatest blanks) ds ((g.bound.place, v.1) ∷ numbers) (v.1 + 1)) tt (have_values greatest blanks ds ((g.bound.place, v.1) ∷ numbers) (v.1 + 1))
+have_values greatest blanks (declared.External e ∷ ds) numbers free =
     let d : CoreDeclaration = Global e.bound.name (external_binder e.bound free) None in
-    All-cons HasValueOrType d (declarations_of (no_focus greatest) ds ((e.bound.place, free) ∷ numbers) (free + 1)) refl (have_values greatest ds ((e.bound.place, free) ∷ numbers) (free + 1))
-have_values greatest (declared.Function f ∷ ds) numbers free = have_values greatest ds numbers free
+    All-cons HasValueOrType d (declarations_of (no_focus greatest blanks) ds ((e.bound.place, free) ∷ numbers) (free + 1)) refl (have_values greatest blanks ds ((e.bound.place, free) ∷ numbers) (free + 1))
+have_values greatest blanks (declared.Function f ∷ ds) numbers free = have_values greatest blanks ds numbers free
 
-query_in_order : (greatest : Bool) (ds : List Declaration) (tree : ResolvedTree) → HasQueryVariablesInOrder (main_core (no_focus greatest) ds tree)
-query_in_order greatest ds tree =
-    let behind = behind_declarations (no_focus greatest) ds [] 1 in
-    let body = core_of tree behind.0 (no_focus greatest) behind.1 in
-    let numbered = core_numbered tree (numbers_of behind.0) behind.0 (no_focus greatest) behind.1 (covered_without behind.0 greatest) in
+query_in_order : (greatest blanks : Bool) (ds : List Declaration) (tree : ResolvedTree) → HasQueryVariablesInOrder (main_core (no_focus greatest blanks) ds tree)
+query_in_order greatest blanks ds tree =
+    let behind = behind_declarations (no_focus greatest blanks) ds [] 1 in
+    let body = core_of tree behind.0 (no_focus greatest blanks) behind.1 in
+    let numbered = core_numbered tree (numbers_of behind.0) behind.0 (no_focus greatest blanks) behind.1 (covered_without behind.0 greatest blanks)
+    (rising_order 1 behind.1 (declared_numbers (declarations_of (no_focus greatest blanks) ds [] 1)) (variables_rising greatest blanks ds [] 1 (omega arith))) in
     record {
-      values = values_scoped greatest ds [] 1;
-      body = subst (λ (scope : List ℕ). IsScoped scope body.0) (sym (scope_is greatest ds [] 1)) numbered.scoped;
-      once = rising_distinct 1 body.1 (declared_numbers (declarations_of (no_focus greatest) ds [] 1) ++ numbers_bound body.0)
-          (rise_joined 1 behind.1 body.1 (declared_numbers (declarations_of (no_focus greatest) ds [] 1)) (numbers_bound body.0) (variables_rising greatest ds [] 1) numbered.rising);
-      externals = have_values greatest ds [] 1;
+      values = values_scoped greatest blanks ds [] 1 (omega arith);
+      body = subst (λ (scope : List ℕ). IsScoped scope body.0) (sym (scope_is greatest blanks ds [] 1)) numbered.scoped;
+      once = rising_distinct 1 body.1 (declared_numbers (declarations_of (no_focus greatest blanks) ds [] 1) ++ numbers_bound body.0)
+          (rise_joined 1 behind.1 body.1 (declared_numbers (declarations_of (no_focus greatest blanks) ds [] 1)) (numbers_bound body.0) (variables_rising greatest blanks ds [] 1 (omega arith)) numbered.rising);
+      externals = have_values greatest blanks ds [] 1;
     }
 
-pub made_in_order : {E : Type 0} (greatest : Bool) (ds : List Declaration) (tree : ResolvedTree) (made : Result Core E) → IfOk made (λ core. core ≡ main_core (no_focus greatest) ds tree) → IfOk made (λ core. HasQueryVariablesInOrder core)
-made_in_order greatest ds tree (Ok core) h = subst (λ (c : Core). HasQueryVariablesInOrder c) (sym h) (query_in_order greatest ds tree)
-made_in_order greatest ds tree (Err error) h = tt
+pub made_in_order : {E : Type 0} (greatest blanks : Bool) (ds : List Declaration) (tree : ResolvedTree) (made : Result Core E) → IfOk made (λ core. core ≡ main_core (no_focus greatest blanks) ds tree) → IfOk made (λ core. HasQueryVariablesInOrder core)
+made_in_order greatest blanks ds tree (Ok core) h = subst (λ (c : Core). HasQueryVariablesInOrder c) (sym h) (query_in_order greatest blanks ds tree)
+made_in_order greatest blanks ds tree (Err error) h = tt

@@ -1,11 +1,12 @@
 -- The literals and the calls of what is made are well formed.
-use Rattle.std.proofs.Common.{◌≡◌, ℕ, ◌+◌, ◌==◌, length, Bool, true, false, List, [], ◌∷◌, Option, Some, None, Result, Ok, Err, IfOk, refl, sym, ◌∙◌, subst, if◌then◌else◌, arith}
+use Rattle.std.proofs.Common.{◌≡◌, ℕ, ◌+◌, ◌==◌, length, Bool, true, false, List, [], ◌∷◌, ◌++◌, Option, Some, None, Result, Ok, Err, IfOk, refl, sym, ◌∙◌, subst, if◌then◌else◌, arith}
 use Rattle.std.proofs.lemmas.Bool.{eqb-true}
 use Rattle.gx_base.specs.declared.place.Place.{Place}
 use Rattle.gx_num.specs.declared.Number.{Number}
 use Rattle.gx_num.specs.declared.Number.TheVariants.{Int, Dec}
 use Rattle.gx_ast.specs.declared.expression.BinaryOperator.{BinaryOperator}
 use Rattle.gx_ast.specs.declared.expression.BinaryOperator.TheVariants as operator
+use Rattle.gx_types.specs.SequenceType.{SequenceType}
 use Rattle.gx_types.specs.declared.step.Axis.{Axis}
 use Rattle.gx_types.specs.declared.step.Axis.TheVariants as axes
 use Rattle.gx_types.specs.declared.step.Test.{Test}
@@ -28,13 +29,14 @@ use Rattle.gx_core.specs.declared.operator.ClauseKind.TheVariants as kinds
 use Rattle.gx_core.specs.declared.operator.Operator.TheVariants as operators
 use Rattle.gx_core.specs.Arithmetic.{number_atom}
 use Rattle.gx_core.specs.Queries.{Core}
-use Rattle.gx_core.specs.Expression.{CoreExpression, At, one_part, all_parts, outer_of}
+use Rattle.gx_core.specs.Expression.{CoreExpression, At, a_part, one_part, all_parts, outer_of}
 use Rattle.gx_core.specs.Invariant.{IsCoreLiteral, number_of_parts, IsWellFormedExpression, ArePartsWellFormed, AreValuesWellFormed, IsWellFormedQuery}
 use Rattle.gx_normal.specs.Constructs.{within, boolean_around, core_sequence, operator_at, call_at, counted_call, call_of, empty_at, of_one, data_at, conditional_at, and_at, or_at, signed_at, cast_at, castable_at, operator_in_core, joined_by, joining, context_item_at, step_at, operand_of, nodes_at, data_around}
+use Rattle.gx_normal.specs.Switches.{instance_at, treat_at, branch_at, case_in_front, branches_joined, over_operand, typeswitch_at, branch_or}
 use Rattle.gx_normal.specs.declared.focus.Focus.{Focus}
 use Rattle.gx_normal.specs.declared.clauses.Ending.{Ending}
 use Rattle.gx_normal.specs.declared.clauses.Ending.TheVariants.{Returned, Condition, Sorted}
-use Rattle.gx_normal.specs.Clauses.{Numbers, numbered_binder, clause_in_front, key_in_front, key_order, ending_of_clauses}
+use Rattle.gx_normal.specs.Clauses.{Numbers, clause_numbers, behind_clause, numbered_binder, clause_in_front, key_in_front, key_order, ending_of_clauses}
 use Rattle.gx_normal.specs.declared.contexts.Asked.TheVariants as asked
 use Rattle.gx_normal.specs.declared.contexts.ContextUse.{ContextUse}
 use Rattle.gx_normal.specs.declared.contexts.ContextUse.TheVariants as uses
@@ -43,7 +45,7 @@ use Rattle.gx_normal.specs.declared.filters.Predicate.{Predicate}
 use Rattle.gx_normal.specs.declared.filters.Predicate.TheVariants as predicates
 use Rattle.gx_normal.specs.Contexts.{asks_context, path_use, predicate_use, no_focus, focus_with, behind_context, hidden_variable, hidden_let, hidden_for, ordered_if, with_size, position_from_end, loop_at, context_numbers}
 use Rattle.gx_normal.specs.Filters.{predicate_of, is_reverse_step, position_is, kept_at, filtered_by}
-use Rattle.gx_normal.specs.Normalisation.{number_at, variable_at, of_two, of_three, joined_at, constructed, is_to_descendants, left_of_path, core_of, construct_core, cores_of, clauses_core, path_core, predicates_core, filtered_core, declarations_of, behind_declarations, main_core}
+use Rattle.gx_normal.specs.Normalisation.{number_at, variable_at, of_two, of_three, joined_at, constructed, is_to_descendants, left_of_path, core_of, construct_core, cores_of, clauses_core, branch_core, path_core, predicates_core, filtered_core, declarations_of, behind_declarations, main_core, is_kept_part, parts_with}
 
 -- ---- constructs over well-formed parts
 
@@ -136,6 +138,44 @@ call_formed place functions.Position es h = (tt, tt)
 call_formed place functions.Last es h = (tt, tt)
 call_formed place function es h = counted_formed place function es (λ e. cc) (λ e. cc) (λ e. cc) h
 
+-- ---- types
+
+instance_formed : (place : Place) (kind : SequenceType) → KeepsOne (instance_at place kind)
+instance_formed place kind e h = (
+  refl,
+  (
+    h,
+    (
+      (record { not_data = λ c. cc; not_position = λ c. cc; not_last = λ c. cc; all = refl }, tt),
+      ((record { not_data = λ c. cc; not_position = λ c. cc; not_last = λ c. cc; all = refl }, tt), tt),
+    ),
+  ),
+)
+
+case_in_front_formed : (place : Place) → KeepsTwo (case_in_front place)
+case_in_front_formed place (At there outer tt (operators.Switch (case ∷ more) number) (a_part nothing (a_part body others))) (At behind other unit (operators.Switch cases default) (a_part none branches)) h k =
+    let n : 1 + number_of_parts branches ≡ 2 + length cases = k.0 in
+    (omega (arith, n), (h.1.0, (h.1.1.0, k.1.1)))
+case_in_front_formed place (At there outer tt operator parts) (At behind other unit another others) h k = (tt, tt)
+
+branches_formed : (place : Place) (es : List CoreExpression) → AreWellFormed es → IsWellFormedExpression (branches_joined place es)
+branches_formed place [] h = (tt, tt)
+branches_formed place (a ∷ []) h = h.0
+branches_formed place (a ∷ b ∷ es) h = case_in_front_formed place a (branches_joined place (b ∷ es)) h.0 (branches_formed place (b ∷ es) h.1)
+
+over_operand_formed : (place : Place) → KeepsTwo (over_operand place)
+over_operand_formed place operand (At there outer tt (operators.Switch cases default) (a_part nothing branches)) h k = (k.0, (h, k.1.1))
+over_operand_formed place operand (At there outer tt operator parts) h k = (tt, tt)
+
+typeswitch_formed : (place : Place) (es : List CoreExpression) → AreWellFormed es → IsWellFormedExpression (typeswitch_at place es)
+typeswitch_formed place [] h = (tt, tt)
+typeswitch_formed place (operand ∷ branches) h = over_operand_formed place operand (branches_joined place branches) h.0 (branches_formed place branches h.1)
+
+branch_formed : (place : Place) (construct : Construct) (free : ℕ) (body : CoreExpression) → IsWellFormedExpression body → IsWellFormedExpression (branch_at place construct free body)
+branch_formed place (written.Case bound kind) free body h = (refl, ((tt, tt), (h, ((tt, tt), tt))))
+branch_formed place (written.Default bound) free body h = (refl, ((tt, tt), (h, tt)))
+branch_formed place _ free body h = (tt, tt)
+
 -- ---- trees
 
 constructed_formed : (place : Place) (construct : Construct) (es : List CoreExpression) → AreWellFormed es → IsWellFormedExpression (constructed place construct es)
@@ -147,8 +187,18 @@ constructed_formed place written.Sequence es h = two_formed place core_sequence 
 constructed_formed place written.If es h = three_formed place es h
 constructed_formed place (written.Binary o) es h = joining_formed place o es h
 constructed_formed place (written.CastableAs kind optional) es h = one_formed place (castable_at place kind optional) (λ e k. (tt, ((tt, (k, tt)), tt))) es h
+constructed_formed place (written.InstanceOf kind) es h = one_formed place (instance_at place kind) (instance_formed place kind) es h
+constructed_formed place (written.TreatAs kind) es h = one_formed place (treat_at place kind) (λ e k. (tt, (k, tt))) es h
+constructed_formed place written.Typeswitch es h = typeswitch_formed place es h
 constructed_formed place (written.CastAs kind optional) es h = one_formed place (cast_at place kind optional) (λ e k. (tt, ((tt, (k, tt)), tt))) es h
 constructed_formed place (written.Signed minus) es h = one_formed place (signed_at place minus) (signed_formed place minus) es h
+constructed_formed place written.Document es h = (tt, all_formed es h)
+constructed_formed place written.TextNode es h = (tt, all_formed es h)
+constructed_formed place (written.Element name) es h = (tt, all_formed es h)
+constructed_formed place (written.Attribute name) es h = (tt, all_formed es h)
+constructed_formed place (written.DirectElement name) es h = (tt, all_formed es h)
+constructed_formed place (written.DirectAttribute name) es h = (tt, all_formed es h)
+constructed_formed place (written.Blank characters) es h = (refl, tt)
 constructed_formed place _ es h = (tt, tt)
 
 variable_formed : (place : Place) (found : Option ℕ) → IsWellFormedExpression (variable_at place found)
@@ -196,7 +246,7 @@ kept_formed place focus free condition h =
     let tested : IsWellFormedExpression (position_is place focus free) = (tt, ((tt, tt), (context_formed place focus.position, tt))) in
     let truth : IsWellFormedExpression (call_at place functions.Boolean (one_part (hidden_variable place (free + 1)))) =
     (record { not_data = λ c. cc; not_position = λ c. cc; not_last = λ c. cc; all = refl }, ((tt, tt), tt)) in
-    (tt, ((((tt, tt), refl), (h, (tested, (truth, tt)))), (context_formed place focus.item, ((tt, tt), tt))))
+    (tt, ((refl, (h, (tested, (truth, tt)))), (context_formed place focus.item, ((tt, tt), tt))))
 
 filtered_by_formed : (predicate : Predicate) (reverse : Bool) (use' : ContextUse) (place : Place) (free : ℕ) (e : CoreExpression) (condition : CoreExpression × ℕ)
     → IsWellFormedExpression e → IsWellFormedExpression condition.0 → IsWellFormedExpression (filtered_by predicate reverse use' place free e condition).0
@@ -237,16 +287,30 @@ key_in_front_formed : (place : Place) (order : KeyOrder) (part block : CoreExpre
 key_in_front_formed place order part (At there outer tt (operators.Block [] orders) parts) h k = (tt, (h, k.1))
 key_in_front_formed place order part (At there outer tt operator parts) h k = (tt, tt)
 
+branch_or_formed : (construct : Construct) (branch other : CoreExpression × ℕ) → IsFormed branch → IsFormed other → IsFormed (branch_or construct branch other)
+branch_or_formed (written.Case bound kind) branch other h k = h
+branch_or_formed (written.Default bound) branch other h k = h
+branch_or_formed construct branch other h k = k
+
+parts_with_formed : (stays : Bool) (e : CoreExpression × ℕ) (others : ℕ → List CoreExpression × ℕ) (free : ℕ) → IsFormed e → ((n : ℕ) → AreWellFormed (others n).0)
+    → AreWellFormed (parts_with stays e others free).0
+parts_with_formed true e others free h k = (h, k e.1)
+parts_with_formed false e others free h k = k free
+
 mutual
   core_formed : (tree : ResolvedTree) (numbers : Numbers) (focus : Focus) (free : ℕ) → IsFormed (core_of tree numbers focus free)
   core_formed (resolved_at place construct parts) numbers focus free =
-      construct_formed place construct numbers focus free (cores_of parts numbers focus free) (clauses_core (ending_of_clauses construct parts focus.greatest) place parts numbers focus free) (path_core (is_to_descendants construct) place parts numbers focus free) (predicates_core place parts numbers focus free)
+      branch_or_formed construct (branch_core place construct parts numbers focus free)
+      (construct_core place construct numbers focus free (cores_of parts numbers focus free) (clauses_core (ending_of_clauses construct parts focus.greatest) place parts numbers focus free) (path_core (is_to_descendants construct) place parts numbers focus free) (predicates_core place parts numbers focus free))
+      (branch_core_formed place construct parts numbers focus free)
+      (construct_formed place construct numbers focus free (cores_of parts numbers focus free) (clauses_core (ending_of_clauses construct parts focus.greatest) place parts numbers focus free) (path_core (is_to_descendants construct) place parts numbers focus free) (predicates_core place parts numbers focus free)
       (cores_formed parts numbers focus free) (clauses_formed (ending_of_clauses construct parts focus.greatest) place parts numbers focus free) (path_formed (is_to_descendants construct) place parts numbers focus free)
-      (predicates_formed place parts numbers focus free)
+      (predicates_formed place parts numbers focus free))
 
   cores_formed : (parts : ResolvedTrees) (numbers : Numbers) (focus : Focus) (free : ℕ) → AreWellFormed (cores_of parts numbers focus free).0
   cores_formed no_resolved numbers focus free = tt
-  cores_formed (a_resolved first others) numbers focus free = (core_formed first numbers focus free, cores_formed others numbers focus (core_of first numbers focus free).1)
+  cores_formed (a_resolved first others) numbers focus free =
+      parts_with_formed (is_kept_part focus first) (core_of first numbers focus free) (cores_of others numbers focus) free (core_formed first numbers focus free) (λ n. cores_formed others numbers focus n)
 
   clauses_formed : (ending : Ending) (place : Place) (parts : ResolvedTrees) (numbers : Numbers) (focus : Focus) (free : ℕ) → IsFormed (clauses_core ending place parts numbers focus free)
   clauses_formed ending place no_resolved numbers focus free = (tt, tt)
@@ -299,6 +363,12 @@ mutual
   clauses_formed (Sorted greatest) place (a_resolved last others) numbers focus free = (tt, (core_formed last numbers focus free, tt))
   clauses_formed (Condition every) place (a_resolved last others) numbers focus free = boolean_formed (core_of last numbers focus free).0 (core_formed last numbers focus free)
 
+  branch_core_formed : (place : Place) (construct : Construct) (parts : ResolvedTrees) (numbers : Numbers) (focus : Focus) (free : ℕ) → IsFormed (branch_core place construct parts numbers focus free)
+  branch_core_formed place construct (a_resolved body no_resolved) numbers focus free =
+      let b = core_of body (clause_numbers construct free ++ numbers) focus (behind_clause construct free) in
+      branch_formed place construct free b.0 (core_formed body (clause_numbers construct free ++ numbers) focus (behind_clause construct free))
+  branch_core_formed place construct _ numbers focus free = (tt, tt)
+
   path_formed : (descendants : Bool) (place : Place) (parts : ResolvedTrees) (numbers : Numbers) (focus : Focus) (free : ℕ) → IsFormed (path_core descendants place parts numbers focus free)
   path_formed descendants place (a_resolved first (a_resolved second no_resolved)) numbers focus free =
       let a = left_of_path descendants place (core_of first numbers focus free) in
@@ -326,19 +396,19 @@ mutual
 
 -- ---- whole queries
 
-values_formed : (greatest : Bool) (ds : List Declaration) (numbers : Numbers) (free : ℕ) → AreValuesWellFormed (declarations_of (no_focus greatest) ds numbers free)
-values_formed greatest [] numbers free = tt
-values_formed greatest (declared.Global g ∷ ds) numbers free =
-    let middle = (core_of g.value numbers (no_focus greatest) free).1 in
-    (core_formed g.value numbers (no_focus greatest) free, values_formed greatest ds ((g.bound.place, middle) ∷ numbers) (middle + 1))
-values_formed greatest (declared.External e ∷ ds) numbers free = values_formed greatest ds ((e.bound.place, free) ∷ numbers) (free + 1)
-values_formed greatest (declared.Function f ∷ ds) numbers free = values_formed greatest ds numbers free
+values_formed : (greatest blanks : Bool) (ds : List Declaration) (numbers : Numbers) (free : ℕ) → AreValuesWellFormed (declarations_of (no_focus greatest blanks) ds numbers free)
+values_formed greatest blanks [] numbers free = tt
+values_formed greatest blanks (declared.Global g ∷ ds) numbers free =
+    let middle = (core_of g.value numbers (no_focus greatest blanks) free).1 in
+    (core_formed g.value numbers (no_focus greatest blanks) free, values_formed greatest blanks ds ((g.bound.place, middle) ∷ numbers) (middle + 1))
+values_formed greatest blanks (declared.External e ∷ ds) numbers free = values_formed greatest blanks ds ((e.bound.place, free) ∷ numbers) (free + 1)
+values_formed greatest blanks (declared.Function f ∷ ds) numbers free = values_formed greatest blanks ds numbers free
 
-query_formed : (greatest : Bool) (ds : List Declaration) (tree : ResolvedTree) → IsWellFormedQuery (main_core (no_focus greatest) ds tree)
-query_formed greatest ds tree =
-    let behind = behind_declarations (no_focus greatest) ds [] 1 in
-    record { values = values_formed greatest ds [] 1; body = core_formed tree behind.0 (no_focus greatest) behind.1 }
+query_formed : (greatest blanks : Bool) (ds : List Declaration) (tree : ResolvedTree) → IsWellFormedQuery (main_core (no_focus greatest blanks) ds tree)
+query_formed greatest blanks ds tree =
+    let behind = behind_declarations (no_focus greatest blanks) ds [] 1 in
+    record { values = values_formed greatest blanks ds [] 1; body = core_formed tree behind.0 (no_focus greatest blanks) behind.1 }
 
-pub made_well_formed : {E : Type 0} (greatest : Bool) (ds : List Declaration) (tree : ResolvedTree) (made : Result Core E) → IfOk made (λ core. core ≡ main_core (no_focus greatest) ds tree) → IfOk made (λ core. IsWellFormedQuery core)
-made_well_formed greatest ds tree (Ok core) h = subst (λ (c : Core). IsWellFormedQuery c) (sym h) (query_formed greatest ds tree)
-made_well_formed greatest ds tree (Err error) h = tt
+pub made_well_formed : {E : Type 0} (greatest blanks : Bool) (ds : List Declaration) (tree : ResolvedTree) (made : Result Core E) → IfOk made (λ core. core ≡ main_core (no_focus greatest blanks) ds tree) → IfOk made (λ core. IsWellFormedQuery core)
+made_well_formed greatest blanks ds tree (Ok core) h = subst (λ (c : Core). IsWellFormedQuery c) (sym h) (query_formed greatest blanks ds tree)
+made_well_formed greatest blanks ds tree (Err error) h = tt

@@ -43,12 +43,14 @@ leading_part (a_resolved part more) = Some part
 abbrev pub clause_part : ResolvedTree → Option ResolvedTree
 clause_part (resolved_at place construct parts) = if is_clause construct then leading_part parts else None
 
--- the variables that a clause binds are numbered from the free number on
+-- the variables that a clause, or a branch of a typeswitch, binds are numbered from the free number on
 abbrev pub clause_numbers : Construct → (free : ℕ) → Numbers
 clause_numbers (written.For bound None) free = (bound.place, free) ∷ []
 clause_numbers (written.For bound (Some position)) free = (position.place, free + 1) ∷ (bound.place, free) ∷ []
 clause_numbers (written.Let bound) free = (bound.place, free) ∷ []
 clause_numbers (written.In bound) free = (bound.place, free) ∷ []
+clause_numbers (written.Case (Some bound) kind) free = (bound.place, free) ∷ []
+clause_numbers (written.Default (Some bound)) free = (bound.place, free) ∷ []
 clause_numbers _ free = []
 
 -- the number that is free behind them
@@ -57,6 +59,8 @@ behind_clause (written.For bound None) free = free + 1
 behind_clause (written.For bound (Some position)) free = free + 2
 behind_clause (written.Let bound) free = free + 1
 behind_clause (written.In bound) free = free + 1
+behind_clause (written.Case (Some bound) kind) free = free + 1
+behind_clause (written.Default (Some bound)) free = free + 1
 behind_clause _ free = free
 
 -- the number of the variable of a position, or 0

@@ -17,6 +17,7 @@ use Rattle.gx_core.specs.declared.expression.BinaryClass.{BinaryClass}
 use Rattle.gx_core.specs.declared.expression.BinaryClass.TheVariants.{Nodes, Combination}
 use Rattle.gx_core.specs.BinaryOperators.{class_of}
 use Rattle.gx_core.specs.declared.expression.Binder.{Binder}
+use Rattle.gx_core.specs.declared.constructor.Constructor.{Constructor}
 use Rattle.gx_core.specs.declared.operator.Operator.{Operator}
 use Rattle.gx_core.specs.declared.operator.Operator.TheVariants as operators
 use Rattle.gx_core.specs.Arithmetic.{number_atom}
@@ -113,6 +114,10 @@ for_at place binder position source body = core_at place place (operators.For bi
 abbrev pub quantifier_at : (every : Bool) → Place → Binder → CoreExpression → CoreExpression → CoreExpression
 quantifier_at true place binder source test = core_at place place (operators.EveryIn binder) (two_parts source test)
 quantifier_at false place binder source test = core_at place place (operators.SomeIn binder) (two_parts source test)
+
+-- a constructor over the parts of its content
+abbrev pub constructor_at : Place → Constructor → List CoreExpression → CoreExpression
+constructor_at place constructor parts = core_at place place (operators.Construct constructor (length parts)) (all_parts parts)
 
 -- ---- paths
 

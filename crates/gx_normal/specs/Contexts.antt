@@ -70,11 +70,11 @@ context_numbers PositionAndSize free = record { item = Some (free + 2); position
 context_numbers Backwards free = record { item = Some (free + 2); position = Some (free + 4); size = Some (free + 1) }
 
 -- what a query begins in, and another context in it
-abbrev pub no_focus : (greatest : Bool) → Focus
-no_focus greatest = record { context = no_context; greatest = greatest }
+abbrev pub no_focus : (greatest preserves_blanks : Bool) → Focus
+no_focus greatest preserves_blanks = record { context = no_context; greatest = greatest; preserves_blanks = preserves_blanks }
 
 abbrev pub focus_with : Focus → ContextUse → (free : ℕ) → Focus
-focus_with focus use' free = record { context = context_numbers use' free; greatest = focus.greatest }
+focus_with focus use' free = record { context = context_numbers use' free; greatest = focus.greatest; preserves_blanks = focus.preserves_blanks }
 
 -- the number that is free behind the variables of a context
 abbrev pub behind_context : ContextUse → (free : ℕ) → ℕ

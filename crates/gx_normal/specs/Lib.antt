@@ -1,4 +1,5 @@
 pub mod Constructs
+pub mod Switches
 pub mod Clauses
 pub mod Contexts
 pub mod Filters
@@ -6,5 +7,4 @@ pub mod Asking
 pub mod Normalisation
 pub mod Normalising
 pub mod Unbuilt
-pub mod Searching
 pub mod Making

@@ -21,7 +21,9 @@ use Rattle.gx_core.specs.declared.expression.Declaration.TheVariants.{Global}
 use Rattle.gx_core.specs.declared.operator.Operator.TheVariants as operators
 use Rattle.gx_core.specs.Arithmetic.{number_atom}
 use Rattle.gx_core.specs.Expression.{CoreExpression, no_parts, core_at}
-use Rattle.gx_normal.specs.Constructs.{within, literal_at, core_sequence, call_of, empty_at, of_one, conditional_at, signed_at, cast_at, castable_at, joining, context_item_at, step_at}
+use Rattle.gx_normal.specs.Constructs.{within, literal_at, core_sequence, call_of, empty_at, of_one, conditional_at, signed_at, cast_at, castable_at, joining, context_item_at, step_at, constructor_at}
+use Rattle.gx_normal.specs.Switches.{instance_at, treat_at, branch_at, typeswitch_at, branch_or}
+use Rattle.gx_core.specs.declared.constructor.Constructor.TheVariants as constructors
 use Rattle.gx_normal.specs.declared.contexts.Asked.TheVariants as asked
 use Rattle.gx_normal.specs.declared.contexts.ContextUse.TheVariants.{Item}
 use Rattle.gx_normal.specs.Contexts.{asks_context, path_use, predicate_use, no_focus, focus_with, behind_context, path_with}
@@ -75,7 +77,17 @@ constructed place written.If parts = of_three place (conditional_at place) parts
 constructed place (written.Binary operator) parts = joined_at place (joining place operator) parts
 constructed place (written.CastableAs kind optional) parts = of_one place (castable_at place kind optional) parts
 constructed place (written.CastAs kind optional) parts = of_one place (cast_at place kind optional) parts
+constructed place (written.InstanceOf kind) parts = of_one place (instance_at place kind) parts
+constructed place (written.TreatAs kind) parts = of_one place (treat_at place kind) parts
+constructed place written.Typeswitch parts = typeswitch_at place parts
 constructed place (written.Signed minus) parts = of_one place (signed_at place minus) parts
+constructed place written.Document parts = constructor_at place constructors.Document parts
+constructed place written.TextNode parts = constructor_at place constructors.Text parts
+constructed place (written.Element name) parts = constructor_at place (constructors.Element name) parts
+constructed place (written.Attribute name) parts = constructor_at place (constructors.Attribute name) parts
+constructed place (written.DirectElement name) parts = constructor_at place (constructors.Element name) parts
+constructed place (written.DirectAttribute name) parts = constructor_at place (constructors.Attribute name) parts
+constructed place (written.Blank characters) parts = literal_at place (string_atom characters)
 constructed place _ parts = empty_at place
 
 -- ---- trees
@@ -95,6 +107,16 @@ construct_core place (written.Path descendants) numbers focus free parts clauses
 construct_core place written.Filtered numbers focus free parts clauses path filtered = filtered
 construct_core place construct numbers focus free parts clauses path filtered = (constructed place construct parts.0, parts.1)
 
+-- a part of a constructor stays, unless it is boundary white space that is stripped (XQuery 1.0, section 3.7.1.4)
+abbrev pub is_kept_part : Focus → ResolvedTree → Bool
+is_kept_part focus (resolved_at place (written.Blank characters) parts) = focus.preserves_blanks
+is_kept_part focus _ = true
+
+-- a part in front of others, if it stays
+abbrev pub parts_with : (stays : Bool) → CoreExpression × ℕ → (others : ℕ → List CoreExpression × ℕ) → (free : ℕ) → List CoreExpression × ℕ
+parts_with true e others free = let es = others e.1 in (e.0 ∷ es.0, es.1)
+parts_with false e others free = others free
+
 -- whether `//` stands between the parts of a path
 abbrev pub is_to_descendants : Construct → Bool
 is_to_descendants (written.Path descendants) = descendants
@@ -109,14 +131,13 @@ left_of_path true place left = (path_with Item place left.1 left.0 (step_at plac
 abbrev mutual
   pub core_of : ResolvedTree → Numbers → Focus → (free : ℕ) → CoreExpression × ℕ
   core_of (resolved_at place construct parts) numbers focus free =
-      construct_core place construct numbers focus free (cores_of parts numbers focus free) (clauses_core (ending_of_clauses construct parts focus.greatest) place parts numbers focus free) (path_core (is_to_descendants construct) place parts numbers focus free) (predicates_core place parts numbers focus free)
+      branch_or construct (branch_core place construct parts numbers focus free)
+      (construct_core place construct numbers focus free (cores_of parts numbers focus free) (clauses_core (ending_of_clauses construct parts focus.greatest) place parts numbers focus free) (path_core (is_to_descendants construct) place parts numbers focus free) (predicates_core place parts numbers focus free))
 
   pub cores_of : ResolvedTrees → Numbers → Focus → (free : ℕ) → List CoreExpression × ℕ
   cores_of no_resolved numbers focus free = ([], free)
   cores_of (a_resolved first others) numbers focus free =
-      let e = core_of first numbers focus free in
-      let es = cores_of others numbers focus e.1 in
-      (e.0 ∷ es.0, es.1)
+      parts_with (is_kept_part focus first) (core_of first numbers focus free) (cores_of others numbers focus) free
 
   -- clauses, one inside another, and what they end in
   pub clauses_core : Ending → Place → ResolvedTrees → Numbers → Focus → (free : ℕ) → CoreExpression × ℕ
@@ -142,6 +163,13 @@ abbrev mutual
       let rest = clauses_core ending place others numbers focus p.1 in
       (clause_at ending place (written.Key order) p.1 p.0 rest.0, rest.1)
   clauses_core ending place (a_resolved last others) numbers focus free = let e = core_of last numbers focus free in (ended ending e.0, e.1)
+
+  -- a branch of a typeswitch, whose variable has the free number
+  pub branch_core : Place → Construct → ResolvedTrees → Numbers → Focus → (free : ℕ) → CoreExpression × ℕ
+  branch_core place construct (a_resolved body no_resolved) numbers focus free =
+      let b = core_of body (clause_numbers construct free ++ numbers) focus (behind_clause construct free) in
+      (branch_at place construct free b.0, b.1)
+  branch_core place construct _ numbers focus free = (empty_at place, free)
 
   -- the two parts of a path; the variables of the context of the right one are numbered behind the left one
   pub path_core : (descendants : Bool) → Place → ResolvedTrees → Numbers → Focus → (free : ℕ) → CoreExpression × ℕ
@@ -197,4 +225,5 @@ main_core focus declarations body =
 
 -- where the prolog says nothing, empty keys are the least
 abbrev pub query_core : Resolved → Core
-query_core query = main_core (no_focus (is_empty_greatest false query.settings.empty_order)) query.declarations query.body
+query_core query =
+    main_core (no_focus (is_empty_greatest false query.settings.empty_order) query.settings.preserves_boundary_space) query.declarations query.body

@@ -6,7 +6,7 @@ use Rattle.gx_resolved.specs.ResolvedTree.{ResolvedTree, ResolvedTrees}
 use Rattle.gx_resolved.specs.ResolvedView.{resolved_parts}
 use Rattle.gx_core.specs.Expression.{CoreExpression}
 use Rattle.gx_normal.specs.declared.normalising.Task.{Task}
-use Rattle.gx_normal.specs.declared.normalising.Task.TheVariants.{Normalise, Parts, Clauses, Bind, Unbind, FinishClause, End, Enter, Filter, FinishPredicate, Leave, FinishPath, Finish, Descend}
+use Rattle.gx_normal.specs.declared.normalising.Task.TheVariants.{Normalise, Parts, Clauses, Bind, Unbind, FinishClause, End, Enter, Filter, FinishPredicate, Leave, FinishPath, FinishBranch, Finish, Descend}
 use Rattle.gx_normal.specs.declared.normalising.Normalising.{Normalising}
 use Rattle.gx_normal.specs.declared.clauses.Ending.{Ending}
 use Rattle.gx_normal.specs.declared.focus.Focus.{Focus}
@@ -14,6 +14,7 @@ use Rattle.gx_normal.specs.Clauses.{Numbers, clause_numbers, behind_clause, clau
 use Rattle.gx_normal.specs.declared.contexts.Asked.TheVariants as asked
 use Rattle.gx_normal.specs.declared.contexts.ContextUse.{ContextUse}
 use Rattle.gx_normal.specs.Contexts.{asks_context, path_use, predicate_use, focus_with, behind_context, path_with}
+use Rattle.gx_normal.specs.Switches.{branch_at}
 use Rattle.gx_normal.specs.Filters.{filter_at}
 use Rattle.gx_normal.specs.Normalisation.{constructed, left_of_path, core_of, cores_of, clauses_core, filtered_core}
 
@@ -51,6 +52,10 @@ left_descended place free _ = []
 abbrev pub path_finished : ContextUse → Place → (number : ℕ) → Made → Made
 path_finished use' place number ((second ∷ first ∷ more) ∷ outer) = added (path_with use' place number first second) outer
 path_finished use' place number _ = []
+
+abbrev pub branch_finished : Place → Construct → (number : ℕ) → Made → Made
+branch_finished place construct number ((body ∷ more) ∷ outer) = added (branch_at place construct number body) outer
+branch_finished place construct number _ = []
 
 -- the last part is what predicates filter, and they number variables from the free number on
 abbrev pub last_filtered : (reverse : Bool) → Place → (predicates : ResolvedTrees) → Made → Numbers → Focus → (free : ℕ) → Made × ℕ
@@ -96,6 +101,7 @@ core_left (FinishPredicate use' place number ∷ tasks) made numbers focus free 
     let m = predicate_finished use' place number made free in core_left tasks m.0 numbers focus m.1
 core_left (Leave outer ∷ tasks) made numbers focus free = core_left tasks made numbers outer free
 core_left (FinishPath use' place number ∷ tasks) made numbers focus free = core_left tasks (path_finished use' place number made) numbers focus free
+core_left (FinishBranch place construct number ∷ tasks) made numbers focus free = core_left tasks (branch_finished place construct.now number made) numbers focus free
 core_left (Finish place construct ∷ tasks) made numbers focus free = core_left tasks (construct_finished place construct.now made) numbers focus free
 
 abbrev pub core_to_make : Normalising → Left

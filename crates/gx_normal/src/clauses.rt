@@ -106,7 +106,7 @@ fn leading_part(parts: &[ResolvedExpr]) -> Option<&ResolvedExpr>
     }
 }
 
-/// Numbers the variables that a clause binds, from the free number on, and gives the one that is free behind them.
+/// Numbers the variables that a clause, or a branch of a typeswitch, binds, from the free number on, and gives the one that is free behind them.
 pub(crate) fn bind_clause(
     numbers: &mut Numbers,
     clause: &Construct,
@@ -120,9 +120,11 @@ pub(crate) fn bind_clause(
             let number = bind_number(numbers, bound, free)?;
             bind_number(numbers, position, number)
         }
-        Construct::For(bound, None) | Construct::Let(bound) | Construct::In(bound) => {
-            bind_number(numbers, bound, free)
-        }
+        Construct::For(bound, None)
+        | Construct::Let(bound)
+        | Construct::In(bound)
+        | Construct::Case(Some(bound), _)
+        | Construct::Default(Some(bound)) => bind_number(numbers, bound, free),
         _ => Ok(free),
     }
 }
@@ -152,7 +154,11 @@ pub(crate) fn unbind_clause(
             tasks.push(Task::Unbind)?;
             tasks.push(Task::Unbind)
         }
-        Construct::For(_, None) | Construct::Let(_) | Construct::In(_) => tasks.push(Task::Unbind),
+        Construct::For(_, None)
+        | Construct::Let(_)
+        | Construct::In(_)
+        | Construct::Case(Some(_), _)
+        | Construct::Default(Some(_)) => tasks.push(Task::Unbind),
         _ => Ok(()),
     }
 }

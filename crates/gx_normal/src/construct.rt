@@ -9,6 +9,8 @@ ghost use Rattle.gx_normal.specs.Constructs.{boolean_around, call_at, call_of, c
 ghost use Rattle.gx_normal.specs.Normalisation.{constructed, of_two, of_three};
 ghost use Rattle.gx_normal.specs.Making.{made_of_one, made_of_two, operation_at};
 
+use crate::constructors::construct_of_node;
+use crate::switches::{instance, typeswitch};
 use gx_ast::expression::BinaryOperator;
 use gx_base::place::Place;
 use gx_base::text::Text;
@@ -38,11 +40,15 @@ pub(crate) fn construct(
             construct_of_two(alloc, place, construct, parts)
         }
         Construct::If => construct_of_three(alloc, place, parts),
+        Construct::Typeswitch => typeswitch(alloc, place, parts),
         Construct::Parenthesised
         | Construct::Signed(_)
+        | Construct::InstanceOf(_)
+        | Construct::TreatAs(_)
         | Construct::CastAs(_, _)
         | Construct::CastableAs(_, _) => construct_of_one(alloc, place, construct, parts),
-        _ => Ok(empty(place)),
+        Construct::Blank(text) => string(place, text),
+        _ => construct_of_node(place, construct, parts),
     }
 }
 
@@ -61,6 +67,14 @@ fn construct_of_one(
     match construct {
         Construct::Parenthesised => Ok(within(place, Box::into_inner(part))),
         Construct::Signed(minus) => signed(alloc, place, *minus, part),
+        Construct::InstanceOf(kind) => {
+            let kind = kind.clone()?;
+            instance(alloc, place, kind, part)
+        }
+        Construct::TreatAs(kind) => {
+            let kind = kind.clone()?;
+            Ok(at(place, Form::Treat(part, kind)))
+        }
         Construct::CastAs(kind, optional) => {
             let kind = kind.clone()?;
             cast(alloc, place, kind, *optional, part)

@@ -3,10 +3,12 @@
 
 pub mod clauses;
 mod construct;
+mod constructors;
 pub mod contexts;
 pub mod filters;
 pub mod focus;
 pub mod normalise;
 mod normalising;
 mod path_tasks;
+mod switches;
 pub mod unbuilt;

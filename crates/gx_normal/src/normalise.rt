@@ -19,14 +19,15 @@ use std::alloc::{AllocError, Global};
 
 /// The Core of a query: each variable has the number of its binder, and operands are atomized (XQuery 1.0 and XPath 2.0 Formal
 /// Semantics, section 4; XQuery 1.0, section 3). Each literal is a string or a number, each call has the arguments of a function of
-/// the table, and each switch has atomic cases and a branch for each and for the default.
+/// the table, and each switch has a branch for each case and for the default.
 pub fn normalise(alloc: Global, query: Resolved) -> Result<Core, AllocError>
     ensures core { IfOk result (λ core. core ≡ query_core query) }
     ensures variables { IfOk result (λ core. HasQueryVariablesInOrder core) }
     ensures well_formed { IfOk result (λ core. IsWellFormedQuery core) }
 {
     let greatest = is_empty_greatest(false, query.settings.empty_order);
-    let focus = Focus::without_context(greatest);
+    let preserves_blanks = query.settings.preserves_boundary_space;
+    let focus = Focus::without_context(greatest, preserves_blanks);
     let core = core_of_query(alloc, focus, query.declarations.as_slice(), &query.body);
     drop_query(alloc, query);
     core

@@ -10,6 +10,7 @@ ghost use Rattle.gx_normal.specs.declared.normalising.Task.TheVariants as tasks;
 
 use crate::clauses::{Ending, bind_clause, clause, clause_part, flwor_ending, unbind_clause};
 use crate::construct::{at, boolean_around, construct, context_item, empty, step};
+use crate::constructors::is_kept_part;
 use crate::contexts::ContextUse;
 use crate::focus::Focus;
 use gx_base::place::Place;
@@ -30,7 +31,8 @@ pub(crate) type Numbers = NestedMap<Place, u32>;
 // variables have the numbers from one on; to make the last part what clauses end in; to go from the left part of a path, which is there,
 // to its descendants; to normalise the right part of a path, whose left part is there; to filter the last part by predicates, which count
 // from the end where that is true; to filter the part before the last one by the last one, a condition whose context has the variables from
-// a number on; to go back to the focus outside of it; to put the parts of a path together; or those of another construct.
+// a number on; to go back to the focus outside of it; to put the parts of a path together; to make a branch of a typeswitch of its
+// part, whose variable has a number; or to put those of another construct together.
 #[derive(Drop)]
 pub(crate) enum Task<'a> {
     Normalise(&'a ResolvedExpr),
@@ -46,6 +48,7 @@ pub(crate) enum Task<'a> {
     FinishPredicate(ContextUse, Place, u32),
     Leave(Focus),
     FinishPath(ContextUse, Place, u32),
+    FinishBranch(Place, &'a Construct, u32),
     Finish(Place, &'a Construct),
 }
 
@@ -128,6 +131,9 @@ impl<'a> Normalising<'a> {
             Task::FinishPath(context, place, number) => {
                 self.finish_path(alloc, context, place, number)
             }
+            Task::FinishBranch(place, branch, number) => {
+                self.finish_branch(alloc, place, branch, number)
+            }
             Task::Finish(place, construct) => self.finish(alloc, place, construct),
         }
     }
@@ -177,6 +183,9 @@ impl<'a> Normalising<'a> {
                 self.open_path(alloc, *descendants, tree.place, tree.parts.as_slice())
             }
             Construct::Filtered => self.open_filtered(alloc, tree.place, tree.parts.as_slice()),
+            Construct::Case(_, _) | Construct::Default(_) => {
+                self.open_branch(alloc, tree.place, &tree.construct, tree.parts.as_slice())
+            }
             construct => self.open_construct(alloc, tree.place, construct, tree.parts.as_slice()),
         }
     }
@@ -234,6 +243,7 @@ impl<'a> Normalising<'a> {
         self.tasks.push(Task::Parts(parts))
     }
 
+    #[tactic(auto, using(crate::proofs::MakingLemmas::kept_in_front, crate::proofs::MakingLemmas::left_out))]
     fn open_parts(&mut self, trees: &'a [ResolvedExpr]) -> Result<(), AllocError>
         ensures { OnOk result (core_to_make self.new ≡ left_with (tasks.Parts trees.entry) self.old) }
     {
@@ -241,6 +251,9 @@ impl<'a> Normalising<'a> {
             return Ok(());
         };
         self.tasks.push(Task::Parts(others))?;
+        if !is_kept_part(self.focus, first) {
+            return Ok(());
+        }
         self.tasks.push(Task::Normalise(first))
     }
 

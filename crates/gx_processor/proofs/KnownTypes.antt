@@ -1,12 +1,12 @@
 -- The types that a query names are known, and so it is judged by inclusion.
-use Rattle.std.proofs.Common.{◌≡◌, ℕ, ◌+◌, ◌==◌, length, Bool, true, false, List, [], ◌∷◌, Option, Some, None, option_map, inl, inr, refl, sym, ◌∙◌, subst, if◌then◌else◌}
+use Rattle.std.proofs.Common.{◌≡◌, ℕ, ◌+◌, ◌==◌, length, Bool, true, false, List, [], ◌∷◌, ◌++◌, Option, Some, None, option_map, inl, inr, refl, sym, ◌∙◌, subst, if◌then◌else◌}
 use Rattle.std.specs.Prelude.{unwrap_or}
 use Rattle.std.specs.Bool.{IsTrue}
 use Rattle.gx_base.specs.Name.{same_name}
 use Rattle.gx_base.specs.Text.{same_text}
 use Rattle.gx_base.specs.declared.name.Name.{Name}
 use Rattle.gx_base.specs.declared.place.Place.{Place}
-use Rattle.gx_base.specs.declared.type_name.Builtin.TheVariants.{AnyAtomic, Decimal}
+use Rattle.gx_base.specs.declared.type_name.Builtin.TheVariants.{AnyAtomic}
 use Rattle.gx_base.specs.declared.type_name.TypeName.{TypeName}
 use Rattle.gx_base.specs.declared.type_name.TypeName.TheVariants as names
 use Rattle.gx_ast.specs.declared.expression.BinaryOperator.{BinaryOperator}
@@ -17,19 +17,30 @@ use Rattle.gx_ast.specs.declared.query.Definition.{Definition}
 use Rattle.gx_ast.specs.declared.query.DefinitionNode.{DefinitionNode}
 use Rattle.gx_ast.specs.declared.query.DefinitionNode.TheVariants as definitions
 use Rattle.gx_ast.specs.declared.query.Initialiser.TheVariants as initial
+use Rattle.gx_ast.specs.declared.query.Query.{Query}
 use Rattle.gx_ast.specs.declared.sequence_type.BoundVariable.{BoundVariable}
+use Rattle.gx_ast.specs.declared.sequence_type.Indicator.{Indicator}
+use Rattle.gx_ast.specs.declared.sequence_type.Indicator.TheVariants as indicated
+use Rattle.gx_ast.specs.declared.sequence_type.ItemType.TheVariants as named
+use Rattle.gx_ast.specs.declared.sequence_type.KindTest.{KindTest}
+use Rattle.gx_ast.specs.declared.sequence_type.KindTest.TheVariants as tested
+use Rattle.gx_ast.specs.declared.sequence_type.SequenceType.{SequenceType as WrittenType}
+use Rattle.gx_ast.specs.declared.sequence_type.SequenceType.TheVariants as sequences
 use Rattle.gx_ast.specs.SyntaxTree.{SyntaxTree, SyntaxForm, SyntaxTrees, Bindings, Clauses, Keys, Cases, Attributes, AttributeParts, Parts, at, number, string, variable, parenthesised, empty_sequence, context_item, call, comma, flwor, quantified, typeswitch, conditional, binary, instance_of, treat_as, castable_as, cast_as, signed, path, axis_step, parent_step, filtered, direct, document_node, text_node, element_node, empty_element, attribute_node, empty_attribute, no_tree, a_tree, no_binding, a_binding, no_clause, for_clause, let_clause, where_clause, no_key, a_key, no_case, a_case, no_attribute, an_attribute, no_attribute_part, attribute_text, attribute_enclosed, no_part, blank_part, text_part, element_part, enclosed_part}
 use Rattle.gx_types.specs.declared.declaration.GlobalElement.{GlobalElement}
 use Rattle.gx_types.specs.SchemaSet.{SchemaSet, type_of_element}
 use Rattle.gx_types.specs.SchemaInvariant.{HoldsOfEach, IsSchemaSet, is_named_type}
-use Rattle.gx_types.specs.SequenceType.{SequenceType}
+use Rattle.gx_types.specs.declared.item_type.ItemType.{ItemType}
+use Rattle.gx_types.specs.declared.item_type.ItemType.TheVariants as items
+use Rattle.gx_types.specs.Choice.{choice_among}
+use Rattle.gx_types.specs.SequenceType.{SequenceType, item}
 use Rattle.gx_types.specs.declared.step.Axis.{Axis}
 use Rattle.gx_types.specs.declared.step.Axis.TheVariants as axes
 use Rattle.gx_types.specs.declared.step.Test.{Test}
 use Rattle.gx_types.specs.declared.step.Test.TheVariants as tests
 use Rattle.gx_types.proofs.DerivationTest.{derives_when_tested}
 use Rattle.gx_types.proofs.EqualNames.{type_name_symm}
-use Rattle.gx_typetext.specs.KnownNames.{is_atomic_name, type_with_name, if_atomic, atomic_with_name}
+use Rattle.gx_typetext.specs.KnownNames.{node_types, item_types, is_atomic_name, type_with_name, if_atomic, atomic_with_name}
 use Rattle.gx_funcs.specs.declared.function.Function.{Function}
 use Rattle.gx_funcs.specs.declared.function.Function.TheVariants as functions
 use Rattle.gx_funcs.specs.Function.{arity_of, function_named}
@@ -43,7 +54,7 @@ use Rattle.gx_resolved.specs.ResolvedTree.{ResolvedTree, ResolvedTrees, resolved
 use Rattle.gx_names_scope.specs.Environment.{Environment, function_uri, is_declared_function, element_name, called_name, or_nameless, with_variable, with_optional, with_bound}
 use Rattle.gx_names_scope.specs.StartTags.{declared_prefix, declares_namespace, with_namespace, with_namespaces}
 use Rattle.gx_names_scope.specs.TreeCounts.{count_trees}
-use Rattle.gx_names_types.specs.TypeNames.{atomic_named, type_written}
+use Rattle.gx_names_types.specs.TypeNames.{atomic_named, element_tested, attribute_tested, element_declared, test_type, indicated_type, type_written}
 use Rattle.gx_names_trees.specs.TreeRefusals.{built_in_call}
 use Rattle.gx_names_trees.specs.TreeResolution.{binder_resolved, optional_resolved, binding_resolved, call_resolved, direct_attribute_resolved, tree_resolved, form_resolved, trees_resolved, bindings_resolved, clauses_resolved, keys_resolved, cases_resolved, attributes_resolved, attribute_parts_resolved, parts_resolved}
 use Rattle.gx_names.specs.Refusals.{definition_scope, scope_after, with_functions, query_refusals}
@@ -57,13 +68,18 @@ use Rattle.gx_sorting.specs.declared.keys.KeyOrder.{KeyOrder}
 use Rattle.gx_core.specs.declared.operator.ClauseKind.{ClauseKind}
 use Rattle.gx_core.specs.declared.operator.ClauseKind.TheVariants as kinds
 use Rattle.gx_core.specs.declared.operator.Operator.TheVariants as operators
-use Rattle.gx_core.specs.Queries.{Core}
-use Rattle.gx_core.specs.Expression.{CoreExpression, At, all_parts, outer_of}
+use Rattle.gx_core.specs.declared.operator.Operator.{Operator}
+use Rattle.gx_core.specs.declared.expression.Declaration.TheVariants.{Global}
+use Rattle.gx_core.specs.Queries.{Core, CoreDeclaration}
+use Rattle.gx_core.specs.Instances.{IsWrittenType}
+use Rattle.gx_core.specs.WrittenTypes.{AreWrittenCases, IsOverWrittenTypes, NamesWrittenTypes, PartsNameWrittenTypes, ValuesNameWrittenTypes}
+use Rattle.gx_core.specs.Expression.{CoreExpression, At, Parts as CoreParts, no_parts, a_part, all_parts, outer_of}
 use Rattle.gx_normal.specs.Constructs.{within, core_sequence, operator_at, call_at, counted_call, call_of, empty_at, of_one, data_at, conditional_at, and_at, or_at, signed_at, cast_at, castable_at, operator_in_core, joined_by, joining, context_item_at, step_at, nodes_at, operand_of, boolean_around, data_around}
+use Rattle.gx_normal.specs.Switches.{instance_at, treat_at, branch_at, case_in_front, branches_joined, over_operand, typeswitch_at, branch_or}
 use Rattle.gx_normal.specs.declared.focus.Focus.{Focus}
 use Rattle.gx_normal.specs.declared.clauses.Ending.{Ending}
 use Rattle.gx_normal.specs.declared.clauses.Ending.TheVariants.{Returned, Condition, Sorted}
-use Rattle.gx_normal.specs.Clauses.{Numbers, numbered_binder, clause_in_front, key_in_front, key_order, is_empty_greatest, ending_of_clauses}
+use Rattle.gx_normal.specs.Clauses.{Numbers, clause_numbers, behind_clause, numbered_binder, clause_in_front, key_in_front, key_order, is_empty_greatest, ending_of_clauses}
 use Rattle.gx_normal.specs.declared.contexts.Asked.TheVariants as asked
 use Rattle.gx_normal.specs.declared.contexts.ContextUse.{ContextUse}
 use Rattle.gx_normal.specs.declared.contexts.ContextUse.TheVariants as uses
@@ -72,21 +88,127 @@ use Rattle.gx_normal.specs.declared.filters.Predicate.{Predicate}
 use Rattle.gx_normal.specs.declared.filters.Predicate.TheVariants as predicates
 use Rattle.gx_normal.specs.Contexts.{asks_context, path_use, predicate_use, no_focus, focus_with, behind_context, hidden_variable, hidden_let, hidden_for, ordered_if, with_size, position_from_end, loop_at, context_numbers}
 use Rattle.gx_normal.specs.Filters.{predicate_of, is_reverse_step, kept_at, filtered_by}
-use Rattle.gx_normal.specs.Normalisation.{number_at, variable_at, of_two, of_three, joined_at, constructed, construct_core, is_to_descendants, left_of_path, core_of, cores_of, clauses_core, path_core, predicates_core, filtered_core, declared_type, declarations_of, behind_declarations, query_core}
-use Rattle.gx_static.specs.NormalTypes.{CastsToAtomicTypes, PartsCastToAtomicTypes}
-use Rattle.gx_static.specs.ByInclusion.{IsNormalIfWritten, NameKnownTypes, NamesKnownTypes}
-use Rattle.gx_static.proofs.AtomicTypes.{IsAtomic, top, nameable_is_atomic}
+use Rattle.gx_normal.specs.Normalisation.{number_at, variable_at, of_two, of_three, joined_at, constructed, construct_core, is_to_descendants, left_of_path, core_of, cores_of, is_kept_part, parts_with, clauses_core, branch_core, path_core, predicates_core, filtered_core, declared_type, declarations_of, behind_declarations, query_core}
+use Rattle.gx_static.specs.NormalTypes.{CastsToAtomicType, CastsToAtomicTypes, PartsCastToAtomicTypes}
+use Rattle.gx_static.specs.ByInclusion.{IsNormalIfWritten, NameKnownTypes}
+use Rattle.gx_static.proofs.AtomicTypes.{IsAtomic, top}
 use Rattle.gx_static.proofs.NormalData.{atomic_is_derived}
 use Rattle.gx_static.proofs.NormalSteps.{known_below, named_is_known}
 use Rattle.gx_static.proofs.JudgedByInclusion.{queries_are_judged_by_inclusion}
 use Rattle.gx_processor.specs.ExternalDocuments.{IsDocumentType, ExternalsAreDocuments}
-use Rattle.gx_processor.specs.JudgedQueries.{NamedQueriesAreJudgedByInclusion}
+use Rattle.gx_processor.specs.NamedQuery.{named_query, query_named}
+use Rattle.gx_processor.specs.JudgedQueries.{IsOverNormalTypes, NamesNormalTypes, PartsNameNormalTypes, ValuesNameNormalTypes, NamedQueriesNameWrittenTypes, NamedQueriesAreJudgedByInclusion}
 use Rattle.gx_processor.proofs.WholeQueries.{named_queries_have_documents, same_schemas, whole_named}
 
--- ---- casts of resolved trees
+-- ---- the types that are written in a query
+
+indicated_item : (indicator : Indicator) (kind : ItemType) → IsWrittenType (indicated_type indicator (item kind))
+indicated_item indicated.Once kind = tt
+indicated_item indicated.Optional kind = tt
+indicated_item indicated.Star kind = tt
+indicated_item indicated.Plus kind = tt
+
+indicated_nodes : (indicator : Indicator) → IsWrittenType (indicated_type indicator (choice_among node_types))
+indicated_nodes indicated.Once = (((tt, tt), tt), tt)
+indicated_nodes indicated.Optional = (((tt, tt), tt), tt)
+indicated_nodes indicated.Star = (((tt, tt), tt), tt)
+indicated_nodes indicated.Plus = (((tt, tt), tt), tt)
+
+indicated_items : (indicator : Indicator) → IsWrittenType (indicated_type indicator (choice_among item_types))
+indicated_items indicated.Once = ((((tt, tt), tt), tt), tt)
+indicated_items indicated.Optional = ((((tt, tt), tt), tt), tt)
+indicated_items indicated.Star = ((((tt, tt), tt), tt), tt)
+indicated_items indicated.Plus = ((((tt, tt), tt), tt), tt)
+
+tested_is_written : (environment : Environment) (indicator : Indicator) (test : KindTest) → IsWrittenType (indicated_type indicator (test_type environment test))
+tested_is_written environment indicator (tested.Node place) = indicated_nodes indicator
+tested_is_written environment indicator (tested.Text place) = indicated_item indicator items.Text
+tested_is_written environment indicator (tested.Document place) = indicated_item indicator (items.Document None)
+tested_is_written environment indicator (tested.DocumentOf place inner element) =
+    let e = element_tested environment element in indicated_item indicator (items.Document (Some (e.0, e.1)))
+tested_is_written environment indicator (tested.DocumentOfDeclared place inner name) =
+    let e = element_declared environment name in indicated_item indicator (items.Document (Some (e.0, e.1)))
+tested_is_written environment indicator (tested.Element place element) =
+    let e = element_tested environment element in indicated_item indicator (items.Element e.0 e.1)
+tested_is_written environment indicator (tested.Attribute place attribute) =
+    let e = attribute_tested environment attribute in indicated_item indicator (items.Attribute e.0 e.1)
+tested_is_written environment indicator (tested.Declared place name) =
+    let e = element_declared environment name in indicated_item indicator (items.Element e.0 e.1)
+
+type_is_written : (environment : Environment) (kind : WrittenType) → IsWrittenType (type_written environment kind)
+type_is_written environment (sequences.Empty place) = tt
+type_is_written environment (sequences.Items (named.Item place) indicator) = indicated_items indicator
+type_is_written environment (sequences.Items (named.Kind test) indicator) = tested_is_written environment indicator test
+type_is_written environment (sequences.Items (named.Atomic name) indicator) = indicated_item indicator (items.Atom (atomic_named environment name))
+
+-- ---- what is so of each expression of a query
+
+-- a cast is to an atomic type, and the types of cases and of `treat as` are such as can be written
+abbrev IsNamedWell : SchemaSet → Operator → Type 0
+IsNamedWell s (operators.Cast kind allows_empty) = IsAtomic s kind
+IsNamedWell s (operators.Switch cases default) = AreWrittenCases cases
+IsNamedWell s (operators.Treat kind) = IsWrittenType kind
+IsNamedWell s _ = Unit {0}
+
+abbrev mutual
+  NamesWell : SchemaSet → CoreExpression → Type 0
+  NamesWell s (At place outer annotation operator parts) = IsNamedWell s operator × PartsNameWell s parts
+
+  PartsNameWell : SchemaSet → CoreParts (Unit {0}) → Type 0
+  PartsNameWell s no_parts = Unit {0}
+  PartsNameWell s (a_part first others) = NamesWell s first × PartsNameWell s others
+
+abbrev AreNamedWell : SchemaSet → List CoreDeclaration → Type 0
+AreNamedWell s [] = Unit {0}
+AreNamedWell s (Global name binder None ∷ others) = IsNormalIfWritten s binder.kind × AreNamedWell s others
+AreNamedWell s (Global name binder (Some value) ∷ others) = NamesWell s value × AreNamedWell s others
+
+-- the types of cases and of `treat as` can be written
+operator_written : (s : SchemaSet) (operator : Operator) → IsNamedWell s operator → IsOverWrittenTypes operator
+operator_written s (operators.Switch cases default) h = h
+operator_written s (operators.Treat kind) h = h
+operator_written s _ h = tt
+
+mutual
+  names_written : (s : SchemaSet) (e : CoreExpression) → NamesWell s e → NamesWrittenTypes e
+  names_written s (At place outer annotation operator parts) h = (operator_written s operator h.0, parts_name_written s parts h.1)
+
+  parts_name_written : (s : SchemaSet) (parts : CoreParts (Unit {0})) → PartsNameWell s parts → PartsNameWrittenTypes parts
+  parts_name_written s no_parts h = tt
+  parts_name_written s (a_part first others) h = (names_written s first h.0, parts_name_written s others h.1)
+
+values_written : (s : SchemaSet) (ds : List CoreDeclaration) → AreNamedWell s ds → ValuesNameWrittenTypes ds
+values_written s [] h = tt
+values_written s (Global name binder None ∷ ds) h = values_written s ds h.1
+values_written s (Global name binder (Some value) ∷ ds) h = (names_written s value h.0, values_written s ds h.1)
+
+-- where they are normal too, the types that an expression names are known
+operator_known : (s : SchemaSet) (operator : Operator) → IsNamedWell s operator → IsOverNormalTypes s operator → CastsToAtomicType s operator
+operator_known s (operators.Cast kind allows_empty) h n = h
+operator_known s (operators.Switch cases default) h n = n
+operator_known s (operators.Treat kind) h n = n
+operator_known s _ h n = tt
+
+mutual
+  names_known : (s : SchemaSet) (e : CoreExpression) → NamesWell s e → NamesNormalTypes s e → CastsToAtomicTypes s e
+  names_known s (At place outer annotation operator parts) h n = (operator_known s operator h.0 n.0, parts_name_known s parts h.1 n.1)
+
+  parts_name_known : (s : SchemaSet) (parts : CoreParts (Unit {0})) → PartsNameWell s parts → PartsNameNormalTypes s parts → PartsCastToAtomicTypes s parts
+  parts_name_known s no_parts h n = tt
+  parts_name_known s (a_part first others) h n = (names_known s first h.0 n.0, parts_name_known s others h.1 n.1)
+
+values_known : (s : SchemaSet) (ds : List CoreDeclaration) → AreNamedWell s ds → ValuesNameNormalTypes s ds → NameKnownTypes s ds
+values_known s [] h n = tt
+values_known s (Global name binder None ∷ ds) h n = (h.0, values_known s ds h.1 n)
+values_known s (Global name binder (Some value) ∷ ds) h n = (names_known s value h.0 n.0, values_known s ds h.1 n.1)
+
+-- ---- casts and written types of resolved trees
 
 abbrev CastsAtomically : SchemaSet → Construct → Type 0
 CastsAtomically s (constructs.CastAs kind optional) = IsAtomic s kind
+CastsAtomically s (constructs.InstanceOf kind) = IsWrittenType kind
+CastsAtomically s (constructs.TreatAs kind) = IsWrittenType kind
+CastsAtomically s (constructs.Case bound kind) = IsWrittenType kind
 CastsAtomically s _ = Unit {0}
 
 abbrev mutual
@@ -199,8 +321,8 @@ module _ (s : SchemaSet) (is : IsSchemaSet s) where
     atomic_form environment place (conditional test chosen otherwise) e =
         (tt, (atomic_tree environment test e, (atomic_tree environment chosen e, (atomic_tree environment otherwise e, tt))))
     atomic_form environment place (binary operator left right) e = (tt, (atomic_tree environment left e, (atomic_tree environment right e, tt)))
-    atomic_form environment place (instance_of operand kind) e = (tt, (atomic_tree environment operand e, tt))
-    atomic_form environment place (treat_as operand kind) e = (tt, (atomic_tree environment operand e, tt))
+    atomic_form environment place (instance_of operand kind) e = (type_is_written environment kind, (atomic_tree environment operand e, tt))
+    atomic_form environment place (treat_as operand kind) e = (type_is_written environment kind, (atomic_tree environment operand e, tt))
     atomic_form environment place (castable_as operand kind) e = (tt, (atomic_tree environment operand e, tt))
     atomic_form environment place (cast_as operand kind) e = (named_is_atomic s is environment kind.name e, (atomic_tree environment operand e, tt))
     atomic_form environment place (signed minus operand) e = (tt, (atomic_tree environment operand e, tt))
@@ -243,7 +365,7 @@ module _ (s : SchemaSet) (is : IsSchemaSet s) where
     atomic_cases : (environment : Environment) (cases : Cases) → Under environment → AreAllCastsAtomic s (cases_resolved environment cases)
     atomic_cases environment no_case e = tt
     atomic_cases environment (a_case heading body others) e =
-        ((tt, (atomic_tree (with_optional heading.variable environment) body (optional_same heading.variable environment ∙ e), tt)), atomic_cases environment others e)
+        ((type_is_written environment heading.kind, (atomic_tree (with_optional heading.variable environment) body (optional_same heading.variable environment ∙ e), tt)), atomic_cases environment others e)
 
     atomic_attributes : (environment : Environment) (attributes : Attributes) → Under environment → AreAllCastsAtomic s (attributes_resolved environment attributes)
     atomic_attributes environment no_attribute e = tt
@@ -271,7 +393,7 @@ module _ (s : SchemaSet) (is : IsSchemaSet s) where
   -- ---- Core over parts whose casts are atomic
 
   abbrev Casts : CoreExpression → Type 0
-  Casts e = CastsToAtomicTypes s e
+  Casts e = NamesWell s e
 
   abbrev AllCast : List CoreExpression → Type 0
   AllCast [] = Unit {0}
@@ -319,7 +441,7 @@ module _ (s : SchemaSet) (is : IsSchemaSet s) where
   joining_casts place operator.Or es h = two_cast place (or_at place) (λ a b k l. (tt, ((tt, (k, tt)), ((tt, tt), ((tt, (l, tt)), tt))))) es h
   joining_casts place o es h = joined_cast place (operator_in_core o) es h
 
-  all_cast : (es : List CoreExpression) → AllCast es → PartsCastToAtomicTypes s (all_parts es)
+  all_cast : (es : List CoreExpression) → AllCast es → PartsNameWell s (all_parts es)
   all_cast [] h = tt
   all_cast (e ∷ es) h = (h.0, all_cast es h.1)
 
@@ -336,6 +458,34 @@ module _ (s : SchemaSet) (is : IsSchemaSet s) where
   call_casts place functions.Last es h = (tt, tt)
   call_casts place function es h = counted_casts place function es h
 
+  case_in_front_casts : (place : Place) (a b : CoreExpression) → Casts a → Casts b → Casts (case_in_front place a b)
+  case_in_front_casts place (At there outer mark (operators.Switch (case ∷ more) count) (a_part nothing (a_part body others))) (At behind other unit (operators.Switch cases default) (a_part none branches)) h k =
+      ((h.0.0, k.0), (h.1.0, (h.1.1.0, k.1.1)))
+  case_in_front_casts place (At there outer mark operator parts) (At behind other unit another others) h k = (tt, tt)
+
+  branches_cast : (place : Place) (es : List CoreExpression) → AllCast es → Casts (branches_joined place es)
+  branches_cast place [] h = (tt, tt)
+  branches_cast place (a ∷ []) h = h.0
+  branches_cast place (a ∷ b ∷ es) h = case_in_front_casts place a (branches_joined place (b ∷ es)) h.0 (branches_cast place (b ∷ es) h.1)
+
+  over_operand_casts : (place : Place) (operand branches : CoreExpression) → Casts operand → Casts branches → Casts (over_operand place operand branches)
+  over_operand_casts place operand (At there outer mark (operators.Switch cases default) (a_part nothing branches)) h k = (k.0, (h, k.1.1))
+  over_operand_casts place operand (At there outer mark operator parts) h k = (tt, tt)
+
+  typeswitch_casts : (place : Place) (es : List CoreExpression) → AllCast es → Casts (typeswitch_at place es)
+  typeswitch_casts place [] h = (tt, tt)
+  typeswitch_casts place (operand ∷ branches) h = over_operand_casts place operand (branches_joined place branches) h.0 (branches_cast place branches h.1)
+
+  branch_casts : (place : Place) (construct : Construct) (free : ℕ) (body : CoreExpression) → CastsAtomically s construct → Casts body → Casts (branch_at place construct free body)
+  branch_casts place (constructs.Case bound kind) free body c h = ((c, tt), ((tt, tt), (h, ((tt, tt), tt))))
+  branch_casts place (constructs.Default bound) free body c h = (tt, ((tt, tt), (h, tt)))
+  branch_casts place _ free body c h = (tt, tt)
+
+  branch_or_casts : (construct : Construct) (branch other : CoreExpression × ℕ) → Casts branch.0 → Casts other.0 → Casts (branch_or construct branch other).0
+  branch_or_casts (constructs.Case bound kind) branch other h k = h
+  branch_or_casts (constructs.Default bound) branch other h k = h
+  branch_or_casts construct branch other h k = k
+
   constructed_casts : (place : Place) (construct : Construct) (es : List CoreExpression) → CastsAtomically s construct → AllCast es → Casts (constructed place construct es)
   constructed_casts place (constructs.Number value) es c h = (tt, tt)
   constructed_casts place (constructs.String characters) es c h = (tt, tt)
@@ -346,7 +496,17 @@ module _ (s : SchemaSet) (is : IsSchemaSet s) where
   constructed_casts place (constructs.Binary o) es c h = joining_casts place o es h
   constructed_casts place (constructs.CastableAs kind optional) es c h = one_casts place (castable_at place kind optional) (λ e k. (tt, ((tt, (k, tt)), tt))) es h
   constructed_casts place (constructs.CastAs kind optional) es c h = one_casts place (cast_at place kind optional) (λ e k. (c, ((tt, (k, tt)), tt))) es h
+  constructed_casts place (constructs.InstanceOf kind) es c h = one_casts place (instance_at place kind) (λ e k. ((c, tt), (k, ((tt, tt), ((tt, tt), tt))))) es h
+  constructed_casts place (constructs.TreatAs kind) es c h = one_casts place (treat_at place kind) (λ e k. (c, (k, tt))) es h
+  constructed_casts place constructs.Typeswitch es c h = typeswitch_casts place es h
   constructed_casts place (constructs.Signed minus) es c h = one_casts place (signed_at place minus) (signed_casts place minus) es h
+  constructed_casts place constructs.Document es c h = (tt, all_cast es h)
+  constructed_casts place constructs.TextNode es c h = (tt, all_cast es h)
+  constructed_casts place (constructs.Element name) es c h = (tt, all_cast es h)
+  constructed_casts place (constructs.Attribute name) es c h = (tt, all_cast es h)
+  constructed_casts place (constructs.DirectElement name) es c h = (tt, all_cast es h)
+  constructed_casts place (constructs.DirectAttribute name) es c h = (tt, all_cast es h)
+  constructed_casts place (constructs.Blank characters) es c h = (tt, tt)
   constructed_casts place _ es c h = (tt, tt)
 
   variable_casts : (place : Place) (found : Option ℕ) → Casts (variable_at place found)
@@ -370,8 +530,8 @@ module _ (s : SchemaSet) (is : IsSchemaSet s) where
   size_casts : (place : Place) (free : ℕ) (source body : CoreExpression) → Casts source → Casts body → Casts (with_size place free source body)
   size_casts place free source body h k = (tt, (h, ((tt, ((tt, ((tt, tt), tt)), (k, tt))), tt)))
 
-  for_casts : (place : Place) (item position : ℕ) (source body : CoreExpression) → Casts source → Casts body → Casts (hidden_for place item position source body)
-  for_casts place item position source body h k = (tt, (h, (k, tt)))
+  for_casts : (place : Place) (one position : ℕ) (source body : CoreExpression) → Casts source → Casts body → Casts (hidden_for place one position source body)
+  for_casts place one position source body h k = (tt, (h, (k, tt)))
 
   loop_casts : (use' : ContextUse) (ordered : Bool) (place : Place) (free : ℕ) (source body : CoreExpression) → Casts source → Casts body → Casts (loop_at use' ordered place free source body)
   loop_casts uses.Item ordered place free source body h k = ordered_casts ordered place (hidden_for place free 0 source body) (for_casts place free 0 source body h k)
@@ -390,7 +550,7 @@ module _ (s : SchemaSet) (is : IsSchemaSet s) where
 
   kept_casts : (place : Place) (focus : ContextNumbers) (free : ℕ) (condition : CoreExpression) → Casts condition → Casts (kept_at place focus free condition)
   kept_casts place focus free condition h =
-      (tt, (((nameable_is_atomic s Decimal refl, tt), (h, ((tt, ((tt, tt), (context_casts place focus.position, tt))), ((tt, ((tt, tt), tt)), tt)))), (context_casts place focus.item, ((tt, tt), tt))))
+      (tt, (((tt, tt), (h, ((tt, ((tt, tt), (context_casts place focus.position, tt))), ((tt, ((tt, tt), tt)), tt)))), (context_casts place focus.item, ((tt, tt), tt))))
 
   filtered_by_casts : (predicate : Predicate) (reverse : Bool) (use' : ContextUse) (place : Place) (free : ℕ) (e : CoreExpression) (condition : CoreExpression × ℕ) → Casts e → Casts condition.0
       → Casts (filtered_by predicate reverse use' place free e condition).0
@@ -402,6 +562,10 @@ module _ (s : SchemaSet) (is : IsSchemaSet s) where
   left_casts : (descendants : Bool) (place : Place) (left : CoreExpression × ℕ) → Casts left.0 → Casts (left_of_path descendants place left).0
   left_casts false place left h = h
   left_casts true place left h = (tt, ((tt, ((tt, (h, tt)), ((tt, tt), tt))), tt))
+
+  parts_with_cast : (stays : Bool) (e : CoreExpression × ℕ) (others : ℕ → List CoreExpression × ℕ) (free : ℕ) → Casts e.0 → ((n : ℕ) → AllCast (others n).0) → AllCast (parts_with stays e others free).0
+  parts_with_cast true e others free h k = (h, k e.1)
+  parts_with_cast false e others free h k = k free
 
   construct_casts : (place : Place) (construct : Construct) (numbers : Numbers) (focus : Focus) (free : ℕ) (parts : List CoreExpression × ℕ) (clauses steps picked : CoreExpression × ℕ)
       → CastsAtomically s construct → AllCast parts.0 → Casts clauses.0 → Casts steps.0 → Casts picked.0 → Casts (construct_core place construct numbers focus free parts clauses steps picked).0
@@ -428,14 +592,18 @@ module _ (s : SchemaSet) (is : IsSchemaSet s) where
   mutual
     core_casts : (tree : ResolvedTree) (numbers : Numbers) (focus : Focus) (free : ℕ) → AreCastsAtomic s tree → Casts (core_of tree numbers focus free).0
     core_casts (resolved_at place construct parts) numbers focus free c =
-        construct_casts place construct numbers focus free (cores_of parts numbers focus free) (clauses_core (ending_of_clauses construct parts focus.greatest) place parts numbers focus free) (path_core (is_to_descendants construct) place parts numbers focus free)
+        branch_or_casts construct (branch_core place construct parts numbers focus free)
+        (construct_core place construct numbers focus free (cores_of parts numbers focus free) (clauses_core (ending_of_clauses construct parts focus.greatest) place parts numbers focus free) (path_core (is_to_descendants construct) place parts numbers focus free) (predicates_core place parts numbers focus free))
+        (branch_core_casts place construct parts numbers focus free c.0 c.1)
+        (construct_casts place construct numbers focus free (cores_of parts numbers focus free) (clauses_core (ending_of_clauses construct parts focus.greatest) place parts numbers focus free) (path_core (is_to_descendants construct) place parts numbers focus free)
         (predicates_core place parts numbers focus free) c.0
         (cores_cast parts numbers focus free c.1) (clauses_cast (ending_of_clauses construct parts focus.greatest) place parts numbers focus free c.1) (path_casts (is_to_descendants construct) place parts numbers focus free c.1)
-        (predicates_cast place parts numbers focus free c.1)
+        (predicates_cast place parts numbers focus free c.1))
 
     cores_cast : (parts : ResolvedTrees) (numbers : Numbers) (focus : Focus) (free : ℕ) → AreAllCastsAtomic s parts → AllCast (cores_of parts numbers focus free).0
     cores_cast no_resolved numbers focus free c = tt
-    cores_cast (a_resolved first others) numbers focus free c = (core_casts first numbers focus free c.0, cores_cast others numbers focus (core_of first numbers focus free).1 c.1)
+    cores_cast (a_resolved first others) numbers focus free c =
+        parts_with_cast (is_kept_part focus first) (core_of first numbers focus free) (cores_of others numbers focus) free (core_casts first numbers focus free c.0) (λ n. cores_cast others numbers focus n c.1)
 
     clauses_cast : (ending : Ending) (place : Place) (parts : ResolvedTrees) (numbers : Numbers) (focus : Focus) (free : ℕ) → AreAllCastsAtomic s parts → Casts (clauses_core ending place parts numbers focus free).0
     clauses_cast ending place no_resolved numbers focus free c = (tt, tt)
@@ -487,6 +655,13 @@ module _ (s : SchemaSet) (is : IsSchemaSet s) where
     clauses_cast (Sorted greatest) place (a_resolved last others) numbers focus free c = (tt, (core_casts last numbers focus free c.0, tt))
     clauses_cast (Condition every) place (a_resolved last others) numbers focus free c = (tt, (core_casts last numbers focus free c.0, tt))
 
+    branch_core_casts : (place : Place) (construct : Construct) (parts : ResolvedTrees) (numbers : Numbers) (focus : Focus) (free : ℕ) → CastsAtomically s construct → AreAllCastsAtomic s parts
+        → Casts (branch_core place construct parts numbers focus free).0
+    branch_core_casts place construct (a_resolved body no_resolved) numbers focus free k c =
+        let b = core_of body (clause_numbers construct free ++ numbers) focus (behind_clause construct free) in
+        branch_casts place construct free b.0 k (core_casts body (clause_numbers construct free ++ numbers) focus (behind_clause construct free) c.0)
+    branch_core_casts place construct _ numbers focus free k c = (tt, tt)
+
     path_casts : (descendants : Bool) (place : Place) (parts : ResolvedTrees) (numbers : Numbers) (focus : Focus) (free : ℕ) → AreAllCastsAtomic s parts → Casts (path_core descendants place parts numbers focus free).0
     path_casts descendants place (a_resolved first (a_resolved second no_resolved)) numbers focus free c =
         let a = left_of_path descendants place (core_of first numbers focus free) in
@@ -533,7 +708,7 @@ module _ (s : SchemaSet) (is : IsSchemaSet s) where
   -- ---- declarations
 
   abbrev AllKnown : List Declaration → Type 0
-  AllKnown declarations = (focus : Focus) (numbers : Numbers) (free : ℕ) → ExternalsAreDocuments s (declarations_of focus declarations numbers free) → NameKnownTypes s (declarations_of focus declarations numbers free)
+  AllKnown declarations = (focus : Focus) (numbers : Numbers) (free : ℕ) → ExternalsAreDocuments s (declarations_of focus declarations numbers free) → AreNamedWell s (declarations_of focus declarations numbers free)
 
   one_known : (environment : Environment) (place : Place) (node : DefinitionNode) (others : List Declaration) → Under environment → AllKnown others → AllKnown (declaration_resolved environment place node ∷ others)
   one_known environment place (definitions.Variable binder kind (initial.Value value)) others e rest focus numbers free h =
@@ -554,18 +729,32 @@ scope_same : (ds : List Definition) (environment : Environment) → (scope_after
 scope_same [] environment = refl
 scope_same (d ∷ ds) environment = scope_same ds (definition_scope d.node environment) ∙ same_schemas d.node environment
 
-pub named_queries_are_judged_by_inclusion : NamedQueriesAreJudgedByInclusion
-named_queries_are_judged_by_inclusion s query core is e =
+record IsWholeNamedWell (s : SchemaSet) (core : Core) : Type 0 where
+  values : AreNamedWell s core.declarations
+  body : NamesWell s core.body
+
+named_well : (s : SchemaSet) (query : Query) (core : Core) → IsSchemaSet s → query_named s query ≡ named_query core → IsWholeNamedWell s core
+named_well s query core is e =
     let environment : Environment = with_functions query.definitions (prolog_environment s query.settings) in
     let resolved = query_resolved s query in
-    let focus = no_focus (is_empty_greatest false resolved.settings.empty_order) in
+    let focus = no_focus (is_empty_greatest false resolved.settings.empty_order) resolved.settings.preserves_boundary_space in
     let behind = behind_declarations focus resolved.declarations [] 1 in
     let whole = query_core resolved in
     let same = whole_named (query_refusals s query) whole core e in
     let documents : ExternalsAreDocuments s whole.declarations = subst (λ (c : Core). ExternalsAreDocuments s c.declarations) (sym same) (named_queries_have_documents s query core e) in
     let body = atomic_tree s is (scope_after query.definitions environment) query.body (scope_same query.definitions environment) in
-    let known : NamesKnownTypes s whole = record {
-      declarations = declarations_known s is query.definitions environment refl focus [] 1 documents;
+    let well : IsWholeNamedWell s whole = record {
+      values = declarations_known s is query.definitions environment refl focus [] 1 documents;
       body = core_casts s is (tree_resolved (scope_after query.definitions environment) query.body) behind.0 focus behind.1 body;
     } in
-    queries_are_judged_by_inclusion s core is (subst (λ (c : Core). NamesKnownTypes s c) same known)
+    subst (λ (c : Core). IsWholeNamedWell s c) same well
+
+pub named_queries_name_written_types : NamedQueriesNameWrittenTypes
+named_queries_name_written_types s query core is e =
+    let well = named_well s query core is e in record { values = values_written s core.declarations well.values; body = names_written s core.body well.body }
+
+pub named_queries_are_judged_by_inclusion : NamedQueriesAreJudgedByInclusion
+named_queries_are_judged_by_inclusion s query core is e normal =
+    let well = named_well s query core is e in
+    queries_are_judged_by_inclusion s core is
+    (record { declarations = values_known s core.declarations well.values normal.values; body = names_known s core.body well.body normal.body })

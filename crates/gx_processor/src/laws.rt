@@ -5,7 +5,7 @@ ghost use Rattle.gx_processor.specs.Answer.{Answer, Answers, AnAnswerExists, Che
 ghost use Rattle.gx_processor.specs.Loading.{AnswersLookAtTheirLoads};
 ghost use Rattle.gx_documents.specs.Documents.{Files};
 ghost use Rattle.gx_processor.specs.ExternalDocuments.{NamedQueriesHaveDocuments};
-ghost use Rattle.gx_processor.specs.JudgedQueries.{NamedQueriesAreJudgedByInclusion};
+ghost use Rattle.gx_processor.specs.JudgedQueries.{NamedQueriesAreJudgedByInclusion, NamedQueriesNameWrittenTypes};
 
 use gx_schema::laws::{an_import_exists, imports_are_one, imports_are_schema_sets};
 
@@ -41,8 +41,13 @@ pub fn named_queries_have_documents()
     ensures { NamedQueriesHaveDocuments }
 {}
 
-/// Each operator in a query whose names are resolved has the type, or the code, that the static rules give it which demand inclusion of
-/// the types of its operands.
+/// The types of cases and of `treat as` in a query whose names are resolved are such as can be written (XQuery 1.0, section 2.5.3).
+pub fn named_queries_name_written_types()
+    ensures { NamedQueriesNameWrittenTypes }
+{}
+
+/// Each operator in a query whose names are resolved, and whose cases and `treat as` name normal types, has the type, or the code, that
+/// the static rules give it which demand inclusion of the types of its operands.
 pub fn named_queries_are_judged_by_inclusion()
     ensures { NamedQueriesAreJudgedByInclusion }
 {}

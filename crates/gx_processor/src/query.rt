@@ -182,16 +182,14 @@ fn built(alloc: Global, tree: Query) -> Result<Query, Refusal>
     ensures none { IfErr result (IsNotBuilt tree) }
     ensures cause { IfErr result (IsOfText ⊥) }
 {
-    let refusal = match unbuilt_query(alloc, &tree) {
-        Ok(None) => return Ok(tree),
-        Ok(Some(place)) => Refusal::Query {
-            code: Code::XPST0003,
-            place,
-        },
-        Err(AllocError) => Refusal::Memory,
+    let Some(place) = unbuilt_query(&tree) else {
+        return Ok(tree);
     };
     drop_query(alloc, tree);
-    Err(refusal)
+    Err(Refusal::Query {
+        code: Code::XPST0003,
+        place,
+    })
 }
 
 // Drops a query, its trees by a loop.

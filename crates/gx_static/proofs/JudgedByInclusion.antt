@@ -44,10 +44,11 @@ use Rattle.gx_core.specs.QueryMeaning.{external_types, global_types, types_decla
 use Rattle.gx_core.specs.Soundness.{TypedExpression}
 use Rattle.gx_static.specs.declared.comparison.Family.{Family}
 use Rattle.gx_static.specs.declared.comparison.Family.TheVariants as families
-use Rattle.gx_static.specs.Rule.{called_type, Ruling, has_type, has_none, type_if, atomic, all_items, is_atomic_in, is_of_family, is_at_most_one, is_at_least_one, is_all_in, is_optional_in, are_of_one_family, are_comparable_items, integer_if, both_occur, number_type, arithmetic_rule, negation_rule, range_rule, value_comparison_type, value_comparison_rule, general_comparison_rule, binary_rule, conditional_rule, quantifier_rule, order_rule, cast_rule, castable_rule, nodes_type, is_as_written, takes_argument, arguments_rule, answer_rule, call_rule, rule, ruling, allows_clause, allows_key, tuples_occur, returned_rule, clauses_rule}
+use Rattle.gx_static.proofs.NormalRules.{seen_is_normal}
+use Rattle.gx_static.specs.Rule.{if_taken, seen_argument, called_type, Ruling, has_type, has_none, type_if, atomic, all_items, is_atomic_in, is_of_family, is_at_most_one, is_at_least_one, is_all_in, is_optional_in, are_of_one_family, are_comparable_items, integer_if, both_occur, number_type, arithmetic_rule, negation_rule, range_rule, value_comparison_type, value_comparison_rule, general_comparison_rule, binary_rule, conditional_rule, quantifier_rule, order_rule, cast_rule, castable_rule, nodes_type, is_as_written, takes_argument, arguments_rule, answer_rule, call_rule, rule, ruling, allows_clause, allows_key, tuples_occur, returned_rule, clauses_rule}
 use Rattle.gx_static.specs.Judgement.{typed, rejected, with_typed, judged}
 use Rattle.gx_static.specs.QueryJudgement.{declared_as, declaration_judged, declarations_judged}
-use Rattle.gx_static.specs.NormalTypes.{CastsToAtomicType, IsOfKnownType, IsMadeOfItems, IsNormalType, HaveNormalTypes, CastsToAtomicTypes, PartsCastToAtomicTypes, IsNormalThroughout, AreNormalThroughout}
+use Rattle.gx_static.specs.NormalTypes.{GivesNormalType, CastsToAtomicType, IsOfKnownType, IsMadeOfItems, IsNormalType, HaveNormalTypes, CastsToAtomicTypes, PartsCastToAtomicTypes, IsNormalThroughout, AreNormalThroughout}
 use Rattle.gx_static.specs.Demands.{Demand, of_type, of_family, of_atomic, of_any, meets_demand, demanded_type, family_type, AreOfOneFamily}
 use Rattle.gx_static.specs.ByInclusion.{includes_clause, includes_key, is_optional_value, are_values, number_included, arithmetic_included, negation_included, range_included, are_optional_in, value_comparison_included, is_item_of, are_comparable_kinds, general_comparison_included, binary_included, conditional_included, quantifier_included, order_included, cast_included, castable_included, parameter_type, arguments_included, call_included, rule_included, ruling_included, IsJudgedByInclusion, PartsAreJudgedByInclusion, ValuesAreJudgedByInclusion, IsNormalIfWritten, NameKnownTypes, QueriesAreJudgedByInclusion}
 use Rattle.gx_static.proofs.DemandLaws.{demands_are_inclusion}
@@ -66,7 +67,10 @@ regrouped : (a b c : Bool) → (a && (b && c)) ≡ (a && b && c)
 regrouped true b c = refl
 regrouped false b c = refl
 
-module _ (s : SchemaSet) (g : Grounded (bases_of s)) where
+module _ (s : SchemaSet) (is : IsSchemaSet s) where
+  g : Grounded (bases_of s)
+  g = is.grounded
+
   -- ---- demands
 
   any_same : (demand : Demand) (t : SequenceType) → IsNormalType s t → all_items (meets_demand s demand) t ≡ is_included s t (star (demanded_type demand))
@@ -285,15 +289,23 @@ module _ (s : SchemaSet) (g : Grounded (bases_of s)) where
       let i = inclusion_is_decided s t (optional any_item) g in
       same_tests (is_at_most_one t) (is_included s t (optional any_item)) (λ e. i.1 (a.0 e)) (λ e. a.1 (i.0 e))
   argument_same parameters.TruthValue t n = refl
+  argument_same parameters.OptionalText t n = optional_same (of_family families.Text) t n
+  argument_same parameters.OneText t n = one_same (of_family families.Text) t n
+  argument_same parameters.Texts t n = any_same (of_family families.Text) t n
+  argument_same parameters.OptionalValue t n = optional_same of_atomic t n
+
+  taken_same : (p : Parameter) (number : ℕ) (next other : Ruling) (r : Ruling) → GivesNormalType s r → next ≡ other
+      → if_taken (takes_argument s p.takes) p.code number next r ≡ if_taken (λ t. is_included s t (parameter_type p.takes)) p.code number other r
+  taken_same p number next other (has_type t) n e = let test = argument_same p.takes t n in λ i. if test i then e i else has_none p.code (Some number)
+  taken_same p number next other (has_none code part) n e = refl
 
   arguments_same : (ps : List Parameter) (ts : List SequenceType) (number : ℕ) (r : Ruling) → HoldsOfEach (IsNormalType s) ts → arguments_rule s ps ts number r ≡ arguments_included s ps ts number r
   arguments_same [] [] number r n = refl
   arguments_same [] (t ∷ ts) number r n = refl
   arguments_same (p ∷ ps) [] number r n = refl
   arguments_same (p ∷ ps) (t ∷ ts) number r n =
-      let test = argument_same p.takes t n.0 in
-      let others = arguments_same ps ts (number + 1) r n.1 in
-      λ i. if test i then others i else has_none p.code (Some number)
+      taken_same p number (arguments_rule s ps ts (number + 1) r) (arguments_included s ps ts (number + 1) r) (seen_argument s p.takes t) (seen_is_normal s p.takes t is n.0)
+      (arguments_same ps ts (number + 1) r n.1)
 
   call_same : (function : Function) (ts : List SequenceType) → HoldsOfEach (IsNormalType s) ts → call_rule s function ts ≡ call_included s function ts
   unfolding call_rule
@@ -328,7 +340,7 @@ mutual
   expression_included : (s : SchemaSet) → IsSchemaSet s → (e : CoreExpression) (types : Types) → CastsToAtomicTypes s e → HaveNormalTypes s types → IsJudgedByInclusion s e types
   expression_included s is (At place outer tt operator parts) types c n = (
     parts_included s is operator [] parts types c.0 c.1 n tt,
-    λ ts j. ruling_same s is.grounded operator (each_of annotation_of ts) types
+    λ ts j. ruling_same s is operator (each_of annotation_of ts) types
         (annotations_are_normal s ts (subst (IfTyped (AreNormalThroughout s)) j (parts_are_normal s is operator [] parts types c.0 c.1 n tt))),
   )
 

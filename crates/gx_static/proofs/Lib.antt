@@ -16,6 +16,7 @@ pub mod Conditionals
 pub mod Quantifiers
 pub mod Picking
 pub mod Switches
+pub mod Treating
 pub mod Blocks
 pub mod TupleOccurrence
 pub mod BlockPlaces
@@ -47,3 +48,6 @@ pub mod NormalRules
 pub mod NormalTyping
 pub mod JudgedByInclusion
 pub mod FreeVariables
+pub mod ConstructorTypes
+pub mod ConstructorLemmas
+pub mod TextCalls

@@ -4,7 +4,8 @@ use Rattle.gx_types.specs.Choice.{choice_among}
 use Rattle.gx_base.specs.declared.type_name.Builtin.TheVariants.{AnyAtomic, Boolean, Decimal, Integer}
 use Rattle.gx_base.specs.declared.type_name.Builtin.TheVariants as builtins
 use Rattle.gx_base.specs.declared.type_name.TypeName.TheVariants as names
-use Rattle.gx_base.specs.declared.code.Code.TheVariants.{XPTY0004, XPTY0018, XPTY0019, XPTY0020, FOTY0012}
+use Rattle.gx_base.specs.declared.code.Code.TheVariants.{XPTY0004, XPTY0018, XPTY0019, XPTY0020, XQTY0024, FOTY0012}
+use Rattle.gx_base.specs.declared.code.Code.{Code}
 use Rattle.gx_facets.specs.declared.Atomic.{Atomic}
 use Rattle.gx_facets.specs.declared.AtomValue.{AtomValue}
 use Rattle.gx_facets.specs.declared.AtomValue.TheVariants.{Untyped, Str, Truth, Num}
@@ -16,7 +17,7 @@ use Rattle.gx_types.specs.SchemaSet.{SchemaSet}
 use Rattle.gx_types.specs.SchemaInvariant.{HoldsOfEach, IsSchemaSet}
 use Rattle.gx_types.specs.Occurrence.{occurrence_of, occurs}
 use Rattle.gx_types.specs.Prime.{prime_of}
-use Rattle.gx_types.specs.SequenceType.{SequenceType, never, item, star}
+use Rattle.gx_types.specs.SequenceType.{SequenceType, never, item, optional, star}
 use Rattle.gx_types.specs.TypeRules.{sequence_of, choice_of, times_of, limited}
 use Rattle.gx_types.specs.Derivation.{DerivesFrom}
 use Rattle.gx_types.proofs.PublicLaws.{derivation_is_a_preorder}
@@ -26,7 +27,7 @@ use Rattle.gx_steptype.specs.StepType.{node_type, step_type}
 use Rattle.gx_funcs.specs.declared.function.Function.{Function}
 use Rattle.gx_funcs.specs.declared.function.Function.TheVariants as functions
 use Rattle.gx_funcs.specs.declared.function.Parameter.{Parameter}
-use Rattle.gx_funcs.specs.Function.{parameters_of}
+use Rattle.gx_funcs.specs.Function.{parameters_of, text_answer_type_of}
 use Rattle.gx_core.specs.declared.expression.ArithmeticOp.{ArithmeticOp}
 use Rattle.gx_core.specs.declared.expression.ArithmeticOp.TheVariants.{Div, IDiv}
 use Rattle.gx_core.specs.declared.expression.BinaryClass.{BinaryClass}
@@ -36,14 +37,20 @@ use Rattle.gx_core.specs.declared.expression.NodeCombination.TheVariants as comb
 use Rattle.gx_sorting.specs.declared.keys.KeyOrder.{KeyOrder}
 use Rattle.gx_core.specs.declared.operator.ClauseKind.{ClauseKind}
 use Rattle.gx_types.specs.Occurs.{Occurs}
+use Rattle.gx_core.specs.declared.constructor.Constructor.{Constructor}
+use Rattle.gx_core.specs.declared.constructor.Constructor.TheVariants as constructors
 use Rattle.gx_core.specs.declared.operator.Operator.TheVariants as operators
 use Rattle.gx_core.specs.BinaryOperators.{class_of}
-use Rattle.gx_static.specs.Rule.{called_type, Ruling, has_type, has_none, type_if, atomic, all_items, is_atomic, is_all_in, is_optional_in, is_at_most_one, is_at_least_one, both_occur, integer_if, number_type, arithmetic_type, compared_occur, are_of_one_family, value_comparison_type, are_comparable_types, shown_type, literal_rule, is_as_written, data_rule, optional_node, nodes_type, set_type, order_rule, takes_argument, arguments_rule, answer_rule, call_rule, binary_rule, is_first, allows_clause, allows_key, tuples_occur, returned_rule, clauses_rule}
+use Rattle.gx_static.specs.Rule.{if_atomized, if_all_atomized, only_element_of, constructor_rule, called_type, Ruling, has_type, has_none, type_if, atomic, all_items, is_atomic, is_all_in, is_optional_in, is_at_most_one, is_at_least_one, both_occur, integer_if, number_type, arithmetic_type, compared_occur, are_of_one_family, value_comparison_type, are_comparable_types, shown_type, literal_rule, is_as_written, data_rule, optional_node, nodes_type, set_type, order_rule, takes_argument, arguments_rule, answer_rule, call_rule, binary_rule, is_first, allows_clause, allows_key, tuples_occur, returned_rule, clauses_rule, if_taken, seen_argument, constructed_text, constructed_element}
+use Rattle.gx_funcs.specs.declared.function.ParameterType.{ParameterType}
+use Rattle.gx_funcs.specs.declared.function.ParameterType.TheVariants as parameters
+use Rattle.gx_funcs.specs.declared.text_function.TextFunction.{TextFunction}
+use Rattle.gx_funcs.specs.declared.text_function.TextFunction.TheVariants as texts
 use Rattle.gx_static.specs.NormalTypes.{IsNormalType, GivesNormalType, RulesGiveNormalTypes}
 use Rattle.gx_static.proofs.NormalTypes.{times_is_normal, prime_is_normal, sequence_is_normal, choice_of_two_is_normal, limited_is_normal, choice_of_normal}
 use Rattle.gx_static.proofs.AtomicTypes.{untyped_is_atomic, boolean_is_atomic, integer_is_atomic, nameable_is_atomic}
 use Rattle.gx_static.proofs.NormalData.{data_is_normal}
-use Rattle.gx_static.proofs.NormalSteps.{step_is_normal}
+use Rattle.gx_static.proofs.NormalSteps.{step_is_normal, untyped_is_simple}
 
 type_if_normal : (s : SchemaSet) (test : Bool) (t : SequenceType) → IsNormalType s t → GivesNormalType s (type_if test t)
 type_if_normal s true t n = n
@@ -120,7 +127,44 @@ atomized_is_normal : (s : SchemaSet) (operand : SequenceType) → IsSchemaSet s 
 unfolding data_rule
 atomized_is_normal s operand is n = either_given s (has_data s operand) (type_of_data s operand) (has_none FOTY0012 None) (data_is_normal s operand is n) tt
 
+-- ---- constructors
+
+atomized_gives : (s : SchemaSet) (r : Ruling) (number : ℕ) (next : SequenceType → Ruling) → ((t : SequenceType) → GivesNormalType s (next t)) → GivesNormalType s (if_atomized r number next)
+atomized_gives s (has_type t) number next h = h t
+atomized_gives s (has_none code part) number next h = tt
+
+all_atomized_give : (s : SchemaSet) (parts : List SequenceType) (number : ℕ) (r : Ruling) → GivesNormalType s r → GivesNormalType s (if_all_atomized s parts number r)
+all_atomized_give s [] number r n = n
+all_atomized_give s (t ∷ parts) number r n = atomized_gives s (data_rule s t) number (λ u. if_all_atomized s parts (number + 1) r) (λ u. all_atomized_give s parts (number + 1) r n)
+
+text_is_normal : (s : SchemaSet) (values : SequenceType) → IsNormalType s (constructed_text values)
+text_is_normal s values = by_test (is_at_least_one values)
+  where
+    by_test : (b : Bool) → IsNormalType s (if b then item items.Text else optional (item items.Text))
+    by_test true = tt
+    by_test false = tt
+
+document_is_normal : (s : SchemaSet) (content : SequenceType) → IsNormalType s (item (items.Document (only_element_of content)))
+document_is_normal s (item (items.Element (Some q) kind)) = refl
+document_is_normal s _ = tt
+
+constructor_is_normal : (s : SchemaSet) (constructor : Constructor) (parts : List SequenceType) → GivesNormalType s (constructor_rule s constructor parts)
+constructor_is_normal s (constructors.Element name) parts = either_given s _ (constructed_element name) (has_none XQTY0024 None) refl tt
+constructor_is_normal s (constructors.Attribute name) parts =
+    all_atomized_give s parts 0 (has_type (item (items.Attribute (Some name) (names.Builtin builtins.UntypedAtomic)))) (untyped_is_simple s)
+constructor_is_normal s constructors.Text (content ∷ []) =
+    atomized_gives s (data_rule s content) 0 (λ values. has_type (constructed_text values)) (λ values. text_is_normal s values)
+constructor_is_normal s constructors.Document (content ∷ []) = type_if_normal s _ (item (items.Document (only_element_of content))) (document_is_normal s content)
+constructor_is_normal s _ parts = tt
+
 -- ---- calls
+
+answer_of_texts : (s : SchemaSet) (function : TextFunction) → GivesNormalType s (answer_rule (Some (text_answer_type_of function)))
+answer_of_texts s texts.StringLength = integer_is_atomic s
+answer_of_texts s texts.Contains = boolean_is_atomic s
+answer_of_texts s texts.StartsWith = boolean_is_atomic s
+answer_of_texts s texts.EndsWith = boolean_is_atomic s
+answer_of_texts s _ = nameable_is_atomic s builtins.Str refl
 
 answer_is_normal : (s : SchemaSet) (function : Function) → GivesNormalType s (answer_rule (called_type function))
 answer_is_normal s functions.Data = tt
@@ -128,16 +172,30 @@ answer_is_normal s functions.Position = tt
 answer_is_normal s functions.Last = tt
 answer_is_normal s functions.Count = integer_is_atomic s
 answer_is_normal s functions.String = nameable_is_atomic s builtins.Str refl
+answer_is_normal s (functions.OfTexts function) = answer_of_texts s function
 answer_is_normal s _ = boolean_is_atomic s
 
-if_taken : (s : SchemaSet) (takes : Bool) (given refused : Ruling) → GivesNormalType s given → GivesNormalType s refused → GivesNormalType s (if takes then given else refused)
-if_taken s true given refused n m = n
-if_taken s false given refused n m = m
+chosen_is_normal : (s : SchemaSet) (takes : Bool) (given refused : Ruling) → GivesNormalType s given → GivesNormalType s refused → GivesNormalType s (if takes then given else refused)
+chosen_is_normal s true given refused n m = n
+chosen_is_normal s false given refused n m = m
+
+-- the type of an argument as its parameter sees it
+pub seen_is_normal : (s : SchemaSet) (takes : ParameterType) (argument : SequenceType) → IsSchemaSet s → IsNormalType s argument → GivesNormalType s (seen_argument s takes argument)
+seen_is_normal s parameters.OptionalText argument is n = atomized_is_normal s argument is n
+seen_is_normal s parameters.OneText argument is n = atomized_is_normal s argument is n
+seen_is_normal s parameters.Texts argument is n = atomized_is_normal s argument is n
+seen_is_normal s parameters.OptionalValue argument is n = atomized_is_normal s argument is n
+seen_is_normal s _ argument is n = n
+
+taken_is_normal : (s : SchemaSet) (takes : SequenceType → Bool) (code : Code) (number : ℕ) (next seen : Ruling) → GivesNormalType s next → GivesNormalType s (if_taken takes code number next seen)
+taken_is_normal s takes code number next (has_type t) n = chosen_is_normal s (takes t) next (has_none code (Some number)) n tt
+taken_is_normal s takes code number next (has_none other part) n = tt
 
 arguments_are_normal : (s : SchemaSet) (parameters : List Parameter) (arguments : List SequenceType) (number : ℕ) (ruling : Ruling) → GivesNormalType s ruling → GivesNormalType s (arguments_rule s parameters arguments number ruling)
 arguments_are_normal s [] [] number ruling n = n
 arguments_are_normal s (parameter ∷ others) (argument ∷ arguments) number ruling n =
-    if_taken s (takes_argument s parameter.takes argument) (arguments_rule s others arguments (number + 1) ruling) (has_none parameter.code (Some number)) (arguments_are_normal s others arguments (number + 1) ruling n) tt
+    taken_is_normal s (takes_argument s parameter.takes) parameter.code number (arguments_rule s others arguments (number + 1) ruling) (seen_argument s parameter.takes argument)
+    (arguments_are_normal s others arguments (number + 1) ruling n)
 arguments_are_normal s _ _ number ruling n = tt
 
 call_is_normal : (s : SchemaSet) (function : Function) (arguments : List SequenceType) → GivesNormalType s (call_rule s function arguments)
@@ -152,14 +210,14 @@ returned_is_normal s [] tuples (body ∷ []) n = times_is_normal s body tuples n
 returned_is_normal s [] tuples (t ∷ u ∷ types) n = tt
 returned_is_normal s (order ∷ orders) tuples [] n = tt
 returned_is_normal s (order ∷ orders) tuples (key ∷ types) n =
-    if_taken s (allows_key s key) (returned_rule (allows_key s) orders tuples types) (has_none XPTY0004 None) (returned_is_normal s orders tuples types n.1) tt
+    chosen_is_normal s (allows_key s key) (returned_rule (allows_key s) orders tuples types) (has_none XPTY0004 None) (returned_is_normal s orders tuples types n.1) tt
 
 clauses_are_normal : (s : SchemaSet) (clauses : List ClauseKind) (orders : List KeyOrder) (tuples : Occurs) (number : ℕ) (types : List SequenceType) → HoldsOfEach (IsNormalType s) types
     → GivesNormalType s (clauses_rule (allows_clause s) clauses number (returned_rule (allows_key s) orders tuples) types)
 clauses_are_normal s [] orders tuples number types n = returned_is_normal s orders tuples types n
 clauses_are_normal s (kind ∷ clauses) orders tuples number [] n = tt
 clauses_are_normal s (kind ∷ clauses) orders tuples number (t ∷ types) n =
-    if_taken s (allows_clause s kind t) (clauses_rule (allows_clause s) clauses (number + 1) (returned_rule (allows_key s) orders tuples) types) (has_none XPTY0004 (Some number))
+    chosen_is_normal s (allows_clause s kind t) (clauses_rule (allows_clause s) clauses (number + 1) (returned_rule (allows_key s) orders tuples) types) (has_none XPTY0004 (Some number))
     (clauses_are_normal s clauses orders tuples (number + 1) types n.1) tt
 
 -- ---- operators
@@ -197,7 +255,9 @@ rules_give_normal_types s (operators.Cast kind false) (operand ∷ []) is c n =
     type_if_normal s (is_at_least_one operand && is_at_most_one operand && all_items is_atomic operand) (times_of (item (items.Atom kind)) (occurrence_of operand)) (times_is_normal s (item (items.Atom kind)) (occurrence_of operand) c)
 rules_give_normal_types s (operators.Castable kind allows_empty) (operand ∷ []) is c n =
     type_if_normal s (is_at_most_one operand && all_items is_atomic operand) (atomic Boolean) (boolean_is_atomic s)
+rules_give_normal_types s (operators.Treat kind) (operand ∷ []) is c n = c
 rules_give_normal_types s (operators.Call function) arguments is c n = call_is_normal s function arguments
+rules_give_normal_types s (operators.Construct constructor count) parts is c n = constructor_is_normal s constructor parts
 rules_give_normal_types s operators.Neg (operand ∷ []) is c n =
     type_if_normal s (is_optional_in s Decimal operand) (times_of (atomic (integer_if (is_all_in s Integer operand))) (occurrence_of operand))
     (times_is_normal s (atomic (integer_if (is_all_in s Integer operand))) (occurrence_of operand) (whole_is_atomic s (is_all_in s Integer operand)))

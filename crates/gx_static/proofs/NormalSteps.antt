@@ -228,7 +228,7 @@ behind_are_normal s test t is =
     let n = tested_in_place s test (over_derived s (attributes_of_type s) t) (over_derived_is_known s (attributes_of_type s) t (λ u. attributes_are_known s u is)) in
     one_or_more s (has_one_name test) made (factored made) n (factored_is_normal s made n)
 
-untyped_is_simple : (s : SchemaSet) → DerivesFrom s (names.Builtin UntypedAtomic) (names.Builtin AnySimple)
+pub untyped_is_simple : (s : SchemaSet) → DerivesFrom s (names.Builtin UntypedAtomic) (names.Builtin AnySimple)
 untyped_is_simple s = (2, (names.Builtin AnyAtomic, refl, (names.Builtin AnySimple, refl, refl)))
 
 attribute_content_is_normal : (s : SchemaSet) (test : KindTest) (t : TypeName) → IsSchemaSet s → IsNormalType s (attribute_content s test t)

@@ -1,15 +1,18 @@
 -- Where each variable stands in the scope of its binder, no variable is rejected.
-use Rattle.std.proofs.Common.{◌≡◌, ◌≢◌, ℕ, zero, suc, ◌+◌, Bool, true, false, ◌||◌, ◌&&◌, List, [], ◌∷◌, ◌++◌, map, Option, Some, None, refl, sym, ◌∙◌, ap, subst, nat_eq, if◌then◌else◌}
+use Rattle.std.proofs.Common.{◌≡◌, ◌≢◌, ℕ, zero, suc, ◌+◌, replicate, Bool, true, false, ◌||◌, ◌&&◌, List, [], ◌∷◌, ◌++◌, map, Option, Some, None, refl, sym, ◌∙◌, ap, subst, nat_eq, if◌then◌else◌}
 use Rattle.std.specs.Prelude.{not}
 use Rattle.gx_core.specs.declared.cases.TypeCase.{TypeCase}
 use Rattle.gx_base.specs.declared.place.Place.{Place}
 use Rattle.gx_base.specs.declared.code.Code.{Code}
-use Rattle.gx_base.specs.declared.code.Code.TheVariants.{XPST0005, XPST0008, XPTY0004, XPTY0018, XPTY0019, XPTY0020, XPDY0002, FOTY0012}
+use Rattle.gx_base.specs.declared.code.Code.TheVariants.{XPST0005, XPST0008, XPTY0004, XPTY0018, XPTY0019, XPTY0020, XPDY0002, XQTY0024, FOTY0012}
 use Rattle.gx_base.specs.declared.type_name.Builtin.{Builtin}
+use Rattle.gx_types.specs.declared.item_type.ItemType.TheVariants as items
+use Rattle.gx_base.specs.declared.type_name.Builtin.TheVariants.{UntypedAtomic}
+use Rattle.gx_base.specs.declared.type_name.TypeName.TheVariants as names
 use Rattle.gx_types.specs.SchemaSet.{SchemaSet}
 use Rattle.gx_types.specs.declared.step.Axis.{Axis}
 use Rattle.gx_types.specs.declared.step.Test.{Test}
-use Rattle.gx_types.specs.SequenceType.{SequenceType, never, nothing}
+use Rattle.gx_types.specs.SequenceType.{SequenceType, never, nothing, item}
 use Rattle.gx_types.specs.SameType.{same_type}
 use Rattle.gx_types.specs.Occurrence.{occurrence_of}
 use Rattle.gx_types.specs.Prime.{prime_of}
@@ -20,7 +23,11 @@ use Rattle.gx_steptype.specs.DataType.{has_data, type_of_data}
 use Rattle.gx_funcs.specs.declared.function.Function.{Function}
 use Rattle.gx_funcs.specs.declared.function.Function.TheVariants as functions
 use Rattle.gx_funcs.specs.declared.function.Parameter.{Parameter}
-use Rattle.gx_funcs.specs.Function.{parameters_of}
+use Rattle.gx_funcs.specs.declared.function.ParameterType.{ParameterType}
+use Rattle.gx_funcs.specs.declared.function.ParameterType.TheVariants as parameters
+use Rattle.gx_funcs.specs.declared.text_function.TextFunction.{TextFunction}
+use Rattle.gx_funcs.specs.declared.text_function.TextFunction.TheVariants as texts
+use Rattle.gx_funcs.specs.Function.{parameters_of, text_parameters_of, value_at_most}
 use Rattle.gx_core.specs.declared.expression.BinaryClass.{BinaryClass}
 use Rattle.gx_core.specs.declared.expression.BinaryClass.TheVariants as classes
 use Rattle.gx_core.specs.BinaryOperators.{class_of}
@@ -29,11 +36,13 @@ use Rattle.gx_sorting.specs.declared.keys.KeyOrder.{KeyOrder}
 use Rattle.gx_core.specs.declared.operator.ClauseKind.{ClauseKind}
 use Rattle.gx_core.specs.declared.operator.ClauseKind.TheVariants as kinds
 use Rattle.gx_core.specs.declared.operator.Operator.{Operator}
+use Rattle.gx_core.specs.declared.constructor.Constructor.{Constructor}
+use Rattle.gx_core.specs.declared.constructor.Constructor.TheVariants as constructors
 use Rattle.gx_core.specs.declared.operator.Operator.TheVariants as operators
 use Rattle.gx_core.specs.Expression.{CoreExpression, At, Parts, no_parts, a_part, each_of, annotation_of}
 use Rattle.gx_core.specs.Bindings.{look_up, Types, types_bound, numbers_bound_by, branch_numbers, branch_types, position_bound, position_numbers, clause_types_bound, clause_numbers_bound, block_types_bound, block_numbers_bound}
 use Rattle.gx_core.specs.Invariant.{is_among, IsInScope, IsScoped, ArePartsScoped}
-use Rattle.gx_static.specs.Rule.{called_type, has_type, has_none, all_items, is_atomic, nodes_type, step_rule, reaching, step_ruling, order_rule, data_rule, binary_rule, takes_argument, arguments_rule, answer_rule, call_rule, ruling, variable_ruling, allows_clause, allows_key, tuples_occur, returned_rule, clauses_rule}
+use Rattle.gx_static.specs.Rule.{Ruling, if_atomized, if_all_atomized, constructor_rule, called_type, has_type, has_none, all_items, is_atomic, nodes_type, step_rule, reaching, step_ruling, order_rule, data_rule, binary_rule, takes_argument, arguments_rule, answer_rule, call_rule, ruling, variable_ruling, allows_clause, allows_key, tuples_occur, returned_rule, clauses_rule, if_taken, seen_argument, constructed_text}
 use Rattle.gx_static.specs.Judgement.{typed, with_typed, concluded, judged, parts_judged}
 use Rattle.gx_static.specs.Laws.{ScopedVariablesHaveTypes}
 use Rattle.gx_static.proofs.Failing.{IfRejected, made_fails, own_fails}
@@ -77,16 +86,49 @@ abbrev HaveOtherCodes : List Parameter → Type 0
 HaveOtherCodes [] = Unit {0}
 HaveOtherCodes (p ∷ ps) = (p.code ≢ XPST0008) × HaveOtherCodes ps
 
+values_code : (count : ℕ) → HaveOtherCodes (replicate count value_at_most)
+values_code zero = tt
+values_code (suc count) = (λ e. cc, values_code count)
+
+text_parameters_code : (function : TextFunction) → HaveOtherCodes (text_parameters_of function)
+text_parameters_code texts.StringLength = (λ e. cc, tt)
+text_parameters_code texts.NormalizeSpace = (λ e. cc, tt)
+text_parameters_code (texts.Concat count) = values_code count
+text_parameters_code texts.Translate = (λ e. cc, (λ e. cc, (λ e. cc, tt)))
+text_parameters_code _ = (λ e. cc, (λ e. cc, tt))
+
 parameters_code : (function : Function) → HaveOtherCodes (parameters_of function)
 parameters_code functions.True = tt
 parameters_code functions.False = tt
 parameters_code functions.Position = tt
 parameters_code functions.Last = tt
+parameters_code (functions.OfTexts function) = text_parameters_code function
 parameters_code _ = (λ e. cc, tt)
 
 answer_code : (found : Option Builtin) (code : Code) (part : Option ℕ) → answer_rule found ≡ has_none code part → code ≢ XPST0008
 answer_code None code part e = other_code code part e
 answer_code (Some b) code part e = absurd (cc)
+
+data_code : (s : SchemaSet) (t : SequenceType) (code : Code) (part : Option ℕ) → data_rule s t ≡ has_none code part → code ≢ XPST0008
+unfolding data_rule
+data_code s t code part e = tested_code (has_data s t) (type_of_data s t) FOTY0012 code part (λ x. cc) e
+
+seen_code : (s : SchemaSet) (takes : ParameterType) (t : SequenceType) (code : Code) (part : Option ℕ) → seen_argument s takes t ≡ has_none code part → code ≢ XPST0008
+seen_code s parameters.OptionalText t code part e = data_code s t code part e
+seen_code s parameters.OneText t code part e = data_code s t code part e
+seen_code s parameters.Texts t code part e = data_code s t code part e
+seen_code s parameters.OptionalValue t code part e = data_code s t code part e
+seen_code s _ t code part e = absurd (cc)
+
+taken_code : (takes : SequenceType → Bool) (own : Code) (number : ℕ) (next seen : Ruling) (code : Code) (part : Option ℕ) → own ≢ XPST0008
+    → ((other : Code) (there : Option ℕ) → seen ≡ has_none other there → other ≢ XPST0008) → (next ≡ has_none code part → code ≢ XPST0008)
+    → if_taken takes own number next seen ≡ has_none code part → code ≢ XPST0008
+taken_code takes own number next (has_type t) code part o h k e =
+    elim (takes t) as (λ (b : Bool). (if b then next else has_none own (Some number)) ≡ has_none code part → code ≢ XPST0008) [
+      | true ↦ λ f. k f
+      | false ↦ λ f. let same : own ≡ code = cc in subst (λ (c : Code). c ≢ XPST0008) same o
+    ] e
+taken_code takes own number next (has_none other there) code part o h k e = let same : other ≡ code = cc in subst (λ (c : Code). c ≢ XPST0008) same (h other there refl)
 
 arguments_code : (s : SchemaSet) (ps : List Parameter) (ts : List SequenceType) (number : ℕ) (found : Option Builtin) (code : Code) (part : Option ℕ) → HaveOtherCodes ps
     → arguments_rule s ps ts number (answer_rule found) ≡ has_none code part → code ≢ XPST0008
@@ -94,10 +136,8 @@ arguments_code s [] [] number found code part h e = answer_code found code part 
 arguments_code s [] (t ∷ ts) number found code part h e = other_code code part e
 arguments_code s (p ∷ ps) [] number found code part h e = other_code code part e
 arguments_code s (p ∷ ps) (t ∷ ts) number found code part h e =
-    elim (takes_argument s p.takes t) as (λ (b : Bool). (if b then arguments_rule s ps ts (number + 1) (answer_rule found) else has_none p.code (Some number)) ≡ has_none code part → code ≢ XPST0008) [
-      | true ↦ λ k. arguments_code s ps ts (number + 1) found code part h.1 k
-      | false ↦ λ k. let same : p.code ≡ code = cc in subst (λ (c : Code). c ≢ XPST0008) same h.0
-    ] e
+    taken_code (takes_argument s p.takes) p.code number (arguments_rule s ps ts (number + 1) (answer_rule found)) (seen_argument s p.takes t) code part h.0 (λ other there k. seen_code s p.takes t other there k)
+    (λ k. arguments_code s ps ts (number + 1) found code part h.1 k) e
 
 call_code : (s : SchemaSet) (function : Function) (ts : List SequenceType) (code : Code) (part : Option ℕ) → call_rule s function ts ≡ has_none code part → code ≢ XPST0008
 unfolding call_rule
@@ -133,9 +173,29 @@ order_code s t code part e =
       | false ↦ λ f. tested_code (all_items is_atomic t) t XPTY0018 code part (λ x. cc) f
     ] e
 
-data_code : (s : SchemaSet) (t : SequenceType) (code : Code) (part : Option ℕ) → data_rule s t ≡ has_none code part → code ≢ XPST0008
-unfolding data_rule
-data_code s t code part e = tested_code (has_data s t) (type_of_data s t) FOTY0012 code part (λ x. cc) e
+-- ---- constructors
+
+atomized_code : (r : Ruling) (number : ℕ) (next : SequenceType → Ruling) (code : Code) (part : Option ℕ) → ((c : Code) (there : Option ℕ) → r ≡ has_none c there → c ≢ XPST0008)
+    → ((t : SequenceType) → next t ≡ has_none code part → code ≢ XPST0008) → if_atomized r number next ≡ has_none code part → code ≢ XPST0008
+atomized_code (has_type t) number next code part h k e = k t e
+atomized_code (has_none given there) number next code part h k e = another_code given code (Some number) part (h given there refl) e
+
+all_atomized_code : (s : SchemaSet) (ts : List SequenceType) (number : ℕ) (t : SequenceType) (code : Code) (part : Option ℕ) → if_all_atomized s ts number (has_type t) ≡ has_none code part → code ≢ XPST0008
+all_atomized_code s [] number t code part e = absurd (cc)
+all_atomized_code s (u ∷ ts) number t code part e =
+    atomized_code (data_rule s u) number (λ v. if_all_atomized s ts (number + 1) (has_type t)) code part (data_code s u)
+    (λ v f. all_atomized_code s ts (number + 1) t code part f) e
+
+constructor_code : (s : SchemaSet) (constructor : Constructor) (ts : List SequenceType) (code : Code) (part : Option ℕ) → constructor_rule s constructor ts ≡ has_none code part → code ≢ XPST0008
+constructor_code s (constructors.Element name) ts code part e = tested_code _ _ XQTY0024 code part (λ x. cc) e
+constructor_code s (constructors.Attribute name) ts code part e = all_atomized_code s ts 0 (item (items.Attribute (Some name) (names.Builtin UntypedAtomic))) code part e
+constructor_code s constructors.Text [] code part e = other_code code part e
+constructor_code s constructors.Text (t ∷ []) code part e =
+    atomized_code (data_rule s t) 0 (λ values. has_type (constructed_text values)) code part (data_code s t) (λ values f. absurd (cc)) e
+constructor_code s constructors.Text (t ∷ u ∷ ts) code part e = other_code code part e
+constructor_code s constructors.Document [] code part e = other_code code part e
+constructor_code s constructors.Document (t ∷ []) code part e = tested_code _ _ XPTY0004 code part (λ x. cc) e
+constructor_code s constructors.Document (t ∷ u ∷ ts) code part e = other_code code part e
 
 -- ---- blocks
 
@@ -201,7 +261,10 @@ ruling_code s (operators.Cast kind allows_empty) (t ∷ []) types code part h e 
 ruling_code s (operators.Cast kind allows_empty) _ types code part h e = other_code code part e
 ruling_code s (operators.Castable kind allows_empty) (t ∷ []) types code part h e = tested_code _ _ XPTY0004 code part (λ x. cc) e
 ruling_code s (operators.Castable kind allows_empty) _ types code part h e = other_code code part e
+ruling_code s (operators.Treat kind) (t ∷ []) types code part h e = absurd (cc)
+ruling_code s (operators.Treat kind) _ types code part h e = other_code code part e
 ruling_code s (operators.Call function) ts types code part h e = call_code s function ts code part e
+ruling_code s (operators.Construct constructor count) ts types code part h e = constructor_code s constructor ts code part e
 ruling_code s operators.Neg (t ∷ []) types code part h e = tested_code _ _ XPTY0004 code part (λ x. cc) e
 ruling_code s operators.Neg _ types code part h e = other_code code part e
 ruling_code s (operators.Binary operator) (t ∷ u ∷ []) types code part h e = binary_code s (class_of operator) t u code part e

@@ -34,7 +34,9 @@ use Rattle.gx_static.proofs.Conditionals.{conditional_keeps}
 use Rattle.gx_static.proofs.Picking.{nth_keeps, final_keeps}
 use Rattle.gx_static.proofs.Switches.{switch_keeps}
 use Rattle.gx_static.proofs.Casts.{cast_keeps, castable_keeps}
+use Rattle.gx_static.proofs.Treating.{treat_keeps}
 use Rattle.gx_static.proofs.Calls.{call_keeps}
+use Rattle.gx_static.proofs.ConstructorTypes.{constructor_keeps}
 
 binary_keeps : (s : SchemaSet) → Grounded (bases_of s) → (operator : BinaryOp) (class : BinaryClass) → class_of operator ≡ class → ActsKeepType s (operators.Binary operator)
 binary_keeps s g operator (classes.Arithmetic operation) e = arithmetic_keeps operation s operator e
@@ -77,8 +79,13 @@ operator_keeps s is (operators.Cast kind allows_empty) =
     strict_keeps s (operators.Cast kind allows_empty) (record { denotes = λ k ps bs f. refl; binds_nothing = λ before. refl; ruled = λ s ps types. refl }) (cast_keeps s kind allows_empty)
 operator_keeps s is (operators.Castable kind allows_empty) =
     strict_keeps s (operators.Castable kind allows_empty) (record { denotes = λ k ps bs f. refl; binds_nothing = λ before. refl; ruled = λ s ps types. refl }) (castable_keeps s kind allows_empty)
+operator_keeps s is (operators.Treat kind) =
+    strict_keeps s (operators.Treat kind) (record { denotes = λ k ps bs f. refl; binds_nothing = λ before. refl; ruled = λ s ps types. refl }) (treat_keeps s kind)
 operator_keeps s is (operators.Call function) =
-    strict_keeps s (operators.Call function) (record { denotes = λ k ps bs f. refl; binds_nothing = λ before. refl; ruled = λ s ps types. refl }) (call_keeps s function is.grounded)
+    strict_keeps s (operators.Call function) (record { denotes = λ k ps bs f. refl; binds_nothing = λ before. refl; ruled = λ s ps types. refl }) (call_keeps s function is)
+operator_keeps s is (operators.Construct constructor count) =
+    strict_keeps s (operators.Construct constructor count) (record { denotes = λ k ps bs f. refl; binds_nothing = λ before. refl; ruled = λ s ps types. refl })
+    (constructor_keeps s constructor count is)
 operator_keeps s is operators.Neg =
     strict_keeps s operators.Neg (record { denotes = λ k ps bs f. refl; binds_nothing = λ before. refl; ruled = λ s ps types. refl }) (negation_keeps s)
 operator_keeps s is (operators.Binary operator) =

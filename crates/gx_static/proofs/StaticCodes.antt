@@ -1,16 +1,19 @@
 -- Typing rejects with the codes of static errors alone.
-use Rattle.std.proofs.Common.{◌≡◌, ℕ, ◌+◌, Bool, true, false, ◌&&◌, List, [], ◌∷◌, ◌++◌, Option, None, Some, refl, subst, if◌then◌else◌}
+use Rattle.std.proofs.Common.{◌≡◌, ℕ, zero, suc, ◌+◌, replicate, Bool, true, false, ◌&&◌, List, [], ◌∷◌, ◌++◌, Option, None, Some, refl, subst, if◌then◌else◌}
 use Rattle.std.specs.Prelude.{not}
 use Rattle.gx_base.specs.declared.name.Name.{Name}
 use Rattle.gx_base.specs.declared.place.Place.{Place}
 use Rattle.gx_base.specs.declared.code.Code.{Code}
-use Rattle.gx_base.specs.declared.code.Code.TheVariants.{XPST0005, XPTY0004, XPTY0018, XPTY0019, XPTY0020, FOTY0012}
+use Rattle.gx_base.specs.declared.code.Code.TheVariants.{XPST0005, XPTY0004, XPTY0018, XPTY0019, XPTY0020, XQTY0024, FOTY0012}
 use Rattle.gx_base.specs.Code.{is_static}
 use Rattle.gx_base.specs.declared.type_name.Builtin.{Builtin}
+use Rattle.gx_types.specs.declared.item_type.ItemType.TheVariants as items
+use Rattle.gx_base.specs.declared.type_name.Builtin.TheVariants.{UntypedAtomic}
+use Rattle.gx_base.specs.declared.type_name.TypeName.TheVariants as names
 use Rattle.gx_types.specs.SchemaSet.{SchemaSet}
 use Rattle.gx_types.specs.declared.step.Axis.{Axis}
 use Rattle.gx_types.specs.declared.step.Test.{Test}
-use Rattle.gx_types.specs.SequenceType.{SequenceType, never, nothing}
+use Rattle.gx_types.specs.SequenceType.{SequenceType, never, nothing, item}
 use Rattle.gx_types.specs.SameType.{same_type}
 use Rattle.gx_types.specs.Occurrence.{occurrence_of}
 use Rattle.gx_types.specs.Prime.{prime_of}
@@ -21,7 +24,11 @@ use Rattle.gx_steptype.specs.DataType.{has_data, type_of_data}
 use Rattle.gx_funcs.specs.declared.function.Function.{Function}
 use Rattle.gx_funcs.specs.declared.function.Function.TheVariants as functions
 use Rattle.gx_funcs.specs.declared.function.Parameter.{Parameter}
-use Rattle.gx_funcs.specs.Function.{parameters_of}
+use Rattle.gx_funcs.specs.declared.function.ParameterType.{ParameterType}
+use Rattle.gx_funcs.specs.declared.function.ParameterType.TheVariants as parameters
+use Rattle.gx_funcs.specs.declared.text_function.TextFunction.{TextFunction}
+use Rattle.gx_funcs.specs.declared.text_function.TextFunction.TheVariants as texts
+use Rattle.gx_funcs.specs.Function.{parameters_of, text_parameters_of, value_at_most}
 use Rattle.gx_core.specs.declared.expression.BinaryClass.{BinaryClass}
 use Rattle.gx_core.specs.declared.expression.BinaryClass.TheVariants as classes
 use Rattle.gx_core.specs.declared.expression.Binder.{Binder}
@@ -31,13 +38,15 @@ use Rattle.gx_types.specs.Occurs.{Occurs}
 use Rattle.gx_sorting.specs.declared.keys.KeyOrder.{KeyOrder}
 use Rattle.gx_core.specs.declared.operator.ClauseKind.{ClauseKind}
 use Rattle.gx_core.specs.declared.operator.Operator.{Operator}
+use Rattle.gx_core.specs.declared.constructor.Constructor.{Constructor}
+use Rattle.gx_core.specs.declared.constructor.Constructor.TheVariants as constructors
 use Rattle.gx_core.specs.declared.operator.Operator.TheVariants as operators
 use Rattle.gx_core.specs.Queries.{Core, CoreDeclaration}
 use Rattle.gx_core.specs.Expression.{CoreExpression, At, Parts, no_parts, a_part, each_of, annotation_of}
 use Rattle.gx_core.specs.Bindings.{look_up, Types, types_bound}
 use Rattle.gx_core.specs.QueryMeaning.{global_types, types_declared}
 use Rattle.gx_core.specs.Soundness.{TypedExpression}
-use Rattle.gx_static.specs.Rule.{called_type, Ruling, has_type, has_none, all_items, is_atomic, is_as_written, nodes_type, step_rule, reaching, step_ruling, order_rule, data_rule, binary_rule, takes_argument, arguments_rule, answer_rule, call_rule, ruling, variable_ruling, allows_clause, allows_key, tuples_occur, returned_rule, clauses_rule}
+use Rattle.gx_static.specs.Rule.{if_atomized, if_all_atomized, constructor_rule, called_type, Ruling, has_type, has_none, all_items, is_atomic, is_as_written, nodes_type, step_rule, reaching, step_ruling, order_rule, data_rule, binary_rule, takes_argument, arguments_rule, answer_rule, call_rule, ruling, variable_ruling, allows_clause, allows_key, tuples_occur, returned_rule, clauses_rule, if_taken, seen_argument, constructed_text}
 use Rattle.gx_static.specs.Judgement.{typed, rejected, with_typed, concluded, judged, parts_judged}
 use Rattle.gx_static.specs.QueryJudgement.{declared_as, declaration_judged, declarations_judged, core_judged, QueriesAreRejectedWithStaticCodes}
 use Rattle.gx_static.specs.Laws.{ExpressionsAreRejectedWithStaticCodes}
@@ -107,23 +116,47 @@ abbrev HaveStaticCodes : List Parameter → Type 0
 HaveStaticCodes [] = Unit {0}
 HaveStaticCodes (p ∷ ps) = (is_static p.code ≡ true) × HaveStaticCodes ps
 
+values_static : (count : ℕ) → HaveStaticCodes (replicate count value_at_most)
+values_static zero = tt
+values_static (suc count) = (refl, values_static count)
+
+text_parameters_static : (function : TextFunction) → HaveStaticCodes (text_parameters_of function)
+text_parameters_static texts.StringLength = (refl, tt)
+text_parameters_static texts.NormalizeSpace = (refl, tt)
+text_parameters_static (texts.Concat count) = values_static count
+text_parameters_static texts.Translate = (refl, (refl, (refl, tt)))
+text_parameters_static _ = (refl, (refl, tt))
+
 parameters_static : (function : Function) → HaveStaticCodes (parameters_of function)
 parameters_static functions.True = tt
 parameters_static functions.False = tt
 parameters_static functions.Position = tt
 parameters_static functions.Last = tt
+parameters_static (functions.OfTexts function) = text_parameters_static function
 parameters_static _ = (refl, tt)
 
 static_answer : (found : Option Builtin) → RulesStatically (answer_rule found)
 static_answer None = refl
 static_answer (Some b) = tt
 
+static_seen : (s : SchemaSet) (takes : ParameterType) (t : SequenceType) → RulesStatically (seen_argument s takes t)
+static_seen s parameters.OptionalText t = static_data s t
+static_seen s parameters.OneText t = static_data s t
+static_seen s parameters.Texts t = static_data s t
+static_seen s parameters.OptionalValue t = static_data s t
+static_seen s _ t = tt
+
+static_taken : (takes : SequenceType → Bool) (code : Code) (number : ℕ) (next seen : Ruling) → is_static code ≡ true → RulesStatically seen → RulesStatically next
+    → RulesStatically (if_taken takes code number next seen)
+static_taken takes code number next (has_type t) c h k = static_choice (takes t) next (has_none code (Some number)) k c
+static_taken takes code number next (has_none other part) c h k = h
+
 static_arguments : (s : SchemaSet) (ps : List Parameter) (ts : List SequenceType) (number : ℕ) (r : Ruling) → HaveStaticCodes ps → RulesStatically r → RulesStatically (arguments_rule s ps ts number r)
 static_arguments s [] [] number r h k = k
 static_arguments s [] (t ∷ ts) number r h k = refl
 static_arguments s (p ∷ ps) [] number r h k = refl
 static_arguments s (p ∷ ps) (t ∷ ts) number r h k =
-    static_choice (takes_argument s p.takes t) (arguments_rule s ps ts (number + 1) r) (has_none p.code (Some number)) (static_arguments s ps ts (number + 1) r h.1 k) h.0
+    static_taken (takes_argument s p.takes) p.code number (arguments_rule s ps ts (number + 1) r) (seen_argument s p.takes t) h.0 (static_seen s p.takes t) (static_arguments s ps ts (number + 1) r h.1 k)
 
 static_call : (s : SchemaSet) (function : Function) (ts : List SequenceType) → RulesStatically (call_rule s function ts)
 unfolding call_rule
@@ -147,6 +180,24 @@ static_clauses s (kind ∷ clauses) orders tuples number (t ∷ ts) =
     static_choice (allows_clause s kind t) (clauses_rule (allows_clause s) clauses (number + 1) (returned_rule (allows_key s) orders tuples) ts) (has_none XPTY0004 (Some number))
     (static_clauses s clauses orders tuples (number + 1) ts) refl
 
+-- ---- constructors
+
+static_atomized : (r : Ruling) (number : ℕ) (next : SequenceType → Ruling) → RulesStatically r → ((t : SequenceType) → RulesStatically (next t)) → RulesStatically (if_atomized r number next)
+static_atomized (has_type t) number next h k = k t
+static_atomized (has_none code part) number next h k = h
+
+static_all_atomized : (s : SchemaSet) (ts : List SequenceType) (number : ℕ) (r : Ruling) → RulesStatically r → RulesStatically (if_all_atomized s ts number r)
+static_all_atomized s [] number r h = h
+static_all_atomized s (t ∷ ts) number r h =
+    static_atomized (data_rule s t) number (λ u. if_all_atomized s ts (number + 1) r) (static_data s t) (λ u. static_all_atomized s ts (number + 1) r h)
+
+static_constructor : (s : SchemaSet) (constructor : Constructor) (ts : List SequenceType) → RulesStatically (constructor_rule s constructor ts)
+static_constructor s (constructors.Element name) ts = static_test _ _ XQTY0024 refl
+static_constructor s (constructors.Attribute name) ts = static_all_atomized s ts 0 (has_type (item (items.Attribute (Some name) (names.Builtin UntypedAtomic)))) tt
+static_constructor s constructors.Text (t ∷ []) = static_atomized (data_rule s t) 0 (λ values. has_type (constructed_text values)) (static_data s t) (λ values. tt)
+static_constructor s constructors.Document (t ∷ []) = static_test _ _ XPTY0004 refl
+static_constructor s _ ts = refl
+
 -- ---- each operator
 
 static_ruling : (s : SchemaSet) (operator : Operator) (ts : List SequenceType) (types : Types) → RulesStatically (ruling s operator ts types)
@@ -169,7 +220,9 @@ static_ruling s operators.DataOf (t ∷ []) types = static_data s t
 static_ruling s operators.If (t ∷ u ∷ v ∷ []) types = static_test _ _ XPTY0004 refl
 static_ruling s (operators.Cast kind allows_empty) (t ∷ []) types = static_test _ _ XPTY0004 refl
 static_ruling s (operators.Castable kind allows_empty) (t ∷ []) types = static_test _ _ XPTY0004 refl
+static_ruling s (operators.Treat kind) (t ∷ []) types = tt
 static_ruling s (operators.Call function) ts types = static_call s function ts
+static_ruling s (operators.Construct constructor count) ts types = static_constructor s constructor ts
 static_ruling s operators.Neg (t ∷ []) types = static_test _ _ XPTY0004 refl
 static_ruling s (operators.Binary operator) (t ∷ u ∷ []) types = static_binary s (class_of operator) t u
 static_ruling s operators.NoContext [] types = refl

@@ -2,28 +2,25 @@
 use Rattle.std.proofs.Common.{◌≡◌, ◌+◌, ◌==◌, ℕ, zero, suc, Bool, true, false, List, [], ◌∷◌, ◌++◌, length, None, inl, inr, refl, sym, ◌∙◌, ap, subst, append_assoc, arith, if◌then◌else◌}
 use Rattle.std.proofs.lemmas.Bool.{eqb-true}
 use Rattle.std.proofs.lemmas.List.{append-nil}
-use Rattle.gx_facets.specs.declared.Atomic.{Atomic}
 use Rattle.gx_types.specs.SchemaSet.{SchemaSet}
 use Rattle.gx_types.specs.declared.shape.Shape.{Shape}
-use Rattle.gx_types.specs.declared.item_type.ItemType.{ItemType}
-use Rattle.gx_types.specs.declared.item_type.ItemType.TheVariants as items
-use Rattle.gx_types.specs.SequenceType.{SequenceType, item}
+use Rattle.gx_types.specs.SequenceType.{SequenceType}
 use Rattle.gx_types.specs.Choice.{choice_among}
 use Rattle.gx_types.specs.TypeRules.{limited}
 use Rattle.gx_types.specs.Takes.{Takes, SomeTakes}
-use Rattle.gx_types.proofs.DerivationTest.{derives_when_tested}
 use Rattle.gx_types.proofs.PublicLaws.{choice_takes_some, limited_takes_type}
 use Rattle.gx_model.specs.Forest.{Forest}
 use Rattle.gx_model.specs.Honest.{IsHonest}
-use Rattle.gx_model.specs.Item.{atom, Items}
-use Rattle.gx_model.specs.Belongs.{HaveShapes, Belongs, ItemFits}
+use Rattle.gx_model.specs.Item.{Items}
+use Rattle.gx_model.specs.Belongs.{Belongs}
 use Rattle.gx_model.specs.Growth.{Extends}
 use Rattle.gx_core.specs.declared.cases.TypeCase.{TypeCase}
 use Rattle.gx_core.specs.declared.expression.Binder.{Binder}
 use Rattle.gx_core.specs.declared.operator.Operator.TheVariants as operators
 use Rattle.gx_core.specs.Expression.{Parts, no_parts, a_part, each_of, annotation_of}
 use Rattle.gx_core.specs.Bindings.{Types, position_bound, branch_types}
-use Rattle.gx_core.specs.Instances.{is_instance, is_item_instance}
+use Rattle.gx_core.specs.Instances.{is_instance}
+use Rattle.gx_core.proofs.InstanceLemmas.{instances_belong}
 use Rattle.gx_core.specs.Outcome.{Outcome, after}
 use Rattle.gx_core.specs.Meaning.{Bindings, switched, meaning, meanings}
 use Rattle.gx_core.specs.Soundness.{Setting, TypedExpression, typed_setting, context_of, IsOfType, Keeps, Situation, KeepsItsType, Fits}
@@ -31,24 +28,11 @@ use Rattle.gx_core.proofs.KeptFacts.{fact_after, binding_fits, bindings_fit_stil
 use Rattle.gx_static.specs.Laws.{PartsKeepTypes, SwitchKeepsType}
 use Rattle.gx_static.proofs.Conditionals.{widened}
 use Rattle.gx_static.proofs.Keeping.{type_so}
-use Rattle.gx_static.proofs.Singles.{one_atom_belongs}
 
--- ---- a value that is of the type of a case belongs to it
+-- ---- an instance of the type of a case belongs to it
 
-first_fits : (s : SchemaSet) (forest : Forest) (t : SequenceType) (a : Atomic) (xs : Items) → Belongs s forest (atom a ∷ xs) t → ItemFits s (atom a)
-first_fits s forest t a xs b = by b.seen b.shaped
-  where
-    by : (seen : List Shape) → HaveShapes s forest (atom a ∷ xs) seen → ItemFits s (atom a)
-    by [] h = absurd h
-    by (shape ∷ shapes) h = h.1
-
-item_instance_belongs : (s : SchemaSet) (forest : Forest) (kind : ItemType) (u : SequenceType) (xs : Items) → is_item_instance s kind xs ≡ true → Belongs s forest xs u → Belongs s forest xs (item kind)
-item_instance_belongs s forest (items.Atom kind) u (atom a ∷ []) e b = one_atom_belongs s forest kind a (first_fits s forest u a [] b) (derives_when_tested s a.kind kind e)
-item_instance_belongs s forest _ u _ e b = absurd (cc)
-
-instance_belongs : (s : SchemaSet) (forest : Forest) (t u : SequenceType) (xs : Items) → is_instance s t xs ≡ true → Belongs s forest xs u → Belongs s forest xs t
-instance_belongs s forest (item kind) u xs e b = item_instance_belongs s forest kind u xs e b
-instance_belongs s forest _ u xs e b = absurd (cc)
+pub instance_belongs : (s : SchemaSet) (forest : Forest) (t u : SequenceType) (xs : Items) → is_instance s forest t xs ≡ true → Belongs s forest xs u → Belongs s forest xs t
+instance_belongs s forest t u xs e b = instances_belong s forest t xs b.seen b.shaped e
 
 -- ---- the variable of a branch
 
@@ -104,7 +88,7 @@ module _ (s : SchemaSet) (all : List TypeCase) (default : ℕ) (operand u : Sequ
       one_branch s e default operand u types
       (subst (λ (bound : Types). KeepsItsType (typed_setting s) e (bound ++ types)) (next_is all [] default operand done g) h.0) w.0 situation xs now grown honest b
   branches_keep (c ∷ left) (a_part e others) done g n w h =
-      either_branch (is_instance s c.kind xs) (meaning (context_of (typed_setting s)) e (position_bound c.variable xs ++ situation.bindings) now)
+      either_branch (is_instance s now c.kind xs) (meaning (context_of (typed_setting s)) e (position_bound c.variable xs ++ situation.bindings) now)
       (switched s left default (meanings (context_of (typed_setting s)) others) xs situation.bindings now)
       (λ i. one_branch s e c.variable c.kind u types (subst (λ (bound : Types). KeepsItsType (typed_setting s) e (bound ++ types)) (next_is all (c ∷ left) default operand done g) h.0) w.0
       situation xs now grown honest (instance_belongs s now c.kind operand xs i b))

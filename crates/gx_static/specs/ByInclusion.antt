@@ -39,7 +39,7 @@ use Rattle.gx_core.specs.QueryMeaning.{global_types, types_declared}
 use Rattle.gx_core.specs.Soundness.{TypedExpression}
 use Rattle.gx_static.specs.declared.comparison.Family.{Family}
 use Rattle.gx_static.specs.declared.comparison.Family.TheVariants as families
-use Rattle.gx_static.specs.Rule.{Ruling, has_type, has_none, type_if, atomic, all_items, integer_if, both_occur, value_comparison_type, boolean_types, nodes_type, answer_rule, called_type, rule, ruling, is_as_written, node_comparison_rule, set_rule, tuples_occur, returned_rule, clauses_rule}
+use Rattle.gx_static.specs.Rule.{Ruling, has_type, has_none, type_if, atomic, all_items, integer_if, both_occur, value_comparison_type, boolean_types, nodes_type, answer_rule, called_type, seen_argument, if_taken, rule, ruling, is_as_written, node_comparison_rule, set_rule, tuples_occur, returned_rule, clauses_rule}
 use Rattle.gx_static.specs.Demands.{family_type}
 use Rattle.gx_static.specs.Judgement.{typed, judged, parts_judged}
 use Rattle.gx_static.specs.NormalTypes.{IsNormalType, CastsToAtomicTypes}
@@ -155,11 +155,16 @@ abbrev pub parameter_type : ParameterType → SequenceType
 parameter_type parameters.Items = star any_item
 parameter_type parameters.OptionalItem = optional any_item
 parameter_type parameters.TruthValue = boolean_types
+parameter_type parameters.OptionalText = optional (family_type families.Text)
+parameter_type parameters.OneText = family_type families.Text
+parameter_type parameters.Texts = star (family_type families.Text)
+parameter_type parameters.OptionalValue = optional (atomic AnyAtomic)
 
 abbrev pub arguments_included : SchemaSet → List Parameter → List SequenceType → (number : ℕ) → Ruling → Ruling
 arguments_included schemas [] [] number ruling = ruling
 arguments_included schemas (parameter ∷ others) (argument ∷ arguments) number ruling =
-    if is_included schemas argument (parameter_type parameter.takes) then arguments_included schemas others arguments (number + 1) ruling else has_none parameter.code (Some number)
+    if_taken (λ t. is_included schemas t (parameter_type parameter.takes)) parameter.code number (arguments_included schemas others arguments (number + 1) ruling)
+    (seen_argument schemas parameter.takes argument)
 arguments_included schemas _ _ number ruling = has_none XPTY0004 None
 
 abbrev pub call_included : SchemaSet → Function → List SequenceType → Ruling

@@ -28,6 +28,7 @@ use Rattle.gx_core.specs.declared.expression.NodeComparison.{NodeComparison}
 use Rattle.gx_core.specs.declared.expression.NodeCombination.{NodeCombination}
 use Rattle.gx_core.specs.BinaryOperators.{class_of}
 use Rattle.gx_sorting.specs.declared.keys.KeyOrder.{KeyOrder}
+use Rattle.gx_core.specs.declared.constructor.Constructor.{Constructor}
 use Rattle.gx_core.specs.declared.operator.ClauseKind.{ClauseKind}
 use Rattle.gx_core.specs.declared.operator.Operator.{Operator}
 use Rattle.gx_core.specs.declared.operator.Operator.TheVariants as operators
@@ -151,8 +152,14 @@ CastKeepsType = (schemas : SchemaSet) (kind : TypeName) (allows_empty : Bool) �
 abbrev pub CastableKeepsType : Type 0
 CastableKeepsType = (schemas : SchemaSet) (kind : TypeName) (allows_empty : Bool) → ActsKeepType schemas (operators.Castable kind allows_empty)
 
+abbrev pub TreatKeepsType : Type 0
+TreatKeepsType = (schemas : SchemaSet) (kind : SequenceType) → ActsKeepType schemas (operators.Treat kind)
+
 abbrev pub CallKeepsType : Type 0
-CallKeepsType = (schemas : SchemaSet) (function : Function) → Grounded (bases_of schemas) → ActsKeepType schemas (operators.Call function)
+CallKeepsType = (schemas : SchemaSet) (function : Function) → IsSchemaSet schemas → ActsKeepType schemas (operators.Call function)
+
+abbrev pub ConstructorKeepsType : Type 0
+ConstructorKeepsType = (schemas : SchemaSet) (constructor : Constructor) (count : ℕ) → IsSchemaSet schemas → ActsKeepType schemas (operators.Construct constructor count)
 
 -- what is judged to have a type is the same tree with its types, and it is sound
 pub record IsTypedSoundly (schemas : SchemaSet) (e : CoreExpression) (types : Types) (t : TypedExpression) : Type 0 where

@@ -1,10 +1,11 @@
 -- The static rules: the type that an operator has, from the types of its parts (XQuery 1.0 and XPath 2.0 Formal Semantics, section 4).
 use Rattle.std.specs.Prelude.{ℕ, zero, suc, ◌+◌, ℤ, pos, min, nat_le, ◌==◌, Bool, true, false, ◌&&◌, ◌||◌, not, List, [], ◌∷◌, length, Option, None, Some, if◌then◌else◌, ◌*◌}
 use Rattle.gx_base.specs.declared.code.Code.{Code}
-use Rattle.gx_base.specs.declared.code.Code.TheVariants.{XPTY0004, XPST0005, XPST0008, XPTY0018, XPTY0019, XPTY0020, XPDY0002, FOTY0012}
+use Rattle.gx_base.specs.declared.code.Code.TheVariants.{XPTY0004, XPST0005, XPST0008, XPTY0018, XPTY0019, XPTY0020, XPDY0002, XQTY0024, FOTY0012}
 use Rattle.gx_base.specs.declared.type_name.Builtin.{Builtin}
 use Rattle.gx_base.specs.declared.type_name.Builtin.TheVariants.{Integer, Decimal, UntypedAtomic, Boolean}
 use Rattle.gx_base.specs.declared.type_name.Builtin.TheVariants as builtins
+use Rattle.gx_base.specs.declared.name.Name.{Name}
 use Rattle.gx_base.specs.declared.type_name.TypeName.{TypeName}
 use Rattle.gx_base.specs.declared.type_name.TypeName.TheVariants as names
 use Rattle.gx_facets.specs.declared.Atomic.{Atomic}
@@ -20,11 +21,11 @@ use Rattle.gx_types.specs.SameType.{same_type}
 use Rattle.gx_types.specs.Occurs.{Occurs}
 use Rattle.gx_types.specs.Occurrence.{occurrence_of, occurs}
 use Rattle.gx_types.specs.Choice.{choice_among}
-use Rattle.gx_types.specs.TypeRules.{sequence_of, choice_of, times_of, limited}
+use Rattle.gx_types.specs.TypeRules.{sequence_of, choice_of, times_of, limited, joined_types}
 use Rattle.gx_types.specs.Prime.{prime_of}
 use Rattle.gx_types.specs.declared.step.Axis.{Axis}
 use Rattle.gx_types.specs.declared.step.Test.{Test}
-use Rattle.gx_steptype.specs.StepType.{node_type, any_item, step_type}
+use Rattle.gx_steptype.specs.StepType.{any_element, any_attribute, any_document, text_item, node_type, any_item, step_type}
 use Rattle.gx_steptype.specs.DataType.{has_data, type_of_data}
 use Rattle.gx_funcs.specs.declared.function.Function.{Function}
 use Rattle.gx_funcs.specs.declared.function.Function.TheVariants as functions
@@ -41,6 +42,8 @@ use Rattle.gx_core.specs.declared.expression.NodeCombination.{NodeCombination}
 use Rattle.gx_core.specs.declared.expression.NodeCombination.TheVariants as combinations
 use Rattle.gx_core.specs.declared.cases.TypeCase.{TypeCase}
 use Rattle.gx_sorting.specs.declared.keys.KeyOrder.{KeyOrder}
+use Rattle.gx_core.specs.declared.constructor.Constructor.{Constructor}
+use Rattle.gx_core.specs.declared.constructor.Constructor.TheVariants as constructors
 use Rattle.gx_core.specs.declared.operator.ClauseKind.{ClauseKind}
 use Rattle.gx_core.specs.declared.operator.ClauseKind.TheVariants as kinds
 use Rattle.gx_core.specs.declared.operator.Operator.{Operator}
@@ -310,17 +313,43 @@ abbrev pub has_effective_boolean : SchemaSet → ItemType → Bool
 has_effective_boolean schemas kind =
     is_of_family schemas families.Truth kind || is_of_family schemas families.Text kind || is_of_family schemas families.Number kind
 
--- a parameter takes the values of a type
+-- a parameter of atomic values takes the typed values of its argument (XQuery 1.0, section 3.1.5)
+abbrev pub atomizes : ParameterType → Bool
+atomizes parameters.OptionalText = true
+atomizes parameters.OneText = true
+atomizes parameters.Texts = true
+atomizes parameters.OptionalValue = true
+atomizes takes = false
+
+-- the type of an argument as its parameter sees it
+abbrev pub seen_argument : SchemaSet → ParameterType → SequenceType → Ruling
+seen_argument schemas takes argument = if atomizes takes then data_rule schemas argument else has_type argument
+
+-- a parameter takes the values of a type; an untyped value is a string
 abbrev pub takes_argument : SchemaSet → ParameterType → SequenceType → Bool
 takes_argument schemas parameters.Items argument = true
 takes_argument schemas parameters.OptionalItem argument = is_at_most_one argument
 takes_argument schemas parameters.TruthValue argument = is_included schemas argument boolean_types
+takes_argument schemas parameters.OptionalText argument = is_at_most_one argument && all_items (is_of_family schemas families.Text) argument
+takes_argument schemas parameters.OneText argument =
+    is_at_least_one argument && is_at_most_one argument && all_items (is_of_family schemas families.Text) argument
+takes_argument schemas parameters.Texts argument = all_items (is_of_family schemas families.Text) argument
+takes_argument schemas parameters.OptionalValue argument = is_at_most_one argument && all_items is_atomic argument
 
--- each argument, numbered from this number on, is of the type of its parameter; the first of another type has the code of its parameter
+-- what follows an argument that its parameter takes; the codes of the others stand at them
+abbrev pub if_taken : (takes : SequenceType → Bool) → Code → (number : ℕ) → (next : Ruling) → (argument : Ruling) → Ruling
+if_taken takes code number next (has_type t) = if takes t then next else has_none code (Some number)
+if_taken takes code number next (has_none other part) = has_none other (Some number)
+
+abbrev pub argument_ruling : SchemaSet → Parameter → (number : ℕ) → (next : Ruling) → (argument : SequenceType) → Ruling
+argument_ruling schemas parameter number next argument =
+    if_taken (takes_argument schemas parameter.takes) parameter.code number next (seen_argument schemas parameter.takes argument)
+
+-- each argument, numbered from this number on, is of the type of its parameter
 abbrev pub arguments_rule : SchemaSet → List Parameter → List SequenceType → (number : ℕ) → Ruling → Ruling
 arguments_rule schemas [] [] number ruling = ruling
 arguments_rule schemas (parameter ∷ others) (argument ∷ arguments) number ruling =
-    if takes_argument schemas parameter.takes argument then arguments_rule schemas others arguments (number + 1) ruling else has_none parameter.code (Some number)
+    argument_ruling schemas parameter number (arguments_rule schemas others arguments (number + 1) ruling) argument
 arguments_rule schemas _ _ number ruling = has_none XPTY0004 None
 
 -- the type of what a call gives; Core calls neither `data` nor a function that looks at the context
@@ -382,6 +411,65 @@ clauses_rule allows (kind ∷ kinds) number next (t ∷ types) = if allows kind 
 abbrev pub block_rule : SchemaSet → List ClauseKind → List KeyOrder → List SequenceType → Ruling
 block_rule schemas kinds orders types = clauses_rule (allows_clause schemas) kinds 0 (returned_rule (allows_key schemas) orders (tuples_occur kinds types)) types
 
+-- ---- constructors
+
+-- any number of elements, texts, documents and atomic values
+abbrev pub any_document_content_type : SequenceType
+any_document_content_type = star (choice_among (any_element ∷ text_item ∷ any_document ∷ atomic builtins.AnyAtomic ∷ []))
+
+-- any number of attributes, and then of these
+abbrev pub element_content : SequenceType
+element_content = both (star (item any_attribute)) any_document_content_type
+
+-- one type behind another, however long the sequence is
+abbrev pub joined_in_order : List SequenceType → SequenceType
+joined_in_order [] = nothing
+joined_in_order (t ∷ types) = joined_types t (joined_in_order types)
+
+-- an element without types, of this name
+abbrev pub constructed_element : Name → SequenceType
+constructed_element name = item (items.Element (Some name) (names.Builtin builtins.Untyped))
+
+abbrev pub element_rule : SchemaSet → Name → (parts : List SequenceType) → Ruling
+element_rule schemas name parts =
+    if is_included schemas (joined_in_order parts) element_content then has_type (constructed_element name) else has_none XQTY0024 None
+
+-- an operand that is to be atomized; where that has no type, the code stands at the part with this number
+abbrev pub if_atomized : Ruling → (number : ℕ) → (SequenceType → Ruling) → Ruling
+if_atomized (has_type t) number next = next t
+if_atomized (has_none code part) number next = has_none code (Some number)
+
+-- each part is atomized; they are numbered from this number on
+abbrev pub if_all_atomized : SchemaSet → (parts : List SequenceType) → (number : ℕ) → Ruling → Ruling
+if_all_atomized schemas [] number ruling = ruling
+if_all_atomized schemas (part ∷ parts) number ruling =
+    if_atomized (data_rule schemas part) number (λ t. if_all_atomized schemas parts (number + 1) ruling)
+
+abbrev pub attribute_rule : SchemaSet → Name → (parts : List SequenceType) → Ruling
+attribute_rule schemas name parts = if_all_atomized schemas parts 0 (has_type (item (items.Attribute (Some name) (names.Builtin UntypedAtomic))))
+
+-- a text, which may be missing where there may be no value
+abbrev pub constructed_text : (values : SequenceType) → SequenceType
+constructed_text values = if is_at_least_one values then text_item else optional text_item
+
+abbrev pub text_rule : SchemaSet → (content : SequenceType) → Ruling
+text_rule schemas content = if_atomized (data_rule schemas content) 0 (λ values. has_type (constructed_text values))
+
+-- the one element without types that content of one element becomes
+abbrev pub only_element_of : (content : SequenceType) → Option (Option Name × TypeName)
+only_element_of (item (items.Element (Some name) kind)) = Some (Some name, names.Builtin builtins.Untyped)
+only_element_of _ = None
+
+abbrev pub document_rule : SchemaSet → (content : SequenceType) → Ruling
+document_rule schemas content = type_if (is_included schemas content any_document_content_type) (item (items.Document (only_element_of content)))
+
+abbrev pub constructor_rule : SchemaSet → Constructor → (parts : List SequenceType) → Ruling
+constructor_rule schemas (constructors.Element name) parts = element_rule schemas name parts
+constructor_rule schemas (constructors.Attribute name) parts = attribute_rule schemas name parts
+constructor_rule schemas constructors.Text (content ∷ []) = text_rule schemas content
+constructor_rule schemas constructors.Document (content ∷ []) = document_rule schemas content
+constructor_rule schemas _ parts = has_none XPTY0004 None
+
 -- how many parts an operator has
 abbrev pub arity : Operator → ℕ
 arity (operators.Lit value) = 0
@@ -396,6 +484,7 @@ arity (operators.Block clauses keys) = length clauses + length keys + 1
 arity operators.If = 3
 arity (operators.Cast kind allows_empty) = 1
 arity (operators.Castable kind allows_empty) = 1
+arity (operators.Treat kind) = 1
 arity (operators.Step axis asks number) = 1
 arity operators.Nodes = 1
 arity operators.Order = 1
@@ -407,6 +496,7 @@ arity operators.NoContext = 0
 arity (operators.Call function) = arity_of function
 arity operators.Neg = 1
 arity (operators.Binary operator) = 2
+arity (operators.Construct constructor count) = count
 
 -- each operator, from the types of its parts; the one part of a variable and of a step is what the variable is bound to
 abbrev pub rule : SchemaSet → Operator → List SequenceType → Ruling
@@ -430,9 +520,11 @@ rule schemas operators.DataOf (operand ∷ []) = data_rule schemas operand
 rule schemas operators.If (condition ∷ chosen ∷ otherwise ∷ []) = conditional_rule schemas condition chosen otherwise
 rule schemas (operators.Cast kind allows_empty) (operand ∷ []) = cast_rule kind allows_empty operand
 rule schemas (operators.Castable kind allows_empty) (operand ∷ []) = castable_rule operand
+rule schemas (operators.Treat kind) (operand ∷ []) = has_type kind
 rule schemas (operators.Call function) arguments = call_rule schemas function arguments
 rule schemas operators.Neg (operand ∷ []) = negation_rule schemas operand
 rule schemas (operators.Binary operator) (left ∷ right ∷ []) = binary_rule schemas (class_of operator) left right
+rule schemas (operators.Construct constructor count) parts = constructor_rule schemas constructor parts
 rule schemas _ _ = has_none XPTY0004 None
 
 -- the rule of a variable, where its number has a type in scope

@@ -1,18 +1,19 @@
 // The static rule of calls of built-in functions.
 
-ghost use Rattle.std.specs.Prelude.{◌≡◌, ◌++◌, [], ◌∷◌, true, IfOk, IfErr, IsTrue, OnOk};
+ghost use Rattle.std.specs.Prelude.{◌≡◌, ◌++◌, [], ◌∷◌, true, IfOk, IfErr, IsTrue, OnOk, Some};
 ghost use Rattle.gx_types.specs.SequenceType.{both, star as any_number};
 ghost use Rattle.gx_include.specs.Decision.{is_included};
 ghost use Rattle.gx_steptype.specs.StepType.{node_type as type_of_node, any_item};
-ghost use Rattle.gx_static.specs.Rule.{has_type, atomic, has_effective_boolean, boolean_types, takes_argument, answer_rule, called_type, call_rule};
+ghost use Rattle.gx_static.specs.Rule.{has_type, atomic, has_effective_boolean, boolean_types, takes_argument, atomizes, seen_argument, argument_ruling, answer_rule, called_type, call_rule, Ruling, has_none};
 ghost use Rattle.gx_static.specs.Refusal.{RefusesType};
 
-use crate::comparison::{Family, is_of_family};
+use crate::comparison::{Family, is_all_of_family, is_of_family};
 use crate::error::RuleError;
-use crate::item_tests::{atomic, is_at_most_one, no_type};
+use crate::item_tests::{atomic, is_all_atomic, is_at_least_one, is_at_most_one, no_type};
+use crate::rules::data_type;
 use gx_base::code::Code;
 use gx_base::type_name::Builtin;
-use gx_funcs::function::{Function, ParameterType};
+use gx_funcs::function::{Function, Parameter, ParameterType};
 use gx_include::decision::is_included;
 use gx_steptype::axis_type::{item_type, node_type};
 use gx_types::item_type::ItemType;
@@ -21,7 +22,7 @@ use gx_types::sequence_type::{Ty, TyNode};
 use gx_types::type_rules::{choose, join, star};
 use std::alloc::{AllocError, Global};
 
-// Whether a parameter takes the values of a type.
+// Whether a parameter takes the values of a type, which are atomized where it does so.
 fn takes_argument(
     alloc: Global,
     schemas: &Schemas,
@@ -34,6 +35,28 @@ fn takes_argument(
         ParameterType::Items => Ok(true),
         ParameterType::OptionalItem => Ok(is_at_most_one(argument)),
         ParameterType::TruthValue => is_boolean_type(alloc, schemas, argument),
+        ParameterType::OptionalText => Ok(
+            is_at_most_one(argument) && is_all_of_family(schemas, Family::Text, argument),
+        ),
+        ParameterType::OneText => Ok(
+            is_at_least_one(argument)
+                && is_at_most_one(argument)
+                && is_all_of_family(schemas, Family::Text, argument),
+        ),
+        ParameterType::Texts => Ok(is_all_of_family(schemas, Family::Text, argument)),
+        ParameterType::OptionalValue => Ok(is_at_most_one(argument) && is_all_atomic(argument)),
+    }
+}
+
+fn atomizes(takes: ParameterType) -> bool
+    ensures { result ≡ atomizes takes }
+{
+    match takes {
+        ParameterType::OptionalText
+        | ParameterType::OneText
+        | ParameterType::Texts
+        | ParameterType::OptionalValue => true,
+        ParameterType::Items | ParameterType::OptionalItem | ParameterType::TruthValue => false,
     }
 }
 
@@ -133,8 +156,63 @@ fn answer_type(alloc: Global, function: Function) -> Result<Ty, RuleError>
     }
 }
 
+// The code of an argument stands at it.
+fn at_argument(number: usize, code: Code) -> RuleError
+    ensures { RefusesType result (has_none code (Some number)) }
+{
+    match u32::try_from(number) {
+        Ok(number) => RuleError::NoType {
+            code,
+            part: Some(number),
+        },
+        Err(_) => RuleError::Memory,
+    }
+}
+
+// The type of an argument as its parameter sees it; a code stands at the argument.
+fn seen_argument(
+    alloc: Global,
+    schemas: &Schemas,
+    takes: ParameterType,
+    argument: &Ty,
+) -> Result<Ty, RuleError>
+    ensures typed { IfOk result (λ t. seen_argument schemas.now takes argument.now ≡ has_type t) }
+    ensures refused { IfErr result (λ e. RefusesType e (seen_argument schemas.now takes argument.now)) }
+{
+    if atomizes(takes) {
+        data_type(alloc, schemas, argument)
+    } else {
+        Ok(argument.clone()?)
+    }
+}
+
+// Whether a parameter takes an argument; else the code that stands at it.
+fn check_argument(
+    alloc: Global,
+    schemas: &Schemas,
+    parameter: Parameter,
+    number: usize,
+    argument: &Ty,
+) -> Result<(), RuleError>
+    ensures taken { (next : Ruling) → OnOk result (argument_ruling schemas.now parameter number next argument.now ≡ next) }
+    ensures refused { (next : Ruling) → IfErr result (λ e. RefusesType e (argument_ruling schemas.now parameter number next argument.now)) }
+{
+    let seen = match seen_argument(alloc, schemas, parameter.takes, argument) {
+        Ok(seen) => seen,
+        Err(RuleError::NoType { code, .. }) => return Err(at_argument(number, code)),
+        Err(RuleError::Memory) => return Err(RuleError::Memory),
+    };
+    let takes = takes_argument(alloc, schemas, parameter.takes, &seen);
+    drop(seen);
+    if takes? {
+        Ok(())
+    } else {
+        Err(at_argument(number, parameter.code))
+    }
+}
+
 // The type of a call of a built-in function.
-#[tactic(auto, using(crate::proofs::CallLemmas::few_parameters), unfolding(crate::specs::Rule::call_rule))]
+#[tactic(auto, unfolding(crate::specs::Rule::call_rule))]
 pub(crate) fn call_type(
     alloc: Global,
     schemas: &Schemas,
@@ -144,24 +222,17 @@ pub(crate) fn call_type(
     ensures typed { IfOk result (λ t. call_rule schemas.now function arguments.now ≡ has_type t) }
     ensures refused { IfErr result (λ e. RefusesType e (call_rule schemas.now function arguments.now)) }
 {
-    let mut parameters = function.parameters();
     let mut left = arguments;
     let mut number = 0;
-    while let Some((parameter, others)) = parameters.split_first() {
-        let Some((argument, behind)) = left.split_first() else {
+    while let Some((argument, behind)) = left.split_first() {
+        let Some(parameter) = function.parameter(number) else {
             return Err(no_type(Code::XPTY0004));
         };
-        if !takes_argument(alloc, schemas, parameter.takes, argument)? {
-            return Err(RuleError::NoType {
-                code: parameter.code,
-                part: Some(number),
-            });
-        }
-        parameters = others;
+        check_argument(alloc, schemas, parameter, number, argument)?;
         left = behind;
         number += 1;
     }
-    if left.is_empty() {
+    if number == function.arity() {
         answer_type(alloc, function)
     } else {
         Err(no_type(Code::XPTY0004))

@@ -37,7 +37,7 @@ pub(crate) fn is_of_family(schemas: &Schemas, family: Family, kind: &ItemType) -
 }
 
 // Whether all items of a type are of a family.
-fn is_all_of_family(schemas: &Schemas, family: Family, t: &Ty) -> bool
+pub(crate) fn is_all_of_family(schemas: &Schemas, family: Family, t: &Ty) -> bool
     ensures { result ≡ all_items (is_of_family schemas.now family) t.now }
 {
     match &t.node {

@@ -14,6 +14,7 @@ ghost use Rattle.gx_static.specs.Typing.{Awaited, part_count, last_parts};
 
 use crate::block_parts::{block_form, block_form_type};
 use crate::call::call_type;
+use crate::constructors::constructor_type;
 use crate::error::RuleError;
 use crate::filtering::{is_first, one_of_type, switch_type};
 use crate::item_tests::no_type;
@@ -26,6 +27,7 @@ use crate::rules::{
 use gx_base::code::Code;
 use gx_base::stack::Stack;
 use gx_core::cases::Cases;
+use gx_core::constructor::Constructor;
 use gx_core::expression::{Form, TypedExpr};
 use gx_core::operator::Operator;
 use gx_core::scope::Scope;
@@ -83,6 +85,7 @@ pub(crate) fn form(
         Operator::Castable(kind, optional) => {
             Ok(Form::Castable(part(alloc, parts)?, kind, optional))
         }
+        Operator::Treat(kind) => Ok(Form::Treat(part(alloc, parts)?, kind)),
         Operator::Step(axis, test, number) => Ok(Form::Step(axis, test, number)),
         Operator::Nodes => Ok(Form::Nodes(part(alloc, parts)?)),
         Operator::Order => Ok(Form::Order(part(alloc, parts)?)),
@@ -98,12 +101,34 @@ pub(crate) fn form(
             let arguments = last(alloc, function.arity(), parts)?;
             Ok(Form::Call(function, arguments))
         }
+        Operator::Construct(constructor, count) => {
+            constructor_form(alloc, constructor, count, parts)
+        }
         Operator::Neg => Ok(Form::Neg(part(alloc, parts)?)),
         Operator::Binary(operator) => {
             let right = part(alloc, parts)?;
             Ok(Form::Binary(operator, part(alloc, parts)?, right))
         }
     }
+}
+
+// A constructor over so many parts on top.
+fn constructor_form(
+    alloc: Global,
+    constructor: Constructor,
+    count: usize,
+    parts: &mut Stack<TypedExpr>,
+) -> Result<Form<Ty>, AllocError>
+    requires { count ≤ length parts.old }
+    ensures operator { IfOk result (λ form. operator_of form ≡ operators.Construct constructor count) }
+    ensures parts { (next : Parts SequenceType → List TypedExpression → Awaited)
+        → IfOk result (λ form. last_parts count parts.old no_parts next ≡ next (parts_of form) parts.new) }
+{
+    let Ok(taken) = last(alloc, count, parts) else {
+        drop(constructor);
+        return Err(AllocError);
+    };
+    Ok(Form::Construct(constructor, taken))
 }
 
 // A switch over so many branches on top, and over the operand below them.
@@ -196,6 +221,7 @@ pub(crate) fn form_type(
         ),
         Form::Cast(operand, kind, optional) => { cast_type(alloc, kind, *optional, &operand.kind) }
         Form::Castable(operand, _, _) => castable_type(alloc, &operand.kind),
+        Form::Treat(_, kind) => Ok(kind.clone()?),
         Form::Step(axis, test, number) => {
             step_in_scope(alloc, schemas, *axis, test, *number, scope)
         }
@@ -214,6 +240,10 @@ pub(crate) fn form_type(
         Form::Call(function, arguments) => {
             let kinds = kinds(alloc, arguments.as_slice())?;
             call_type(alloc, schemas, *function, kinds.as_slice())
+        }
+        Form::Construct(constructor, parts) => {
+            let kinds = kinds(alloc, parts.as_slice())?;
+            constructor_type(alloc, schemas, constructor, kinds.as_slice())
         }
         Form::Neg(operand) => negation_type(alloc, schemas, &operand.kind),
         Form::Binary(operator, left, right) => {

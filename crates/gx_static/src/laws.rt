@@ -1,6 +1,6 @@
 // Laws of typing: one for each operator, and the one that is joined of them.
 
-ghost use Rattle.gx_static.specs.Laws.{LiteralKeepsType, VariableKeepsType, EmptyKeepsType, SequenceKeepsType, ForKeepsType, SomeKeepsType, EveryKeepsType, LetKeepsType, StepKeepsType, NodesKeepType, OrderKeepsType, FinalKeepsType, NthKeepsType, SwitchKeepsType, NoContextKeepsType, DataKeepsType, ArithmeticKeepsType, NegationKeepsType, ValueComparisonKeepsType, GeneralComparisonKeepsType, RangeKeepsType, ConditionalKeepsType, CastKeepsType, CastableKeepsType, CallKeepsType, TypingIsSound, TypingIsSoundOnFreeVariables, RejectionNamesFailure, ScopedVariablesHaveTypes, ExpressionsAreRejectedWithStaticCodes, NodeComparisonKeepsType, NodeSetKeepsType, BlockKeepsType};
+ghost use Rattle.gx_static.specs.Laws.{LiteralKeepsType, VariableKeepsType, EmptyKeepsType, SequenceKeepsType, ForKeepsType, SomeKeepsType, EveryKeepsType, LetKeepsType, StepKeepsType, NodesKeepType, OrderKeepsType, FinalKeepsType, NthKeepsType, SwitchKeepsType, NoContextKeepsType, DataKeepsType, ArithmeticKeepsType, NegationKeepsType, ValueComparisonKeepsType, GeneralComparisonKeepsType, RangeKeepsType, ConditionalKeepsType, CastKeepsType, CastableKeepsType, TreatKeepsType, CallKeepsType, TypingIsSound, TypingIsSoundOnFreeVariables, RejectionNamesFailure, ScopedVariablesHaveTypes, ExpressionsAreRejectedWithStaticCodes, NodeComparisonKeepsType, NodeSetKeepsType, BlockKeepsType, ConstructorKeepsType};
 ghost use Rattle.gx_static.specs.NormalTypes.{RulesGiveNormalTypes, TypingGivesNormalTypes};
 ghost use Rattle.gx_static.specs.Demands.{MetDemandsAreInclusion, DemandsAreInclusion, AllRulesDemandInclusion};
 ghost use Rattle.gx_static.specs.ByInclusion.{QueriesAreJudgedByInclusion};
@@ -135,6 +135,12 @@ pub fn conditional_keeps_its_type()
     ensures { ConditionalKeepsType }
 {}
 
+/// What a constructor makes belongs to its type where the values of its parts belong to theirs, and it is no type error. The
+/// declarations of the schemas keep to what each schema set keeps to.
+pub fn constructor_keeps_its_type()
+    ensures { ConstructorKeepsType }
+{}
+
 /// A cast belongs to its type where the operand is of atomic values.
 pub fn cast_keeps_its_type()
     ensures { CastKeepsType }
@@ -143,6 +149,11 @@ pub fn cast_keeps_its_type()
 /// A test whether there is a cast is a boolean where the operand is of atomic values.
 pub fn castable_keeps_its_type()
     ensures { CastableKeepsType }
+{}
+
+/// A value that is treated as a type belongs to the type.
+pub fn treat_keeps_its_type()
+    ensures { TreatKeepsType }
 {}
 
 /// What a built-in function answers belongs to its type where the arguments belong to those of its parameters. The types of the

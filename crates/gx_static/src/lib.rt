@@ -6,6 +6,7 @@ mod block_parts;
 mod block_tasks;
 mod call;
 mod comparison;
+mod constructors;
 pub mod error;
 mod filtering;
 mod forms;

@@ -54,6 +54,9 @@ impl Typing {
             Form::Castable(operand, kind, optional) => {
                 self.open_single(place, outer, Operator::Castable(kind, optional), operand)
             }
+            Form::Treat(operand, kind) => {
+                self.open_single(place, outer, Operator::Treat(kind), operand)
+            }
             Form::Step(axis, test, number) => {
                 self.open_leaf(place, outer, Operator::Step(axis, test, number))
             }
@@ -71,6 +74,10 @@ impl Typing {
             Form::DataOf(operand) => self.open_single(place, outer, Operator::DataOf, operand),
             Form::NoContext => self.open_leaf(place, outer, Operator::NoContext),
             Form::Call(function, arguments) => { self.open_call(place, outer, function, arguments) }
+            Form::Construct(constructor, parts) => {
+                let operator = Operator::Construct(constructor, parts.len());
+                self.open_parts(place, outer, operator, parts)
+            }
             Form::Neg(operand) => self.open_single(place, outer, Operator::Neg, operand),
             Form::Binary(operator, left, right) => {
                 self.open_pair(place, outer, Operator::Binary(operator), left, right)
@@ -158,6 +165,26 @@ impl Typing {
             .push(Task::FinishCall(place, outer, function, arguments.len()))?;
         while let Some(argument) = arguments.pop() {
             self.tasks.push(Task::Infer(argument))?;
+        }
+        Ok(())
+    }
+
+    // An operator of any number of parts that binds nothing.
+    #[tactic(auto, using(crate::proofs::Continuing::last_typed))]
+    fn open_parts(
+        &mut self,
+        place: Place,
+        outer: Place,
+        operator: Operator,
+        mut parts: Vec<CoreExpr>,
+    ) -> Result<(), AllocError>
+        ensures { (schemas : SchemaSet) → OnOk result (judgement_of schemas self.new
+            ≡ typed_in_order schemas parts.items self.old.scope
+            (λ typed. continued schemas (tasks.Finish place outer operator ∷ self.old.tasks) typed self.old.scope self.old.declared.items) self.old.parts) }
+    {
+        self.tasks.push(Task::Finish(place, outer, operator))?;
+        while let Some(part) = parts.pop() {
+            self.tasks.push(Task::Infer(part))?;
         }
         Ok(())
     }

@@ -39,6 +39,7 @@ fn form_place(place: Place, form: &Form<Ty>, part: Option<u32>) -> Place
         | Form::Neg(operand)
         | Form::Cast(operand, _, _)
         | Form::Castable(operand, _, _)
+        | Form::Treat(operand, _)
         | Form::Nth(operand, _, _)
         | Form::Final(operand, _) => code_place(place, &[operand.outer], part),
         Form::Switch(operand, _, _, branches) => {
@@ -59,7 +60,9 @@ fn form_place(place: Place, form: &Form<Ty>, part: Option<u32>) -> Place
             &[condition.outer, chosen.outer, otherwise.outer],
             part,
         ),
-        Form::Call(_, arguments) => argument_place(place, arguments.as_slice(), part),
+        Form::Call(_, arguments) | Form::Construct(_, arguments) => {
+            argument_place(place, arguments.as_slice(), part)
+        }
     }
 }
 

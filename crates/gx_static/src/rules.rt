@@ -11,6 +11,7 @@ ghost use Rattle.gx_static.specs.Refusal.{RefusesType};
 use crate::block::block_type;
 use crate::call::call_type;
 use crate::comparison::{general_comparison_type, value_comparison_type};
+use crate::constructors::constructor_type;
 use crate::error::RuleError;
 use crate::filtering::{is_first, one_of_type, switch_type};
 use crate::item_tests::{
@@ -69,6 +70,7 @@ pub fn operator_type(
         }
         (Operator::Cast(kind, optional), [operand]) => cast_type(alloc, kind, *optional, operand),
         (Operator::Castable(_, _), [operand]) => castable_type(alloc, operand),
+        (Operator::Treat(kind), [_operand]) => Ok(kind.clone()?),
         (Operator::Step(axis, test, _), [context]) => {
             step_type(alloc, schemas, *axis, test, context)
         }
@@ -84,6 +86,9 @@ pub fn operator_type(
         (Operator::DataOf, [operand]) => data_type(alloc, schemas, operand),
         (Operator::NoContext, []) => Err(no_type(Code::XPDY0002)),
         (Operator::Call(function), arguments) => call_type(alloc, schemas, *function, arguments),
+        (Operator::Construct(constructor, _), parts) => {
+            constructor_type(alloc, schemas, constructor, parts)
+        }
         (Operator::Neg, [operand]) => negation_type(alloc, schemas, operand),
         (Operator::Binary(operator), [left, right]) => {
             binary_type(alloc, schemas, *operator, left, right)

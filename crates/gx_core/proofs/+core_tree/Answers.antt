@@ -22,7 +22,7 @@ pub expression::Expr::drop-drop-form-requires-13-3 : goal.expression::Expr::drop
 expression::Expr::drop-drop-form-requires-13-3 g t c κs = λ lives.
     let size : 3 * (expression_size c.args.self + 1) + 0 ≡ t = c.decreases in
     let whole : expression_size c.args.self ≡ 1 + parts_size (parts_of c.self.inside.form) = ap expression_size (sym c.self.view_is) in
-    let given = c._form-13-1.given in
+    let given = c._form-25-1.given in
     let parts : parts_size (parts_of c.self.inside.form) ≡ parts_size (a_part given.0.0.value (all_parts given.0.1.1.1.0.items)) =
     ap (λ (f : Form g.row.K.Denot). parts_size (parts_of f)) given.1 in
     let weight : (e : Expression g.row.K.Denot) → size-Expr g.row.K.Denot e ≤ 3 * (expression_size e + 1) = λ e. omega arith in
@@ -32,7 +32,7 @@ pub expression::Expr::drop-drop-form-requires-16 : goal.expression::Expr::drop-d
 expression::Expr::drop-drop-form-requires-16 g t c κs = λ lives.
     let size : 3 * (expression_size c.args.self + 1) + 0 ≡ t = c.decreases in
     let whole : expression_size c.args.self ≡ 1 + parts_size (parts_of c.self.inside.form) = ap expression_size (sym c.self.view_is) in
-    let given = c._form-16-1.given in
+    let given = c._form-31-1.given in
     let parts : parts_size (parts_of c.self.inside.form) ≡ parts_size
     (all_parts (parts_of_block given.0.0.items given.0.1.0.items given.0.1.1.0.value)) =
     ap (λ (f : Form g.row.K.Denot). parts_size (parts_of f)) given.1 in
@@ -50,7 +50,7 @@ pub expression::Expr::drop-drop-form-requires-16-2 : goal.expression::Expr::drop
 expression::Expr::drop-drop-form-requires-16-2 g t c κs = λ lives.
     let size : 3 * (expression_size c.args.self + 1) + 0 ≡ t = c.decreases in
     let whole : expression_size c.args.self ≡ 1 + parts_size (parts_of c.self.inside.form) = ap expression_size (sym c.self.view_is) in
-    let given = c._form-16-1.given in
+    let given = c._form-31-1.given in
     let parts : parts_size (parts_of c.self.inside.form) ≡ parts_size
     (all_parts (parts_of_block given.0.0.items given.0.1.0.items given.0.1.1.0.value)) =
     ap (λ (f : Form g.row.K.Denot). parts_size (parts_of f)) given.1 in (
@@ -65,7 +65,17 @@ pub expression::Expr::drop-drop-form-requires-18 : goal.expression::Expr::drop-d
 expression::Expr::drop-drop-form-requires-18 g t c κs = λ lives.
     let size : 3 * (expression_size c.args.self + 1) + 0 ≡ t = c.decreases in
     let whole : expression_size c.args.self ≡ 1 + parts_size (parts_of c.self.inside.form) = ap expression_size (sym c.self.view_is) in
-    let given = c._form-18-1.given in
+    let given = c._form-35-1.given in
+    let parts : parts_size (parts_of c.self.inside.form) ≡ parts_size (all_parts given.0.1.0.items) =
+    ap (λ (f : Form g.row.K.Denot). parts_size (parts_of f)) given.1 in
+    let weight : (e : Expression g.row.K.Denot) → size-Expr g.row.K.Denot e ≤ 3 * (expression_size e + 1) = λ e. omega arith in
+    (((omega (arith, arguments_are_smaller (size-Expr g.row.K.Denot) weight given.0.1.0.items), tt), tt), (search rules, search rules))
+
+pub expression::Expr::drop-drop-form-requires-22 : goal.expression::Expr::drop-drop-form-requires-22
+expression::Expr::drop-drop-form-requires-22 g t c κs = λ lives.
+    let size : 3 * (expression_size c.args.self + 1) + 0 ≡ t = c.decreases in
+    let whole : expression_size c.args.self ≡ 1 + parts_size (parts_of c.self.inside.form) = ap expression_size (sym c.self.view_is) in
+    let given = c._form-41-1.given in
     let parts : parts_size (parts_of c.self.inside.form) ≡ parts_size (all_parts given.0.1.0.items) =
     ap (λ (f : Form g.row.K.Denot). parts_size (parts_of f)) given.1 in
     let weight : (e : Expression g.row.K.Denot) → size-Expr g.row.K.Denot e ≤ 3 * (expression_size e + 1) = λ e. omega arith in

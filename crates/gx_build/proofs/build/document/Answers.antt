@@ -1,7 +1,7 @@
 use Rattle.std.proofs.Common.{sym, subst}
 use Rattle.std.specs.Prelude.{IfOk, IfErr}
 use Rattle.gx_store.specs.Items.{items_in}
-use Rattle.gx_build.specs.Built.{Built, document_built}
+use Rattle.gx_core.specs.Constructing.{Built, document_built}
 use Rattle.gx_build.specs.Made.{IsMade, RefusesTree}
 use Rattle.gx_build.proofs.RefusalLemmas.{still_refused}
 use Rattle.gx_build.proofs.build.document.Goals as goal

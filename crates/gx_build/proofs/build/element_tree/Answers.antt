@@ -1,6 +1,6 @@
 use Rattle.std.proofs.Common.{◌≡◌, sym, subst}
 use Rattle.std.specs.Prelude.{IfOk, IfErr}
-use Rattle.gx_build.specs.Built.{Built, built_within, depth_limit}
+use Rattle.gx_core.specs.Constructing.{Built, built_within, depth_limit}
 use Rattle.gx_build.specs.Made.{RefusesTree}
 use Rattle.gx_build.proofs.LaterLemmas.{element_built, no_element_built}
 use Rattle.gx_build.proofs.build.element_tree.Goals as goal

@@ -5,7 +5,7 @@ use Rattle.std.proofs.lemmas.List.{drop_all}
 use Rattle.gx_tree.specs.PlainTree.{PlainTree}
 use Rattle.gx_store.specs.declared.item.Item.{Item}
 use Rattle.gx_store.specs.Items.{items_in}
-use Rattle.gx_build.specs.Built.{content_after, content_of_parts}
+use Rattle.gx_core.specs.Constructing.{content_after, content_of_parts}
 use Rattle.gx_build.specs.Making.{content_with, content_if}
 use Rattle.gx_build.specs.Parts.{parts_in}
 use Rattle.gx_build.proofs.ContentLemmas.{put_joined, put_missing, nothing_done, with_nothing}

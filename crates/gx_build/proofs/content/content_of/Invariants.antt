@@ -1,6 +1,6 @@
 use Rattle.std.proofs.Common.{◌≡◌, List, drop}
 use Rattle.gx_tree.specs.PlainTree.{PlainTree}
-use Rattle.gx_build.specs.Built.{content_of_parts}
+use Rattle.gx_core.specs.Constructing.{content_of_parts}
 use Rattle.gx_build.specs.Making.{content_with, merged_with}
 use Rattle.gx_build.specs.Parts.{parts_in}
 use Rattle.gx_build.proofs.content.content_of.Given as goal

@@ -1,7 +1,7 @@
 use Rattle.std.proofs.Common.{◌≡◌, Bool, List, [], Some, ap, ◌∙◌, subst}
 use Rattle.gx_tree.specs.PlainTree.{PlainTree}
 use Rattle.gx_store.specs.Items.{items_in}
-use Rattle.gx_build.specs.Built.{content_after}
+use Rattle.gx_core.specs.Constructing.{content_after}
 use Rattle.gx_build.specs.Making.{content_with, content_if}
 use Rattle.gx_build.proofs.ContentLemmas.{nothing_done, alone_joined}
 use Rattle.gx_build.proofs.content.content_of_items.Goals as goal

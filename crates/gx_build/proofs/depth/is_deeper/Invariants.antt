@@ -1,5 +1,5 @@
 use Rattle.std.proofs.Common.{◌≡◌, nat_lt}
-use Rattle.gx_build.specs.Built.{depth_of_tree}
+use Rattle.gx_core.specs.Constructing.{depth_of_tree}
 use Rattle.gx_build.specs.Depths.{are_too_deep, levels_left}
 use Rattle.gx_build.proofs.depth.is_deeper.Given as goal
 

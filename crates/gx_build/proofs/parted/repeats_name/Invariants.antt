@@ -1,5 +1,5 @@
 use Rattle.std.proofs.Common.{◌≡◌, length}
-use Rattle.gx_build.specs.Built.{repeats_name}
+use Rattle.gx_core.specs.Constructing.{repeats_name}
 use Rattle.gx_build.proofs.parted.repeats_name.Given as goal
 
 abbrev pub invariant-loop-first : goal.invariant-loop-first

@@ -5,26 +5,32 @@ use Rattle.gx_eval.proofs.calling.called_with_one.Goals as goal
 
 pub returns-in-Some-clause-value : goal.returns-in-Some-clause-value
 returns-in-Some-clause-value c = λ later x.
-    rw c.in-Boolean.is (boolean_called c.args.store.now (items_in later c.args.argument.now) c.in-Some.truth c.truth_atom.result (sym (c.effective_boolean.ensures c.args.store.now later) ∙ c.in-Some.is) c.truth_atom.ensures)
+    rw c.in-Boolean.is (boolean_called c.args.schemas.now c.args.store.now (items_in later c.args.argument.now) c.in-Some.truth c.truth_atom.result (sym (c.effective_boolean.ensures c.args.store.now later) ∙ c.in-Some.is) c.truth_atom.ensures)
 
 pub returns-in-None-clause-failed : goal.returns-in-None-clause-failed
-returns-in-None-clause-failed c = λ later x. rw c.in-Boolean.is (no_boolean c.args.store.now (items_in later c.args.argument.now) (sym (c.effective_boolean.ensures c.args.store.now later) ∙ c.in-None.is))
+returns-in-None-clause-failed c = λ later x. rw c.in-Boolean.is (no_boolean c.args.schemas.now c.args.store.now (items_in later c.args.argument.now) (sym (c.effective_boolean.ensures c.args.store.now later) ∙ c.in-None.is))
 
 pub returns-in-Some-effective_boolean-clause-value : goal.returns-in-Some-effective_boolean-clause-value
 returns-in-Some-effective_boolean-clause-value c = λ later x.
     rw c.in-Not.is
-    (contrary_called c.args.store.now (items_in later c.args.argument.now) c.in-Some-effective_boolean.truth c.truth_atom-in-Some-effective_boolean.result
+    (contrary_called c.args.schemas.now c.args.store.now (items_in later c.args.argument.now) c.in-Some-effective_boolean.truth c.truth_atom-in-Some-effective_boolean.result
     (sym (c.effective_boolean-in-Not.ensures c.args.store.now later) ∙ c.in-Some-effective_boolean.is) c.truth_atom-in-Some-effective_boolean.ensures)
 
 pub returns-in-None-effective_boolean-clause-failed : goal.returns-in-None-effective_boolean-clause-failed
 returns-in-None-effective_boolean-clause-failed c = λ later x.
-    rw c.in-Not.is (no_contrary c.args.store.now (items_in later c.args.argument.now) (sym (c.effective_boolean-in-Not.ensures c.args.store.now later) ∙ c.in-None-effective_boolean.is))
+    rw c.in-Not.is (no_contrary c.args.schemas.now c.args.store.now (items_in later c.args.argument.now) (sym (c.effective_boolean-in-Not.ensures c.args.store.now later) ∙ c.in-None-effective_boolean.is))
 
 pub returns-in-Some-2-clause-value : goal.returns-in-Some-2-clause-value
 returns-in-Some-2-clause-value c = λ later x.
     rw c.in-String.is
-    (string_called c.args.store.now (items_in later c.args.argument.now) c.in-Some-2.text c.string_atom.result (sym (c.in_ok-text-in-String.ensures later x) ∙ c.in-Some-2.is) c.string_atom.ensures)
+    (string_called c.args.schemas.now c.args.store.now (items_in later c.args.argument.now) c.in-Some-2.text c.string_atom.result (sym (c.in_ok-text-in-String.ensures later x) ∙ c.in-Some-2.is) c.string_atom.ensures)
 
 pub returns-in-None-2-clause-failed : goal.returns-in-None-2-clause-failed
 returns-in-None-2-clause-failed c = λ later x.
-    rw c.in-String.is (no_string c.args.store.now (items_in later c.args.argument.now) (sym (c.in_ok-text-in-String.ensures later x) ∙ c.in-None-2.is))
+    rw c.in-String.is (no_string c.args.schemas.now c.args.store.now (items_in later c.args.argument.now) (sym (c.in_ok-text-in-String.ensures later x) ∙ c.in-None-2.is))
+
+pub returns-in-OfTexts-clause-value : goal.returns-in-OfTexts-clause-value
+returns-in-OfTexts-clause-value c = λ later x. rw c.in-OfTexts.is (c.called_with_text.ensures.value later x)
+
+pub returns-in-OfTexts-clause-failed : goal.returns-in-OfTexts-clause-failed
+returns-in-OfTexts-clause-failed c = λ later x. rw c.in-OfTexts.is (c.called_with_text.ensures.failed later x)

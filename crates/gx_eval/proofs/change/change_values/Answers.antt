@@ -38,3 +38,9 @@ returns-in_ok-keep_nth-in-Nth-clause-value c = λ later x.
 
 pub returns-in_ok-keep_last-in-Final-clause-value : goal.returns-in_ok-keep_last-in-Final-clause-value
 returns-in_ok-keep_last-in-Final-clause-value c = λ later x. rw c.in-Final.is (ap (λ (v : Items). gives v c.args.store.now) (sym (c.in_ok-keep_last-in-Final.ensures later)))
+
+pub returns-in-Treat-clause-value : goal.returns-in-Treat-clause-value
+returns-in-Treat-clause-value c = rw c.in-Treat.is c.treat.ensures.value
+
+pub returns-in-Treat-clause-failed : goal.returns-in-Treat-clause-failed
+returns-in-Treat-clause-failed c = rw c.in-Treat.is c.treat.ensures.failed

@@ -9,12 +9,12 @@ pub returns-clause-variables : goal.returns-clause-variables
 returns-clause-variables c =
     let made = c.core_of_query-core.result in
     let ds = c.as_slice.result.now in
-    made_in_order c.is_empty_greatest-greatest.result ds c.args.query.body made
+    made_in_order c.is_empty_greatest-greatest.result c.args.query.settings.preserves_boundary_space ds c.args.query.body made
     (subst (λ (focus : Focus). IfOk made (λ core. core ≡ main_core focus ds c.args.query.body)) c.without_context-focus.ensures c.core_of_query-core.ensures)
 
 pub returns-clause-well_formed : goal.returns-clause-well_formed
 returns-clause-well_formed c =
     let made = c.core_of_query-core.result in
     let ds = c.as_slice.result.now in
-    made_well_formed c.is_empty_greatest-greatest.result ds c.args.query.body made
+    made_well_formed c.is_empty_greatest-greatest.result c.args.query.settings.preserves_boundary_space ds c.args.query.body made
     (subst (λ (focus : Focus). IfOk made (λ core. core ≡ main_core focus ds c.args.query.body)) c.without_context-focus.ensures c.core_of_query-core.ensures)

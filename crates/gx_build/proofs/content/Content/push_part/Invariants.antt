@@ -1,7 +1,7 @@
 use Rattle.std.proofs.Common.{◌≡◌, List, [], drop}
 use Rattle.gx_tree.specs.PlainTree.{PlainTree}
 use Rattle.gx_store.specs.Items.{items_in}
-use Rattle.gx_build.specs.Built.{content_after}
+use Rattle.gx_core.specs.Constructing.{content_after}
 use Rattle.gx_build.specs.Making.{content_with, items_content}
 use Rattle.gx_build.proofs.content.Content.push_part.Given as goal
 

@@ -1,4 +1,4 @@
-use Rattle.std.proofs.Common.{◌≡◌, ◌∷◌, [], ◌++◌, List, map, sym, subst, ap, ◌∙◌}
+use Rattle.std.proofs.Common.{◌≡◌, ◌∷◌, [], ◌++◌, List, length, map, sym, subst, ap, ◌∙◌}
 use Rattle.gx_facets.specs.declared.Atomic.{Atomic}
 use Rattle.gx_model.specs.Item.{Items, atom}
 use Rattle.std.specs.Prelude.{OnOk, IfErr}
@@ -53,6 +53,14 @@ returns-in-Call-clause-failed c = λ later x.
     rw (← c.expression.view_is, c.in-Call.is, ← c.as_slice.ensures.value)
     (subst (λ (parts : List Denotation). IfErr c.open_call.result (λ e. FailsSo e
     (outcome_behind k later (denoted k (operators.Call c.in-Call.function) parts (items_of later c.args.self.now.scope) c.args.store.now) c.args.self.now))) (sym (each_argument k c.as_slice.result.now)) (c.open_call.ensures.failed later x))
+
+pub returns-in_ok-open_construct-in-Construct-clause-value : goal.returns-in_ok-open_construct-in-Construct-clause-value
+returns-in_ok-open_construct-in-Construct-clause-value c = λ later x.
+    let k : Context = context_over c.args.schemas.now in
+    let parts : List TypedExpression = c.as_slice-in-Construct.result.now in
+    rw (← c.expression.view_is, c.in-Construct.is, ← c.as_slice-in-Construct.ensures.value)
+    (subst (λ (means : List Denotation). outcome_of k c.args.store.now later c.open_construct.new.self
+    ≡ outcome_behind k later (denoted k (operators.Construct c.in-Construct.constructor (length parts)) means (items_of later c.args.self.now.scope) c.args.store.now) c.args.self.now) (sym (each_argument k parts)) (c.in_ok-open_construct-in-Construct.ensures k c.args.store.now later))
 
 pub returns-in_ok-open_loop-in-For-clause-value : goal.returns-in_ok-open_loop-in-For-clause-value
 returns-in_ok-open_loop-in-For-clause-value c = λ later x.

@@ -37,5 +37,5 @@ returns-in_ok-put-in-empty-clause-value c = λ later x.
     let bindings : Bindings = items_of later c.args.self.now.scope in
     let none : c.args.arguments.now ≡ [] = nil_from_length c.args.arguments.now (omega arith) in
     ap (λ (v : Items). resume k c.args.self.now.work v stacks bindings forest) (c.in_ok-put-in-empty.ensures later)
-    ∙ none_applies k forest c.args.function c.args.self.now.work values (answer_items later c.in_ok-answer-in-empty.answer) stacks bindings (c.in_ok-answer-in-empty.ensures.value forest later)
+    ∙ none_applies k forest c.args.function c.args.self.now.work values (answer_items later c.in_ok-answer-in-empty.answer) stacks bindings (c.in_ok-answer-in-empty.ensures.value c.args.schemas.now forest later)
     ∙ ap (λ (es : List TypedExpression). after (denoted k (operators.Call c.args.function) (map (meaning k) es) bindings forest) (λ more left. resume k c.args.self.now.work (values ++ more) stacks bindings left)) (sym none)

@@ -1,4 +1,4 @@
-use Rattle.std.proofs.Common.{◌∷◌, ℕ, List, sym, ap, ◌∙◌}
+use Rattle.std.proofs.Common.{◌∷◌, ℕ, List, inr, sym, ap, ◌∙◌}
 use Rattle.std.proofs.lemmas.List.{drop-map}
 use Rattle.gx_model.specs.Item.{Items}
 use Rattle.gx_core.specs.Outcome.{Outcome}
@@ -52,10 +52,19 @@ pub returns-in-Choose-clause-failed : goal.returns-in-Choose-clause-failed
 returns-in-Choose-clause-failed c = λ later x. rw c.in-Choose.is (c.choose.ensures.failed (context_over c.args.schemas.now) c.args.store.now later)
 
 pub returns-in-Call-clause-value : goal.returns-in-Call-clause-value
-returns-in-Call-clause-value c = λ later x. rw c.in-Call.is (c.apply_call.ensures.value (context_over c.args.schemas.now) c.args.store.now later)
+returns-in-Call-clause-value c = λ later x. rw c.in-Call.is (c.apply_call.ensures.value later x)
 
 pub returns-in-Call-clause-failed : goal.returns-in-Call-clause-failed
-returns-in-Call-clause-failed c = λ later x. rw c.in-Call.is (c.apply_call.ensures.failed (context_over c.args.schemas.now) c.args.store.now later)
+returns-in-Call-clause-failed c = λ later x. rw c.in-Call.is (c.apply_call.ensures.failed later x)
+
+pub returns-in-Construct-clause-grows : goal.returns-in-Construct-clause-grows
+returns-in-Construct-clause-grows c = inr c.construct.ensures.grows
+
+pub returns-in-Construct-clause-value : goal.returns-in-Construct-clause-value
+returns-in-Construct-clause-value c = λ later x. rw c.in-Construct.is (c.construct.ensures.value later x)
+
+pub returns-in-Construct-clause-failed : goal.returns-in-Construct-clause-failed
+returns-in-Construct-clause-failed c = λ later x. rw c.in-Construct.is (c.construct.ensures.failed later x)
 
 pub returns-in-External-clause-value : goal.returns-in-External-clause-value
 returns-in-External-clause-value c = λ later x. rw c.in-External.is (c.bind_document.ensures.value (context_over c.args.schemas.now) c.args.store.now later)
@@ -88,10 +97,10 @@ pub returns-in-Decide-clause-failed : goal.returns-in-Decide-clause-failed
 returns-in-Decide-clause-failed c = λ later x. rw c.in-Decide.is (c.decide.ensures.failed (context_over c.args.schemas.now) c.args.store.now later)
 
 pub returns-in-Switch-clause-value : goal.returns-in-Switch-clause-value
-returns-in-Switch-clause-value c = λ later x. rw c.in-Switch.is (c.switch.ensures.value c.args.store.now later)
+returns-in-Switch-clause-value c = λ later x. rw c.in-Switch.is (c.switch.ensures.value later x)
 
 pub returns-in-Switch-clause-failed : goal.returns-in-Switch-clause-failed
-returns-in-Switch-clause-failed c = λ later x. rw c.in-Switch.is (c.switch.ensures.failed c.args.store.now later)
+returns-in-Switch-clause-failed c = λ later x. rw c.in-Switch.is (c.switch.ensures.failed later x)
 
 pub returns-in-Block-clause-value : goal.returns-in-Block-clause-value
 returns-in-Block-clause-value c = λ later x. rw c.in-Block.is (c.step_block.ensures.value (context_over c.args.schemas.now) c.args.store.now later)

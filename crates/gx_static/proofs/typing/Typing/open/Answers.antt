@@ -1,6 +1,6 @@
-use Rattle.std.proofs.Common.{refl, rules}
+use Rattle.std.proofs.Common.{◌≡◌, length, refl, rules}
 use Rattle.gx_core.specs.declared.operator.Operator.TheVariants as operators
-use Rattle.gx_static.proofs.Continuing.{single_opens, pair_opens, conditional_opens, call_opens, for_opens, some_opens, every_opens, let_opens, switch_opens}
+use Rattle.gx_static.proofs.Continuing.{single_opens, pair_opens, conditional_opens, call_opens, constructor_opens, for_opens, some_opens, every_opens, let_opens, switch_opens}
 use Rattle.gx_static.proofs.BlockTyping.{block_opens}
 use Rattle.gx_static.proofs.typing.Typing.open.Goals as goal
 
@@ -40,6 +40,16 @@ returns-in-Call c = λ schemas.
     )
     (c.open_call.ensures schemas)
 
+pub returns-in-Construct : goal.returns-in-Construct
+returns-in-Construct c = λ schemas.
+    let all : c.len.result ≡ length c.in-Construct.parts.items = search rules in
+    rw (
+      c.into_parts-kind.ensures,
+      c.in-Construct.is,
+      ← constructor_opens schemas c.args.self.now.tasks c.args.self.now.parts c.args.self.now.scope c.args.self.now.declared.items c.into_parts-kind.result.0 c.into_parts-kind.result.1 c.in-Construct.constructor c.len.result c.in-Construct.parts.items all,
+    )
+    (c.open_parts.ensures schemas)
+
 pub returns-in-Binary : goal.returns-in-Binary
 returns-in-Binary c = λ schemas.
     rw (
@@ -72,6 +82,15 @@ returns-in-Castable c = λ schemas.
       ← single_opens schemas (operators.Castable c.in-Castable.kind c.in-Castable.optional) (λ before. refl) refl c.args.self.now.tasks c.args.self.now.parts c.args.self.now.scope c.args.self.now.declared.items c.into_parts-kind.result.0 c.into_parts-kind.result.1 c.in-Castable.operand.value,
     )
     (c.open_single-in-Castable.ensures schemas)
+
+pub returns-in-Treat : goal.returns-in-Treat
+returns-in-Treat c = λ schemas.
+    rw (
+      c.into_parts-kind.ensures,
+      c.in-Treat.is,
+      ← single_opens schemas (operators.Treat c.in-Treat.kind) (λ before. refl) refl c.args.self.now.tasks c.args.self.now.parts c.args.self.now.scope c.args.self.now.declared.items c.into_parts-kind.result.0 c.into_parts-kind.result.1 c.in-Treat.operand.value,
+    )
+    (c.open_single-in-Treat.ensures schemas)
 
 pub returns-in-DataOf : goal.returns-in-DataOf
 returns-in-DataOf c = λ schemas.
