@@ -1,4 +1,7 @@
 pub mod RunLemmas
+pub mod PlainLemmas
+pub mod TagWords
+pub mod ReturnLemmas
 pub mod SpelledLemmas
 pub mod CharacterLemmas
 pub mod Steps

@@ -11,6 +11,7 @@ pub mod Tags
 pub mod Names
 pub mod Characters
 pub mod Found
+pub mod Plain
 pub mod TagView
 pub mod Gathered
 pub mod Grammar

@@ -10,6 +10,7 @@ pub mod into_untyped;
 pub mod laws;
 mod marks;
 mod phrases;
+mod plain;
 mod reader;
 pub mod refusal;
 mod resolve;

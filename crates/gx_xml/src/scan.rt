@@ -13,6 +13,7 @@ ghost use Rattle.std.specs.Prelude.{◌≡◌, ◌≤◌, ◌<◌, ◌+◌, ◌�
 
 use crate::characters::Characters;
 use crate::marks::{Choice, Mark};
+use crate::plain::plain_part;
 use crate::runs::{Base, Quote, Run};
 
 /// What is behind a symbol, if it stands at the front, and what is left behind the longest front that opens it.
@@ -120,9 +121,10 @@ pub fn find_run(run: Run, state: u32, text: Characters<'_>) -> RunFound<'_>
         if !run.goes(state, character) {
             break;
         }
-        state = run.next(state, character);
-        count += 1;
-        rest = tail;
+        let plain = plain_part(run, run.next(state, character), tail);
+        state = plain.state;
+        count += 1 + plain.run.len();
+        rest = plain.behind;
     }
     let run = text.front(count, rest);
     RunFound {
@@ -161,6 +163,17 @@ fn no_word(text: Characters<'_>) -> WordFound<'_>
     WordFound {
         word: None,
         seen: text.len(),
+    }
+}
+
+// A word whose end no other word goes beyond.
+fn found_word(mark: Mark, behind: Characters<'_>) -> WordFound<'_>
+    ensures word { result.word ≡ Some (mark, behind.entry) }
+    ensures seen { result.seen ≡ length (spelled behind.entry) }
+{
+    WordFound {
+        word: Some((mark, behind)),
+        seen: behind.len(),
     }
 }
 
@@ -277,6 +290,9 @@ fn epilog(text: Characters<'_>) -> WordFound<'_>
 fn tag_end(text: Characters<'_>) -> WordFound<'_>
     ensures { IsWordFound (choice_words choice_of.TagEnd) (spelled text.entry) result }
 {
+    if let Some(('>', behind)) = text.first() {
+        return found_word(Mark::Open, behind);
+    }
     let found = no_word(text);
     let found = or(&['/', '>'], Mark::Empty, found, text);
     or(&['>'], Mark::Open, found, text)
@@ -347,7 +363,34 @@ fn reference(named: bool, text: Characters<'_>) -> WordFound<'_>
     number_sign(no_word(text), text)
 }
 
+// The word of a tag, which most words of content are, at its front.
+fn tag_start(text: Characters<'_>) -> Option<WordFound<'_>>
+    ensures { IfSome result (IsWordFound (choice_words choice_of.Content) (spelled text.entry)) }
+{
+    let (first, behind) = text.first()?;
+    if first != '<' {
+        return None;
+    }
+    let (second, tail) = behind.first()?;
+    if second == '/' {
+        return Some(found_word(Mark::EndTag, tail));
+    }
+    if Stop::Markup.stops(second) {
+        return None;
+    }
+    Some(found_word(Mark::StartTag, behind))
+}
+
 fn content(text: Characters<'_>) -> WordFound<'_>
+    ensures { IsWordFound (choice_words choice_of.Content) (spelled text.entry) result }
+{
+    match tag_start(text) {
+        Some(found) => found,
+        None => other_content(text),
+    }
+}
+
+fn other_content(text: Characters<'_>) -> WordFound<'_>
     ensures { IsWordFound (choice_words choice_of.Content) (spelled text.entry) result }
 {
     let found = no_word(text);

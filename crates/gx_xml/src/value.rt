@@ -209,10 +209,27 @@ fn push_kept_text(out: &mut String, kept: Option<char>) -> Result<(), AllocError
     Ok(())
 }
 
+// Whether there is a carriage return; a text without one stands for itself.
+fn has_return(text: &str) -> bool
+    ensures { result ≡ false → text_normalised (chars text.now) ≡ chars text.now }
+{
+    text.as_bytes().contains(&13)
+}
+
+#[tactic(auto, using(gx_base::proofs::TextLemmas::string_rules))]
+fn push_all(out: &mut String, text: &str) -> Result<(), AllocError>
+    ensures { OnOk result (chars (string_bytes out.new) ≡ chars (string_bytes out.old) ++ chars text.now) }
+{
+    Ok(out.push_str(text)?)
+}
+
 /// Adds the characters of a run of a text, with line ends as line feeds.
 pub fn push_normalised_text(out: &mut String, run: Characters<'_>) -> Result<(), AllocError>
     ensures { OnOk result (chars (string_bytes out.new) ≡ chars (string_bytes out.old) ++ text_normalised (spelled run.entry)) }
 {
+    if !has_return(run.text) {
+        return push_all(out, run.text);
+    }
     out.reserve(run.text.len())?;
     let mut behind_return = false;
     let mut left = run;

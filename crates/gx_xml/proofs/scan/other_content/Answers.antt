@@ -1,5 +1,5 @@
 use Rattle.gx_xml.specs.Marks.{choice_words}
-use Rattle.gx_xml.proofs.scan.content.Goals as goal
+use Rattle.gx_xml.proofs.scan.other_content.Goals as goal
 
 pub returns : goal.returns
 unfolding choice_words
