@@ -1,6 +1,6 @@
 // Names and types of nodes, by numbers.
 
-ghost use Rattle.std.specs.Prelude.{◌≡◌, [], Some, IfOk, slice_get, option_copied};
+ghost use Rattle.std.specs.Prelude.{◌≡◌, [], Some, IfOk, IsTrue, slice_get, option_copied};
 ghost use Rattle.gx_store.specs.Grown.{Grows};
 ghost use Rattle.gx_store.specs.SameLabel.{same_name_and_prefix, same_type_and_prefix};
 
@@ -74,14 +74,21 @@ impl Hash for Label {
     }
 }
 
-/// Labels, each with its number from 0 on.
+// How many slots of names there are.
+const SLOTS: usize = 256;
+
+/// Labels, each with its number from 0 on; and for each slot of names the number that was asked for last.
 pub(crate) struct Labels {
     pub labels: IndexSet<Label>,
+    pub last: Vec<u32>,
 }
 
 impl Drop for Labels {
     fn drop(self) {
-        let Labels { labels: _labels } = self;
+        let Labels {
+            labels: _labels,
+            last: _last,
+        } = self;
     }
 }
 
@@ -92,11 +99,40 @@ impl Labels {
     {
         Labels {
             labels: IndexSet::new(alloc),
+            last: Vec::new(alloc),
         }
     }
 
     // The number of a label, which is put behind the others where it is new.
     pub(crate) fn number_of(&mut self, name: &Name, kind: &TypeName) -> Result<u32, AllocError>
+        ensures grows { Grows self.old.labels.keys self.new.labels.keys }
+        ensures number { IfOk result (λ number. slice_get self.new.labels.keys number ≡ Some (record { name = name.now; kind = kind.now })) }
+    {
+        let slot = slot_of(name);
+        if let Some(number) = self.last.get(slot).copied()
+            && self.is_label(number, name, kind)
+        {
+            return Ok(number);
+        }
+        let number = self.number_sought(name, kind)?;
+        remember(&mut self.last, slot, number)?;
+        Ok(number)
+    }
+
+    // Whether a label has a number.
+    fn is_label(&self, number: u32, name: &Name, kind: &TypeName) -> bool
+        ensures { IsTrue result → slice_get self.now.labels.keys number ≡ Some (record { name = name.now; kind = kind.now }) }
+    {
+        match self.label(number) {
+            Some(label) => {
+                is_written_as(&label.name, name) && has_type_written_as(&label.kind, kind)
+            }
+            None => false,
+        }
+    }
+
+    // The same, sought among all labels.
+    fn number_sought(&mut self, name: &Name, kind: &TypeName) -> Result<u32, AllocError>
         ensures grows { Grows self.old.labels.keys self.new.labels.keys }
         ensures number { IfOk result (λ number. slice_get self.new.labels.keys number ≡ Some (record { name = name.now; kind = kind.now })) }
     {
@@ -114,6 +150,31 @@ impl Labels {
     {
         self.labels.get_index(number as usize)
     }
+}
+
+// The slot of a name.
+fn slot_of(name: &Name) -> usize {
+    let local = name.local.as_str().as_bytes();
+    match (local.first(), local.last()) {
+        (Some(first), Some(last)) => {
+            (*first as usize * 7 + *last as usize * 3 + local.len() % 64) % SLOTS
+        }
+        _ => 0,
+    }
+}
+
+// Keeps the number of a slot as the last one.
+fn remember(last: &mut Vec<u32>, slot: usize, number: u32) -> Result<(), AllocError> {
+    if last.is_empty() {
+        last.reserve_exact(SLOTS)?;
+        for _ in 0..SLOTS {
+            last.push(0)?;
+        }
+    }
+    if let Some(kept) = last.get_mut(slot) {
+        *kept = number;
+    }
+    Ok(())
 }
 
 // Whether two names are equal and have one prefix.

@@ -77,8 +77,8 @@ impl Store {
         let node = NodeId {
             number: self.rows.len(),
         };
-        let mut fresh = rows_of(self.alloc, &mut self.labels, tree)?;
-        self.rows.append(&mut fresh)?;
+        let fresh = rows_of(self.alloc, &mut self.labels, tree)?;
+        append_rows(&mut self.rows, fresh)?;
         Ok(node)
     }
 
@@ -229,6 +229,19 @@ impl Store {
     {
         a.number < b.number
     }
+}
+
+// Puts fresh rows behind others; where there are no others, without a copy.
+fn append_rows(rows: &mut Vec<Row>, fresh: Vec<Row>) -> Result<(), AllocError>
+    ensures added { OnOk result (rows.new.items ≡ rows.old.items ++ fresh.items) }
+    ensures kept { OnErr result (rows.new.items ≡ rows.old.items) }
+{
+    if rows.is_empty() {
+        *rows = fresh;
+        return Ok(());
+    }
+    let mut fresh = fresh;
+    Ok(rows.append(&mut fresh)?)
 }
 
 fn attribute_count(form: &Form) -> usize

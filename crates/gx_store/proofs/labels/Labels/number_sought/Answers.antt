@@ -2,7 +2,7 @@ use Rattle.std.proofs.Common.{◌≡◌, List, Some, sym, ap, ◌∙◌, subst}
 use Rattle.gx_store.specs.declared.labels.Label.{Label}
 use Rattle.gx_store.specs.Grown.{Grows}
 use Rattle.gx_store.proofs.LabelLemmas.{stored_is, put_grows, narrowed_is}
-use Rattle.gx_store.proofs.labels.Labels.number_of.Goals as goal
+use Rattle.gx_store.proofs.labels.Labels.number_sought.Goals as goal
 
 pub returns-clause-grows : goal.returns-clause-grows
 returns-clause-grows c =
