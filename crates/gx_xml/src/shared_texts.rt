@@ -9,10 +9,10 @@ use gx_base::text::Text;
 use std::alloc::{AllocError, Global};
 
 // How many texts are kept.
-const SLOTS: usize = 16384;
+const SLOTS: usize = 4096;
 
 // Up to so many bytes a value is short.
-const SHORT: usize = 16;
+const SHORT: usize = 7;
 
 /// Texts that were made, each in the slot of its characters: of those of one slot the last is kept.
 #[derive(Drop)]

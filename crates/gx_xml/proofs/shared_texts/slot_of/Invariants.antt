@@ -2,4 +2,4 @@ use Rattle.std.proofs.Common.{◌<◌}
 use Rattle.gx_xml.proofs.shared_texts.slot_of.Given as goal
 
 abbrev pub invariant-loop-byte : goal.invariant-loop-byte
-invariant-loop-byte l = l.slot < 16384
+invariant-loop-byte l = l.slot < 4096
