@@ -11,7 +11,7 @@ use Rattle.std.proofs.lemmas.Str.Ascii.{IsAscii-nil, IsAscii-cons}
 use Rattle.gx_base.specs.NameCharacters.{is_xml_character, is_ncname_start, is_ncname_character}
 use Rattle.gx_grammar.specs.Tokens.{all_pass}
 use Rattle.gx_grammar.specs.Walks.{Walk, all_walk, reached, walk_of, behind_walk}
-use Rattle.gx_xml.specs.Plain.{GoesOn, is_plain, state_behind}
+use Rattle.gx_xml.specs.Plain.{RunsOnWith, is_plain_character, state_behind}
 use Rattle.gx_xml.specs.Runs.{walk_for, quote_character}
 use Rattle.gx_xml.specs.declared.plain.Plain.{Plain}
 use Rattle.gx_xml.specs.declared.plain.Plain.TheVariants as plain
@@ -20,11 +20,11 @@ use Rattle.gx_xml.specs.declared.runs.Quote.TheVariants as quote
 use Rattle.gx_xml.specs.declared.runs.Run.TheVariants as run
 use Rattle.gx_xml.proofs.RunLemmas.{Walked, walked_on}
 
-plain_low : (p : Plain) (c : ℕ) → is_plain p c ≡ true → c < 128
+plain_low : (p : Plain) (c : ℕ) → is_plain_character p c ≡ true → c < 128
 plain_low plain.Text c h = grind (arith, nat_tests)
 plain_low plain.Name c h = grind (arith, nat_tests)
 
-plain_ascii : (p : Plain) (x : List ℕ) → all_pass (is_plain p) x ≡ true → IsAscii x
+plain_ascii : (p : Plain) (x : List ℕ) → all_pass (is_plain_character p) x ≡ true → IsAscii x
 plain_ascii p [] h = IsAscii-nil
 plain_ascii p (c ∷ x) h = let both = and_parts _ _ h in IsAscii-cons c x (plain_low p c both.0) (plain_ascii p x both.1)
 
@@ -32,7 +32,7 @@ plain_ascii p (c ∷ x) h = let both = and_parts _ _ h in IsAscii-cons c x (plai
 pub record PlainCut (p : Plain) (text : List ℕ) (n : ℕ) : Type 0 where
   pub boundary : IsCharBoundary text n
   pub whole : chars text ≡ chars (take n text) ++ chars (drop n text)
-  pub plain : all_pass (is_plain p) (chars (take n text)) ≡ true
+  pub plain : all_pass (is_plain_character p) (chars (take n text)) ≡ true
   pub each : length (chars (take n text)) ≡ length (take n text)
 
 boundary_of : (text : List ℕ) (n : ℕ) → IsUtf8 text → n ≤ length text → IsAscii (take n text) → IsCharBoundary text n
@@ -41,27 +41,27 @@ boundary_of text (suc n) u l h =
     let low : get_or text n 0 < 128 = omega (arith, h n, get_or-take (suc n) text n 0 (omega arith)) in
     subst (λ k. IsCharBoundary text k) (omega arith) (IsCharBoundary-after_ascii text n u (omega arith) low)
 
-pub plain_cut : (p : Plain) (text : List ℕ) (n : ℕ) → IsUtf8 text → n ≤ length text → all_pass (is_plain p) (take n text) ≡ true → PlainCut p text n
+pub plain_cut : (p : Plain) (text : List ℕ) (n : ℕ) → IsUtf8 text → n ≤ length text → all_pass (is_plain_character p) (take n text) ≡ true → PlainCut p text n
 plain_cut p text n u l h =
     let ascii = plain_ascii p (take n text) h in
     let same : chars (take n text) ≡ take n text = chars-IsAscii (take n text) ascii in
     record {
       boundary = boundary_of text n u l ascii;
       whole = ap chars (sym (take-append-drop n text)) ∙ chars-append (take n text) (drop n text) (IsUtf8-from_ascii (take n text) ascii);
-      plain = ap (λ t. all_pass (is_plain p) t) same ∙ h;
+      plain = ap (λ t. all_pass (is_plain_character p) t) same ∙ h;
       each = ap length same;
     }
 
 -- one more plain character
-pub plain_more : (p : Plain) (x : List ℕ) (n : ℕ) → n < length x → all_pass (is_plain p) (take n x) ≡ true → is_plain p (get_or x n 0) ≡ true → all_pass (is_plain p) (take (n + 1) x) ≡ true
+pub plain_more : (p : Plain) (x : List ℕ) (n : ℕ) → n < length x → all_pass (is_plain_character p) (take n x) ≡ true → is_plain_character p (get_or x n 0) ≡ true → all_pass (is_plain_character p) (take (n + 1) x) ≡ true
 plain_more p [] n l h e = absurd (omega arith)
 plain_more p (c ∷ x) zero l h e = ap (λ b. b && true) e
 plain_more p (c ∷ x) (suc n) l h e =
     let both = and_parts _ _ h in
     let on : suc n + 1 ≡ suc (n + 1) = omega arith in
-    ap (λ k. all_pass (is_plain p) (take k (c ∷ x))) on ∙ ap (λ b. b && all_pass (is_plain p) (take (n + 1) x)) both.0 ∙ plain_more p x n (omega arith) both.1 e
+    ap (λ k. all_pass (is_plain_character p) (take k (c ∷ x))) on ∙ ap (λ b. b && all_pass (is_plain_character p) (take (n + 1) x)) both.0 ∙ plain_more p x n (omega arith) both.1 e
 
-still_walks : (p : Plain) (w : Walk) (n : ℕ) (x : List ℕ) → GoesOn p w n → all_pass (is_plain p) x ≡ true → (all_walk w (state_behind p) x ≡ true) × (reached w (state_behind p) x ≡ state_behind p)
+still_walks : (p : Plain) (w : Walk) (n : ℕ) (x : List ℕ) → RunsOnWith p w n → all_pass (is_plain_character p) x ≡ true → (all_walk w (state_behind p) x ≡ true) × (reached w (state_behind p) x ≡ state_behind p)
 still_walks p w n [] g h = (refl, refl)
 still_walks p w n (c ∷ x) g h =
     let both = and_parts _ _ h in
@@ -77,7 +77,7 @@ pub record PlainWalked (p : Plain) (w : Walk) (n : ℕ) (x : List ℕ) : Type 0 
   pub none : (length x == 0) ≡ true → n ≡ reached w n x
   pub some : (length x == 0) ≡ false → state_behind p ≡ reached w n x
 
-pub plain_walks : (p : Plain) (w : Walk) (n : ℕ) (x : List ℕ) → GoesOn p w n → all_pass (is_plain p) x ≡ true → PlainWalked p w n x
+pub plain_walks : (p : Plain) (w : Walk) (n : ℕ) (x : List ℕ) → RunsOnWith p w n → all_pass (is_plain_character p) x ≡ true → PlainWalked p w n x
 plain_walks p w n [] g h = record { walks = refl; none = λ e. refl; some = λ e. absurd (grind (arith, nat_tests)) }
 plain_walks p w n (c ∷ x) g h =
     let both = and_parts _ _ h in
@@ -89,7 +89,7 @@ plain_walks p w n (c ∷ x) g h =
       some = λ e. sym (ap (λ m. reached w m x) on ∙ rest.1);
     }
 
-pub text_goes_on : (n : ℕ) → GoesOn plain.Text (walk_for run.Text) n
+pub text_goes_on : (n : ℕ) → RunsOnWith plain.Text (walk_for run.Text) n
 unfolding is_xml_character
 text_goes_on n = record {
   goes = λ c h. grind (arith, nat_tests);
@@ -98,7 +98,7 @@ text_goes_on n = record {
   stays = λ c h. grind (arith, nat_tests);
 }
 
-pub value_goes_on : (q : Quote) (n : ℕ) → GoesOn plain.Text (walk_for (run.Value q)) n
+pub value_goes_on : (q : Quote) (n : ℕ) → RunsOnWith plain.Text (walk_for (run.Value q)) n
 unfolding is_xml_character
 value_goes_on quote.Double n = record {
   goes = λ c h. grind (arith, nat_tests);
@@ -113,7 +113,7 @@ value_goes_on quote.Single n = record {
   stays = λ c h. refl;
 }
 
-pub name_goes_on : (n : ℕ) → n ≡ 1 → GoesOn plain.Name (walk_for run.Name) n
+pub name_goes_on : (n : ℕ) → n ≡ 1 → RunsOnWith plain.Name (walk_for run.Name) n
 unfolding is_ncname_start is_ncname_character
 name_goes_on n e = record {
   goes = λ c h. grind (arith, nat_tests);

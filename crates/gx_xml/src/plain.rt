@@ -3,7 +3,7 @@
 ghost use Rattle.gx_grammar.specs.Tokens.{all_pass};
 ghost use Rattle.gx_grammar.specs.Walks.{all_walk, reached};
 ghost use Rattle.gx_xml.specs.Characters.{spelled};
-ghost use Rattle.gx_xml.specs.Plain.{GoesOn, is_plain, state_behind};
+ghost use Rattle.gx_xml.specs.Plain.{RunsOnWith, is_plain_character, state_behind};
 ghost use Rattle.gx_xml.specs.Runs.{walk_for};
 ghost use Rattle.std.specs.Prelude.{◌≡◌, ◌≤◌, ◌<◌, ◌++◌, IfSome, length, take, true};
 ghost use Rattle.std.specs.Str.{chars};
@@ -24,7 +24,7 @@ pub enum Plain {
 impl Plain {
     // Whether a byte is such a character.
     fn has(self, byte: u8) -> bool
-        ensures { result ≡ is_plain self byte }
+        ensures { result ≡ is_plain_character self byte }
     {
         match self {
             Plain::Text => {
@@ -45,7 +45,7 @@ impl Plain {
     // How many of them stand at the front.
     fn count(self, bytes: &[u8]) -> usize
         ensures within { result ≤ length bytes.now }
-        ensures plain { all_pass (is_plain self) (take result bytes.now) ≡ true }
+        ensures plain { all_pass (is_plain_character self) (take result bytes.now) ≡ true }
     {
         let mut count = 0;
         for byte in bytes {
@@ -60,7 +60,7 @@ impl Plain {
     // Those at the front of a text, and what is behind them.
     fn split_text(self, text: &str) -> (&str, &str)
         ensures whole { chars text.now ≡ chars result.0.now ++ chars result.1.now }
-        ensures plain { all_pass (is_plain self) (chars result.0.now) ≡ true }
+        ensures plain { all_pass (is_plain_character self) (chars result.0.now) ≡ true }
         ensures each { length (chars result.0.now) ≡ length result.0.now }
     {
         let count = self.count(text.as_bytes());
@@ -70,7 +70,7 @@ impl Plain {
     // Those at the front, and the characters behind them.
     fn split<'a>(self, text: Characters<'a>) -> (Characters<'a>, Characters<'a>)
         ensures whole { spelled text.entry ≡ spelled result.0 ++ spelled result.1 }
-        ensures plain { all_pass (is_plain self) (spelled result.0) ≡ true }
+        ensures plain { all_pass (is_plain_character self) (spelled result.0) ≡ true }
     {
         let (front, behind) = self.split_text(text.text);
         let front = Characters {
@@ -98,7 +98,7 @@ impl Plain {
 
 // The plain characters with which a run goes on from a state on.
 fn plain_for(run: Run, state: u32) -> Option<Plain>
-    ensures { IfSome result (λ plain. GoesOn plain (walk_for run) state) }
+    ensures { IfSome result (λ plain. RunsOnWith plain (walk_for run) state) }
 {
     match run {
         Run::Text => Some(Plain::Text),
