@@ -8,3 +8,4 @@ pub mod TypedChildren
 pub mod StringValues
 pub mod HonestTrees
 pub mod Outcomes
+pub mod UnequalNames

@@ -1,6 +1,7 @@
 // What a type says of the children of its elements.
 
 ghost use Rattle.std.specs.Prelude.{◌≡◌, IfOk, option_copied};
+ghost use Rattle.gx_base.specs.Name.{same_name};
 ghost use Rattle.gx_qnames.specs.Lexical.{is_blank};
 ghost use Rattle.gx_model.specs.DeclaredContent.{complex_model, has_values};
 ghost use Rattle.gx_validate.specs.ElementContent.{type_of_child, element_type_in, is_ignored, texts_allowed, texts_allowed_in, texts_allowed_by, type_of_element_item};
@@ -106,6 +107,16 @@ pub fn is_stray(texts: Texts, text: &Text) -> bool
     }
 }
 
+// Whether two names are equal. Most that are not have local parts of other lengths.
+fn is_equal(wanted: &Name, name: &Name) -> bool
+    ensures { result ≡ same_name wanted.now name.now }
+{
+    if wanted.local.as_str().len() != name.local.as_str().len() {
+        return false;
+    }
+    wanted == name
+}
+
 fn type_of_element_item<'a>(kind: &'a ItemType, name: &Name) -> Option<&'a TypeName>
     ensures { option_copied result ≡ type_of_element_item kind.now name.now }
 {
@@ -113,7 +124,7 @@ fn type_of_element_item<'a>(kind: &'a ItemType, name: &Name) -> Option<&'a TypeN
         ItemType::Element {
             name: Some(wanted),
             kind,
-        } if wanted == name => Some(kind),
+        } if is_equal(wanted, name) => Some(kind),
         _ => None,
     }
 }
