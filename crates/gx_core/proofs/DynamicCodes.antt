@@ -2,9 +2,9 @@
 use Rattle.std.proofs.Common.{◌≡◌, zero, length, drop, Bool, true, false, not, List, [], ◌∷◌, ◌++◌, map}
 use Rattle.std.proofs.Common.{Option, None, Some, Result, Ok, Err, refl, subst, if◌then◌else◌, ◌&&◌}
 use Rattle.std.specs.Prelude.{ℕ, suc, nat_le, option_map}
-use Rattle.std.specs.List.{list_all, list_any}
+use Rattle.std.specs.List.{list_all, list_any, slice_get}
 use Rattle.gx_base.specs.declared.code.Code.{Code}
-use Rattle.gx_base.specs.declared.code.Code.TheVariants.{GLXD0002, XPDY0050}
+use Rattle.gx_base.specs.declared.code.Code.TheVariants.{GLXD0001, GLXD0002, XPDY0050}
 use Rattle.gx_base.specs.Code.{is_dynamic}
 use Rattle.gx_base.specs.declared.type_name.TypeName.{TypeName}
 use Rattle.gx_base.specs.declared.limits.TheConstants.{RANGE_ITEMS}
@@ -14,6 +14,7 @@ use Rattle.gx_num.specs.declared.NumFault.TheVariants.{Overflow, DivZero}
 use Rattle.gx_num.specs.Arithmetic.{exact_negation, in_range_or_overflow}
 use Rattle.gx_facets.specs.declared.Atomic.{Atomic}
 use Rattle.gx_types.specs.SchemaSet.{SchemaSet}
+use Rattle.gx_types.specs.SequenceType.{SequenceType}
 use Rattle.gx_types.specs.declared.step.Axis.{Axis}
 use Rattle.gx_types.specs.declared.step.Test.{Test}
 use Rattle.gx_atomic.specs.declared.casting.CastError.{CastError}
@@ -41,8 +42,11 @@ use Rattle.gx_core.specs.declared.expression.ArithmeticOp.{ArithmeticOp}
 use Rattle.gx_core.specs.declared.expression.BinaryClass.{BinaryClass}
 use Rattle.gx_core.specs.declared.expression.BinaryClass.TheVariants.{Arithmetic, Value, General, Nodes, Range, Combination}
 use Rattle.gx_core.specs.declared.expression.NodeComparison.{NodeComparison}
+use Rattle.gx_core.specs.declared.expression.Declaration.{Declaration}
 use Rattle.gx_core.specs.declared.expression.Declaration.TheVariants.{Global}
-use Rattle.gx_core.specs.Queries.{CoreDeclaration}
+use Rattle.gx_core.specs.declared.expression.Declaration.TheVariants as declarations
+use Rattle.gx_core.specs.declared.expression.DeclaredFunction.{DeclaredFunction}
+use Rattle.gx_core.specs.declared.signature.FunctionSignature.{FunctionSignature}
 use Rattle.gx_core.specs.BinaryOperators.{class_of}
 use Rattle.gx_core.specs.Expression.{Expression, At, Parts, no_parts, a_part}
 use Rattle.gx_core.specs.declared.constructor.Constructor.{Constructor}
@@ -63,10 +67,12 @@ use Rattle.gx_core.specs.Paths.{is_node, places_of, stepped, put_in_order}
 use Rattle.gx_core.specs.declared.cases.TypeCase.{TypeCase}
 use Rattle.gx_core.specs.Instances.{is_instance}
 use Rattle.gx_core.specs.Bindings.{look_up, position_bound}
-use Rattle.gx_core.specs.Meaning.{Context, Bindings, Denotation, binary_meaning, acts, all_of, for_each, item_bound}
+use Rattle.gx_core.specs.Meaning.{CallOutcomes, Context, Bindings, Denotation, binary_meaning, acts, all_of, for_each, item_bound}
 use Rattle.gx_core.specs.Meaning.{decides, any_decides, branch, switched, denoted, meaning, meanings}
-use Rattle.gx_core.specs.QueryMeaning.{globals_bound, query_outcome, QueriesRaiseDynamicCodes}
-use Rattle.gx_core.specs.Laws.{RaisesDynamicCodes, ExpressionsRaiseDynamicCodes}
+use Rattle.gx_core.specs.Converting.{is_untyped, is_any_atomic_type, item_converted, items_converted, converted_to, expected_atomic, converted, arguments_converted}
+use Rattle.gx_core.specs.Functions.{functions_of, arguments_bound, calls_over, context_over}
+use Rattle.gx_core.specs.QueryMeaning.{globals_bound, outcome_within, QueriesRaiseDynamicCodes}
+use Rattle.gx_core.specs.Laws.{RaisesDynamicCodes, CallsRaiseDynamicCodes, ExpressionsRaiseDynamicCodes}
 
 -- the same by cases: a result, a dynamic code, or a type error
 abbrev IsDynamic : {R : Type 0} → Outcome R → Type 0
@@ -78,6 +84,15 @@ by_cases : {R : Type 0} (outcome : Outcome R) → IsDynamic outcome → RaisesDy
 by_cases (gives result forest) h code e = absurd (cc)
 by_cases (raises other) h code e = let same : other ≡ code = cc in subst (λ (c : Code). is_dynamic c ≡ true) same h
 by_cases wrong h code e = absurd (cc)
+
+of_codes : {R : Type 0} (outcome : Outcome R) → RaisesDynamicCodes outcome → IsDynamic outcome
+of_codes (gives result forest) h = tt
+of_codes (raises code) h = h code refl
+of_codes wrong h = tt
+
+-- calls of functions raise the codes of dynamic errors alone
+abbrev AreCallsDynamic : CallOutcomes → Type 0
+AreCallsDynamic calls = (signature : FunctionSignature) (values : List Items) (forest : Forest) → IsDynamic (calls signature values forest)
 
 -- ---- what follows
 
@@ -264,29 +279,65 @@ dynamic_called schemas function (Some texts) values forest =
     (λ arguments. given (text_answer texts arguments) (λ answer. gives (atom answer ∷ []) forest))
     (λ arguments. dynamic_given (text_answer texts arguments) (λ answer. gives (atom answer ∷ []) forest) (λ answer. tt))
 
+-- ---- conversions
+
+dynamic_item_converted : (schemas : SchemaSet) (kind : TypeName) (x : Item) (forest : Forest) → IsDynamic (item_converted schemas kind x forest)
+dynamic_item_converted schemas kind (atom a) forest =
+    dynamic_choice (is_untyped a.value && not (is_any_atomic_type kind)) (cast_outcome (cast_of schemas a kind) forest) (gives (atom a ∷ []) forest)
+    (dynamic_cast_outcome (cast_of schemas a kind) forest) tt
+dynamic_item_converted schemas kind (node place) forest = tt
+
+dynamic_items_converted : (schemas : SchemaSet) (kind : TypeName) (xs : Items) (forest : Forest) → IsDynamic (items_converted schemas kind xs forest)
+dynamic_items_converted schemas kind [] forest = tt
+dynamic_items_converted schemas kind (x ∷ xs) forest =
+    dynamic_after (item_converted schemas kind x forest) (λ ys left. after (items_converted schemas kind xs left) (λ zs last. gives (ys ++ zs) last))
+    (dynamic_item_converted schemas kind x forest)
+    (λ ys left. dynamic_after (items_converted schemas kind xs left) (λ zs last. gives (ys ++ zs) last)
+    (dynamic_items_converted schemas kind xs left) (λ zs last. tt))
+
+dynamic_converted_to : (expected : Option TypeName) (schemas : SchemaSet) (xs : Items) (forest : Forest) → IsDynamic (converted_to expected schemas xs forest)
+dynamic_converted_to None schemas xs forest = tt
+dynamic_converted_to (Some kind) schemas xs forest =
+    dynamic_given (atomized schemas forest xs) (λ ys. items_converted schemas kind ys forest) (λ ys. dynamic_items_converted schemas kind ys forest)
+
+dynamic_arguments : (schemas : SchemaSet) (parameters : List SequenceType) (arguments : List Items) (forest : Forest)
+    → IsDynamic (arguments_converted schemas parameters arguments forest)
+dynamic_arguments schemas [] [] forest = tt
+dynamic_arguments schemas (expected ∷ parameters) (xs ∷ arguments) forest =
+    dynamic_after (converted schemas expected xs forest)
+    (λ ys left. after (arguments_converted schemas parameters arguments left) (λ values last. gives (ys ∷ values) last))
+    (dynamic_converted_to (expected_atomic expected) schemas xs forest)
+    (λ ys left. dynamic_after (arguments_converted schemas parameters arguments left) (λ values last. gives (ys ∷ values) last)
+    (dynamic_arguments schemas parameters arguments left) (λ values last. tt))
+dynamic_arguments schemas [] (xs ∷ arguments) forest = tt
+dynamic_arguments schemas (expected ∷ parameters) [] forest = tt
+
 -- ---- operators
 
-dynamic_act : (context : Context) (operator : Operator) (values : List Items) (forest : Forest)
+dynamic_act : (context : Context) → AreCallsDynamic context.calls → (operator : Operator) (values : List Items) (forest : Forest)
     → IsDynamic (acts context operator values forest)
-dynamic_act context (operators.Lit value) [] forest = tt
-dynamic_act context operators.Empty [] forest = tt
-dynamic_act context operators.Seq (xs ∷ ys ∷ []) forest = tt
-dynamic_act context operators.Nodes (xs ∷ []) forest = dynamic_choice (list_all is_node xs) (gives xs forest) wrong tt tt
-dynamic_act context operators.Order (xs ∷ []) forest = dynamic_order xs forest
-dynamic_act context (operators.Nth number reverse) (xs ∷ []) forest = tt
-dynamic_act context (operators.Final reverse) (xs ∷ []) forest = tt
-dynamic_act context operators.DataOf (xs ∷ []) forest =
+dynamic_act context k (operators.Lit value) [] forest = tt
+dynamic_act context k operators.Empty [] forest = tt
+dynamic_act context k operators.Seq (xs ∷ ys ∷ []) forest = tt
+dynamic_act context k operators.Nodes (xs ∷ []) forest = dynamic_choice (list_all is_node xs) (gives xs forest) wrong tt tt
+dynamic_act context k operators.Order (xs ∷ []) forest = dynamic_order xs forest
+dynamic_act context k (operators.Nth number reverse) (xs ∷ []) forest = tt
+dynamic_act context k (operators.Final reverse) (xs ∷ []) forest = tt
+dynamic_act context k operators.DataOf (xs ∷ []) forest =
     dynamic_given (atomized context.schemas forest xs) (λ ys. gives ys forest) (λ ys. tt)
-dynamic_act context (operators.Cast kind optional) (xs ∷ []) forest = dynamic_cast context.schemas kind optional xs forest
-dynamic_act context (operators.Castable kind optional) (xs ∷ []) forest = dynamic_castable context.schemas kind optional xs forest
-dynamic_act context (operators.Treat kind) (xs ∷ []) forest =
+dynamic_act context k (operators.Cast kind optional) (xs ∷ []) forest = dynamic_cast context.schemas kind optional xs forest
+dynamic_act context k (operators.Castable kind optional) (xs ∷ []) forest = dynamic_castable context.schemas kind optional xs forest
+dynamic_act context k (operators.Treat kind) (xs ∷ []) forest =
     dynamic_choice (is_instance context.schemas forest kind xs) (gives xs forest) (raises XPDY0050) tt refl
-dynamic_act context (operators.Call function) values forest = dynamic_called context.schemas function (text_function_of function) values forest
-dynamic_act context operators.Neg (xs ∷ []) forest = dynamic_on_one xs forest negation_of_item (λ x. dynamic_negation x forest)
-dynamic_act context (operators.Binary operator) (xs ∷ ys ∷ []) forest = dynamic_binary (class_of operator) xs ys forest
-dynamic_act context (operators.Construct constructor count) values forest =
+dynamic_act context k (operators.Call function) values forest = dynamic_called context.schemas function (text_function_of function) values forest
+dynamic_act context k operators.Neg (xs ∷ []) forest = dynamic_on_one xs forest negation_of_item (λ x. dynamic_negation x forest)
+dynamic_act context k (operators.Binary operator) (xs ∷ ys ∷ []) forest = dynamic_binary (class_of operator) xs ys forest
+dynamic_act context k (operators.Construct constructor count) values forest =
     dynamic_constructor context.schemas constructor values forest
-dynamic_act context _ _ forest = tt
+dynamic_act context k (operators.User signature count) values forest =
+    dynamic_after (arguments_converted context.schemas signature.parameters values forest) (λ arguments left. context.calls signature arguments left)
+    (dynamic_arguments context.schemas signature.parameters values forest) (λ arguments left. k signature arguments left)
+dynamic_act context k _ _ forest = tt
 
 -- each part raises the codes of dynamic errors alone, wherever it stands
 abbrev AreDynamic : List Denotation → Type 0
@@ -418,85 +469,102 @@ dynamic_block kinds orders parts bindings forest h =
     (λ tuples left. dynamic_block_returned orders (drop (length orders) (drop (length kinds) parts)) bindings tuples left
     (dynamic_dropped (length orders) (drop (length kinds) parts) (dynamic_dropped (length kinds) parts h)))
 
-dynamic_operator : (context : Context) (operator : Operator) (parts : List Denotation) (bindings : Bindings) (forest : Forest)
+dynamic_operator : (context : Context) → AreCallsDynamic context.calls → (operator : Operator) (parts : List Denotation) (bindings : Bindings) (forest : Forest)
     → AreDynamic parts → IsDynamic (denoted context operator parts bindings forest)
-dynamic_operator context (operators.Var number) [] bindings forest h =
+dynamic_operator context k (operators.Var number) [] bindings forest h =
     dynamic_given (look_up bindings number) (λ value. gives value forest) (λ value. tt)
-dynamic_operator context (operators.For binder position) (source ∷ body ∷ []) bindings forest h =
+dynamic_operator context k (operators.For binder position) (source ∷ body ∷ []) bindings forest h =
     dynamic_after (source bindings forest)
     (λ xs left. for_each (λ number x now. body (item_bound binder.variable position number x ++ bindings) now) 1 [] xs left)
     (h.0 bindings forest)
     (λ xs left. dynamic_each (λ number x now. body (item_bound binder.variable position number x ++ bindings) now) 1 [] xs left
     (λ number x now. h.1.0 (item_bound binder.variable position number x ++ bindings) now))
-dynamic_operator context (operators.SomeIn binder) (source ∷ test ∷ []) bindings forest h =
+dynamic_operator context k (operators.SomeIn binder) (source ∷ test ∷ []) bindings forest h =
     dynamic_after (source bindings forest) (λ xs left. any_decides true (λ x now. test ((binder.variable, x ∷ []) ∷ bindings) now) xs left)
     (h.0 bindings forest)
     (λ xs left. dynamic_search true (λ x now. test ((binder.variable, x ∷ []) ∷ bindings) now) xs left
     (λ x now. h.1.0 ((binder.variable, x ∷ []) ∷ bindings) now))
-dynamic_operator context (operators.EveryIn binder) (source ∷ test ∷ []) bindings forest h =
+dynamic_operator context k (operators.EveryIn binder) (source ∷ test ∷ []) bindings forest h =
     dynamic_after (source bindings forest) (λ xs left. any_decides false (λ x now. test ((binder.variable, x ∷ []) ∷ bindings) now) xs left)
     (h.0 bindings forest)
     (λ xs left. dynamic_search false (λ x now. test ((binder.variable, x ∷ []) ∷ bindings) now) xs left
     (λ x now. h.1.0 ((binder.variable, x ∷ []) ∷ bindings) now))
-dynamic_operator context (operators.Block kinds orders) parts bindings forest h = dynamic_block kinds orders parts bindings forest h
-dynamic_operator context (operators.Step axis asks number) [] bindings forest h =
+dynamic_operator context k (operators.Block kinds orders) parts bindings forest h = dynamic_block kinds orders parts bindings forest h
+dynamic_operator context k (operators.Step axis asks number) [] bindings forest h =
     dynamic_given (look_up bindings number) (λ value. stepped context.schemas axis asks value forest)
     (λ value. dynamic_step context.schemas axis asks value forest)
-dynamic_operator context (operators.Let binder) (value ∷ body ∷ []) bindings forest h =
+dynamic_operator context k (operators.Let binder) (value ∷ body ∷ []) bindings forest h =
     dynamic_after (value bindings forest) (λ xs left. body ((binder.variable, xs) ∷ bindings) left) (h.0 bindings forest)
     (λ xs left. h.1.0 ((binder.variable, xs) ∷ bindings) left)
-dynamic_operator context (operators.Switch cases default) (operand ∷ branches) bindings forest h =
+dynamic_operator context k (operators.Switch cases default) (operand ∷ branches) bindings forest h =
     dynamic_after (operand bindings forest) (λ xs left. switched context.schemas cases default branches xs bindings left)
     (h.0 bindings forest)
     (λ xs left. dynamic_switched context.schemas cases default branches xs bindings left h.1)
-dynamic_operator context operators.If (condition ∷ chosen ∷ otherwise ∷ []) bindings forest h =
+dynamic_operator context k operators.If (condition ∷ chosen ∷ otherwise ∷ []) bindings forest h =
     dynamic_after (condition bindings forest) (λ xs left. given (condition_of xs) (λ truth. branch truth chosen otherwise bindings left))
     (h.0 bindings forest)
     (λ xs left. dynamic_given (condition_of xs) (λ truth. branch truth chosen otherwise bindings left)
     (λ truth. dynamic_branch truth chosen otherwise bindings left (h.1.0 bindings left) (h.1.1.0 bindings left)))
-dynamic_operator context (operators.For binder position) _ bindings forest h = tt
-dynamic_operator context (operators.SomeIn binder) _ bindings forest h = tt
-dynamic_operator context (operators.EveryIn binder) _ bindings forest h = tt
-dynamic_operator context (operators.Let binder) _ bindings forest h = tt
-dynamic_operator context operators.If _ bindings forest h = tt
-dynamic_operator context (operators.Switch cases default) [] bindings forest h = tt
-dynamic_operator context operator parts bindings forest h =
+dynamic_operator context k (operators.For binder position) _ bindings forest h = tt
+dynamic_operator context k (operators.SomeIn binder) _ bindings forest h = tt
+dynamic_operator context k (operators.EveryIn binder) _ bindings forest h = tt
+dynamic_operator context k (operators.Let binder) _ bindings forest h = tt
+dynamic_operator context k operators.If _ bindings forest h = tt
+dynamic_operator context k (operators.Switch cases default) [] bindings forest h = tt
+dynamic_operator context k operator parts bindings forest h =
     dynamic_after (all_of parts bindings forest) (acts context operator) (dynamic_all parts bindings forest h)
-    (λ values left. dynamic_act context operator values left)
+    (λ values left. dynamic_act context k operator values left)
 
 -- ---- expressions and queries
 
 mutual
-  dynamic_expression : (A : Type 0) (context : Context) (e : Expression A) (bindings : Bindings) (forest : Forest)
+  dynamic_expression : (A : Type 0) (context : Context) → AreCallsDynamic context.calls → (e : Expression A) (bindings : Bindings) (forest : Forest)
       → IsDynamic (meaning context e bindings forest)
-  dynamic_expression A context (At place outer annotation operator parts) bindings forest =
-      dynamic_operator context operator (meanings context parts) bindings forest (dynamic_parts A context parts)
+  dynamic_expression A context k (At place outer annotation operator parts) bindings forest =
+      dynamic_operator context k operator (meanings context parts) bindings forest (dynamic_parts A context k parts)
 
-  dynamic_parts : (A : Type 0) (context : Context) (parts : Parts A) → AreDynamic (meanings context parts)
-  dynamic_parts A context no_parts = tt
-  dynamic_parts A context (a_part first others) = (dynamic_expression A context first, dynamic_parts A context others)
+  dynamic_parts : (A : Type 0) (context : Context) → AreCallsDynamic context.calls → (parts : Parts A) → AreDynamic (meanings context parts)
+  dynamic_parts A context k no_parts = tt
+  dynamic_parts A context k (a_part first others) = (dynamic_expression A context k first, dynamic_parts A context k others)
 
 pub expressions_raise_dynamic_codes : ExpressionsRaiseDynamicCodes
-expressions_raise_dynamic_codes context e bindings forest =
-    by_cases (meaning context e bindings forest) (dynamic_expression (Unit {0}) context e bindings forest)
+expressions_raise_dynamic_codes context e bindings forest calls =
+    by_cases (meaning context e bindings forest)
+    (dynamic_expression (Unit {0}) context (λ signature values now. of_codes (context.calls signature values now) (calls signature values now)) e bindings forest)
 
-dynamic_globals : (context : Context) (declarations : List CoreDeclaration) (documents : List PlainNode) (bindings : Bindings)
-    (forest : Forest)
-    → IsDynamic (globals_bound context declarations documents bindings forest)
-dynamic_globals context [] documents bindings forest = tt
-dynamic_globals context (Global name binder (Some value) ∷ others) documents bindings forest =
-    dynamic_after (meaning context value bindings forest)
-    (λ items left. globals_bound context others documents ((binder.variable, items) ∷ bindings) left)
-    (dynamic_expression (Unit {0}) context value bindings forest)
-    (λ items left. dynamic_globals context others documents ((binder.variable, items) ∷ bindings) left)
-dynamic_globals context (Global name binder None ∷ others) [] bindings forest = tt
-dynamic_globals context (Global name binder None ∷ others) (document ∷ documents) bindings forest =
-    dynamic_globals context others documents ((binder.variable, node document ∷ []) ∷ bindings) forest
+-- however many calls may be active
+dynamic_calls : (A : Type 0) (schemas : SchemaSet) (functions : List (DeclaredFunction A)) (globals : Bindings) (left : ℕ)
+    → AreCallsDynamic (calls_over schemas functions globals left)
+unfolding calls_over
+dynamic_calls A schemas functions globals zero signature values forest = refl
+dynamic_calls A schemas functions globals (suc left) signature values forest =
+    let context : Context = record { schemas = schemas; calls = calls_over schemas functions globals left } in
+    dynamic_given (slice_get functions signature.number)
+    (λ f. after (meaning context f.body (arguments_bound f.parameters values ++ globals) forest) (λ xs now. converted schemas f.result xs now))
+    (λ f. dynamic_after (meaning context f.body (arguments_bound f.parameters values ++ globals) forest) (λ xs now. converted schemas f.result xs now)
+    (dynamic_expression A context (dynamic_calls A schemas functions globals left) f.body (arguments_bound f.parameters values ++ globals) forest)
+    (λ xs now. dynamic_converted_to (expected_atomic f.result) schemas xs now))
+
+dynamic_globals : (A : Type 0) (schemas : SchemaSet) (functions : List (DeclaredFunction A)) (limit : ℕ) (ds : List (Declaration A))
+    (documents : List PlainNode) (bindings : Bindings) (forest : Forest)
+    → IsDynamic (globals_bound schemas functions limit ds documents bindings forest)
+dynamic_globals A schemas functions limit [] documents bindings forest = tt
+dynamic_globals A schemas functions limit (declarations.Function f ∷ others) documents bindings forest =
+    dynamic_globals A schemas functions limit others documents bindings forest
+dynamic_globals A schemas functions limit (Global name binder (Some value) ∷ others) documents bindings forest =
+    dynamic_after (meaning (context_over schemas functions bindings limit) value bindings forest)
+    (λ items left. globals_bound schemas functions limit others documents ((binder.variable, items) ∷ bindings) left)
+    (dynamic_expression A (context_over schemas functions bindings limit) (dynamic_calls A schemas functions bindings limit) value bindings forest)
+    (λ items left. dynamic_globals A schemas functions limit others documents ((binder.variable, items) ∷ bindings) left)
+dynamic_globals A schemas functions limit (Global name binder None ∷ others) [] bindings forest = tt
+dynamic_globals A schemas functions limit (Global name binder None ∷ others) (document ∷ documents) bindings forest =
+    dynamic_globals A schemas functions limit others documents ((binder.variable, node document ∷ []) ∷ bindings) forest
 
 pub queries_raise_dynamic_codes : QueriesRaiseDynamicCodes
-queries_raise_dynamic_codes schemas core documents forest =
-    let context : Context = record { schemas = schemas } in
-    by_cases (query_outcome schemas core documents forest)
-    (dynamic_after (globals_bound context core.declarations documents [] forest) (λ bindings left. meaning context core.body bindings left)
-    (dynamic_globals context core.declarations documents [] forest)
-    (λ bindings left. dynamic_expression (Unit {0}) context core.body bindings left))
+queries_raise_dynamic_codes limit schemas core documents forest =
+    let functions : List (DeclaredFunction (Unit {0})) = functions_of core.declarations in
+    by_cases (outcome_within limit schemas core documents forest)
+    (dynamic_after (globals_bound schemas functions limit core.declarations documents [] forest)
+    (λ bindings left. meaning (context_over schemas functions bindings limit) core.body bindings left)
+    (dynamic_globals (Unit {0}) schemas functions limit core.declarations documents [] forest)
+    (λ bindings left. dynamic_expression (Unit {0}) (context_over schemas functions bindings limit) (dynamic_calls (Unit {0}) schemas functions bindings limit) core.body bindings left))

@@ -10,7 +10,7 @@ use Rattle.gx_model.proofs.PublicLaws.{growth_is_an_order, values_stay}
 use Rattle.gx_core.specs.Bindings.{look_up, Types}
 use Rattle.gx_core.specs.Outcome.{Outcome, gives, raises, wrong, after}
 use Rattle.gx_core.specs.Meaning.{all_of}
-use Rattle.gx_core.specs.Soundness.{Setting, KeepsFact, IsOfType, AreOfTypes, Situation}
+use Rattle.gx_core.specs.Soundness.{Setting, KeepsFact, IsOfType, AreOfTypes, CallsKeepTypes, Situation}
 use Rattle.gx_core.specs.Laws.{AfterKeeps, BindingsFitStill, BindingFits, OperandsKeepTheirTypes}
 
 -- what an outcome keeps in a forest, it keeps in each one that this one has grown from
@@ -57,6 +57,11 @@ binding_fits setting binder t xs types bindings forest fits belongs number u fou
     ] found in
     record { value = b.0; bound = b.1; belongs = b.2 }
 
+-- calls that keep their types keep them still
+pub calls_keep_still : (setting : Setting) (before now : Forest) → Extends before now → CallsKeepTypes setting before → CallsKeepTypes setting now
+calls_keep_still setting before now e keep last signature values known f honest belong =
+    keep last signature values known (growth_is_an_order.transitive before now last e f) honest belong
+
 -- the same bindings, later
 abbrev pub later : (setting : Setting) (types : Types) (situation : Situation setting types) (now : Forest) → Extends situation.forest now
     → IsHonest setting.schemas now → Situation setting types
@@ -65,6 +70,7 @@ later setting types situation now e honest = record {
   forest = now;
   honest = honest;
   fits = bindings_fit_still setting types situation.bindings situation.forest now e situation.fits;
+  calls_keep = calls_keep_still setting situation.forest now e situation.calls_keep;
 }
 
 pub operands_keep : OperandsKeepTheirTypes

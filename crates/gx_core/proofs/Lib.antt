@@ -2,6 +2,8 @@ pub mod CallSizes
 pub mod InstanceLemmas
 pub mod PlainMeaning
 pub mod KeptFacts
+pub mod CallLemmas
+pub mod DeclaredCalls
 pub mod SoundQueries
 pub mod SlotLemmas
 pub mod DynamicCodes

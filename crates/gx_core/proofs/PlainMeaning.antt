@@ -6,7 +6,7 @@ use Rattle.gx_core.specs.Meaning.{Context, Denotation, denoted, meaning, meaning
 use Rattle.gx_core.specs.Laws.{MeaningLooksAtNoType}
 
 mutual
-  plain_means_the_same : (A : Type 0) (context : Context) (e : Expression A) → meaning context (plain e) ≡ meaning context e
+  pub plain_means_the_same : (A : Type 0) (context : Context) (e : Expression A) → meaning context (plain e) ≡ meaning context e
   plain_means_the_same A context (At place outer annotation operator parts) =
       ap (denoted context operator) (plain_parts_mean_the_same A context parts)
 

@@ -8,7 +8,7 @@ use Rattle.gx_core.specs.declared.expression.SortKey.{SortKey}
 use Rattle.gx_core.specs.declared.expression.Form.{Form}
 use Rattle.gx_core.specs.declared.expression.Form.TheVariants.{Lit, Var, Empty, Seq, For, Let, If, Cast, Castable, Treat}
 use Rattle.gx_core.specs.declared.expression.Form.TheVariants.{Step, Nodes, Order, SomeIn, EveryIn, Switch, Nth}
-use Rattle.gx_core.specs.declared.expression.Form.TheVariants.{Final, DataOf, NoContext, Call, Neg, Binary, Block, Construct}
+use Rattle.gx_core.specs.declared.expression.Form.TheVariants.{Final, DataOf, NoContext, Call, Neg, Binary, Block, Construct, User}
 use Rattle.gx_core.specs.declared.expression.Expr.TheDeep.{deep-Form, deep-Clause, deep-SortKey}
 use Rattle.gx_core.specs.Expression.{Expression, expression_size, parts_size, all_parts}
 use Rattle.gx_core.specs.ExpressionView.{part_of_key, parts_of_block, parts_of}
@@ -57,3 +57,4 @@ parts_are_smaller (Call function es) = omega (arith, most_parts es.items)
 parts_are_smaller (Neg a) = omega arith
 parts_are_smaller (Binary o a b) = omega arith
 parts_are_smaller (Construct c es) = omega (arith, most_parts es.items)
+parts_are_smaller (User signature es) = omega (arith, most_parts es.items)

@@ -11,7 +11,7 @@ use Rattle.gx_core.specs.declared.expression.SortKey.{SortKey}
 use Rattle.gx_core.specs.declared.expression.Form.{Form}
 use Rattle.gx_core.specs.declared.expression.Form.TheVariants.{Lit, Var, Empty, Seq, For, Let, If, Cast, Castable, Treat}
 use Rattle.gx_core.specs.declared.expression.Form.TheVariants.{Step, Nodes, Order, SomeIn, EveryIn, Switch, Nth}
-use Rattle.gx_core.specs.declared.expression.Form.TheVariants.{Final, DataOf, NoContext, Call, Neg, Binary, Block, Construct}
+use Rattle.gx_core.specs.declared.expression.Form.TheVariants.{Final, DataOf, NoContext, Call, Neg, Binary, Block, Construct, User}
 use Rattle.gx_core.specs.declared.expression.Expr.TheInside.{Inside}
 use Rattle.gx_core.specs.Expression.{Expression, At, Parts, no_parts, a_part, one_part, two_parts, three_parts, all_parts}
 
@@ -62,6 +62,7 @@ operator_of (Call function es) = operators.Call function
 operator_of (Neg a) = operators.Neg
 operator_of (Binary o a b) = operators.Binary o
 operator_of (Construct c es) = operators.Construct c (length es.items)
+operator_of (User signature es) = operators.User signature (length es.items)
 
 abbrev pub parts_of : {A : Type 0} → Form A → Parts A
 parts_of (Lit a) = no_parts
@@ -89,6 +90,7 @@ parts_of (Call function es) = all_parts es.items
 parts_of (Neg a) = one_part a.value
 parts_of (Binary o a b) = two_parts a.value b.value
 parts_of (Construct c es) = all_parts es.items
+parts_of (User signature es) = all_parts es.items
 
 abbrev pub expression_of : {A : Type 0} → Inside A → Expression A
 expression_of e = At e.place e.outer e.kind (operator_of e.form) (parts_of e.form)

@@ -20,11 +20,14 @@ use Rattle.gx_core.specs.declared.operator.Operator.{Operator}
 use Rattle.gx_core.specs.Bindings.{Types, look_up}
 use Rattle.gx_core.specs.Instances.{is_instance, IsWrittenType}
 use Rattle.gx_core.specs.Outcome.{Outcome, raises, after, gives}
-use Rattle.gx_core.specs.Meaning.{Context, Bindings, Denotation, all_of, denoted, meaning}
+use Rattle.gx_core.specs.declared.signature.FunctionSignature.{FunctionSignature}
+use Rattle.gx_core.specs.Meaning.{CallOutcomes, Context, Bindings, Denotation, all_of, denoted, meaning}
 use Rattle.gx_core.specs.Constructing.{constructor_outcome}
 use Rattle.gx_core.specs.declared.constructor.Constructor.{Constructor}
 use Rattle.gx_core.specs.Evaluations.{PartEvaluation, evaluations, evaluated_as}
 use Rattle.gx_core.specs.FreeVariables.{is_free_in}
+use Rattle.gx_core.specs.Queries.{Core}
+use Rattle.gx_core.specs.Invariant.{IsWellFormedQuery, CallsDeclaredFunctions}
 use Rattle.gx_core.specs.Soundness.{TypedExpression, Setting, KeepsFact, AreOfTypes, Keeps, Fits, Situation}
 
 -- the meaning of a typed expression is that of the same expression without its types
@@ -74,10 +77,13 @@ OperandsKeepTheirTypes =
 abbrev pub RaisesDynamicCodes : {R : Type 0} → Outcome R → Type 0
 RaisesDynamicCodes outcome = (code : Code) → outcome ≡ raises code → is_dynamic code ≡ true
 
--- the evaluation of an expression raises the codes of dynamic errors alone
+abbrev pub CallsRaiseDynamicCodes : CallOutcomes → Type 0
+CallsRaiseDynamicCodes calls = (signature : FunctionSignature) (values : List Items) (forest : Forest) → RaisesDynamicCodes (calls signature values forest)
+
+-- the evaluation of an expression raises the codes of dynamic errors alone, where calls of functions do
 abbrev pub ExpressionsRaiseDynamicCodes : Type 0
 ExpressionsRaiseDynamicCodes =
-    (context : Context) (e : CoreExpression) (bindings : Bindings) (forest : Forest)
+    (context : Context) (e : CoreExpression) (bindings : Bindings) (forest : Forest) → CallsRaiseDynamicCodes context.calls
     → RaisesDynamicCodes (meaning context e bindings forest)
 
 -- a constructor puts an honest tree behind those of an honest forest, or leaves the forest as it is
@@ -119,3 +125,7 @@ InstancesAreExact =
     (schemas : SchemaSet) (forest : Forest) (t : SequenceType) (value : Items) (seen : List Shape)
     → Grounded (bases_of schemas) → IsWrittenType t → HaveShapes schemas forest value seen
     → ((is_instance schemas forest t value ≡ true) ↔ Belongs schemas forest value t)
+
+-- a query that is well formed calls functions that it declares
+abbrev pub WellFormedQueriesCallDeclaredFunctions : Type 0
+WellFormedQueriesCallDeclaredFunctions = (core : Core) → IsWellFormedQuery core → CallsDeclaredFunctions core

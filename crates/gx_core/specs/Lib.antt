@@ -13,6 +13,7 @@ pub mod Arithmetic
 pub mod Comparing
 pub mod Ranging
 pub mod Casting
+pub mod Converting
 pub mod Calling
 pub mod Paths
 pub mod ComparingNodes
@@ -25,7 +26,9 @@ pub mod Constructing
 pub mod Denotations
 pub mod Blocks
 pub mod Meaning
+pub mod Functions
 pub mod Evaluations
+pub mod CalledFunctions
 pub mod Soundness
 pub mod FreeVariables
 pub mod QueryMeaning

@@ -24,13 +24,20 @@ use Rattle.gx_core.specs.Filtering.{nth_of, final_of}
 use Rattle.gx_core.specs.Treating.{treated}
 use Rattle.gx_core.specs.Instances.{is_instance}
 use Rattle.gx_core.specs.Constructing.{constructor_outcome}
+use Rattle.gx_core.specs.Converting.{arguments_converted}
 use Rattle.gx_core.specs.declared.cases.TypeCase.{TypeCase}
+use Rattle.gx_core.specs.declared.signature.FunctionSignature.{FunctionSignature}
 pub use Rattle.gx_core.specs.Denotations.{Bindings, Denotation, item_bound}
 use Rattle.gx_core.specs.Blocks.{block_denoted}
+
+-- what calls of declared functions come to, from the values of their arguments
+abbrev pub CallOutcomes : Type 0
+CallOutcomes = FunctionSignature → List Items → Forest → Outcome Items
 
 -- what an expression stands in
 pub record Context : Type 0 where
   pub schemas : SchemaSet
+  pub calls : CallOutcomes
 
 -- what an operator makes of its two operands
 abbrev pub binary_meaning : BinaryClass → Items → Items → Forest → Outcome Items
@@ -58,6 +65,8 @@ acts context (operators.Call function) values forest = called context.schemas fu
 acts context operators.Neg (xs ∷ []) forest = negation xs forest
 acts context (operators.Binary operator) (xs ∷ ys ∷ []) forest = binary_meaning (class_of operator) xs ys forest
 acts context (operators.Construct constructor count) values forest = constructor_outcome context.schemas constructor values forest
+acts context (operators.User signature count) values forest =
+    after (arguments_converted context.schemas signature.parameters values forest) (λ arguments left. context.calls signature arguments left)
 acts context _ _ forest = wrong
 
 -- the values of parts, from the left, each in the forest that the part before it leaves

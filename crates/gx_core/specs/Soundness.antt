@@ -1,5 +1,5 @@
 -- When a typed Core is sound: no expression goes wrong, and each value belongs to the type of its expression.
-use Rattle.std.specs.Prelude.{◌≡◌, ℕ, List, [], ◌∷◌, ◌++◌, Some}
+use Rattle.std.specs.Prelude.{◌≡◌, ℕ, List, [], ◌∷◌, ◌++◌, Some, Contains}
 use Rattle.gx_types.specs.SchemaSet.{SchemaSet}
 use Rattle.gx_types.specs.SequenceType.{SequenceType}
 use Rattle.gx_model.specs.Forest.{Forest}
@@ -7,37 +7,50 @@ use Rattle.gx_model.specs.Honest.{IsHonest}
 use Rattle.gx_model.specs.Item.{Items}
 use Rattle.gx_model.specs.Belongs.{Belongs}
 use Rattle.gx_model.specs.Growth.{Extends}
+use Rattle.gx_base.specs.declared.code.Code.TheVariants.{GLXD0001}
 use Rattle.gx_core.specs.declared.operator.Operator.{Operator}
+use Rattle.gx_core.specs.declared.signature.FunctionSignature.{FunctionSignature}
+use Rattle.gx_core.specs.CalledFunctions.{AllCalls}
 use Rattle.gx_core.specs.Expression.{Expression, At, Parts, no_parts, a_part, annotation_of}
 use Rattle.gx_core.specs.Bindings.{look_up, Types, types_bound}
 use Rattle.gx_core.specs.Outcome.{Outcome, gives, raises, wrong}
-use Rattle.gx_core.specs.Meaning.{Context, Bindings, meaning}
+use Rattle.gx_core.specs.Meaning.{CallOutcomes, Context, Bindings, meaning}
 
 abbrev pub TypedExpression : Type 0
 TypedExpression = Expression SequenceType
 
--- what typing knows of a query: its schemas, and the types that an operator gives the variables which it binds for its
--- next part, from the types of the parts before that one
+-- what typing knows of a query: its schemas, the types that an operator gives the variables which it binds for its next part, from the
+-- types of the parts before that one, and which functions may be called, and what calls of them come to
 pub record Setting : Type 0 where
   pub schemas : SchemaSet
   pub binders : Operator → List SequenceType → Types
+  pub known : List FunctionSignature
+  pub calls : CallOutcomes
 
--- the setting of a query with the types that the static rules give it
+-- the setting of an expression with the types that the static rules give it, where it may call functions
+abbrev pub calling_setting : SchemaSet → (known : List FunctionSignature) → CallOutcomes → Setting
+calling_setting schemas known calls = record { schemas = schemas; binders = types_bound; known = known; calls = calls }
+
+-- no call may be active
+abbrev pub no_calls : CallOutcomes
+no_calls signature values forest = raises GLXD0001
+
+-- where no function may be called
 abbrev pub typed_setting : SchemaSet → Setting
-typed_setting schemas = record { schemas = schemas; binders = types_bound }
+typed_setting schemas = calling_setting schemas [] no_calls
 
 abbrev pub context_of : Setting → Context
-context_of setting = record { schemas = setting.schemas }
+context_of setting = record { schemas = setting.schemas; calls = setting.calls }
 
 -- what an outcome leaves: the forest has grown, and is honest, and there is a fact about the result
-pub record Leaves {R : Type 0} (setting : Setting) (before : Forest) (Fact : Forest → R → Type 0) (result : R) (now : Forest) : Type 0 where
+pub record Leaves {R : Type 0} (schemas : SchemaSet) (before : Forest) (Fact : Forest → R → Type 0) (result : R) (now : Forest) : Type 0 where
   pub grown : Extends before now
-  pub honest : IsHonest setting.schemas now
+  pub honest : IsHonest schemas now
   pub fact : Fact now result
 
 -- an outcome keeps a fact: it is no type error, and where it gives a result, the fact holds of the result
 abbrev pub KeepsFact : {R : Type 0} → Setting → (before : Forest) → (Fact : Forest → R → Type 0) → Outcome R → Type 0
-KeepsFact setting before Fact (gives result now) = Leaves setting before Fact result now
+KeepsFact setting before Fact (gives result now) = Leaves setting.schemas before Fact result now
 KeepsFact setting before Fact (raises code) = Unit {0}
 KeepsFact setting before Fact wrong = ⊥
 
@@ -67,12 +80,20 @@ abbrev pub Fits : SchemaSet → Forest → Types → Bindings → Type 0
 Fits schemas forest types bindings =
     (number : ℕ) (t : SequenceType) → look_up types number ≡ Some t → IsBoundTo schemas forest bindings number t
 
+-- calls of the functions that may be called keep the types of their results, in this forest and in each one that grows from it
+abbrev pub CallsKeepTypes : Setting → Forest → Type 0
+CallsKeepTypes setting forest =
+    (now : Forest) (signature : FunctionSignature) (values : List Items) → Contains setting.known signature → Extends forest now
+    → IsHonest setting.schemas now → AreOfTypes setting.schemas signature.parameters now values
+    → Keeps setting now signature.result (setting.calls signature values now)
+
 -- all that an evaluation stands in
 pub record Situation (setting : Setting) (types : Types) : Type 0 where
   pub bindings : Bindings
   pub forest : Forest
   pub honest : IsHonest setting.schemas forest
   pub fits : Fits setting.schemas forest types bindings
+  pub calls_keep : CallsKeepTypes setting forest
 
 -- wherever it stands, the outcome of an expression keeps its type
 abbrev pub KeepsItsType : Setting → TypedExpression → Types → Type 0
@@ -91,3 +112,8 @@ abbrev mutual
   PartsAreSound setting operator before (a_part first others) types =
       IsSound setting first (setting.binders operator before ++ types)
       × PartsAreSound setting operator (before ++ annotation_of first ∷ []) others types
+
+-- whatever functions it may call, where calls of these keep their types
+abbrev pub IsSoundWithCalls : SchemaSet → TypedExpression → Types → Type 0
+IsSoundWithCalls schemas e types =
+    (known : List FunctionSignature) (calls : CallOutcomes) → AllCalls known e → IsSound (calling_setting schemas known calls) e types

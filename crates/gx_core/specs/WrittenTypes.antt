@@ -1,7 +1,7 @@
 -- The types of cases and of `treat as` in a query are such as can be written (XQuery 1.0, section 2.5.3).
 use Rattle.std.specs.Prelude.{List, [], ◌∷◌, None, Some}
 use Rattle.gx_core.specs.declared.cases.TypeCase.{TypeCase}
-use Rattle.gx_core.specs.declared.expression.Declaration.TheVariants.{Global}
+use Rattle.gx_core.specs.declared.expression.Declaration.TheVariants.{Global, Function}
 use Rattle.gx_core.specs.declared.operator.Operator.{Operator}
 use Rattle.gx_core.specs.declared.operator.Operator.TheVariants as operators
 use Rattle.gx_core.specs.Expression.{Expression, At, Parts, no_parts, a_part}
@@ -30,6 +30,7 @@ abbrev pub ValuesNameWrittenTypes : List CoreDeclaration → Type 0
 ValuesNameWrittenTypes [] = Unit {0}
 ValuesNameWrittenTypes (Global name binder None ∷ others) = ValuesNameWrittenTypes others
 ValuesNameWrittenTypes (Global name binder (Some value) ∷ others) = NamesWrittenTypes value × ValuesNameWrittenTypes others
+ValuesNameWrittenTypes (Function function ∷ others) = NamesWrittenTypes function.body × ValuesNameWrittenTypes others
 
 -- a whole query
 pub record QueryNamesWrittenTypes (core : Core) : Type 0 where

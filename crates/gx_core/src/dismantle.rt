@@ -1,6 +1,6 @@
 // Trees taken apart by a loop, so that dropping one takes no stack in proportion to its depth.
 
-use crate::expression::{Clause, Declaration, Expr, Form, Part, Query, SortKey};
+use crate::expression::{Clause, Declaration, DeclaredFunction, Expr, Form, Part, Query, SortKey};
 use std::alloc::Global;
 
 /// Drops an expression part by part. What finds no memory is dropped as it is.
@@ -24,17 +24,37 @@ pub fn dismantle_form<K: Drop>(alloc: Global, form: Form<K>) {
     }
 }
 
-/// Drops declarations, each value part by part.
+/// Drops declarations, each value and each body part by part.
 pub fn dismantle_declarations<K: Drop>(alloc: Global, declarations: Vec<Declaration<K>>) {
     for declaration in declarations {
-        match declaration {
-            Declaration::Global { value, .. } => {
-                if let Some(value) = value {
-                    dismantle(alloc, value);
-                }
+        dismantle_declaration(alloc, declaration);
+    }
+}
+
+fn dismantle_declaration<K: Drop>(alloc: Global, declaration: Declaration<K>) {
+    match declaration {
+        Declaration::Global {
+            name: _name,
+            binder: _binder,
+            value,
+        } => {
+            if let Some(value) = value {
+                dismantle(alloc, value);
             }
         }
+        Declaration::Function(function) => dismantle_function(alloc, function),
     }
+}
+
+fn dismantle_function<K: Drop>(alloc: Global, function: DeclaredFunction<K>) {
+    let DeclaredFunction {
+        place: _place,
+        name: _name,
+        parameters: _parameters,
+        result: _result,
+        body,
+    } = function;
+    dismantle(alloc, body);
 }
 
 /// Drops a query part by part.
@@ -86,6 +106,10 @@ fn set_aside<K: Drop>(alloc: Global, form: Form<K>, parts: &mut Vec<Part<K>>) {
         Form::Construct(constructor, content) => {
             drop(constructor);
             set_arguments_aside(alloc, content, parts);
+        }
+        Form::User(signature, arguments) => {
+            drop(signature);
+            set_arguments_aside(alloc, arguments, parts);
         }
     }
 }

@@ -6,6 +6,7 @@ ghost use Rattle.gx_core.specs.BinaryOperators.{class_of};
 use crate::cases::Cases;
 use crate::constructor::Constructor;
 use crate::listed::Listed;
+use crate::signature::FunctionSignature;
 use gx_atomic::Op;
 use gx_base::name::Name;
 use gx_base::place::Place;
@@ -31,15 +32,34 @@ pub type Core = Query<()>;
 /// A query whose expressions have their types.
 pub type TypedCore = Query<Ty>;
 
-/// A declaration of the prolog: a global variable, with its value unless it is external (XQuery 1.0, section 4.14).
+/// A declaration of the prolog.
 #[derive(Drop)]
 pub enum Declaration<K> {
+    /// A global variable, with its value unless it is external (XQuery 1.0, section 4.14).
     Global {
         name: Name,
         binder: Binder,
         value: Option<Expr<K>>,
     },
+    /// A function.
+    Function(DeclaredFunction<K>),
 }
+
+/// A function that the query declares, with its place, its parameters and the type of its result (XQuery 1.0, section 4.15).
+#[derive(Drop)]
+pub struct DeclaredFunction<K> {
+    pub place: Place,
+    pub name: Name,
+    pub parameters: Listed<Binder>,
+    pub result: Ty,
+    pub body: Expr<K>,
+}
+
+/// A function of a query as it is normalised.
+pub type CoreFunction = DeclaredFunction<()>;
+
+/// A function whose expressions have their types.
+pub type TypedFunction = DeclaredFunction<Ty>;
 
 /// A declaration of a query as it is normalised.
 pub type CoreDeclaration = Declaration<()>;
@@ -252,6 +272,8 @@ pub enum Form<K> {
     Construct(Constructor, Vec<Expr<K>>),
     /// An operand that is an instance of a type; any other one is an error.
     Treat(Part<K>, Ty),
+    /// A call of a function that the query declares.
+    User(FunctionSignature, Vec<Expr<K>>),
 }
 
 /// A clause of a block (XQuery 1.0, sections 3.8.1 and 3.8.2).

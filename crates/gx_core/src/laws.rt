@@ -1,13 +1,18 @@
 // Laws of the meaning of Core.
 
 ghost use Rattle.gx_core.specs.Laws.{MeaningLooksAtNoType, AfterKeeps, BindingsFitStill, BindingFits, OperandsKeepTheirTypes};
-ghost use Rattle.gx_core.specs.Laws.{ExpressionsRaiseDynamicCodes, PartsDecide, MeaningLooksAtFreeVariables, InstancesBelong, InstancesAreExact, ConstructorsKeepForestsHonest};
+ghost use Rattle.gx_core.specs.Laws.{ExpressionsRaiseDynamicCodes, PartsDecide, MeaningLooksAtFreeVariables, InstancesBelong, InstancesAreExact, ConstructorsKeepForestsHonest, WellFormedQueriesCallDeclaredFunctions};
 ghost use Rattle.gx_core.specs.PathLaws.{StepsAreInOrder, LoopsOfStepsAreSteps, SlashesAreDescendants};
-ghost use Rattle.gx_core.specs.QueryMeaning.{NoneNeedsNoDocument, SoundQueriesKeepTheirTypes, QueriesRaiseDynamicCodes};
+ghost use Rattle.gx_core.specs.QueryMeaning.{NoneNeedsNoDocument, SoundQueriesKeepTheirTypes, QueriesRaiseDynamicCodes, QueryMeaningLooksAtNoType};
 
 /// The meaning of a typed expression is that of the same expression without its types.
 pub fn meaning_looks_at_no_type()
     ensures { MeaningLooksAtNoType }
+{}
+
+/// The meaning of a query with its types is that of the same query without them, however many calls may be active.
+pub fn query_meaning_looks_at_no_type()
+    ensures { QueryMeaningLooksAtNoType }
 {}
 
 /// An outcome keeps a type that is made of a value of a type, where what is made of it keeps the type in each forest that
@@ -33,12 +38,12 @@ pub fn no_document_is_needed()
     ensures { NoneNeedsNoDocument }
 {}
 
-/// A query that is sound is no type error, and its value belongs to its type.
+/// A query that is sound is no type error, and its value belongs to its type, however many calls may be active (XQuery 1.0, section 2.2.3).
 pub fn sound_queries_keep_their_types()
     ensures { SoundQueriesKeepTheirTypes }
 {}
 
-/// The evaluation of an expression raises the codes of dynamic errors alone (XQuery 1.0, section 2.3.1).
+/// The evaluation of an expression raises the codes of dynamic errors alone, where calls of functions do (XQuery 1.0, section 2.3.1).
 pub fn expressions_raise_dynamic_codes()
     ensures { ExpressionsRaiseDynamicCodes }
 {}
@@ -89,4 +94,9 @@ pub fn instances_are_exact()
 /// Model, sections 6.1 to 6.3 and 6.7).
 pub fn constructors_keep_forests_honest()
     ensures { ConstructorsKeepForestsHonest }
+{}
+
+/// A query that is well formed calls functions that it declares, with all their arguments (XQuery 1.0, section 3.1.5).
+pub fn well_formed_queries_call_declared_functions()
+    ensures { WellFormedQueriesCallDeclaredFunctions }
 {}

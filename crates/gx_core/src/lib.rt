@@ -10,3 +10,4 @@ pub mod laws;
 pub mod listed;
 pub mod operator;
 pub mod scope;
+pub mod signature;

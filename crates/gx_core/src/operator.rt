@@ -4,6 +4,7 @@ use crate::cases::Cases;
 use crate::constructor::Constructor;
 use crate::expression::{BinaryOp, Binder};
 use crate::listed::Listed;
+use crate::signature::FunctionSignature;
 use gx_base::type_name::TypeName;
 use gx_facets::Atomic;
 use gx_funcs::function::Function;
@@ -41,6 +42,8 @@ pub enum Operator {
     /// A constructor over so many parts.
     Construct(Constructor, usize),
     Treat(Ty),
+    /// A call of a declared function with so many arguments.
+    User(FunctionSignature, usize),
 }
 
 /// What a clause of a block has beside its part.

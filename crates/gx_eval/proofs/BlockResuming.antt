@@ -1,8 +1,8 @@
 -- What is left to do of a block comes to the same after a piece of its work as before it.
-use Rattle.std.proofs.Common.{◌≡◌, ◌+◌, ◌<◌, ◌≤◌, ℕ, zero, suc, add-one, get_or, Bool, true, false, Option, None, Some, List, [], ◌∷◌, ◌++◌, length, map, take, drop, refl, sym, ◌∙◌, ap, append_assoc, append-nil, arith}
+use Rattle.std.proofs.Common.{◌≡◌, ◌+◌, ◌<◌, ℕ, zero, suc, add-one, get_or, Bool, true, false, Option, None, Some, List, [], ◌∷◌, ◌++◌, length, map, take, drop, refl, sym, ◌∙◌, ap, append_assoc, append-nil, arith}
 use Rattle.std.specs.Prelude.{Result, OnOk, flat_map, slice_get, option_map}
 use Rattle.std.specs.List.{AllByRecursion}
-use Rattle.std.proofs.lemmas.List.{take-append-drop, map-append, take-map, map_more, length-map, take_all, drop_all}
+use Rattle.std.proofs.lemmas.List.{take-append-drop, map-append, take-map, map_more, drop_all}
 use Rattle.std.proofs.lemmas.Grind.{flat_map-append}
 use Rattle.std.proofs.lemmas.Option.{slice_get-map, slice_get_within, get_or_from_slice_get}
 use Rattle.std.proofs.lemmas.Result.{on_ok_weaker}
@@ -570,9 +570,3 @@ next_bound later inner rest scope now binding copied e h same =
     ∙ sym (append_assoc (items_of later inner) ((binding.0, bound_items later binding.1) ∷ []) (items_of later scope))
     ∙ ap (λ (bs : Bindings). bs ++ items_of later scope) (sym (map-append (λ (b : ℕ × Bound). (b.0, bound_items later b.1)) inner (binding ∷ [])))
     ∙ ap (λ (bs : List (ℕ × Bound)). items_of later bs ++ items_of later scope) (sym e)
-
--- all bindings are copied
-pub all_copied : (later : Forest) (bindings : List (ℕ × Bound)) (depth count : ℕ) → length bindings ≤ depth → depth ≤ count → take depth (items_of later bindings) ≡ take count (items_of later bindings)
-all_copied later bindings depth count h k =
-    let counted : length (items_of later bindings) ≡ length bindings = length-map bindings (λ binding. (binding.0, bound_items later binding.1)) in
-    take_all depth (items_of later bindings) (omega (arith, counted)) ∙ sym (take_all count (items_of later bindings) (omega (arith, counted)))

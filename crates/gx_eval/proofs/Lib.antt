@@ -4,11 +4,13 @@ pub mod AtHand
 pub mod LaterItems
 pub mod Operands
 pub mod NodeOperators
+pub mod Lookups
 pub mod Resuming
+pub mod Conversions
+pub mod CallFrames
 pub mod Alone
 pub mod BlockResuming
 pub mod Ranges
-pub mod Globals
 pub mod Picked
 pub mod ManySteps
 pub mod MadeTrees

@@ -35,7 +35,7 @@ use Rattle.gx_eval.specs.Failing.{FailsSo}
 use Rattle.gx_eval.specs.Operators.{single_operator, changing_operator}
 use Rattle.gx_eval.specs.declared.looping.Loop.{Loop}
 use Rattle.gx_eval.specs.declared.looping.Loop.TheVariants.{For, Search}
-use Rattle.gx_eval.specs.Resume.{Stacks, with_marks, with_sources, operated, changed, right_meaning, between_marks, in_order, turn, item_tested, looped, resume}
+use Rattle.gx_eval.specs.Resume.{Stacks, with_marks, with_sources, operated, changed, right_meaning, between_marks, in_order, turn, item_tested, looped, resume, resume_marked}
 use Rattle.gx_eval.proofs.Outcomes.{after_after, same_after}
 
 -- what is left to do behind these values
@@ -324,10 +324,6 @@ last_in_order (p ∷ parts) part next values marks bindings forest =
 pub each_argument : (k : Context) (es : List TypedExpression) → meanings k (all_parts es) ≡ map (meaning k) es
 each_argument k [] = refl
 each_argument k (e ∷ es) = ap (λ ds. meaning k e ∷ ds) (each_argument k es)
-
--- what is left to do over the values and marks that are there
-abbrev pub resume_marked : Context → List Pending → Stacks → Items → List ℕ → Bindings → Forest → Outcome Items
-resume_marked k work stacks values marks bindings forest = resume k work values (with_marks stacks marks) bindings forest
 
 -- operands that are evaluated in order, and the operator between their marks
 pub operands_open : (k : Context) (operator : Operator) (work : List Pending) (values : Items) (stacks : Stacks) (bindings : Bindings) (forest : Forest) (parts : List Denotation) (count : ℕ) → count ≡ length parts

@@ -13,6 +13,10 @@ abbrev pub bound_items : Forest → Bound → Items
 bound_items later (One item) = item_in later item ∷ []
 bound_items later (Many items) = items_in later items.value.items
 
+-- the values of arguments
+abbrev pub bounds_in : Forest → List Bound → List Items
+bounds_in later = map (bound_items later)
+
 -- the values of each binding
 abbrev pub items_of : Forest → List (ℕ × Bound) → Bindings
 items_of later = map (λ binding. (binding.0, bound_items later binding.1))

@@ -1,12 +1,12 @@
 -- The tuples that clauses have found, and what is left to do of a block.
-use Rattle.std.specs.Prelude.{ℕ, suc, ◌+◌, List, [], ◌∷◌, ◌++◌, length, map, flat_map, take, drop, Option, slice_get, Vec}
+use Rattle.std.specs.Prelude.{ℕ, suc, List, [], ◌∷◌, ◌++◌, length, map, flat_map, take, drop, Option, slice_get, Vec}
 use Rattle.std.specs.Global.{Global}
 use Rattle.std.specs.List.{range_with_len}
 use Rattle.gx_facets.specs.declared.Atomic.{Atomic}
 use Rattle.gx_sorting.specs.declared.keys.KeyOrder.{KeyOrder}
 use Rattle.gx_sorting.specs.Sorting.{sorted}
 use Rattle.gx_sorting.specs.Tuples.{tuple_precedes}
-use Rattle.gx_model.specs.Forest.{Forest, PlainNode}
+use Rattle.gx_model.specs.Forest.{Forest}
 use Rattle.gx_model.specs.Item.{Items}
 use Rattle.gx_core.specs.Bindings.{position_numbers}
 use Rattle.gx_core.specs.ExpressionView.{kind_of_clause, order_of_key, part_of_key, parts_of_block}
@@ -54,19 +54,17 @@ before_block found first_key first_row = record { keys = take first_key found.ke
 abbrev pub before_returns : Found → (start first_row : ℕ) → Found
 before_returns found start first_row = record { keys = found.keys; rows = take first_row found.rows; numbers = take start found.numbers }
 
--- what stands beside the values: the marks of operands, the items that loops go over, the documents that no variable is bound to as yet,
--- and the tuples that are found
+-- what stands beside the values: the marks of operands, the items that loops go over, and the tuples that are found
 pub record Stacks : Type 0 where
   pub marks : List ℕ
   pub sources : Items
-  pub documents : List PlainNode
   pub found : Found
 
 abbrev pub with_sources : Stacks → Items → Stacks
-with_sources stacks sources = record { marks = stacks.marks; sources = sources; documents = stacks.documents; found = stacks.found }
+with_sources stacks sources = record { marks = stacks.marks; sources = sources; found = stacks.found }
 
 abbrev pub with_found : Stacks → Found → Stacks
-with_found stacks found = record { marks = stacks.marks; sources = stacks.sources; documents = stacks.documents; found = found }
+with_found stacks found = record { marks = stacks.marks; sources = stacks.sources; found = found }
 
 -- the numbers of so many tuples in the order of their keys
 abbrev pub numbers_in_order : List KeyOrder → List (Option Atomic) → (count : ℕ) → List ℕ

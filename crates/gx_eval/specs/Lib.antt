@@ -8,6 +8,8 @@ pub mod Operators
 pub mod StepLoops
 pub mod FoundTuples
 pub mod Resume
+pub mod Frames
 pub mod BuildFailures
+pub mod Converting
 pub mod MadeNodes
 pub mod Growing

@@ -1,44 +1,34 @@
 -- What an evaluation in its midst comes to.
-use Rattle.std.specs.Prelude.{Bool, ℕ, zero, suc, ◌+◌, List, [], ◌∷◌, ◌++◌, length, take, drop, map, None, Some, if◌then◌else◌}
+use Rattle.std.specs.Prelude.{Bool, ℕ, zero, suc, ◌+◌, List, [], ◌∷◌, ◌++◌, length, take, drop, map, if◌then◌else◌}
 use Rattle.gx_types.specs.SchemaSet.{SchemaSet}
-use Rattle.gx_model.specs.Forest.{Forest, PlainNode}
-use Rattle.gx_model.specs.Item.{Item, node, Items}
+use Rattle.gx_model.specs.Forest.{Forest}
+use Rattle.gx_model.specs.Item.{Item, Items}
 use Rattle.gx_core.specs.declared.expression.BinaryOp.{BinaryOp}
 use Rattle.gx_core.specs.declared.operator.Operator.{Operator}
 use Rattle.gx_core.specs.declared.operator.Operator.TheVariants as operators
-use Rattle.gx_core.specs.Queries.{TypedCore, TypedDeclaration}
-use Rattle.gx_core.specs.declared.expression.Declaration.TheVariants.{Global}
 use Rattle.gx_core.specs.Bindings.{position_bound}
 use Rattle.gx_core.specs.Comparing.{truth_value, condition_of}
 use Rattle.gx_core.specs.Outcome.{Outcome, gives, wrong, after, given}
-use Rattle.gx_core.specs.Meaning.{Context, Bindings, Denotation, acts, branch, switched, for_each, item_bound, decides, any_decides, meaning}
+use Rattle.gx_core.specs.Meaning.{CallOutcomes, Context, Bindings, Denotation, acts, branch, switched, for_each, item_bound, decides, any_decides, meaning}
 use Rattle.gx_core.specs.Soundness.{TypedExpression}
 use Rattle.gx_core.specs.PathLaws.{stepped_from_each}
 use Rattle.gx_store.specs.Items.{items_in}
-use Rattle.gx_store.specs.Places.{node_places}
 pub use Rattle.gx_eval.specs.BoundItems.{items_of}
 pub use Rattle.gx_eval.specs.FoundTuples.{Stacks, with_sources}
-use Rattle.gx_eval.specs.FoundTuples.{found_in, none_found, block_resumed}
+use Rattle.gx_eval.specs.FoundTuples.{found_in, block_resumed}
 use Rattle.gx_eval.specs.Operators.{single_operator, changing_operator}
 use Rattle.gx_eval.specs.declared.evaluation.Pending.{Pending}
-use Rattle.gx_eval.specs.declared.evaluation.Pending.TheVariants.{Evaluate, Change, Steps, Single as Operate, Right, Binary, Choose, Switch, Mark, Call, Construct, Gather, Each, Decide, Bind, Unbind, Declare, External, Block}
+use Rattle.gx_eval.specs.declared.evaluation.Pending.TheVariants.{Evaluate, Change, Steps, Single as Operate, Right, Binary, Choose, Switch, Mark, Call, Construct, Enter, Gather, Each, Decide, Bind, Unbind, Block}
 use Rattle.gx_eval.specs.declared.evaluation.Evaluation.{Evaluation}
 use Rattle.gx_eval.specs.declared.looping.Loop.{Loop}
 use Rattle.gx_eval.specs.declared.looping.Loop.TheVariants.{For, Search}
 
--- what an expression of a query under these schemas stands in
-abbrev pub context_over : SchemaSet → Context
-context_over schemas = record { schemas = schemas }
+-- what an expression stands in under these schemas, where calls come to this
+abbrev pub context_with : SchemaSet → CallOutcomes → Context
+context_with schemas calls = record { schemas = schemas; calls = calls }
 
 abbrev pub with_marks : Stacks → List ℕ → Stacks
-with_marks stacks marks = record { marks = marks; sources = stacks.sources; documents = stacks.documents; found = stacks.found }
-
-abbrev pub with_documents : Stacks → List PlainNode → Stacks
-with_documents stacks documents = record { marks = stacks.marks; sources = stacks.sources; documents = documents; found = stacks.found }
-
--- nothing but documents
-abbrev pub only_documents : List PlainNode → Stacks
-only_documents documents = record { marks = []; sources = []; documents = documents; found = none_found }
+with_marks stacks marks = record { marks = marks; sources = stacks.sources; found = stacks.found }
 
 -- what an operator makes of the operands goes behind the values
 abbrev pub operated : Context → Operator → (operands : List Items) → (values : Items) → Forest → (Items → Forest → Outcome Items) → Outcome Items
@@ -64,24 +54,6 @@ abbrev pub in_order : List Denotation → (Items → List ℕ → Bindings → F
 in_order [] next values marks bindings forest = next values marks bindings forest
 in_order (part ∷ parts) next values marks bindings forest =
     after (part bindings forest) (λ more left. in_order parts next (values ++ more) (length values ∷ marks) bindings left)
-
--- a document for a variable, if there is one
-abbrev pub next_document : List PlainNode → (PlainNode → List PlainNode → Outcome Items) → Outcome Items
-next_document [] next = wrong
-next_document (document ∷ documents) next = next document documents
-
--- the globals in order, and then what follows them with the documents that are left; an external variable is bound to the next
--- document
-abbrev pub declared_then : Context → List TypedDeclaration → (List PlainNode → Bindings → Forest → Outcome Items) → List PlainNode → Bindings → Forest → Outcome Items
-declared_then k [] next documents bindings forest = next documents bindings forest
-declared_then k (Global name binder (Some value) ∷ others) next documents bindings forest =
-    after (meaning k value bindings forest) (λ items left. declared_then k others next documents ((binder.variable, items) ∷ bindings) left)
-declared_then k (Global name binder None ∷ others) next documents bindings forest =
-    next_document documents (λ document rest. declared_then k others next rest ((binder.variable, node document ∷ []) ∷ bindings) forest)
-
--- what a query with its types comes to
-abbrev pub typed_outcome : Context → TypedCore → List PlainNode → Forest → Outcome Items
-typed_outcome k core documents forest = declared_then k core.declarations (λ rest bindings left. meaning k core.body bindings left) documents [] forest
 
 -- a turn of a loop, and a test of an item
 abbrev pub turn : Denotation → (variable position : ℕ) → Bindings → (number : ℕ) → Item → Forest → Outcome Items
@@ -130,6 +102,9 @@ resume k (Call function more ∷ work) values stacks bindings forest =
 resume k (Construct constructor count ∷ work) values stacks bindings forest =
     between_marks count stacks.marks values []
     (λ operands below rest. operated k (operators.Construct constructor.now count) operands rest forest (λ vs left. resume k work vs (with_marks stacks below) bindings left))
+resume k (Enter signature count ∷ work) values stacks bindings forest =
+    between_marks count stacks.marks values []
+    (λ operands below rest. operated k (operators.User signature.now count) operands rest forest (λ vs left. resume k work vs (with_marks stacks below) bindings left))
 resume k (Gather repeated first body ∷ work) values stacks bindings forest =
     after (looped (meaning k body.now) repeated bindings (take first values) (drop first values) forest) (λ vs left. resume k work vs stacks bindings left)
 resume k (Each repeated next start body ∷ work) values stacks bindings forest =
@@ -144,15 +119,21 @@ resume k (Bind variable first body ∷ work) values stacks bindings forest =
     after (meaning k body.now ((variable, drop first values) ∷ bindings) forest) (λ more left. resume k work (take first values ++ more) stacks bindings left)
 resume k (Block piece rest ∷ work) values stacks bindings forest = block_resumed k piece rest values stacks bindings forest (λ vs beside left. resume k work vs beside bindings left)
 resume k (Unbind count ∷ work) values stacks bindings forest = resume k work values stacks (drop count bindings) forest
-resume k (Declare variable ∷ work) values stacks bindings forest = resume k work [] stacks ((variable, values) ∷ bindings) forest
-resume k (External variable ∷ work) values stacks bindings forest =
-    next_document stacks.documents (λ document rest. resume k work values (with_documents stacks rest) ((variable, node document ∷ []) ∷ bindings) forest)
+
+-- what is left to do over the values and marks that are there
+abbrev pub resume_marked : Context → List Pending → Stacks → (values : Items) → (marks : List ℕ) → Bindings → Forest → Outcome Items
+resume_marked k work stacks values marks bindings forest = resume k work values (with_marks stacks marks) bindings forest
+
+-- a piece of work that calls no declared function
+abbrev pub IsNoCall : Pending → Type 0
+IsNoCall (Enter signature count) = ⊥
+IsNoCall _ = Unit {0}
 
 -- ---- an evaluation in its midst; its numbers stand for nodes of the later forest
 
 abbrev pub stacks_of : (later : Forest) → Evaluation → Stacks
 stacks_of later evaluation =
-    record { marks = evaluation.marks; sources = items_in later evaluation.sources.items; documents = node_places later evaluation.documents.now; found = found_in later evaluation.tuples }
+    record { marks = evaluation.marks; sources = items_in later evaluation.sources.items; found = found_in later evaluation.tuples }
 
 abbrev pub outcome_of : Context → (forest later : Forest) → Evaluation → Outcome Items
 outcome_of k forest later evaluation =

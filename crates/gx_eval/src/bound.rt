@@ -1,23 +1,21 @@
 // What variables are bound to, and how they are bound.
 
-ghost use Rattle.std.specs.Prelude.{◌≡◌, ◌∷◌, [], IfOk, IfErr, OnOk, take, drop};
+ghost use Rattle.std.specs.Prelude.{◌≡◌, ◌∷◌, [], IfOk, OnOk, take, drop};
 ghost use Rattle.gx_model.specs.Forest.{Forest as PlainForest};
 ghost use Rattle.gx_core.specs.declared.operator.Operator.TheVariants as operators;
 ghost use Rattle.gx_core.specs.Meaning.{Context, denoted, meaning};
 ghost use Rattle.gx_store.specs.Items.{items_in};
 ghost use Rattle.gx_eval.specs.BoundItems.{bound_items};
-ghost use Rattle.gx_eval.specs.Failing.{FailsSo};
 ghost use Rattle.gx_eval.specs.Resume.{items_of, outcome_of, outcome_behind, outcome_with};
 ghost use Rattle.gx_eval.specs.declared.evaluation.Pending.TheVariants as work;
 
 use crate::evaluation::{Evaluation, Pending};
-use crate::failure::Failure;
 use crate::operand::{count_of, pop_only, split_at};
 use gx_core::expression::{Binder, TypedExpr};
 use gx_store::item::Item;
 use std::alloc::{AllocError, Global};
 use std::rc::Rc;
-use std::{mem, slice};
+use std::slice;
 
 // One item, or any number of them. One takes no memory, and copies share any number.
 #[derive(Drop)]
@@ -92,27 +90,5 @@ impl<'a> Evaluation<'a> {
         self.work.push(Pending::Unbind(1))?;
         self.work.push(Pending::Evaluate(body))?;
         Ok(())
-    }
-
-    // Binds a global variable to all values that are there.
-    pub(crate) fn declare(&mut self, alloc: Global, variable: u32) -> Result<(), AllocError>
-        ensures { (k : Context) (forest later : PlainForest) → OnOk result (outcome_of k forest later self.new ≡ outcome_with k forest later (work.Declare variable) self.old) }
-    {
-        let value = mem::replace(&mut self.values, Vec::new(alloc));
-        let shared = Rc::new(alloc, value)?;
-        self.scope.bind(variable, Bound::Many(shared))
-    }
-
-    // Binds an external variable to the next document.
-    pub(crate) fn bind_document(&mut self, variable: u32) -> Result<(), Failure>
-        ensures value { (k : Context) (forest later : PlainForest) → OnOk result (outcome_of k forest later self.new ≡ outcome_with k forest later (work.External variable) self.old) }
-        ensures failed { (k : Context) (forest later : PlainForest) → IfErr result (λ e. FailsSo e (outcome_with k forest later (work.External variable) self.old)) }
-    {
-        let Some((document, others)) = self.documents.split_first() else {
-            return Err(Failure::Wrong);
-        };
-        let item = Item::Node(*document);
-        self.documents = others;
-        Ok(self.scope.bind(variable, Bound::One(item))?)
     }
 }

@@ -11,17 +11,18 @@ ghost use Rattle.gx_model.specs.Item.{Items};
 ghost use Rattle.gx_build.specs.Parts.{parts_in};
 ghost use Rattle.gx_core.specs.Outcome.{Outcome, gives, given};
 ghost use Rattle.gx_core.specs.declared.operator.Operator.TheVariants as operators;
-ghost use Rattle.gx_core.specs.Meaning.{Context, denoted, meaning};
+ghost use Rattle.gx_core.specs.Meaning.{CallOutcomes, Context, denoted, meaning};
 ghost use Rattle.gx_store.specs.Items.{item_in, items_in};
 ghost use Rattle.gx_eval.specs.Answering.{answer_items, AnswerFits, answer_found};
 ghost use Rattle.gx_eval.specs.Failing.{FailsSo};
-ghost use Rattle.gx_eval.specs.Resume.{context_over, items_of, outcome_of, outcome_with, outcome_behind};
+ghost use Rattle.gx_eval.specs.Resume.{context_with, items_of, outcome_of, outcome_with, outcome_behind};
 ghost use Rattle.gx_eval.specs.declared.evaluation.Pending.TheVariants as work;
 
 use crate::answer::{Answer, put};
 use crate::constructing::take_operands;
 use crate::evaluation::{Evaluation, Pending};
 use crate::failure::Failure;
+use crate::marking::mark_parts;
 use crate::nodes::atomized;
 use crate::single::Single;
 use gx_atomic::effective_boolean_value;
@@ -220,9 +221,9 @@ impl<'a> Evaluation<'a> {
         function: Function,
         arguments: &'a [TypedExpr],
     ) -> Result<(), Failure>
-        ensures value { let k = context_over schemas.now in (later : PlainForest) → Extends store.now later → OnOk result (outcome_of k store.now later self.new
+        ensures value { (calls : CallOutcomes) (later : PlainForest) → Extends store.now later → let k = context_with schemas.now calls in OnOk result (outcome_of k store.now later self.new
             ≡ outcome_behind k later (denoted k (operators.Call function) (map (meaning k) arguments.now) (items_of later self.old.scope) store.now) self.old) }
-        ensures failed { let k = context_over schemas.now in (later : PlainForest) → Extends store.now later → IfErr result (λ e. FailsSo e
+        ensures failed { (calls : CallOutcomes) (later : PlainForest) → Extends store.now later → let k = context_with schemas.now calls in IfErr result (λ e. FailsSo e
             (outcome_behind k later (denoted k (operators.Call function) (map (meaning k) arguments.now) (items_of later self.old.scope) store.now) self.old)) }
     {
         match arguments {
@@ -246,12 +247,7 @@ impl<'a> Evaluation<'a> {
     {
         self.work
             .push(Pending::Call(function, arguments.len() - 2))?;
-        let mut rest = arguments;
-        while let Some((argument, front)) = rest.split_last() {
-            self.work.push(Pending::Evaluate(argument))?;
-            self.work.push(Pending::Mark)?;
-            rest = front;
-        }
+        mark_parts(arguments, &mut self.work)?;
         Ok(())
     }
 
@@ -264,8 +260,8 @@ impl<'a> Evaluation<'a> {
         function: Function,
         more: usize,
     ) -> Result<(), Failure>
-        ensures value { let k = context_over schemas.now in (later : PlainForest) → Extends store.now later → OnOk result (outcome_of k store.now later self.new ≡ outcome_with k store.now later (work.Call function more) self.old) }
-        ensures failed { let k = context_over schemas.now in (later : PlainForest) → Extends store.now later → IfErr result (λ e. FailsSo e (outcome_with k store.now later (work.Call function more) self.old)) }
+        ensures value { (calls : CallOutcomes) (later : PlainForest) → Extends store.now later → let k = context_with schemas.now calls in OnOk result (outcome_of k store.now later self.new ≡ outcome_with k store.now later (work.Call function more) self.old) }
+        ensures failed { (calls : CallOutcomes) (later : PlainForest) → Extends store.now later → let k = context_with schemas.now calls in IfErr result (λ e. FailsSo e (outcome_with k store.now later (work.Call function more) self.old)) }
     {
         let Some(texts) = function.text_function() else {
             return Err(Failure::Wrong);

@@ -2,14 +2,14 @@
 
 ghost use Rattle.std.specs.Prelude.{◌≡◌, ◌∷◌, [], OnOk, IfErr, drop};
 ghost use Rattle.gx_core.specs.Outcome.{gives};
-ghost use Rattle.gx_core.specs.Meaning.{Context, acts};
+ghost use Rattle.gx_core.specs.Meaning.{CallOutcomes, Context, acts};
 ghost use Rattle.gx_core.specs.declared.operator.Operator.TheVariants as operators;
 ghost use Rattle.gx_model.specs.Forest.{Forest as PlainForest};
 ghost use Rattle.gx_model.specs.Growth.{Extends};
 ghost use Rattle.gx_store.specs.Items.{items_in};
 ghost use Rattle.gx_eval.specs.Failing.{FailsSo};
 ghost use Rattle.gx_eval.specs.Operators.{changing_operator};
-ghost use Rattle.gx_eval.specs.Resume.{changed, context_over};
+ghost use Rattle.gx_eval.specs.Resume.{changed, context_with};
 
 use crate::failure::Failure;
 use crate::filtering::{keep_last, keep_nth};
@@ -43,8 +43,8 @@ pub(crate) fn change_values(
     first: usize,
     values: &mut Vec<Item>,
 ) -> Result<(), Failure>
-    ensures value { (later : PlainForest) → Extends store.now later → OnOk result (changed (context_over schemas.now) (changing_operator operator.entry) first (items_in later values.old.items) store.now ≡ gives (items_in later values.new.items) store.now) }
-    ensures failed { (later : PlainForest) → Extends store.now later → IfErr result (λ e. FailsSo e (acts (context_over schemas.now) (changing_operator operator.entry) (drop first (items_in later values.old.items) ∷ []) store.now)) }
+    ensures value { (calls : CallOutcomes) (later : PlainForest) → Extends store.now later → OnOk result (changed (context_with schemas.now calls) (changing_operator operator.entry) first (items_in later values.old.items) store.now ≡ gives (items_in later values.new.items) store.now) }
+    ensures failed { (calls : CallOutcomes) (later : PlainForest) → Extends store.now later → IfErr result (λ e. FailsSo e (acts (context_with schemas.now calls) (changing_operator operator.entry) (drop first (items_in later values.old.items) ∷ []) store.now)) }
 {
     match operator {
         Change::Data => atomize(alloc, schemas, store, first, values),
@@ -64,8 +64,8 @@ fn atomize(
     first: usize,
     values: &mut Vec<Item>,
 ) -> Result<(), Failure>
-    ensures value { (later : PlainForest) → Extends store.now later → OnOk result (changed (context_over schemas.now) operators.DataOf first (items_in later values.old.items) store.now ≡ gives (items_in later values.new.items) store.now) }
-    ensures failed { (later : PlainForest) → Extends store.now later → IfErr result (λ e. FailsSo e (acts (context_over schemas.now) operators.DataOf (drop first (items_in later values.old.items) ∷ []) store.now)) }
+    ensures value { (calls : CallOutcomes) (later : PlainForest) → Extends store.now later → OnOk result (changed (context_with schemas.now calls) operators.DataOf first (items_in later values.old.items) store.now ≡ gives (items_in later values.new.items) store.now) }
+    ensures failed { (calls : CallOutcomes) (later : PlainForest) → Extends store.now later → IfErr result (λ e. FailsSo e (acts (context_with schemas.now calls) operators.DataOf (drop first (items_in later values.old.items) ∷ []) store.now)) }
 {
     let operand = values_from(values, first);
     if !any_node(operand) {
@@ -108,8 +108,8 @@ fn treat(
     first: usize,
     values: &mut Vec<Item>,
 ) -> Result<(), Failure>
-    ensures value { (later : PlainForest) → Extends store.now later → OnOk result (changed (context_over schemas.now) (operators.Treat kind.now) first (items_in later values.old.items) store.now ≡ gives (items_in later values.new.items) store.now) }
-    ensures failed { (later : PlainForest) → Extends store.now later → IfErr result (λ e. FailsSo e (acts (context_over schemas.now) (operators.Treat kind.now) (drop first (items_in later values.old.items) ∷ []) store.now)) }
+    ensures value { (calls : CallOutcomes) (later : PlainForest) → Extends store.now later → OnOk result (changed (context_with schemas.now calls) (operators.Treat kind.now) first (items_in later values.old.items) store.now ≡ gives (items_in later values.new.items) store.now) }
+    ensures failed { (calls : CallOutcomes) (later : PlainForest) → Extends store.now later → IfErr result (λ e. FailsSo e (acts (context_with schemas.now calls) (operators.Treat kind.now) (drop first (items_in later values.old.items) ∷ []) store.now)) }
 {
     let operand = values_from(values, first);
     if is_instance(schemas, store, kind, operand) {

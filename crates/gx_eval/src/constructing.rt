@@ -10,18 +10,19 @@ ghost use Rattle.gx_core.specs.Comparing.{atoms_among as atoms_of};
 ghost use Rattle.gx_core.specs.Constructing.{spaced_values, joined_texts, text_of_part, texts_of_parts as texts_joined, text_outcome, tree_appended, attribute_built, constructor_outcome};
 ghost use Rattle.gx_core.specs.declared.constructor.Constructor.TheVariants as constructors;
 ghost use Rattle.gx_core.specs.Outcome.{Outcome, gives, given};
-ghost use Rattle.gx_core.specs.Meaning.{Context, denoted, meaning};
+ghost use Rattle.gx_core.specs.Meaning.{CallOutcomes, Context, denoted, meaning};
 ghost use Rattle.gx_core.specs.declared.operator.Operator.TheVariants as operators;
 ghost use Rattle.gx_store.specs.Items.{items_in};
 ghost use Rattle.gx_build.specs.Parts.{parts_in};
 ghost use Rattle.gx_eval.specs.Failing.{FailsSo};
 ghost use Rattle.gx_eval.specs.Growing.{GrowsHonestly};
 ghost use Rattle.gx_eval.specs.MadeNodes.{node_items};
-ghost use Rattle.gx_eval.specs.Resume.{context_over, between_marks, items_of, outcome_of, outcome_with, outcome_behind};
+ghost use Rattle.gx_eval.specs.Resume.{context_with, between_marks, items_of, outcome_of, outcome_with, outcome_behind};
 ghost use Rattle.gx_eval.specs.declared.evaluation.Pending.TheVariants as work;
 
 use crate::evaluation::{Evaluation, Pending};
 use crate::failure::Failure;
+use crate::marking::mark_parts;
 use crate::nodes::atomized;
 use crate::operand::{atoms_among, split_at};
 use gx_base::name::Name;
@@ -50,12 +51,7 @@ impl<'a> Evaluation<'a> {
     {
         self.work
             .push(Pending::Construct(constructor, parts.len()))?;
-        let mut rest = parts;
-        while let Some((part, front)) = rest.split_last() {
-            self.work.push(Pending::Evaluate(part))?;
-            self.work.push(Pending::Mark)?;
-            rest = front;
-        }
+        mark_parts(parts, &mut self.work)?;
         Ok(())
     }
 
@@ -69,8 +65,8 @@ impl<'a> Evaluation<'a> {
         count: usize,
     ) -> Result<(), Failure>
         ensures grows { GrowsHonestly schemas.now store.old store.new }
-        ensures value { (later : PlainForest) → Extends store.new later → OnOk result (outcome_of (context_over schemas.now) store.new later self.new ≡ outcome_with (context_over schemas.now) store.old later (work.Construct constructor.entry count) self.old) }
-        ensures failed { (later : PlainForest) → Extends store.new later → IfErr result (λ e. FailsSo e (outcome_with (context_over schemas.now) store.old later (work.Construct constructor.entry count) self.old)) }
+        ensures value { (calls : CallOutcomes) (later : PlainForest) → Extends store.new later → OnOk result (outcome_of (context_with schemas.now calls) store.new later self.new ≡ outcome_with (context_with schemas.now calls) store.old later (work.Construct constructor.entry count) self.old) }
+        ensures failed { (calls : CallOutcomes) (later : PlainForest) → Extends store.new later → IfErr result (λ e. FailsSo e (outcome_with (context_with schemas.now calls) store.old later (work.Construct constructor.entry count) self.old)) }
     {
         let parts = take_operands(alloc, count, &mut self.marks, &mut self.values)?;
         let made = constructed(alloc, schemas, store, constructor, parts.as_slice())?;

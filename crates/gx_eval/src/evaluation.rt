@@ -1,19 +1,17 @@
 // An evaluation in its midst: the work that is left, and the values that are there.
 
 ghost use Rattle.std.specs.Prelude.{◌≡◌, ◌⊎◌, ◌∷◌, [], List, IfOk, OnOk, IfErr};
-ghost use Rattle.gx_model.specs.Forest.{Forest as PlainForest, PlainNode};
+ghost use Rattle.gx_model.specs.Forest.{Forest as PlainForest};
 ghost use Rattle.gx_model.specs.Growth.{Extends};
-ghost use Rattle.gx_core.specs.Meaning.{Context, Bindings};
-ghost use Rattle.gx_store.specs.Places.{node_places};
+ghost use Rattle.gx_core.specs.Meaning.{CallOutcomes, Context, meaning};
 ghost use Rattle.gx_eval.specs.Failing.{FailsSo};
 ghost use Rattle.gx_eval.specs.Growing.{GrowsHonestly};
-ghost use Rattle.gx_eval.specs.Resume.{resume, context_over, declared_then, only_documents, typed_outcome, outcome_of, outcome_with};
-ghost use Rattle.gx_eval.specs.declared.evaluation.Pending.TheVariants as work;
+ghost use Rattle.gx_eval.specs.Resume.{IsNoCall, context_with, items_of, outcome_of, outcome_with};
 
 use crate::blocks::{BlockRest, BlockWork};
-use crate::bound::Bound;
 use crate::change::Change;
 use crate::failure::Failure;
+use crate::locals::Locals;
 use crate::looping::{Decision, Loop};
 use crate::operand::count_of;
 use crate::single::Single;
@@ -21,11 +19,10 @@ use crate::switching::Choice;
 use crate::tuples::{Tuples, unbind_innermost};
 use gx_base::stack::Stack;
 use gx_core::constructor::Constructor;
-use gx_core::expression::{BinaryOp, TypedCore, TypedDeclaration, TypedExpr};
-use gx_core::scope::Scope;
+use gx_core::expression::{BinaryOp, TypedExpr};
+use gx_core::signature::FunctionSignature;
 use gx_funcs::function::Function;
 use gx_store::item::Item;
-use gx_store::number::NodeId;
 use gx_store::store::Store;
 use gx_types::schemas::Schemas;
 use gx_types::step::{Axis, Test};
@@ -56,6 +53,8 @@ pub(crate) enum Pending<'a> {
     Call(Function, usize),
     // Makes a node of so many operands, which stand behind the last marks.
     Construct(&'a Constructor, usize),
+    // Calls a declared function with so many arguments, which stand behind the last marks.
+    Enter(&'a FunctionSignature, usize),
     // Puts the items of an operand aside for a loop.
     Gather(Loop, usize, &'a TypedExpr),
     // Repeats a body for each item put aside from the first number on; the items of this loop begin at the second.
@@ -68,47 +67,42 @@ pub(crate) enum Pending<'a> {
     Bind(u32, usize, &'a TypedExpr),
     // Takes so many innermost bindings away.
     Unbind(usize),
-    // Binds a global variable to all values that are there.
-    Declare(u32),
-    // Binds an external variable to the next document.
-    External(u32),
 }
 
 // The work that is left, the values that are there, and what stands beside them: the marks of arguments, the items that loops go over,
-// the documents that no variable is bound to as yet, what variables are bound to, and the tuples of blocks.
+// what variables are bound to, and the tuples of blocks.
 #[derive(Drop)]
 pub(crate) struct Evaluation<'a> {
     pub(crate) work: Stack<Pending<'a>>,
     pub(crate) values: Vec<Item>,
     pub(crate) marks: Stack<usize>,
     pub(crate) sources: Vec<Item>,
-    pub(crate) documents: &'a [NodeId],
-    pub(crate) scope: Scope<Bound>,
+    pub(crate) scope: Locals<'a>,
     pub(crate) tuples: Tuples,
 }
 
 impl<'a> Evaluation<'a> {
-    // The evaluation of a query with these documents.
+    // The evaluation of an expression, where these variables are in scope.
     pub(crate) fn new(
         alloc: Global,
-        core: &'a TypedCore,
-        documents: &'a [NodeId],
+        expression: &'a TypedExpr,
+        scope: Locals<'a>,
     ) -> Result<Evaluation<'a>, AllocError>
-        ensures { (k : Context) (forest later : PlainForest) → IfOk result (λ e. outcome_of k forest later e ≡ typed_outcome k core.now (node_places later documents.now) forest) }
+        ensures { (k : Context) (forest later : PlainForest) → IfOk result (λ e. outcome_of k forest later e ≡ meaning k expression.now (items_of later scope.entry) forest) }
     {
-        let work = work_of(alloc, core)?;
+        let mut work = Stack::new(alloc);
+        work.push(Pending::Evaluate(expression))?;
         Ok(Evaluation {
             work,
             values: Vec::new(alloc),
             marks: Stack::new(alloc),
             sources: Vec::new(alloc),
-            documents,
-            scope: Scope::new(alloc),
+            scope,
             tuples: Tuples::new(alloc),
         })
     }
 
-    // Does a piece of work.
+    // Does a piece of work that is no call of a declared function.
     pub(crate) fn step(
         &mut self,
         alloc: Global,
@@ -116,9 +110,10 @@ impl<'a> Evaluation<'a> {
         store: &mut Store,
         pending: Pending<'a>,
     ) -> Result<(), Failure>
+        requires { IsNoCall pending }
         ensures grows { (store.new ≡ store.old) ⊎ GrowsHonestly schemas.now store.old store.new }
-        ensures value { (later : PlainForest) → Extends store.new later → OnOk result (outcome_of (context_over schemas.now) store.new later self.new ≡ outcome_with (context_over schemas.now) store.old later pending.entry self.old) }
-        ensures failed { (later : PlainForest) → Extends store.new later → IfErr result (λ e. FailsSo e (outcome_with (context_over schemas.now) store.old later pending.entry self.old)) }
+        ensures value { (calls : CallOutcomes) (later : PlainForest) → Extends store.new later → OnOk result (outcome_of (context_with schemas.now calls) store.new later self.new ≡ outcome_with (context_with schemas.now calls) store.old later pending.entry self.old) }
+        ensures failed { (calls : CallOutcomes) (later : PlainForest) → Extends store.new later → IfErr result (λ e. FailsSo e (outcome_with (context_with schemas.now calls) store.old later pending.entry self.old)) }
     {
         match pending {
             Pending::Evaluate(expression) => self.open(alloc, schemas, store, expression),
@@ -143,6 +138,7 @@ impl<'a> Evaluation<'a> {
             Pending::Construct(constructor, count) => {
                 self.construct(alloc, schemas, store, constructor, count)
             }
+            Pending::Enter(_, _) => unreachable!(),
             Pending::Call(function, more) => {
                 self.apply_call(alloc, schemas, store, function, more)
             }
@@ -154,46 +150,8 @@ impl<'a> Evaluation<'a> {
             }
             Pending::Decide(decision) => self.decide(decision),
             Pending::Bind(variable, first, body) => Ok(self.bind(alloc, variable, first, body)?),
-            Pending::Unbind(count) => {
-                unbind_innermost(&mut self.scope, count);
-                Ok(())
-            }
+            Pending::Unbind(count) => Ok(unbind_innermost(&mut self.scope, count)?),
             Pending::Block(piece, rest) => self.step_block(alloc, piece, rest),
-            Pending::Declare(variable) => Ok(self.declare(alloc, variable)?),
-            Pending::External(variable) => self.bind_document(variable),
         }
-    }
-}
-
-// The work of a query: its globals in order, and its body.
-fn work_of<'a>(alloc: Global, core: &'a TypedCore) -> Result<Stack<Pending<'a>>, AllocError>
-    ensures { (k : Context) (documents : List PlainNode) (forest : PlainForest) → IfOk result (λ made. resume k made [] (only_documents documents) [] forest ≡ typed_outcome k core.now documents forest) }
-{
-    let mut work = Stack::new(alloc);
-    work.push(Pending::Evaluate(&core.body))?;
-    let mut rest = core.declarations.as_slice();
-    while let Some((declaration, front)) = rest.split_last() {
-        put_down(declaration, &mut work)?;
-        rest = front;
-    }
-    Ok(work)
-}
-
-// Puts the work of a declaration before what is there.
-fn put_down<'a>(
-    declaration: &'a TypedDeclaration,
-    work: &mut Stack<Pending<'a>>,
-) -> Result<(), AllocError>
-    ensures { (k : Context) (documents : List PlainNode) (bindings : Bindings) (forest : PlainForest) → OnOk result (resume k work.new [] (only_documents documents) bindings forest
-        ≡ declared_then k (declaration.now ∷ []) (λ ds bs left. resume k work.old [] (only_documents ds) bs left) documents bindings forest) }
-{
-    match declaration {
-        TypedDeclaration::Global { binder, value, .. } => match value {
-            Some(value) => {
-                work.push(Pending::Declare(binder.variable))?;
-                work.push(Pending::Evaluate(value))
-            }
-            None => work.push(Pending::External(binder.variable)),
-        },
     }
 }

@@ -2,7 +2,6 @@
 
 ghost use Rattle.std.specs.Prelude.{◌≡◌, ◌≢◌, ◌<◌, IfOk, IfErr, All};
 ghost use Rattle.gx_model.specs.Belongs.{Belongs};
-ghost use Rattle.gx_model.specs.Forest.{Forest as PlainForest};
 ghost use Rattle.gx_model.specs.Growth.{Extends};
 ghost use Rattle.gx_model.specs.Honest.{IsHonest};
 ghost use Rattle.gx_core.specs.QueryMeaning.{query_outcome, query_type, plain_query, DocumentsFit, IsSoundQuery};
@@ -11,15 +10,13 @@ ghost use Rattle.gx_core.specs.Refusal.{Fails};
 ghost use Rattle.gx_nodes.specs.Entries.{count_in};
 ghost use Rattle.gx_store.specs.Items.{items_in};
 ghost use Rattle.gx_store.specs.Places.{node_places};
-ghost use Rattle.gx_eval.specs.Failing.{FailsSo};
-ghost use Rattle.gx_eval.specs.Growing.{GrowsHonestly};
-ghost use Rattle.gx_eval.specs.Resume.{context_over, typed_outcome};
 
-use crate::evaluation::Evaluation;
+use crate::declarations::query_value;
 use crate::failure::Failure;
+use gx_base::limits::ACTIVE_CALLS;
 use gx_core::dyn_error::DynError;
 use gx_core::expression::TypedCore;
-use gx_core::laws::sound_queries_keep_their_types;
+use gx_core::laws::{query_meaning_looks_at_no_type, sound_queries_keep_their_types};
 use gx_model::laws::growth_is_an_order;
 use gx_store::item::Item;
 use gx_store::number::NodeId;
@@ -48,35 +45,12 @@ pub fn evaluate(
         → IfOk result (λ v. Belongs schemas.now store.new (items_in store.new v.items) (query_type core.now)) }
 {
     growth_is_an_order();
+    query_meaning_looks_at_no_type();
     sound_queries_keep_their_types();
-    match value_of(alloc, schemas, core, store, documents) {
+    match query_value(alloc, schemas, core, store, documents, ACTIVE_CALLS) {
         Ok(items) => Ok(items),
         Err(Failure::Raised(code)) => Err(DynError::Raised(code)),
         Err(Failure::Memory) => Err(DynError::Memory),
         Err(Failure::Wrong) => unreachable!(),
     }
-}
-
-// The value of a query. The work ends long before the loop does.
-fn value_of(
-    alloc: Global,
-    schemas: &Schemas,
-    core: &TypedCore,
-    store: &mut Store,
-    documents: &[NodeId],
-) -> Result<Vec<Item>, Failure>
-    ensures grows { GrowsHonestly schemas.now store.old store.new }
-    ensures value { (later : PlainForest) → Extends store.new later → IfOk result (λ v.
-        typed_outcome (context_over schemas.now) core.now (node_places later documents.now) store.old ≡ gives (items_in later v.items) store.new) }
-    ensures failed { (later : PlainForest) → Extends store.new later → IfErr result (λ e.
-        FailsSo e (typed_outcome (context_over schemas.now) core.now (node_places later documents.now) store.old)) }
-{
-    let mut evaluation = Evaluation::new(alloc, core, documents)?;
-    for _ in 0..u64::MAX {
-        match evaluation.work.pop() {
-            None => return Ok(evaluation.values),
-            Some(pending) => evaluation.step(alloc, schemas, store, pending)?,
-        }
-    }
-    Err(Failure::Memory)
 }

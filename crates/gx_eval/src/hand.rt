@@ -11,21 +11,20 @@ ghost use Rattle.gx_model.specs.TypedValue.{untyped_atomic, untyped_value, value
 ghost use Rattle.gx_core.specs.declared.operator.Operator.TheVariants as operators;
 ghost use Rattle.gx_core.specs.Bindings.{look_up};
 ghost use Rattle.gx_core.specs.Outcome.{gives, given};
-ghost use Rattle.gx_core.specs.Meaning.{denoted, meaning};
+ghost use Rattle.gx_core.specs.Meaning.{CallOutcomes, denoted, meaning};
 ghost use Rattle.gx_core.specs.Paths.{is_node, stepped as step_meaning};
 ghost use Rattle.gx_nodes.specs.Entries.{place_of_number};
 ghost use Rattle.gx_store.specs.Items.{items_in};
 ghost use Rattle.gx_store.specs.Places.{node_places};
 ghost use Rattle.gx_eval.specs.BoundItems.{hand_items};
 ghost use Rattle.gx_eval.specs.StepPaths.{IsStepFrom};
-ghost use Rattle.gx_eval.specs.Resume.{context_over, items_of};
+ghost use Rattle.gx_eval.specs.Resume.{context_with, items_of};
 
-use crate::bound::Bound;
+use crate::locals::Locals;
 use crate::operand::{any_node, only_node};
 use gx_base::text::Text;
 use gx_base::type_name::{Builtin, TypeName};
 use gx_core::expression::{Form, TypedExpr};
-use gx_core::scope::Scope;
 use gx_facets::{AtomValue, Atomic};
 use gx_store::item::Item;
 use gx_store::number::NodeId;
@@ -66,10 +65,10 @@ impl AtHand<'_> {
 pub(crate) fn at_hand<'s>(
     schemas: &Schemas,
     store: &Store,
-    scope: &'s Scope<Bound>,
+    scope: &'s Locals<'_>,
     expression: &TypedExpr,
 ) -> Result<Option<AtHand<'s>>, AllocError>
-    ensures { (later : Forest) → Extends store.now later → IfOk result (λ found. IfSome found (λ hand. meaning (context_over schemas.now) expression.now (items_of later scope.now) store.now ≡ gives (hand_items later hand) store.now)) }
+    ensures { (calls : CallOutcomes) (later : Forest) → Extends store.now later → IfOk result (λ found. IfSome found (λ hand. meaning (context_with schemas.now calls) expression.now (items_of later scope.now) store.now ≡ gives (hand_items later hand) store.now)) }
 {
     match &expression.form {
         Form::DataOf(operand) => atoms_at_hand(schemas, store, scope, operand),
@@ -81,11 +80,11 @@ pub(crate) fn at_hand<'s>(
 fn atoms_at_hand<'s>(
     schemas: &Schemas,
     store: &Store,
-    scope: &'s Scope<Bound>,
+    scope: &'s Locals<'_>,
     operand: &TypedExpr,
 ) -> Result<Option<AtHand<'s>>, AllocError>
-    ensures { (later : Forest) → Extends store.now later → IfOk result (λ found. IfSome found (λ hand.
-        denoted (context_over schemas.now) operators.DataOf (meaning (context_over schemas.now) operand.now ∷ []) (items_of later scope.now) store.now ≡ gives (hand_items later hand) store.now)) }
+    ensures { (calls : CallOutcomes) (later : Forest) → Extends store.now later → IfOk result (λ found. IfSome found (λ hand.
+        denoted (context_with schemas.now calls) operators.DataOf (meaning (context_with schemas.now calls) operand.now ∷ []) (items_of later scope.now) store.now ≡ gives (hand_items later hand) store.now)) }
 {
     let Some(hand) = value_at_hand(schemas, store, scope, operand)? else {
         return Ok(None);
@@ -169,10 +168,10 @@ fn one_at_hand<'s>(values: Vec<Atomic>) -> Option<AtHand<'s>>
 fn value_at_hand<'s>(
     schemas: &Schemas,
     store: &Store,
-    scope: &'s Scope<Bound>,
+    scope: &'s Locals<'_>,
     expression: &TypedExpr,
 ) -> Result<Option<AtHand<'s>>, AllocError>
-    ensures { (later : Forest) → Extends store.now later → IfOk result (λ found. IfSome found (λ hand. meaning (context_over schemas.now) expression.now (items_of later scope.now) store.now ≡ gives (hand_items later hand) store.now)) }
+    ensures { (calls : CallOutcomes) (later : Forest) → Extends store.now later → IfOk result (λ found. IfSome found (λ hand. meaning (context_with schemas.now calls) expression.now (items_of later scope.now) store.now ≡ gives (hand_items later hand) store.now)) }
 {
     match &expression.form {
         Form::Lit(value) => Ok(Some(AtHand::One(Item::Atom(value.clone()?)))),
@@ -196,7 +195,7 @@ fn value_at_hand<'s>(
 fn step_at_hand<'s>(
     schemas: &Schemas,
     store: &Store,
-    scope: &Scope<Bound>,
+    scope: &Locals<'_>,
     axis: Axis,
     test: &Test,
     number: u32,

@@ -14,10 +14,10 @@ use crate::blocks::bound_in_turn;
 use crate::bound::Bound;
 use crate::evaluation::{Evaluation, Pending};
 use crate::failure::Failure;
+use crate::locals::Locals;
 use crate::operand::{condition_of, count_of, cut_off, move_from, push_atom, values_from};
 use gx_base::stack::Stack;
 use gx_core::expression::{Binder, TypedExpr};
-use gx_core::scope::Scope;
 use gx_funcs::function::{integer_atom, truth_atom};
 use gx_store::item::Item;
 use std::alloc::{AllocError, Global};
@@ -58,7 +58,7 @@ pub(crate) fn decides(decisive: bool, truth: bool) -> bool
 // Binds the item of a turn, and its number where the position has a variable.
 #[tactic(auto, using(gx_core::proofs::LoopBindings::position_is_bound))]
 pub(crate) fn bind_item(
-    scope: &mut Scope<Bound>,
+    scope: &mut Locals<'_>,
     variable: u32,
     position: u32,
     number: usize,

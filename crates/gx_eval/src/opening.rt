@@ -5,10 +5,10 @@ ghost use Rattle.gx_model.specs.Forest.{Forest as PlainForest};
 ghost use Rattle.gx_model.specs.Growth.{Extends};
 ghost use Rattle.gx_core.specs.Bindings.{look_up};
 ghost use Rattle.gx_core.specs.Outcome.{gives, given};
-ghost use Rattle.gx_core.specs.Meaning.{Context};
+ghost use Rattle.gx_core.specs.Meaning.{CallOutcomes, Context};
 ghost use Rattle.gx_core.specs.Paths.{stepped as step_meaning};
 ghost use Rattle.gx_eval.specs.Failing.{FailsSo};
-ghost use Rattle.gx_eval.specs.Resume.{context_over, outcome_of, outcome_with, outcome_behind, outcome_then, items_of};
+ghost use Rattle.gx_eval.specs.Resume.{context_with, outcome_of, outcome_with, outcome_behind, outcome_then, items_of};
 ghost use Rattle.gx_eval.specs.declared.evaluation.Pending.TheVariants as work;
 
 use crate::change::Change;
@@ -32,8 +32,8 @@ impl<'a> Evaluation<'a> {
         store: &Store,
         expression: &'a TypedExpr,
     ) -> Result<(), Failure>
-        ensures value { (later : PlainForest) → Extends store.now later → OnOk result (outcome_of (context_over schemas.now) store.now later self.new ≡ outcome_with (context_over schemas.now) store.now later (work.Evaluate expression.entry) self.old) }
-        ensures failed { (later : PlainForest) → Extends store.now later → IfErr result (λ e. FailsSo e (outcome_with (context_over schemas.now) store.now later (work.Evaluate expression.entry) self.old)) }
+        ensures value { (calls : CallOutcomes) (later : PlainForest) → Extends store.now later → OnOk result (outcome_of (context_with schemas.now calls) store.now later self.new ≡ outcome_with (context_with schemas.now calls) store.now later (work.Evaluate expression.entry) self.old) }
+        ensures failed { (calls : CallOutcomes) (later : PlainForest) → Extends store.now later → IfErr result (λ e. FailsSo e (outcome_with (context_with schemas.now calls) store.now later (work.Evaluate expression.entry) self.old)) }
     {
         match &expression.form {
             Form::Lit(value) => Ok(push_atom(value.clone()?, &mut self.values)?),
@@ -83,6 +83,9 @@ impl<'a> Evaluation<'a> {
             Form::Construct(constructor, parts) => {
                 Ok(self.open_construct(constructor, parts.as_slice())?)
             }
+            Form::User(signature, arguments) => {
+                Ok(self.open_user_call(signature, arguments.as_slice())?)
+            }
             Form::Neg(operand) => self.open_single(alloc, schemas, store, Single::Neg, operand),
             Form::Binary(operator, left, right) => {
                 self.open_binary(alloc, schemas, store, *operator, left, right)
@@ -127,10 +130,10 @@ impl<'a> Evaluation<'a> {
         test: &Test,
         number: u32,
     ) -> Result<(), Failure>
-        ensures value { (later : PlainForest) → Extends store.now later → OnOk result (outcome_of (context_over schemas.now) store.now later self.new
-            ≡ outcome_behind (context_over schemas.now) later (given (look_up (items_of later self.old.scope) number) (λ xs. step_meaning schemas.now axis test.now xs store.now)) self.old) }
-        ensures failed { (later : PlainForest) → Extends store.now later → IfErr result (λ e. FailsSo e
-            (outcome_behind (context_over schemas.now) later (given (look_up (items_of later self.old.scope) number) (λ xs. step_meaning schemas.now axis test.now xs store.now)) self.old)) }
+        ensures value { (calls : CallOutcomes) (later : PlainForest) → Extends store.now later → OnOk result (outcome_of (context_with schemas.now calls) store.now later self.new
+            ≡ outcome_behind (context_with schemas.now calls) later (given (look_up (items_of later self.old.scope) number) (λ xs. step_meaning schemas.now axis test.now xs store.now)) self.old) }
+        ensures failed { (calls : CallOutcomes) (later : PlainForest) → Extends store.now later → IfErr result (λ e. FailsSo e
+            (outcome_behind (context_with schemas.now calls) later (given (look_up (items_of later self.old.scope) number) (λ xs. step_meaning schemas.now axis test.now xs store.now)) self.old)) }
     {
         let Some(bound) = self.scope.find(number) else {
             return Err(Failure::Wrong);

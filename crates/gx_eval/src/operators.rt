@@ -5,12 +5,12 @@ ghost use Rattle.gx_model.specs.Forest.{Forest as PlainForest};
 ghost use Rattle.gx_model.specs.Growth.{Extends};
 ghost use Rattle.gx_core.specs.declared.operator.Operator.TheVariants as operators;
 ghost use Rattle.gx_core.specs.Outcome.{gives};
-ghost use Rattle.gx_core.specs.Meaning.{Context, denoted, meaning};
+ghost use Rattle.gx_core.specs.Meaning.{CallOutcomes, Context, denoted, meaning};
 ghost use Rattle.gx_store.specs.Items.{items_in};
 ghost use Rattle.gx_eval.specs.Answering.{answer_items, AnswerFits};
 ghost use Rattle.gx_eval.specs.Failing.{FailsSo};
 ghost use Rattle.gx_eval.specs.Operators.{single_operator, changing_operator};
-ghost use Rattle.gx_eval.specs.Resume.{context_over, outcome_of, outcome_with, outcome_behind, items_of, right_meaning};
+ghost use Rattle.gx_eval.specs.Resume.{context_with, outcome_of, outcome_with, outcome_behind, items_of, right_meaning};
 ghost use Rattle.gx_eval.specs.declared.evaluation.Pending.TheVariants as work;
 
 use crate::answer::{Answer, of_two, put};
@@ -35,9 +35,9 @@ impl<'a> Evaluation<'a> {
         operator: Single<'a>,
         operand: &'a TypedExpr,
     ) -> Result<(), Failure>
-        ensures value { let k = context_over schemas.now in (later : PlainForest) → Extends store.now later → OnOk result (outcome_of k store.now later self.new
+        ensures value { (calls : CallOutcomes) (later : PlainForest) → Extends store.now later → let k = context_with schemas.now calls in OnOk result (outcome_of k store.now later self.new
             ≡ outcome_behind k later (denoted k (single_operator operator.entry) (meaning k operand.now ∷ []) (items_of later self.old.scope) store.now) self.old) }
-        ensures failed { let k = context_over schemas.now in (later : PlainForest) → Extends store.now later → IfErr result (λ e. FailsSo e
+        ensures failed { (calls : CallOutcomes) (later : PlainForest) → Extends store.now later → let k = context_with schemas.now calls in IfErr result (λ e. FailsSo e
             (outcome_behind k later (denoted k (single_operator operator.entry) (meaning k operand.now ∷ []) (items_of later self.old.scope) store.now) self.old)) }
     {
         if let Some(answer) = self.single_at_hand(alloc, schemas, store, operator, operand)? {
@@ -57,10 +57,10 @@ impl<'a> Evaluation<'a> {
         operator: Single<'a>,
         operand: &TypedExpr,
     ) -> Result<Option<Answer>, Failure>
-        ensures value { let k = context_over schemas.now in (later : PlainForest) → Extends store.now later → IfOk result (λ found. IfSome found (λ r.
+        ensures value { (calls : CallOutcomes) (later : PlainForest) → Extends store.now later → let k = context_with schemas.now calls in IfOk result (λ found. IfSome found (λ r.
             denoted k (single_operator operator.entry) (meaning k operand.now ∷ []) (items_of later self.now.scope) store.now ≡ gives (answer_items later r) store.now)) }
         ensures fits { IfOk result (λ found. IfSome found AnswerFits) }
-        ensures failed { let k = context_over schemas.now in (later : PlainForest) → Extends store.now later → IfErr result (λ e. FailsSo e (denoted k (single_operator operator.entry) (meaning k operand.now ∷ []) (items_of later self.now.scope) store.now)) }
+        ensures failed { (calls : CallOutcomes) (later : PlainForest) → Extends store.now later → let k = context_with schemas.now calls in IfErr result (λ e. FailsSo e (denoted k (single_operator operator.entry) (meaning k operand.now ∷ []) (items_of later self.now.scope) store.now)) }
     {
         match at_hand(schemas, store, &self.scope, operand)? {
             Some(hand) => Ok(Some(of_one(alloc, schemas, store, operator, hand.as_slice())?)),
@@ -77,8 +77,8 @@ impl<'a> Evaluation<'a> {
         operator: Single<'a>,
         first: usize,
     ) -> Result<(), Failure>
-        ensures value { let k = context_over schemas.now in (later : PlainForest) → Extends store.now later → OnOk result (outcome_of k store.now later self.new ≡ outcome_with k store.now later (work.Single operator.entry first) self.old) }
-        ensures failed { let k = context_over schemas.now in (later : PlainForest) → Extends store.now later → IfErr result (λ e. FailsSo e (outcome_with k store.now later (work.Single operator.entry first) self.old)) }
+        ensures value { (calls : CallOutcomes) (later : PlainForest) → Extends store.now later → let k = context_with schemas.now calls in OnOk result (outcome_of k store.now later self.new ≡ outcome_with k store.now later (work.Single operator.entry first) self.old) }
+        ensures failed { (calls : CallOutcomes) (later : PlainForest) → Extends store.now later → let k = context_with schemas.now calls in IfErr result (λ e. FailsSo e (outcome_with k store.now later (work.Single operator.entry first) self.old)) }
     {
         let operand = values_from(&self.values, first);
         let answer = of_one(alloc, schemas, store, operator, operand)?;
@@ -96,9 +96,9 @@ impl<'a> Evaluation<'a> {
         left: &'a TypedExpr,
         right: &'a TypedExpr,
     ) -> Result<(), Failure>
-        ensures value { let k = context_over schemas.now in (later : PlainForest) → Extends store.now later → OnOk result (outcome_of k store.now later self.new
+        ensures value { (calls : CallOutcomes) (later : PlainForest) → Extends store.now later → let k = context_with schemas.now calls in OnOk result (outcome_of k store.now later self.new
             ≡ outcome_behind k later (denoted k (operators.Binary operator) (meaning k left.now ∷ meaning k right.now ∷ []) (items_of later self.old.scope) store.now) self.old) }
-        ensures failed { let k = context_over schemas.now in (later : PlainForest) → Extends store.now later → IfErr result (λ e. FailsSo e
+        ensures failed { (calls : CallOutcomes) (later : PlainForest) → Extends store.now later → let k = context_with schemas.now calls in IfErr result (λ e. FailsSo e
             (outcome_behind k later (denoted k (operators.Binary operator) (meaning k left.now ∷ meaning k right.now ∷ []) (items_of later self.old.scope) store.now) self.old)) }
     {
         if let Some(answer) = self.both_at_hand(alloc, schemas, store, operator, left, right)? {
@@ -118,10 +118,10 @@ impl<'a> Evaluation<'a> {
         left: &TypedExpr,
         right: &TypedExpr,
     ) -> Result<Option<Answer>, Failure>
-        ensures value { let k = context_over schemas.now in (later : PlainForest) → Extends store.now later → IfOk result (λ found. IfSome found (λ r.
+        ensures value { (calls : CallOutcomes) (later : PlainForest) → Extends store.now later → let k = context_with schemas.now calls in IfOk result (λ found. IfSome found (λ r.
             denoted k (operators.Binary operator) (meaning k left.now ∷ meaning k right.now ∷ []) (items_of later self.now.scope) store.now ≡ gives (answer_items later r) store.now)) }
         ensures fits { IfOk result (λ found. IfSome found AnswerFits) }
-        ensures failed { let k = context_over schemas.now in (later : PlainForest) → Extends store.now later → IfErr result (λ e. FailsSo e
+        ensures failed { (calls : CallOutcomes) (later : PlainForest) → Extends store.now later → let k = context_with schemas.now calls in IfErr result (λ e. FailsSo e
             (denoted k (operators.Binary operator) (meaning k left.now ∷ meaning k right.now ∷ []) (items_of later self.now.scope) store.now)) }
     {
         let Some(first) = at_hand(schemas, store, &self.scope, left)? else {
@@ -149,8 +149,8 @@ impl<'a> Evaluation<'a> {
         first: usize,
         right: &'a TypedExpr,
     ) -> Result<(), Failure>
-        ensures value { let k = context_over schemas.now in (later : PlainForest) → Extends store.now later → OnOk result (outcome_of k store.now later self.new ≡ outcome_with k store.now later (work.Right operator first right.entry) self.old) }
-        ensures failed { let k = context_over schemas.now in (later : PlainForest) → Extends store.now later → IfErr result (λ e. FailsSo e (outcome_with k store.now later (work.Right operator first right.entry) self.old)) }
+        ensures value { (calls : CallOutcomes) (later : PlainForest) → Extends store.now later → let k = context_with schemas.now calls in OnOk result (outcome_of k store.now later self.new ≡ outcome_with k store.now later (work.Right operator first right.entry) self.old) }
+        ensures failed { (calls : CallOutcomes) (later : PlainForest) → Extends store.now later → let k = context_with schemas.now calls in IfErr result (λ e. FailsSo e (outcome_with k store.now later (work.Right operator first right.entry) self.old)) }
     {
         if let Some(answer) = self.right_at_hand(alloc, schemas, store, operator, first, right)? {
             cut_off(&mut self.values, first);
@@ -171,10 +171,10 @@ impl<'a> Evaluation<'a> {
         first: usize,
         right: &TypedExpr,
     ) -> Result<Option<Answer>, Failure>
-        ensures value { let k = context_over schemas.now in (later : PlainForest) → Extends store.now later → IfOk result (λ found. IfSome found (λ r.
+        ensures value { (calls : CallOutcomes) (later : PlainForest) → Extends store.now later → let k = context_with schemas.now calls in IfOk result (λ found. IfSome found (λ r.
             right_meaning k operator first right.now (items_in later self.now.values.items) (items_of later self.now.scope) store.now ≡ gives (answer_items later r) store.now)) }
         ensures fits { IfOk result (λ found. IfSome found AnswerFits) }
-        ensures failed { let k = context_over schemas.now in (later : PlainForest) → Extends store.now later → IfErr result (λ e. FailsSo e (right_meaning k operator first right.now (items_in later self.now.values.items) (items_of later self.now.scope) store.now)) }
+        ensures failed { (calls : CallOutcomes) (later : PlainForest) → Extends store.now later → let k = context_with schemas.now calls in IfErr result (λ e. FailsSo e (right_meaning k operator first right.now (items_in later self.now.values.items) (items_of later self.now.scope) store.now)) }
     {
         let left = values_from(&self.values, first);
         match at_hand(schemas, store, &self.scope, right)? {
@@ -226,8 +226,8 @@ impl<'a> Evaluation<'a> {
         operator: Change<'a>,
         first: usize,
     ) -> Result<(), Failure>
-        ensures value { let k = context_over schemas.now in (later : PlainForest) → Extends store.now later → OnOk result (outcome_of k store.now later self.new ≡ outcome_with k store.now later (work.Change operator.entry first) self.old) }
-        ensures failed { let k = context_over schemas.now in (later : PlainForest) → Extends store.now later → IfErr result (λ e. FailsSo e (outcome_with k store.now later (work.Change operator.entry first) self.old)) }
+        ensures value { (calls : CallOutcomes) (later : PlainForest) → Extends store.now later → let k = context_with schemas.now calls in OnOk result (outcome_of k store.now later self.new ≡ outcome_with k store.now later (work.Change operator.entry first) self.old) }
+        ensures failed { (calls : CallOutcomes) (later : PlainForest) → Extends store.now later → let k = context_with schemas.now calls in IfErr result (λ e. FailsSo e (outcome_with k store.now later (work.Change operator.entry first) self.old)) }
     {
         change_values(alloc, schemas, store, operator, first, &mut self.values)?;
         Ok(())

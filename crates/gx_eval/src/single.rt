@@ -10,13 +10,13 @@ ghost use Rattle.gx_model.specs.Growth.{Extends};
 ghost use Rattle.gx_model.specs.Item.{atom};
 ghost use Rattle.gx_core.specs.Outcome.{gives};
 ghost use Rattle.gx_core.specs.Arithmetic.{negation};
-ghost use Rattle.gx_core.specs.Meaning.{acts};
+ghost use Rattle.gx_core.specs.Meaning.{CallOutcomes, acts};
 ghost use Rattle.gx_core.specs.Casting.{cast_outcome, cast_items, castable_items};
 ghost use Rattle.gx_store.specs.Items.{item_in, items_in};
 ghost use Rattle.gx_eval.specs.Answering.{answer_items, AnswerFits};
 ghost use Rattle.gx_eval.specs.Failing.{FailsSo};
 ghost use Rattle.gx_eval.specs.Operators.{single_operator};
-ghost use Rattle.gx_eval.specs.Resume.{context_over};
+ghost use Rattle.gx_eval.specs.Resume.{context_with};
 ghost use Rattle.gx_eval.specs.declared.failure.Failure.TheVariants.{Memory};
 
 use crate::answer::Answer;
@@ -50,11 +50,11 @@ pub(crate) fn of_one(
     operator: Single<'_>,
     operand: &[Item],
 ) -> Result<Answer, Failure>
-    ensures value { (later : PlainForest) → Extends store.now later → IfOk result (λ r.
-        acts (context_over schemas.now) (single_operator operator.entry) (items_in later operand.now ∷ []) store.now ≡ gives (answer_items later r) store.now) }
+    ensures value { (calls : CallOutcomes) (later : PlainForest) → Extends store.now later → IfOk result (λ r.
+        acts (context_with schemas.now calls) (single_operator operator.entry) (items_in later operand.now ∷ []) store.now ≡ gives (answer_items later r) store.now) }
     ensures fits { IfOk result (λ r. AnswerFits r) }
-    ensures failed { (later : PlainForest) → Extends store.now later → IfErr result (λ e.
-        FailsSo e (acts (context_over schemas.now) (single_operator operator.entry) (items_in later operand.now ∷ []) store.now)) }
+    ensures failed { (calls : CallOutcomes) (later : PlainForest) → Extends store.now later → IfErr result (λ e.
+        FailsSo e (acts (context_with schemas.now calls) (single_operator operator.entry) (items_in later operand.now ∷ []) store.now)) }
 {
     match operator {
         Single::Neg => negation(operand),
@@ -141,7 +141,7 @@ fn cast_of(
     }
 }
 
-fn cast_of_atom(
+pub(crate) fn cast_of_atom(
     alloc: Global,
     schemas: &Schemas,
     kind: &TypeName,

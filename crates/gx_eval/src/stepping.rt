@@ -5,13 +5,13 @@ ghost use Rattle.gx_model.specs.Forest.{Forest as PlainForest};
 ghost use Rattle.gx_model.specs.Growth.{Extends};
 ghost use Rattle.gx_model.specs.Item.{Items, node};
 ghost use Rattle.gx_core.specs.declared.operator.Operator.TheVariants as operators;
-ghost use Rattle.gx_core.specs.Meaning.{Context, denoted, meaning};
+ghost use Rattle.gx_core.specs.Meaning.{CallOutcomes, Context, denoted, meaning};
 ghost use Rattle.gx_core.specs.Outcome.{gives};
 ghost use Rattle.gx_core.specs.PathLaws.{ordered, stepped_from_each};
 ghost use Rattle.gx_store.specs.Items.{items_in};
 ghost use Rattle.gx_store.specs.Places.{node_places};
 ghost use Rattle.gx_eval.specs.Failing.{FailsSo};
-ghost use Rattle.gx_eval.specs.Resume.{context_over, items_of, outcome_behind, outcome_of, outcome_with};
+ghost use Rattle.gx_eval.specs.Resume.{context_with, items_of, outcome_behind, outcome_of, outcome_with};
 ghost use Rattle.gx_eval.specs.StepLoops.{steps_meaning};
 ghost use Rattle.gx_eval.specs.declared.evaluation.Pending.TheVariants as work;
 
@@ -87,8 +87,8 @@ impl<'a> Evaluation<'a> {
         test: &Test,
         first: usize,
     ) -> Result<(), Failure>
-        ensures value { let k = context_over schemas.now in (later : PlainForest) → Extends store.now later → OnOk result (outcome_of k store.now later self.new ≡ outcome_with k store.now later (work.Steps axis test.entry first) self.old) }
-        ensures failed { let k = context_over schemas.now in (later : PlainForest) → Extends store.now later → IfErr result (λ e. FailsSo e (outcome_with k store.now later (work.Steps axis test.entry first) self.old)) }
+        ensures value { (calls : CallOutcomes) (later : PlainForest) → Extends store.now later → let k = context_with schemas.now calls in OnOk result (outcome_of k store.now later self.new ≡ outcome_with k store.now later (work.Steps axis test.entry first) self.old) }
+        ensures failed { (calls : CallOutcomes) (later : PlainForest) → Extends store.now later → let k = context_with schemas.now calls in IfErr result (λ e. FailsSo e (outcome_with k store.now later (work.Steps axis test.entry first) self.old)) }
     {
         let operand = values_from(&self.values, first);
         let found = stepped_from_each(alloc, schemas, store, axis, test, operand)?;

@@ -4,9 +4,9 @@ ghost use Rattle.std.specs.Prelude.{◌≡◌, ◌∷◌, [], OnOk, IfErr, map};
 ghost use Rattle.gx_model.specs.Forest.{Forest as PlainForest};
 ghost use Rattle.gx_model.specs.Growth.{Extends};
 ghost use Rattle.gx_core.specs.declared.operator.Operator.TheVariants as operators;
-ghost use Rattle.gx_core.specs.Meaning.{Context, denoted, meaning};
+ghost use Rattle.gx_core.specs.Meaning.{CallOutcomes, Context, denoted, meaning};
 ghost use Rattle.gx_eval.specs.Failing.{FailsSo};
-ghost use Rattle.gx_eval.specs.Resume.{context_over, items_of, outcome_of, outcome_behind, outcome_with, branch_outcome};
+ghost use Rattle.gx_eval.specs.Resume.{context_with, items_of, outcome_of, outcome_behind, outcome_with, branch_outcome};
 ghost use Rattle.gx_eval.specs.declared.evaluation.Pending.TheVariants as work;
 
 use crate::evaluation::{Evaluation, Pending};
@@ -93,8 +93,8 @@ impl<'a> Evaluation<'a> {
         first: usize,
         choice: Choice<'a>,
     ) -> Result<(), Failure>
-        ensures value { let k = context_over schemas.now in (later : PlainForest) → Extends store.now later → OnOk result (outcome_of k store.now later self.new ≡ outcome_with k store.now later (work.Switch first choice.entry) self.old) }
-        ensures failed { let k = context_over schemas.now in (later : PlainForest) → Extends store.now later → IfErr result (λ e. FailsSo e (outcome_with k store.now later (work.Switch first choice.entry) self.old)) }
+        ensures value { (calls : CallOutcomes) (later : PlainForest) → Extends store.now later → let k = context_with schemas.now calls in OnOk result (outcome_of k store.now later self.new ≡ outcome_with k store.now later (work.Switch first choice.entry) self.old) }
+        ensures failed { (calls : CallOutcomes) (later : PlainForest) → Extends store.now later → let k = context_with schemas.now calls in IfErr result (λ e. FailsSo e (outcome_with k store.now later (work.Switch first choice.entry) self.old)) }
     {
         let Some((branch, others)) = choice.branches.split_first() else {
             return Err(Failure::Wrong);

@@ -9,8 +9,8 @@ ghost use Rattle.gx_eval.specs.BoundItems.{items_of};
 ghost use Rattle.gx_eval.specs.FoundTuples.{numbers_in_order};
 
 use crate::bound::Bound;
+use crate::locals::Locals;
 use gx_core::expression::TypedKey;
-use gx_core::scope::Scope;
 use gx_facets::Atomic;
 use gx_sorting::{KeyOrder, sorted_numbers};
 use gx_store::item::Item;
@@ -43,17 +43,13 @@ impl Tuples {
 }
 
 // A copy of so many innermost bindings.
-pub(crate) fn innermost(
-    alloc: Global,
-    scope: &Scope<Bound>,
-    count: usize,
-) -> Result<Row, AllocError>
+pub(crate) fn innermost(alloc: Global, scope: &Locals<'_>, count: usize) -> Result<Row, AllocError>
     ensures { (later : PlainForest) → IfOk result (λ row. items_of later row.items ≡ take count (items_of later scope.now)) }
 {
     let mut row = Vec::with_capacity(alloc, count)?;
     for depth in 0..count {
         let Some((variable, bound)) = scope.at_depth(depth) else {
-            return Ok(row);
+            return Err(AllocError);
         };
         row.push((variable, bound.copy()?))?;
     }
@@ -61,7 +57,7 @@ pub(crate) fn innermost(
 }
 
 // Binds what is bound in a tuple.
-pub(crate) fn bind_row(row: &[(u32, Bound)], scope: &mut Scope<Bound>) -> Result<(), AllocError>
+pub(crate) fn bind_row(row: &[(u32, Bound)], scope: &mut Locals<'_>) -> Result<(), AllocError>
     ensures { (later : PlainForest) → OnOk result (items_of later scope.new ≡ items_of later row.now ++ items_of later scope.old) }
 {
     let mut rest = row;
@@ -81,14 +77,15 @@ pub(crate) fn row_at(rows: &[Row], number: usize) -> Option<&Row>
 
 // Takes so many innermost bindings away.
 #[tactic(auto, using(crate::proofs::BlockResuming::dropped_again))]
-pub(crate) fn unbind_innermost(scope: &mut Scope<Bound>, count: usize)
-    ensures { scope.new ≡ drop count scope.old }
+pub(crate) fn unbind_innermost(scope: &mut Locals<'_>, count: usize) -> Result<(), AllocError>
+    ensures { OnOk result (scope.new ≡ drop count scope.old) }
 {
     let mut left = count;
     while left > 0 {
-        scope.unbind();
+        scope.unbind()?;
         left -= 1;
     }
+    Ok(())
 }
 
 // The key that a value is, if it is one.

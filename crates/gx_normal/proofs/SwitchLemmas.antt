@@ -7,6 +7,7 @@ use Rattle.gx_resolved.specs.ResolvedView.{resolved_parts}
 use Rattle.gx_core.specs.declared.cases.TypeCase.{TypeCase}
 use Rattle.gx_core.specs.declared.operator.Operator.TheVariants as operators
 use Rattle.gx_core.specs.Expression.{CoreExpression, At, Parts, a_part, all_parts}
+use Rattle.gx_normal.specs.declared.signatures.Signatures.{Signatures}
 use Rattle.gx_normal.specs.declared.focus.Focus.{Focus}
 use Rattle.gx_normal.specs.Clauses.{Numbers}
 use Rattle.gx_normal.specs.Constructs.{empty_at}
@@ -43,12 +44,12 @@ no_operand place (a ∷ parts) e = absurd (cc)
 
 -- ---- the body of a branch
 
-pub of_one_body : (place : Place) (construct : Construct) (body : ResolvedTree) (all : List ResolvedTree) (numbers : Numbers) (focus : Focus) (free : ℕ) → all ≡ body ∷ []
-    → branch_core place construct (a_resolved body no_resolved) numbers focus free ≡ branch_core place construct (resolved_parts all) numbers focus free
-of_one_body place construct body all numbers focus free h = ap (λ (l : List ResolvedTree). branch_core place construct (resolved_parts l) numbers focus free) (sym h)
+pub of_one_body : (signatures : Signatures) (place : Place) (construct : Construct) (body : ResolvedTree) (all : List ResolvedTree) (numbers : Numbers) (focus : Focus) (free : ℕ) → all ≡ body ∷ []
+    → branch_core signatures place construct (a_resolved body no_resolved) numbers focus free ≡ branch_core signatures place construct (resolved_parts all) numbers focus free
+of_one_body signatures place construct body all numbers focus free h = ap (λ (l : List ResolvedTree). branch_core signatures place construct (resolved_parts l) numbers focus free) (sym h)
 
-pub not_one_body : (place : Place) (construct : Construct) (all : List ResolvedTree) (numbers : Numbers) (focus : Focus) (free : ℕ) → length all ≢ 1
-    → (empty_at place, free) ≡ branch_core place construct (resolved_parts all) numbers focus free
-not_one_body place construct [] numbers focus free h = refl
-not_one_body place construct (a ∷ []) numbers focus free h = absurd (h refl)
-not_one_body place construct (a ∷ b ∷ more) numbers focus free h = refl
+pub not_one_body : (signatures : Signatures) (place : Place) (construct : Construct) (all : List ResolvedTree) (numbers : Numbers) (focus : Focus) (free : ℕ) → length all ≢ 1
+    → (empty_at place, free) ≡ branch_core signatures place construct (resolved_parts all) numbers focus free
+not_one_body signatures place construct [] numbers focus free h = refl
+not_one_body signatures place construct (a ∷ []) numbers focus free h = absurd (h refl)
+not_one_body signatures place construct (a ∷ b ∷ more) numbers focus free h = refl

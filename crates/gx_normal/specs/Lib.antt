@@ -4,7 +4,8 @@ pub mod Clauses
 pub mod Contexts
 pub mod Filters
 pub mod Asking
+pub mod Signatures
 pub mod Normalisation
 pub mod Normalising
-pub mod Unbuilt
 pub mod Making
+pub mod Laws

@@ -10,6 +10,7 @@ use Rattle.gx_normal.specs.declared.normalising.Task.TheVariants.{Normalise, Par
 use Rattle.gx_normal.specs.declared.normalising.Normalising.{Normalising}
 use Rattle.gx_normal.specs.declared.clauses.Ending.{Ending}
 use Rattle.gx_normal.specs.declared.focus.Focus.{Focus}
+use Rattle.gx_normal.specs.declared.signatures.Signatures.{Signatures}
 use Rattle.gx_normal.specs.Clauses.{Numbers, clause_numbers, behind_clause, clause_at, ended}
 use Rattle.gx_normal.specs.declared.contexts.Asked.TheVariants as asked
 use Rattle.gx_normal.specs.declared.contexts.ContextUse.{ContextUse}
@@ -31,9 +32,9 @@ abbrev pub all_added : List CoreExpression → Made → Made
 all_added [] outer = outer
 all_added (e ∷ es) outer = all_added es (added e outer)
 
-abbrev pub construct_finished : Place → Construct → Made → Made
-construct_finished place construct [] = []
-construct_finished place construct (parts ∷ outer) = added (constructed place construct (reverse parts)) outer
+abbrev pub construct_finished : Signatures → Place → Construct → Made → Made
+construct_finished signatures place construct [] = []
+construct_finished signatures place construct (parts ∷ outer) = added (constructed signatures place construct (reverse parts)) outer
 
 abbrev pub clause_finished : Ending → Place → Construct → (free : ℕ) → Made → Made
 clause_finished ending place construct free ((rest ∷ part ∷ more) ∷ outer) = added (clause_at ending place construct free part rest) outer
@@ -58,11 +59,11 @@ branch_finished place construct number ((body ∷ more) ∷ outer) = added (bran
 branch_finished place construct number _ = []
 
 -- the last part is what predicates filter, and they number variables from the free number on
-abbrev pub last_filtered : (reverse : Bool) → Place → (predicates : ResolvedTrees) → Made → Numbers → Focus → (free : ℕ) → Made × ℕ
-last_filtered reverse place predicates ((e ∷ parts) ∷ outer) numbers focus free =
-    let f = filtered_core reverse place e predicates numbers focus free in
+abbrev pub last_filtered : Signatures → (reverse : Bool) → Place → (predicates : ResolvedTrees) → Made → Numbers → Focus → (free : ℕ) → Made × ℕ
+last_filtered signatures reverse place predicates ((e ∷ parts) ∷ outer) numbers focus free =
+    let f = filtered_core signatures reverse place e predicates numbers focus free in
     let made : Made × ℕ = ((f.0 ∷ parts) ∷ outer, f.1) in made
-last_filtered reverse place predicates _ numbers focus free = ([], free)
+last_filtered signatures reverse place predicates _ numbers focus free = ([], free)
 
 -- the last part is the condition of a predicate, and the one before it is what the predicate filters
 abbrev pub predicate_finished : ContextUse → Place → (number : ℕ) → Made → (free : ℕ) → Made × ℕ
@@ -77,51 +78,51 @@ pub record Left : Type 0 where
   pub focus : Focus
   pub free : ℕ
 
-abbrev pub core_left : List Task → Made → Numbers → Focus → (free : ℕ) → Left
-core_left [] made numbers focus free = record { made = made; numbers = numbers; focus = focus; free = free }
-core_left (Normalise tree ∷ tasks) made numbers focus free = let e = core_of tree.now numbers focus free in core_left tasks (added e.0 made) numbers focus e.1
-core_left (Parts trees ∷ tasks) made numbers focus free =
-    let es = cores_of (resolved_parts trees.now) numbers focus free in core_left tasks (all_added es.0 made) numbers focus es.1
-core_left (Clauses ending place parts ∷ tasks) made numbers focus free =
-    let e = clauses_core ending place (resolved_parts parts.now) numbers focus free in core_left tasks (added e.0 made) numbers focus e.1
-core_left (Bind ending place clause others ∷ tasks) made numbers focus free =
-    let rest = clauses_core ending place (resolved_parts others.now) (clause_numbers clause.now free ++ numbers) focus (behind_clause clause.now free) in
-    core_left tasks (clause_finished ending place clause.now free (added rest.0 made)) numbers focus rest.1
-core_left (Unbind ∷ tasks) made numbers focus free = core_left tasks made (drop 1 numbers) focus free
-core_left (FinishClause ending place clause number ∷ tasks) made numbers focus free = core_left tasks (clause_finished ending place clause.now number made) numbers focus free
-core_left (End ending ∷ tasks) made numbers focus free = core_left tasks (last_ended ending made) numbers focus free
-core_left (Descend place ∷ tasks) made numbers focus free = core_left tasks (left_descended place free made) numbers focus (free + 1)
-core_left (Enter place second ∷ tasks) made numbers focus free =
+abbrev pub core_left : Signatures → List Task → Made → Numbers → Focus → (free : ℕ) → Left
+core_left signatures [] made numbers focus free = record { made = made; numbers = numbers; focus = focus; free = free }
+core_left signatures (Normalise tree ∷ tasks) made numbers focus free = let e = core_of signatures tree.now numbers focus free in core_left signatures tasks (added e.0 made) numbers focus e.1
+core_left signatures (Parts trees ∷ tasks) made numbers focus free =
+    let es = cores_of signatures (resolved_parts trees.now) numbers focus free in core_left signatures tasks (all_added es.0 made) numbers focus es.1
+core_left signatures (Clauses ending place parts ∷ tasks) made numbers focus free =
+    let e = clauses_core signatures ending place (resolved_parts parts.now) numbers focus free in core_left signatures tasks (added e.0 made) numbers focus e.1
+core_left signatures (Bind ending place clause others ∷ tasks) made numbers focus free =
+    let rest = clauses_core signatures ending place (resolved_parts others.now) (clause_numbers clause.now free ++ numbers) focus (behind_clause clause.now free) in
+    core_left signatures tasks (clause_finished ending place clause.now free (added rest.0 made)) numbers focus rest.1
+core_left signatures (Unbind ∷ tasks) made numbers focus free = core_left signatures tasks made (drop 1 numbers) focus free
+core_left signatures (FinishClause ending place clause number ∷ tasks) made numbers focus free = core_left signatures tasks (clause_finished ending place clause.now number made) numbers focus free
+core_left signatures (End ending ∷ tasks) made numbers focus free = core_left signatures tasks (last_ended ending made) numbers focus free
+core_left signatures (Descend place ∷ tasks) made numbers focus free = core_left signatures tasks (left_descended place free made) numbers focus (free + 1)
+core_left signatures (Enter place second ∷ tasks) made numbers focus free =
     let use' = path_use (asks_context asked.Position second.now) (asks_context asked.Last second.now) in
-    let e = core_of second.now numbers (focus_with focus use' free) (behind_context use' free) in
-    core_left tasks (path_finished use' place free (added e.0 made)) numbers focus e.1
-core_left (Filter reverse place predicates ∷ tasks) made numbers focus free =
-    let m = last_filtered reverse place (resolved_parts predicates.now) made numbers focus free in core_left tasks m.0 numbers focus m.1
-core_left (FinishPredicate use' place number ∷ tasks) made numbers focus free =
-    let m = predicate_finished use' place number made free in core_left tasks m.0 numbers focus m.1
-core_left (Leave outer ∷ tasks) made numbers focus free = core_left tasks made numbers outer free
-core_left (FinishPath use' place number ∷ tasks) made numbers focus free = core_left tasks (path_finished use' place number made) numbers focus free
-core_left (FinishBranch place construct number ∷ tasks) made numbers focus free = core_left tasks (branch_finished place construct.now number made) numbers focus free
-core_left (Finish place construct ∷ tasks) made numbers focus free = core_left tasks (construct_finished place construct.now made) numbers focus free
+    let e = core_of signatures second.now numbers (focus_with focus use' free) (behind_context use' free) in
+    core_left signatures tasks (path_finished use' place free (added e.0 made)) numbers focus e.1
+core_left signatures (Filter reverse place predicates ∷ tasks) made numbers focus free =
+    let m = last_filtered signatures reverse place (resolved_parts predicates.now) made numbers focus free in core_left signatures tasks m.0 numbers focus m.1
+core_left signatures (FinishPredicate use' place number ∷ tasks) made numbers focus free =
+    let m = predicate_finished use' place number made free in core_left signatures tasks m.0 numbers focus m.1
+core_left signatures (Leave outer ∷ tasks) made numbers focus free = core_left signatures tasks made numbers outer free
+core_left signatures (FinishPath use' place number ∷ tasks) made numbers focus free = core_left signatures tasks (path_finished use' place number made) numbers focus free
+core_left signatures (FinishBranch place construct number ∷ tasks) made numbers focus free = core_left signatures tasks (branch_finished place construct.now number made) numbers focus free
+core_left signatures (Finish place construct ∷ tasks) made numbers focus free = core_left signatures tasks (construct_finished signatures place construct.now made) numbers focus free
 
 abbrev pub core_to_make : Normalising → Left
-core_to_make n = core_left n.tasks n.made n.numbers n.focus n.free
+core_to_make n = core_left n.signatures.now n.tasks n.made n.numbers n.focus n.free
 
 -- with one more task that comes first
 abbrev pub left_with : Task → Normalising → Left
-left_with task n = core_left (task ∷ n.tasks) n.made n.numbers n.focus n.free
+left_with task n = core_left n.signatures.now (task ∷ n.tasks) n.made n.numbers n.focus n.free
 
 -- with an expression that comes next
 abbrev pub left_behind : CoreExpression → Normalising → Left
-left_behind e n = core_left n.tasks (added e n.made) n.numbers n.focus n.free
+left_behind e n = core_left n.signatures.now n.tasks (added e n.made) n.numbers n.focus n.free
 
 -- with a condition that filters the last part
 abbrev pub condition_left : (reverse : Bool) → Place → ResolvedTree → Normalising → Left
 condition_left reverse place condition n =
     let use' = predicate_use reverse (asks_context asked.Last condition) in
-    let c = core_of condition n.numbers (focus_with n.focus use' n.free) (behind_context use' n.free) in
+    let c = core_of n.signatures.now condition n.numbers (focus_with n.focus use' n.free) (behind_context use' n.free) in
     let m = predicate_finished use' place n.free (added c.0 n.made) c.1 in
-    core_left n.tasks m.0 n.numbers n.focus m.1
+    core_left n.signatures.now n.tasks m.0 n.numbers n.focus m.1
 
 -- a Core that is done stands alone
 abbrev pub IsOnePart : Made → Type 0

@@ -7,6 +7,7 @@ ghost use Rattle.gx_core.specs.ExpressionView.{kind_of_clause, part_of_clause};
 ghost use Rattle.gx_normal.specs.declared.focus.Focus.{Focus as PlainFocus};
 ghost use Rattle.gx_normal.specs.declared.clauses.Ending.TheVariants as endings;
 ghost use Rattle.gx_normal.specs.Normalising.{Made, core_left};
+ghost use Rattle.gx_normal.specs.declared.signatures.Signatures.{Signatures};
 
 use crate::construct::{at, boolean_around, conditional, data_around, empty};
 use crate::normalising::{Numbers, Task};
@@ -146,8 +147,8 @@ pub(crate) fn unbind_clause(
     tasks: &mut Stack<Task<'_>>,
     clause: &Construct,
 ) -> Result<(), AllocError>
-    ensures { (made : Made) (numbers : PlainNumbers) (focus : PlainFocus) (free number : ℕ)
-        → OnOk result (core_left tasks.new made (clause_numbers clause.now number ++ numbers) focus free ≡ core_left tasks.old made numbers focus free) }
+    ensures { (signatures : Signatures) (made : Made) (numbers : PlainNumbers) (focus : PlainFocus) (free number : ℕ)
+        → OnOk result (core_left signatures tasks.new made (clause_numbers clause.now number ++ numbers) focus free ≡ core_left signatures tasks.old made numbers focus free) }
 {
     match clause {
         Construct::For(_, Some(_)) => {

@@ -10,6 +10,7 @@ ghost use Rattle.gx_normal.specs.Normalisation.{constructed, of_two, of_three};
 ghost use Rattle.gx_normal.specs.Making.{made_of_one, made_of_two, operation_at};
 
 use crate::constructors::construct_of_node;
+use crate::signatures::{Signatures, user_call};
 use crate::switches::{instance, typeswitch};
 use gx_ast::expression::BinaryOperator;
 use gx_base::place::Place;
@@ -26,16 +27,18 @@ use std::alloc::{AllocError, Global};
 /// The Core of a construct over that of its parts.
 pub(crate) fn construct(
     alloc: Global,
+    signatures: &Signatures,
     place: Place,
     construct: &Construct,
     parts: Vec<CoreExpr>,
 ) -> Result<CoreExpr, AllocError>
-    ensures { IfOk result (λ e. e ≡ constructed place construct.now parts.items) }
+    ensures { IfOk result (λ e. e ≡ constructed signatures.now place construct.now parts.items) }
 {
     match construct {
         Construct::Number(value) => Ok(number(place, *value)),
         Construct::String(text) => string(place, text),
         Construct::Call(function) => call_of(alloc, place, *function, parts),
+        Construct::CallDeclared(name) => user_call(alloc, place, signatures, name, parts),
         Construct::Sequence | Construct::Binary(_) => {
             construct_of_two(alloc, place, construct, parts)
         }

@@ -13,6 +13,7 @@ use crate::construct::{at, boolean_around, construct, context_item, empty, step}
 use crate::constructors::is_kept_part;
 use crate::contexts::ContextUse;
 use crate::focus::Focus;
+use crate::signatures::Signatures;
 use gx_base::place::Place;
 use gx_base::stack::Stack;
 use gx_core::dismantle::dismantle;
@@ -52,10 +53,11 @@ pub(crate) enum Task<'a> {
     Finish(Place, &'a Construct),
 }
 
-// `made` has the parts that are there of each construct in the making, the innermost on top; `focus` has the numbers of the variables of
+// `signatures` are those of the functions that the query declares; `made` has the parts that are there of each construct in the making, the innermost on top; `focus` has the numbers of the variables of
 // the context; `free` is the first number that no variable has so far.
 #[derive(Drop)]
 pub(crate) struct Normalising<'a> {
+    pub(crate) signatures: &'a Signatures,
     pub(crate) tasks: Stack<Task<'a>>,
     pub(crate) made: Stack<Stack<CoreExpr>>,
     pub(crate) numbers: Numbers,
@@ -67,17 +69,19 @@ impl<'a> Normalising<'a> {
     // The normalisation of a tree.
     pub(crate) fn new(
         alloc: Global,
+        signatures: &'a Signatures,
         tree: &'a ResolvedExpr,
         numbers: Numbers,
         focus: Focus,
         free: u32,
     ) -> Result<Normalising<'a>, AllocError>
         ensures { IfOk result (λ n. core_to_make n
-            ≡ record { made = ((core_of tree.now numbers focus free).0 ∷ []) ∷ []; numbers = numbers; focus = focus; free = (core_of tree.now numbers focus free).1 }) }
+            ≡ record { made = ((core_of signatures.now tree.now numbers focus free).0 ∷ []) ∷ []; numbers = numbers; focus = focus; free = (core_of signatures.now tree.now numbers focus free).1 }) }
     {
         let mut tasks = Stack::new(alloc);
         tasks.push(Task::Normalise(tree))?;
         Ok(Normalising {
+            signatures,
             tasks,
             made: Stack::new(alloc),
             numbers,
@@ -145,6 +149,7 @@ impl<'a> Normalising<'a> {
         ensures numbers { self.new.numbers ≡ self.old.numbers }
         ensures focus { self.new.focus ≡ self.old.focus }
         ensures free { self.new.free ≡ self.old.free }
+        ensures signatures { self.new.signatures.now ≡ self.old.signatures.now }
     {
         let mut parts = match self.made.pop() {
             Some(parts) => parts,
@@ -235,8 +240,8 @@ impl<'a> Normalising<'a> {
         construct: &'a Construct,
         parts: &'a [ResolvedExpr],
     ) -> Result<(), AllocError>
-        ensures { OnOk result (core_to_make self.new ≡ (let cores = cores_of (resolved_parts parts.now) self.old.numbers self.old.focus self.old.free in
-            core_left self.old.tasks (added (constructed place construct.now cores.0) self.old.made) self.old.numbers self.old.focus cores.1)) }
+        ensures { OnOk result (core_to_make self.new ≡ (let cores = cores_of self.old.signatures.now (resolved_parts parts.now) self.old.numbers self.old.focus self.old.free in
+            core_left self.old.signatures.now self.old.tasks (added (constructed self.old.signatures.now place construct.now cores.0) self.old.made) self.old.numbers self.old.focus cores.1)) }
     {
         self.made.push(Stack::new(alloc))?;
         self.tasks.push(Task::Finish(place, construct))?;
@@ -344,6 +349,7 @@ impl<'a> Normalising<'a> {
         ensures numbers { self.new.numbers ≡ self.old.numbers }
         ensures focus { self.new.focus ≡ self.old.focus }
         ensures free { self.new.free ≡ self.old.free }
+        ensures signatures { self.new.signatures.now ≡ self.old.signatures.now }
     {
         self.made = Stack::new(alloc);
         Ok(())
@@ -356,7 +362,7 @@ impl<'a> Normalising<'a> {
         let Some(parts) = self.made.pop() else {
             return Ok(());
         };
-        let e = construct(alloc, place, of, parts.into_items())?;
+        let e = construct(alloc, self.signatures, place, of, parts.into_items())?;
         self.add(alloc, e)
     }
 

@@ -1,5 +1,6 @@
 // The tasks of paths and of predicates, which give contexts to their parts.
 
+ghost use Rattle.gx_normal.specs.declared.signatures.Signatures.{Signatures};
 ghost use Rattle.std.specs.Prelude.{◌≡◌, ◌≢◌, ℕ, List, [], ◌∷◌, length, IfSome, IsNone, OnOk};
 ghost use Rattle.gx_resolved.specs.ResolvedView.{resolved_parts};
 ghost use Rattle.gx_core.specs.Expression.{CoreExpression};
@@ -31,8 +32,8 @@ impl<'a> Normalising<'a> {
         place: Place,
         parts: &'a [ResolvedExpr],
     ) -> Result<(), AllocError>
-        ensures { OnOk result (core_to_make self.new ≡ (let path = path_core descendants place (resolved_parts parts.now) self.old.numbers self.old.focus self.old.free in
-            core_left self.old.tasks (added path.0 self.old.made) self.old.numbers self.old.focus path.1)) }
+        ensures { OnOk result (core_to_make self.new ≡ (let path = path_core self.old.signatures.now descendants place (resolved_parts parts.now) self.old.numbers self.old.focus self.old.free in
+            core_left self.old.signatures.now self.old.tasks (added path.0 self.old.made) self.old.numbers self.old.focus path.1)) }
     {
         let Some((first, second)) = two_parts(parts) else {
             return self.add(alloc, empty(place));
@@ -84,8 +85,8 @@ impl<'a> Normalising<'a> {
         context: ContextUse,
         inner: &'a ResolvedExpr,
     ) -> Result<(), AllocError>
-        ensures { OnOk result (core_to_make self.new ≡ (let e = core_of inner.now self.old.numbers (focus_with self.old.focus context self.old.free) (behind_context context self.old.free) in
-            core_left self.old.tasks (added e.0 self.old.made) self.old.numbers self.old.focus e.1)) }
+        ensures { OnOk result (core_to_make self.new ≡ (let e = core_of self.old.signatures.now inner.now self.old.numbers (focus_with self.old.focus context self.old.free) (behind_context context self.old.free) in
+            core_left self.old.signatures.now self.old.tasks (added e.0 self.old.made) self.old.numbers self.old.focus e.1)) }
     {
         let focus = self.focus.with_context(context, self.free)?;
         let free = behind_context(context, self.free)?;
@@ -127,8 +128,8 @@ impl<'a> Normalising<'a> {
         place: Place,
         parts: &'a [ResolvedExpr],
     ) -> Result<(), AllocError>
-        ensures { OnOk result (core_to_make self.new ≡ (let e = predicates_core place (resolved_parts parts.now) self.old.numbers self.old.focus self.old.free in
-            core_left self.old.tasks (added e.0 self.old.made) self.old.numbers self.old.focus e.1)) }
+        ensures { OnOk result (core_to_make self.new ≡ (let e = predicates_core self.old.signatures.now place (resolved_parts parts.now) self.old.numbers self.old.focus self.old.free in
+            core_left self.old.signatures.now self.old.tasks (added e.0 self.old.made) self.old.numbers self.old.focus e.1)) }
     {
         let Some((operand, predicates)) = parts.split_first() else {
             return self.add(alloc, empty(place));
@@ -228,9 +229,9 @@ fn put_descent(
     descendants: bool,
     place: Place,
 ) -> Result<(), AllocError>
-    ensures { (left : CoreExpression) (parts : List CoreExpression) (outer : Made) (numbers : PlainNumbers) (focus : PlainFocus) (free : ℕ)
-        → OnOk result (core_left tasks.new ((left ∷ parts) ∷ outer) numbers focus free
-        ≡ (let descended = left_of_path descendants place (left, free) in core_left tasks.old ((descended.0 ∷ parts) ∷ outer) numbers focus descended.1)) }
+    ensures { (signatures : Signatures) (left : CoreExpression) (parts : List CoreExpression) (outer : Made) (numbers : PlainNumbers) (focus : PlainFocus) (free : ℕ)
+        → OnOk result (core_left signatures tasks.new ((left ∷ parts) ∷ outer) numbers focus free
+        ≡ (let descended = left_of_path descendants place (left, free) in core_left signatures tasks.old ((descended.0 ∷ parts) ∷ outer) numbers focus descended.1)) }
 {
     if descendants {
         tasks.push(Task::Descend(place))

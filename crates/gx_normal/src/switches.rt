@@ -60,8 +60,8 @@ impl<'a> Normalising<'a> {
         branch: &'a Construct,
         parts: &'a [ResolvedExpr],
     ) -> Result<(), AllocError>
-        ensures { OnOk result (core_to_make self.new ≡ (let made = branch_core place branch.now (resolved_parts parts.now) self.old.numbers self.old.focus self.old.free in
-            core_left self.old.tasks (added made.0 self.old.made) self.old.numbers self.old.focus made.1)) }
+        ensures { OnOk result (core_to_make self.new ≡ (let made = branch_core self.old.signatures.now place branch.now (resolved_parts parts.now) self.old.numbers self.old.focus self.old.free in
+            core_left self.old.signatures.now self.old.tasks (added made.0 self.old.made) self.old.numbers self.old.focus made.1)) }
     {
         let Some(body) = only_part(parts) else {
             return self.add(alloc, empty(place));
@@ -77,8 +77,8 @@ impl<'a> Normalising<'a> {
         branch: &'a Construct,
         body: &'a ResolvedExpr,
     ) -> Result<(), AllocError>
-        ensures { OnOk result (core_to_make self.new ≡ (let b = core_of body.now (clause_numbers branch.now self.old.free ++ self.old.numbers) self.old.focus (behind_clause branch.now self.old.free) in
-            core_left self.old.tasks (added (branch_at place branch.now self.old.free b.0) self.old.made) self.old.numbers self.old.focus b.1)) }
+        ensures { OnOk result (core_to_make self.new ≡ (let b = core_of self.old.signatures.now body.now (clause_numbers branch.now self.old.free ++ self.old.numbers) self.old.focus (behind_clause branch.now self.old.free) in
+            core_left self.old.signatures.now self.old.tasks (added (branch_at place branch.now self.old.free b.0) self.old.made) self.old.numbers self.old.focus b.1)) }
     {
         let number = self.free;
         self.made.push(Stack::new(alloc))?;

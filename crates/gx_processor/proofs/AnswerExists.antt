@@ -30,7 +30,7 @@ use Rattle.gx_processor.proofs.WholeQueries.{named_queries_have_documents}
 use Rattle.gx_processor.specs.Externals.{external_words, documents_bound}
 use Rattle.gx_processor.specs.SchemaFiles.{schema_files, schema_requests, file_name_at}
 use Rattle.gx_processor.proofs.AskedDocuments.{length_bound}
-use Rattle.gx_processor.proofs.HeadlineLemmas.{types_are_kept}
+use Rattle.gx_processor.proofs.HeadlineLemmas.{IsNamedCore, named_core, types_are_kept}
 use Rattle.gx_processor.proofs.LoadLemmas.{OfDocument}
 use Rattle.gx_static.specs.QueryJudgement.{QueryJudgement, query_typed, query_rejected, query_judged}
 use Rattle.gx_static.proofs.QueryLaws.{query_sound}
@@ -42,7 +42,6 @@ use Rattle.gx_parse_grammar.specs.Query.{Parsing, parsed, refused}
 use Rattle.gx_parse_grammar.proofs.SomeParsing.{a_parsing_exists}
 use Rattle.gx_subtype.proofs.SomeText.{an_answer_text_exists}
 use Rattle.gx_processor.specs.RuleCode.{rule_code}
-use Rattle.gx_normal.specs.Unbuilt.{unbuilt_query}
 use Rattle.gx_processor.specs.declared.status.Status.{Status}
 use Rattle.gx_processor.specs.declared.status.Status.TheVariants as status
 use Rattle.gx_processor.specs.NamedQuery.{NamedQuery, named_query, unknown_name, query_named}
@@ -50,7 +49,7 @@ use Rattle.gx_processor.specs.Command.{Command, run_file, check_file, query_file
 use Rattle.gx_processor.specs.FaultLines.{line, usage_line, left_type_line, right_type_line, read_fault_line, code_line, placed_line, binding_line, long_document_line, document_line, invalid_line, import_line, shown_with}
 use Rattle.gx_processor.specs.Serialisation.{serialised}
 use Rattle.gx_processor.specs.TypeBytes.{type_bytes}
-use Rattle.gx_processor.specs.Answer.{Answer, writes, refuses, can_be_written, AnswersTexts, AnswersOutcome, AnswersEvaluated, AnswersRead, AnswersKept, AnswersLoaded, AnswersFiles, AnswersBound, AnswersTyped, AnswersJudged, AnswersNamed, AnswersImported, AnswersSources, AnswersBuilt, AnswersParsed, AnswersBytes, AnswersFile, AnswersCommand, AnswersWords, AnAnswerExists}
+use Rattle.gx_processor.specs.Answer.{Answer, writes, refuses, can_be_written, AnswersTexts, AnswersOutcome, AnswersEvaluated, AnswersRead, AnswersKept, AnswersLoaded, AnswersFiles, AnswersBound, AnswersTyped, AnswersJudged, AnswersNamed, AnswersImported, AnswersSources, AnswersSchemas, AnswersParsed, AnswersBytes, AnswersFile, AnswersCommand, AnswersWords, AnAnswerExists}
 
 outcome_answers : (schemas : SchemaSet) (t : SequenceType) (before : Forest) (o : Outcome Items) → Keeps (typed_setting schemas) before t o → (a : Answer) × AnswersOutcome o a
 outcome_answers schemas t before (gives items forest) h = (writes (serialised forest items), refl)
@@ -58,7 +57,7 @@ outcome_answers schemas t before (raises code) h = (refuses status.Dynamic (code
 outcome_answers schemas t before wrong h = absurd h
 
 -- the outcome of a query that has a type is no type error, whatever its documents are
-evaluated_answers : (schemas : SchemaSet) (core : Core) (t : TypedCore) (documents : Forest) → IsSchemaSet schemas → AreDocumentsOf schemas core.declarations documents → ExternalsAreDocuments schemas core.declarations
+evaluated_answers : (schemas : SchemaSet) (core : Core) (t : TypedCore) (documents : Forest) → IsSchemaSet schemas → AreDocumentsOf schemas core.declarations documents → IsNamedCore schemas core
     → query_judged schemas core ≡ query_typed t → (a : Answer) × AnswersEvaluated schemas core documents a
 evaluated_answers schemas core t documents invariant trees externals e =
     outcome_answers schemas (query_type t) documents (query_outcome schemas core (document_nodes documents) documents)
@@ -104,33 +103,33 @@ module _ (told : Status) where
 -- ---- a query
 
 module _ (files : Files) (schemas : SchemaSet) (invariant : IsSchemaSet schemas) where
-  bound_answers : (core : Core) (t : TypedCore) (bindings : List (List ℕ)) (fault : Option Misbound) → ExternalsAreDocuments schemas core.declarations → query_judged schemas core ≡ query_typed t → (a : Answer) × AnswersBound files schemas core bindings fault a
+  bound_answers : (core : Core) (t : TypedCore) (bindings : List (List ℕ)) (fault : Option Misbound) → IsNamedCore schemas core → query_judged schemas core ≡ query_typed t → (a : Answer) × AnswersBound files schemas core bindings fault a
   bound_answers core t bindings (Some fault) externals e = (refuses status.Usage (binding_line fault), refl)
   bound_answers core t bindings None externals e =
       files_answers status.Document files (tree_requests schemas (documents_bound core.declarations bindings)) [] (AnswersEvaluated schemas core)
       (λ forest trees. evaluated_answers schemas core t forest invariant
       (record { names = files_bound (external_words core.declarations) bindings; each = length_bound (external_words core.declarations) bindings; trees = trees }) externals e)
 
-  writable_answers : (core : Core) (t : TypedCore) (bindings : List (List ℕ)) (writable : Bool) → ExternalsAreDocuments schemas core.declarations → query_judged schemas core ≡ query_typed t
+  writable_answers : (core : Core) (t : TypedCore) (bindings : List (List ℕ)) (writable : Bool) → IsNamedCore schemas core → query_judged schemas core ≡ query_typed t
       → (a : Answer) × MatchBool writable (AnswersBound files schemas core bindings (misbound (external_words core.declarations) bindings) a) (a ≡ refuses status.Query (placed_line SENR0001 (outer_of core.body)))
   writable_answers core t bindings true externals e = bound_answers core t bindings (misbound (external_words core.declarations) bindings) externals e
   writable_answers core t bindings false externals e = (refuses status.Query (placed_line SENR0001 (outer_of core.body)), refl)
 
-  typed_answers : (command : Command) (core : Core) (t : TypedCore) → ExternalsAreDocuments schemas core.declarations → query_judged schemas core ≡ query_typed t → (a : Answer) × AnswersTyped files command schemas core t a
+  typed_answers : (command : Command) (core : Core) (t : TypedCore) → IsNamedCore schemas core → query_judged schemas core ≡ query_typed t → (a : Answer) × AnswersTyped files command schemas core t a
   typed_answers (run_file name bindings) core t externals e = writable_answers core t bindings (can_be_written schemas t) externals e
   typed_answers (check_file name) core t externals e = (writes (type_bytes (query_type t)), refl)
 
-  judged_answers : (command : Command) (core : Core) (j : QueryJudgement) → ExternalsAreDocuments schemas core.declarations → query_judged schemas core ≡ j → (a : Answer) × AnswersJudged files command schemas core j a
+  judged_answers : (command : Command) (core : Core) (j : QueryJudgement) → IsNamedCore schemas core → query_judged schemas core ≡ j → (a : Answer) × AnswersJudged files command schemas core j a
   judged_answers command core (query_typed t) externals e = typed_answers command core t externals e
   judged_answers command core (query_rejected place code) externals e = (refuses status.Query (placed_line code place), refl)
 
-  named_answers : (command : Command) (n : NamedQuery) → ((core : Core) → n ≡ named_query core → ExternalsAreDocuments schemas core.declarations) → (a : Answer) × AnswersNamed files command schemas n a
+  named_answers : (command : Command) (n : NamedQuery) → ((core : Core) → n ≡ named_query core → IsNamedCore schemas core) → (a : Answer) × AnswersNamed files command schemas n a
   named_answers command (named_query core) externals = judged_answers command core (query_judged schemas core) (externals core refl) refl
   named_answers command (unknown_name place code) externals = (refuses status.Query (placed_line code place), refl)
 
 imported_answers : ImportsAreSchemaSets → (files : Files) (command : Command) (tree : SyntaxQuery) (sources : List Source) (told : Imported) → IsImported sources told → (a : Answer) × AnswersImported files command tree (schema_files tree) told a
 imported_answers imports files command tree sources (declares schemas) e =
-    named_answers files schemas (imports sources schemas e) command (query_named schemas tree) (λ core named. named_queries_have_documents schemas tree core named)
+    named_answers files schemas (imports sources schemas e) command (query_named schemas tree) (λ core named. named_core named_queries_have_documents schemas tree core named)
 imported_answers imports files command tree sources (breaks rule file name list) e =
     (refuses status.Schema (import_line rule (file_name_at (schema_files tree) file) (shown_with rule name list)), refl)
 
@@ -140,13 +139,12 @@ sources_answers exists imports files command tree sources =
     let answer = imported_answers imports files command tree sources told.0 told.1 in
     (answer.0, (told.0, told.1, answer.1))
 
-built_answers : AnImportExists → ImportsAreSchemaSets → (files : Files) (command : Command) (tree : SyntaxQuery) (unbuilt : Option Place) → (a : Answer) × AnswersBuilt files command tree unbuilt a
-built_answers exists imports files command tree None =
+schemas_answers : AnImportExists → ImportsAreSchemaSets → (files : Files) (command : Command) (tree : SyntaxQuery) → (a : Answer) × AnswersSchemas files command tree a
+schemas_answers exists imports files command tree =
     files_answers status.Schema files (schema_requests tree) [] (AnswersSources files command tree) (λ sources kept. sources_answers exists imports files command tree sources)
-built_answers exists imports files command tree (Some place) = (refuses status.Query (placed_line XPST0003 place), refl)
 
 parsed_answers : AnImportExists → ImportsAreSchemaSets → (files : Files) (command : Command) (p : Parsing) → (a : Answer) × AnswersParsed files command p a
-parsed_answers exists imports files command (parsed tree) = built_answers exists imports files command tree (unbuilt_query tree)
+parsed_answers exists imports files command (parsed tree) = schemas_answers exists imports files command tree
 parsed_answers exists imports files command (refused rule place) = (refuses status.Query (placed_line (rule_code rule) place), refl)
 
 file_answers : AnImportExists → ImportsAreSchemaSets → (files : Files) (command : Command) (bytes : List ℕ) (short : Bool) → (a : Answer) × MatchBool short (AnswersBytes files command bytes a) (a ≡ refuses status.Query (code_line GLXS0001))

@@ -30,14 +30,13 @@ use Rattle.gx_base.specs.declared.place.Place.{Place}
 use Rattle.gx_ast.specs.declared.query.Query.{Query as SyntaxQuery}
 use Rattle.gx_parse_grammar.specs.Query.{Parsing, parsed, refused}
 use Rattle.gx_parse_grammar.proofs.OneParsing.{one_parsing}
-use Rattle.gx_normal.specs.Unbuilt.{unbuilt_query}
 use Rattle.gx_processor.specs.NamedQuery.{NamedQuery, named_query, unknown_name, query_named}
 use Rattle.gx_processor.specs.Command.{Command, run_file, check_file, query_file, command_of, command_named, is_operand, texts_to_compare}
 use Rattle.gx_processor.specs.Externals.{external_words, documents_bound}
 use Rattle.gx_processor.specs.SchemaFiles.{schema_files, schema_requests}
 use Rattle.gx_processor.specs.FaultLines.{line, code_line, placed_line, long_document_line, document_line}
 use Rattle.gx_processor.proofs.LoadLemmas.{OfDocument}
-use Rattle.gx_processor.specs.Answer.{Answer, writes, refuses, can_be_written, AnswersOutcome, AnswersEvaluated, AnswersRead, AnswersKept, AnswersLoaded, AnswersFiles, AnswersBound, AnswersTyped, AnswersJudged, AnswersNamed, AnswersImported, AnswersSources, AnswersBuilt, AnswersParsed, AnswersBytes, AnswersFile, AnswersCommand, AnswersTexts, AnswersWords, Answers, ChecksRefuseForRuns}
+use Rattle.gx_processor.specs.Answer.{Answer, writes, refuses, can_be_written, AnswersOutcome, AnswersEvaluated, AnswersRead, AnswersKept, AnswersLoaded, AnswersFiles, AnswersBound, AnswersTyped, AnswersJudged, AnswersNamed, AnswersImported, AnswersSources, AnswersSchemas, AnswersParsed, AnswersBytes, AnswersFile, AnswersCommand, AnswersTexts, AnswersWords, Answers, ChecksRefuseForRuns}
 
 outcome_unique : (o : Outcome Items) (a b : Answer) → AnswersOutcome o a → AnswersOutcome o b → a ≡ b
 outcome_unique (gives items forest) a b h k = h ∙ sym k
@@ -110,13 +109,12 @@ sources_unique single files command tree sources a b h k =
     imported_unique files command tree (schema_files tree) h.0 a b h.2
     (subst (λ (told : Imported). AnswersImported files command tree (schema_files tree) told b) (single sources k.0 h.0 k.1 h.1) k.2)
 
-built_unique : ImportsAreOne → (files : Files) (command : Command) (tree : SyntaxQuery) (unbuilt : Option Place) (a b : Answer) → AnswersBuilt files command tree unbuilt a → AnswersBuilt files command tree unbuilt b → a ≡ b
-built_unique single files command tree None a b h k =
+schemas_unique : ImportsAreOne → (files : Files) (command : Command) (tree : SyntaxQuery) (a b : Answer) → AnswersSchemas files command tree a → AnswersSchemas files command tree b → a ≡ b
+schemas_unique single files command tree a b h k =
     files_unique status.Schema files (schema_requests tree) [] (AnswersSources files command tree) a b (λ sources f g. sources_unique single files command tree sources a b f g) h k
-built_unique single files command tree (Some place) a b h k = h ∙ sym k
 
 parsed_unique : ImportsAreOne → (files : Files) (command : Command) (p : Parsing) (a b : Answer) → AnswersParsed files command p a → AnswersParsed files command p b → a ≡ b
-parsed_unique single files command (parsed tree) a b h k = built_unique single files command tree (unbuilt_query tree) a b h k
+parsed_unique single files command (parsed tree) a b h k = schemas_unique single files command tree a b h k
 parsed_unique single files command (refused rule place) a b h k = h ∙ sym k
 
 bytes_unique : ImportsAreOne → (files : Files) (command : Command) (bytes : List ℕ) (a b : Answer) → AnswersBytes files command bytes a → AnswersBytes files command bytes b → a ≡ b
@@ -237,15 +235,14 @@ files_through told files (request ∷ requests) before Next Other a f h =
     (λ root k. kept_through told request.file (request.outcome root) (λ t n. AnswersFiles told files requests (before ++ t ∷ []) Next n) (λ t n. AnswersFiles told files requests (before ++ t ∷ []) Other n) a
     (λ t k'. files_through told files requests (before ++ t ∷ []) Next Other a f k') k) h
 
-built_refused : (files : Files) (name : List ℕ) (bindings : List (List ℕ)) (tree : SyntaxQuery) (unbuilt : Option Place) (told : Status) (line : List ℕ) → AnswersBuilt files (check_file name) tree unbuilt (refuses told line)
-    → AnswersBuilt files (run_file name bindings) tree unbuilt (refuses told line)
-built_refused files name bindings tree None told line h =
+schemas_refused : (files : Files) (name : List ℕ) (bindings : List (List ℕ)) (tree : SyntaxQuery) (told : Status) (line : List ℕ) → AnswersSchemas files (check_file name) tree (refuses told line)
+    → AnswersSchemas files (run_file name bindings) tree (refuses told line)
+schemas_refused files name bindings tree told line h =
     files_through status.Schema files (schema_requests tree) [] (AnswersSources files (check_file name) tree) (AnswersSources files (run_file name bindings) tree) (refuses told line)
     (λ sources k. sources_refused files name bindings tree sources told line k) h
-built_refused files name bindings tree (Some place) told line h = h
 
 parsed_refused : (files : Files) (name : List ℕ) (bindings : List (List ℕ)) (p : Parsing) (status : Status) (line : List ℕ) → AnswersParsed files (check_file name) p (refuses status line) → AnswersParsed files (run_file name bindings) p (refuses status line)
-parsed_refused files name bindings (parsed tree) status line h = built_refused files name bindings tree (unbuilt_query tree) status line h
+parsed_refused files name bindings (parsed tree) status line h = schemas_refused files name bindings tree status line h
 parsed_refused files name bindings (refused rule place) status line h = h
 
 short_refused : (files : Files) (name : List ℕ) (bindings : List (List ℕ)) (short : Bool) (bytes : List ℕ) (status : Status) (line : List ℕ) (a : Answer) → MatchBool short (AnswersBytes files (check_file name) bytes (refuses status line)) (refuses status line ≡ a)

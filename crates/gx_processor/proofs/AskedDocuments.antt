@@ -5,7 +5,7 @@ use Rattle.gx_types.specs.SchemaSet.{SchemaSet, global_type}
 use Rattle.gx_types.specs.SequenceType.{SequenceType}
 use Rattle.gx_model.specs.Forest.{Forest}
 use Rattle.gx_core.specs.Queries.{CoreDeclaration}
-use Rattle.gx_core.specs.declared.expression.Declaration.TheVariants.{Global}
+use Rattle.gx_core.specs.declared.expression.Declaration.TheVariants.{Global, Function}
 use Rattle.gx_documents.specs.Bindings.{files_bound}
 use Rattle.gx_documents.specs.Documents.{Asked, AreDocumentTrees, AreGlobal, files_asked, tree_requests}
 use Rattle.gx_processor.specs.ExternalDocuments.{AreDocumentsOf, IsAskedOfEach, IsDocumentType, ExternalsAreDocuments}
@@ -19,6 +19,7 @@ length_bound (name ∷ names) words = ap suc (length_bound names words)
 files_of_asked : (schemas : SchemaSet) (ds : List CoreDeclaration) (names : List (List ℕ)) → length names ≡ length (external_words ds) → files_asked (tree_requests schemas (documents_asked ds names)) ≡ names
 files_of_asked schemas [] [] e = refl
 files_of_asked schemas [] (name ∷ names) e = absurd (cc)
+files_of_asked schemas (Function f ∷ ds) names e = files_of_asked schemas ds names e
 files_of_asked schemas (Global name binder (Some value) ∷ ds) names e = files_of_asked schemas ds names e
 files_of_asked schemas (Global name binder None ∷ ds) [] e = refl
 files_of_asked schemas (Global name binder None ∷ ds) (file ∷ names) e = ap (λ (ns : List (List ℕ)). file ∷ ns) (files_of_asked schemas ds names (omega (arith, e)))
@@ -45,6 +46,7 @@ documents_of_asked schemas ds asked forest a h = record {
 
 pub asked_are_global : (schemas : SchemaSet) (ds : List CoreDeclaration) (names : List (List ℕ)) → ExternalsAreDocuments schemas ds → AreGlobal schemas (documents_asked ds names)
 asked_are_global schemas [] names h = tt
+asked_are_global schemas (Function f ∷ ds) names h = asked_are_global schemas ds names h
 asked_are_global schemas (Global name binder (Some value) ∷ ds) names h = asked_are_global schemas ds names h
 asked_are_global schemas (Global name binder None ∷ ds) [] h = tt
 asked_are_global schemas (Global name binder None ∷ ds) (file ∷ names) h = (root_is_global schemas binder.kind h.0, asked_are_global schemas ds names h.1)

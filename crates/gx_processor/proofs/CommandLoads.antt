@@ -44,7 +44,7 @@ use Rattle.gx_processor.proofs.Told.{told_so}
 pub one_tree : (files : Files) (name : List ℕ) (a b : HoldsSyntax files name) → a.tree ≡ b.tree
 one_tree files name a b =
     let bytes : a.bytes ≡ b.bytes = cc in
-    same_tree a.bytes a.tree b.tree a.query.parses (subst (λ (x : List ℕ). Parses x (parsed b.tree)) (sym bytes) b.query.parses)
+    same_tree a.bytes a.tree b.tree a.parses (subst (λ (x : List ℕ). Parses x (parsed b.tree)) (sym bytes) b.parses)
 
 -- of the documents in files one list is kept
 one_outcome : {A E : Type 0} (outcome : Result A E) (a b : A) → outcome ≡ Ok a → outcome ≡ Ok b → a ≡ b

@@ -2,6 +2,7 @@
 use Rattle.std.proofs.Common.{◌≡◌, ◌≢◌, ℕ, suc, ◌+◌, List, [], ◌∷◌, ◌++◌, length, Option, None, Some, inl, inr, refl, sym, ap, subst, arith, append_assoc, option_map}
 use Rattle.std.specs.Prelude.{unwrap_or, IsSome}
 use Rattle.std.specs.List.{slice_get}
+use Rattle.gx_base.specs.declared.limits.TheConstants.{ACTIVE_CALLS}
 use Rattle.gx_base.specs.declared.name.Name.{Name}
 use Rattle.gx_base.specs.declared.type_name.Builtin.TheVariants.{Untyped}
 use Rattle.gx_base.specs.declared.type_name.TypeName.{TypeName}
@@ -23,7 +24,7 @@ use Rattle.gx_model.specs.Forest.{Forest, node_in}
 use Rattle.gx_model.specs.Item.{node, Items}
 use Rattle.gx_model.specs.Belongs.{Belongs, shape_of}
 use Rattle.gx_core.specs.Queries.{TypedCore, CoreDeclaration}
-use Rattle.gx_core.specs.declared.expression.Declaration.TheVariants.{Global}
+use Rattle.gx_core.specs.declared.expression.Declaration.TheVariants.{Global, Function}
 use Rattle.gx_core.specs.Outcome.{Outcome, gives, raises, wrong}
 use Rattle.gx_core.specs.Soundness.{Setting, typed_setting, Keeps}
 use Rattle.gx_core.specs.QueryMeaning.{IsDeclaredSo, DocumentsFit, plain_query, query_outcome, query_type, IsSoundQuery, SoundQueriesKeepTheirTypes}
@@ -88,6 +89,7 @@ module _ (fits : DocumentsAreAsAsked) (s : SchemaSet) (invariant : IsSchemaSet s
   fit_behind : (ds : List CoreDeclaration) (names : List (List ℕ)) (front rest : Forest) → ExternalsAreDocuments s ds → length names ≡ length (external_words ds) → AreDocumentTrees s (documents_asked ds names) rest
       → DocumentsFit s (front ++ rest) ds (document_nodes_from (length front) rest)
   fit_behind [] names front rest u e h = tt
+  fit_behind (Function f ∷ ds) names front rest u e h = fit_behind ds names front rest u e h
   fit_behind (Global name binder (Some value) ∷ ds) names front rest u e h = fit_behind ds names front rest u e h
   fit_behind (Global name binder None ∷ ds) [] front rest u e h = absurd (cc)
   fit_behind (Global name binder None ∷ ds) (file ∷ names) front [] u e h = absurd h
@@ -111,6 +113,6 @@ pub sound_is_not_wrong : SoundQueriesKeepTheirTypes → DocumentsAreHonest → D
     → ExternalsAreDocuments schemas (plain_query core).declarations → AreDocumentsOf schemas (plain_query core).declarations forest → query_outcome schemas (plain_query core) (document_nodes forest) forest ≢ wrong
 sound_is_not_wrong keep honest fits schemas core forest invariant sound externals documents =
     kept_is_not_wrong (typed_setting schemas) forest (query_type core) (query_outcome schemas (plain_query core) (document_nodes forest) forest)
-    (keep schemas core (document_nodes forest) forest
+    (keep ACTIVE_CALLS schemas core (document_nodes forest) forest
     (honest schemas (documents_asked (plain_query core).declarations documents.names) forest invariant (asked_are_global schemas (plain_query core).declarations documents.names externals) documents.trees)
     (documents_fit fits schemas invariant (plain_query core).declarations forest externals documents) sound)

@@ -8,6 +8,9 @@ use Rattle.gx_types.specs.SchemaSet.{SchemaSet}
 use Rattle.gx_types.specs.SchemaInvariant.{IsSchemaSet}
 use Rattle.gx_schema.specs.Import.{Imported, declares, breaks, IsImported}
 use Rattle.gx_schema.specs.Laws.{ImportsAreOne, ImportsAreSchemaSets}
+use Rattle.gx_base.specs.declared.limits.TheConstants.{ACTIVE_CALLS}
+use Rattle.gx_core.specs.Invariant.{HasQueryVariablesInOrder, CallsDeclaredFunctions}
+use Rattle.gx_processor.proofs.WholeQueries.{named_in_order, named_calls}
 use Rattle.gx_core.specs.Queries.{Core, TypedCore}
 use Rattle.gx_model.specs.Item.{Items}
 use Rattle.gx_core.specs.Outcome.{Outcome, gives, raises, wrong}
@@ -35,14 +38,13 @@ use Rattle.gx_base.specs.declared.place.Place.{Place}
 use Rattle.gx_ast.specs.declared.query.Query.{Query as SyntaxQuery}
 use Rattle.gx_parse_grammar.specs.Query.{Parsing, parsed, refused, Parses}
 use Rattle.gx_parse_grammar.proofs.OneParsing.{one_parsing}
-use Rattle.gx_normal.specs.Unbuilt.{unbuilt_query}
 use Rattle.gx_processor.specs.Command.{Command, run_file, check_file, query_file, command_of}
 use Rattle.gx_processor.specs.Query.{HoldsSyntax, ImportsSchemas, HoldsQuery}
 use Rattle.gx_processor.specs.SchemaFiles.{schema_files, schema_requests}
 use Rattle.gx_processor.specs.NamedQuery.{NamedQuery, named_query, unknown_name, query_named}
 use Rattle.gx_processor.specs.TypeBytes.{type_bytes}
 use Rattle.gx_processor.specs.FaultLines.{code_line, placed_line, long_document_line}
-use Rattle.gx_processor.specs.Answer.{Answer, writes, refuses, status_of, output_of, can_be_written, AnswersOutcome, AnswersEvaluated, AnswersRead, AnswersKept, AnswersLoaded, AnswersFiles, AnswersBound, AnswersRun, AnswersTyped, AnswersJudged, AnswersNamed, AnswersImported, AnswersSources, AnswersSchemas, AnswersBuilt, AnswersParsed, AnswersBytes, AnswersFile, Answers}
+use Rattle.gx_processor.specs.Answer.{Answer, writes, refuses, status_of, output_of, can_be_written, AnswersOutcome, AnswersEvaluated, AnswersRead, AnswersKept, AnswersLoaded, AnswersFiles, AnswersBound, AnswersRun, AnswersTyped, AnswersJudged, AnswersNamed, AnswersImported, AnswersSources, AnswersSchemas, AnswersParsed, AnswersBytes, AnswersFile, Answers}
 use Rattle.gx_processor.specs.Run.{Run}
 use Rattle.gx_processor.specs.Promises.{LeavesAnswer}
 use Rattle.gx_processor.specs.Headline.{BindDocuments, RunEnds, RunsTyped, ChecksTyped, HoldsTyped, RunsAsChecked, RejectsUntyped}
@@ -91,10 +93,9 @@ judged_answer single words files command schemas core a e q h =
     let r = q.read in
     let at = answer_at words files command r.bytes a e r.held h in
     let of_bytes = short_answer files command (nat_le (length r.bytes) 16777216) r.bytes a (refuses Query (code_line GLXS0001)) (le-leb (length r.bytes) 16777216 r.within) at in
-    let same = one_parsing r.bytes of_bytes.0 (parsed r.tree) of_bytes.1 r.query.parses in
+    let same = one_parsing r.bytes of_bytes.0 (parsed r.tree) of_bytes.1 r.parses in
     let of_tree = subst (λ (p : Parsing). AnswersParsed files command p a) same of_bytes.2 in
-    let of_built = subst (λ (o : Option Place). AnswersBuilt files command r.tree o a) r.query.built of_tree in
-    subst (λ (n : NamedQuery). AnswersNamed files command schemas n a) q.named (schemas_answer single files command r.tree schemas a q.imports of_built)
+    subst (λ (n : NamedQuery). AnswersNamed files command schemas n a) q.named (schemas_answer single files command r.tree schemas a q.imports of_tree)
 
 typed_answer : ImportsAreOne → (words : List (List ℕ)) (files : Files) (command : Command) (schemas : SchemaSet) (core : Core) (t : TypedCore) (a : Answer) → command_of words ≡ Some command → HoldsQuery files (query_file command) schemas core
     → query_judged schemas core ≡ query_typed t → Answers words files a → AnswersTyped files command schemas core t a
@@ -107,19 +108,32 @@ kept_of_held files [] (t ∷ kept) h = absurd h
 kept_of_held files (request ∷ requests) [] h = absurd h
 kept_of_held files (request ∷ requests) (t ∷ kept) h = ((h.0.1.bytes, h.0.0, h.0.1.reads, h.0.2), kept_of_held files requests kept h.1)
 
+-- what the Core of a query keeps to whose names are resolved
+pub record IsNamedCore (schemas : SchemaSet) (core : Core) : Type 0 where
+  pub documents : ExternalsAreDocuments schemas core.declarations
+  pub variables : HasQueryVariablesInOrder core
+  pub calls : CallsDeclaredFunctions core
+
+pub named_core : NamedQueriesHaveDocuments → (schemas : SchemaSet) (query : SyntaxQuery) (core : Core) → query_named schemas query ≡ named_query core → IsNamedCore schemas core
+named_core documents schemas query core e = record {
+  documents = documents schemas query core e;
+  variables = named_in_order schemas query core e;
+  calls = named_calls schemas query core e;
+}
+
 -- the meaning of a query that has a type keeps the type, on all documents
 abbrev pub TypesAreKept : Type 0
-TypesAreKept = (schemas : SchemaSet) (core : Core) (t : TypedCore) (documents : Forest) → IsSchemaSet schemas → AreDocumentsOf schemas core.declarations documents → ExternalsAreDocuments schemas core.declarations → query_judged schemas core ≡ query_typed t
+TypesAreKept = (schemas : SchemaSet) (core : Core) (t : TypedCore) (documents : Forest) → IsSchemaSet schemas → AreDocumentsOf schemas core.declarations documents → IsNamedCore schemas core → query_judged schemas core ≡ query_typed t
     → Keeps (typed_setting schemas) documents (query_type t) (query_outcome schemas core (document_nodes documents) documents)
 
 pub types_are_kept : QueryTypingIsSound → SoundQueriesKeepTheirTypes → DocumentsAreHonest → DocumentsAreAsAsked → TypesAreKept
-types_are_kept sound keep honest fits schemas core t documents invariant trees externals j =
+types_are_kept sound keep honest fits schemas core t documents invariant trees named j =
     let s = sound schemas core t invariant j in
-    let fit = documents_fit fits schemas invariant core.declarations documents externals trees in
-    let global = asked_are_global schemas core.declarations trees.names externals in
+    let fit = documents_fit fits schemas invariant core.declarations documents named.documents trees in
+    let global = asked_are_global schemas core.declarations trees.names named.documents in
     subst (λ (c : Core). Keeps (typed_setting schemas) documents (query_type t) (query_outcome schemas c (document_nodes documents) documents)) s.same
-    (keep schemas t (document_nodes documents) documents (honest schemas (documents_asked core.declarations trees.names) documents invariant global trees.trees)
-    (subst (λ (c : Core). DocumentsFit schemas documents c.declarations (document_nodes documents)) (sym s.same) fit) s.sound)
+    (keep ACTIVE_CALLS schemas t (document_nodes documents) documents (honest schemas (documents_asked core.declarations trees.names) documents invariant global trees.trees)
+    (subst (λ (c : Core). DocumentsFit schemas documents c.declarations (document_nodes documents)) (sym s.same) fit) (s.sound named.variables named.calls))
 
 outcome_runs : (run : Run) (schemas : SchemaSet) (core : Core) (t : TypedCore) (documents : Forest) (o : Outcome Items) (a : Answer) → query_outcome schemas core (document_nodes documents) documents ≡ o → Keeps (typed_setting schemas) documents (query_type t) o
     → AnswersOutcome o a → run.status ≡ status_of a → LeavesAnswer a run → RunEnds schemas core t documents run
@@ -143,9 +157,9 @@ pub typed_run : ImportsAreOne → (run : Run) (files : Files) → TypesAreKept �
 typed_run single run files kept sound named trees (inr m) name bindings schemas core t documents e q j yes' b = inr (inr m)
 typed_run single run files kept sound named trees (inl answered) name bindings schemas core t documents e q j yes' b =
     let invariant = sound q.imports.sources schemas q.imports.imports in
-    let externals = named schemas q.read.tree core q.named in
+    let externals = named_core named schemas q.read.tree core q.named in
     let names = files_bound (external_words core.declarations) bindings in
-    let held = (trees schemas files (documents_bound core.declarations bindings) documents invariant (asked_are_global schemas core.declarations names externals)).0 b.held in
+    let held = (trees schemas files (documents_bound core.declarations bindings) documents invariant (asked_are_global schemas core.declarations names externals.documents)).0 b.held in
     let of_run = typed_answer single run.words files (run_file name bindings) schemas core t answered.answer e q j answered.answers in
     let of_outcome = run_answer files bindings schemas core t documents answered.answer yes' b.bound held of_run in
     let all : AreDocumentsOf schemas core.declarations documents =
@@ -219,15 +233,10 @@ schemas_printed files name read printed h =
     let all = files_printed Schema files (schema_requests read.tree) [] (AnswersSources files (check_file name) read.tree) printed h in
     imported_printed files name read all.2.0 all.0 printed all.1 all.2.1 all.2.2
 
-built_printed : (files : Files) (name bytes : List ℕ) (tree : SyntaxQuery) (unbuilt : Option Place) (printed : List ℕ) → file_of files name ≡ Some bytes → length bytes ≤ 16777216 → Parses bytes (parsed tree) → unbuilt_query tree ≡ unbuilt
-    → AnswersBuilt files (check_file name) tree unbuilt (writes printed) → HoldsTyped files name printed
-built_printed files name bytes tree (Some place) printed held within p b h = cc
-built_printed files name bytes tree None printed held within p b h =
-    schemas_printed files name (record { tree = tree; bytes = bytes; held = held; within = within; query = record { parses = p; built = b } }) printed h
-
 parsed_printed : (files : Files) (name bytes : List ℕ) (p : Parsing) (printed : List ℕ) → file_of files name ≡ Some bytes → length bytes ≤ 16777216 → Parses bytes p → AnswersParsed files (check_file name) p (writes printed) → HoldsTyped files name printed
 parsed_printed files name bytes (refused rule place) printed held within p h = cc
-parsed_printed files name bytes (parsed tree) printed held within p h = built_printed files name bytes tree (unbuilt_query tree) printed held within p refl h
+parsed_printed files name bytes (parsed tree) printed held within p h =
+    schemas_printed files name (record { tree = tree; bytes = bytes; held = held; within = within; parses = p }) printed h
 
 short_printed : (files : Files) (name bytes : List ℕ) (short : Bool) (printed : List ℕ) → file_of files name ≡ Some bytes → nat_le (length bytes) 16777216 ≡ short → MatchBool short (AnswersBytes files (check_file name) bytes (writes printed)) (writes printed ≡ refuses Query (code_line GLXS0001)) → HoldsTyped files name printed
 short_printed files name bytes true printed held e h = parsed_printed files name bytes h.0 printed held (leb-true (length bytes) 16777216 e) h.1 h.2

@@ -57,8 +57,9 @@ use Rattle.gx_names_scope.specs.TreeCounts.{count_trees}
 use Rattle.gx_names_types.specs.TypeNames.{atomic_named, element_tested, attribute_tested, element_declared, test_type, indicated_type, type_written}
 use Rattle.gx_names_trees.specs.TreeRefusals.{built_in_call}
 use Rattle.gx_names_trees.specs.TreeResolution.{binder_resolved, optional_resolved, binding_resolved, call_resolved, direct_attribute_resolved, tree_resolved, form_resolved, trees_resolved, bindings_resolved, clauses_resolved, keys_resolved, cases_resolved, attributes_resolved, attribute_parts_resolved, parts_resolved}
-use Rattle.gx_names.specs.Refusals.{definition_scope, scope_after, with_functions, query_refusals}
-use Rattle.gx_names.specs.Resolution.{declaration_resolved, declarations_resolved, query_resolved}
+use Rattle.gx_names.specs.Refusals.{definition_scope, scope_after, with_functions, query_refusals, with_parameters}
+use Rattle.gx_names.specs.Resolution.{declaration_resolved, declarations_resolved, function_resolved, query_resolved}
+use Rattle.gx_ast.specs.declared.query.Parameter.{Parameter}
 use Rattle.gx_names.specs.SettingRefusals.{prolog_environment}
 use Rattle.gx_core.specs.declared.expression.BinaryOp.{BinaryOp}
 use Rattle.gx_core.specs.declared.expression.BinaryClass.{BinaryClass}
@@ -69,7 +70,7 @@ use Rattle.gx_core.specs.declared.operator.ClauseKind.{ClauseKind}
 use Rattle.gx_core.specs.declared.operator.ClauseKind.TheVariants as kinds
 use Rattle.gx_core.specs.declared.operator.Operator.TheVariants as operators
 use Rattle.gx_core.specs.declared.operator.Operator.{Operator}
-use Rattle.gx_core.specs.declared.expression.Declaration.TheVariants.{Global}
+use Rattle.gx_core.specs.declared.expression.Declaration.TheVariants.{Global, Function as CoreFunction}
 use Rattle.gx_core.specs.Queries.{Core, CoreDeclaration}
 use Rattle.gx_core.specs.Instances.{IsWrittenType}
 use Rattle.gx_core.specs.WrittenTypes.{AreWrittenCases, IsOverWrittenTypes, NamesWrittenTypes, PartsNameWrittenTypes, ValuesNameWrittenTypes}
@@ -99,6 +100,9 @@ use Rattle.gx_processor.specs.ExternalDocuments.{IsDocumentType, ExternalsAreDoc
 use Rattle.gx_processor.specs.NamedQuery.{named_query, query_named}
 use Rattle.gx_processor.specs.JudgedQueries.{IsOverNormalTypes, NamesNormalTypes, PartsNameNormalTypes, ValuesNameNormalTypes, NamedQueriesNameWrittenTypes, NamedQueriesAreJudgedByInclusion}
 use Rattle.gx_processor.proofs.WholeQueries.{named_queries_have_documents, same_schemas, whole_named}
+use Rattle.gx_core.specs.declared.signature.FunctionSignature.{FunctionSignature}
+use Rattle.gx_normal.specs.declared.signatures.Signatures.{Signatures}
+use Rattle.gx_normal.specs.Signatures.{inside_parameters, signature_called, signatures_of, user_call_at}
 
 -- ---- the types that are written in a query
 
@@ -162,6 +166,7 @@ abbrev AreNamedWell : SchemaSet → List CoreDeclaration → Type 0
 AreNamedWell s [] = Unit {0}
 AreNamedWell s (Global name binder None ∷ others) = IsNormalIfWritten s binder.kind × AreNamedWell s others
 AreNamedWell s (Global name binder (Some value) ∷ others) = NamesWell s value × AreNamedWell s others
+AreNamedWell s (CoreFunction f ∷ others) = NamesWell s f.body × AreNamedWell s others
 
 -- the types of cases and of `treat as` can be written
 operator_written : (s : SchemaSet) (operator : Operator) → IsNamedWell s operator → IsOverWrittenTypes operator
@@ -181,12 +186,14 @@ values_written : (s : SchemaSet) (ds : List CoreDeclaration) → AreNamedWell s 
 values_written s [] h = tt
 values_written s (Global name binder None ∷ ds) h = values_written s ds h.1
 values_written s (Global name binder (Some value) ∷ ds) h = (names_written s value h.0, values_written s ds h.1)
+values_written s (CoreFunction f ∷ ds) h = (names_written s f.body h.0, values_written s ds h.1)
 
 -- where they are normal too, the types that an expression names are known
 operator_known : (s : SchemaSet) (operator : Operator) → IsNamedWell s operator → IsOverNormalTypes s operator → CastsToAtomicType s operator
 operator_known s (operators.Cast kind allows_empty) h n = h
 operator_known s (operators.Switch cases default) h n = n
 operator_known s (operators.Treat kind) h n = n
+operator_known s (operators.User signature count) h n = n
 operator_known s _ h n = tt
 
 mutual
@@ -201,6 +208,7 @@ values_known : (s : SchemaSet) (ds : List CoreDeclaration) → AreNamedWell s ds
 values_known s [] h n = tt
 values_known s (Global name binder None ∷ ds) h n = (h.0, values_known s ds h.1 n)
 values_known s (Global name binder (Some value) ∷ ds) h n = (names_known s value h.0 n.0, values_known s ds h.1 n.1)
+values_known s (CoreFunction f ∷ ds) h n = (n.0, names_known s f.body h.0 n.1, values_known s ds h.1 n.2)
 
 -- ---- casts and written types of resolved trees
 
@@ -285,7 +293,7 @@ binding_is_no_cast s words.Satisfies bound position = tt
 
 -- ---- resolved trees
 
-module _ (s : SchemaSet) (is : IsSchemaSet s) where
+module _ (s : SchemaSet) (is : IsSchemaSet s) (signatures : Signatures) where
   abbrev Under : Environment → Type 0
   Under environment = environment.schemas ≡ s
 
@@ -486,10 +494,15 @@ module _ (s : SchemaSet) (is : IsSchemaSet s) where
   branch_or_casts (constructs.Default bound) branch other h k = h
   branch_or_casts construct branch other h k = k
 
-  constructed_casts : (place : Place) (construct : Construct) (es : List CoreExpression) → CastsAtomically s construct → AllCast es → Casts (constructed place construct es)
+  user_call_casts : (place : Place) (found : Option FunctionSignature) (es : List CoreExpression) → AllCast es → Casts (user_call_at place found es)
+  user_call_casts place None es h = (tt, tt)
+  user_call_casts place (Some signature) es h = (tt, all_cast es h)
+
+  constructed_casts : (place : Place) (construct : Construct) (es : List CoreExpression) → CastsAtomically s construct → AllCast es → Casts (constructed signatures place construct es)
   constructed_casts place (constructs.Number value) es c h = (tt, tt)
   constructed_casts place (constructs.String characters) es c h = (tt, tt)
   constructed_casts place constructs.Parenthesised es c h = one_casts place (within place) (within_casts place) es h
+  constructed_casts place (constructs.CallDeclared name) es c h = user_call_casts place (signature_called signatures name (length es)) es h
   constructed_casts place (constructs.Call function) es c h = call_casts place function es h
   constructed_casts place constructs.Sequence es c h = two_cast place core_sequence (λ a b k l. (tt, (k, (l, tt)))) es h
   constructed_casts place constructs.If es c h = three_cast place es h
@@ -568,7 +581,7 @@ module _ (s : SchemaSet) (is : IsSchemaSet s) where
   parts_with_cast false e others free h k = k free
 
   construct_casts : (place : Place) (construct : Construct) (numbers : Numbers) (focus : Focus) (free : ℕ) (parts : List CoreExpression × ℕ) (clauses steps picked : CoreExpression × ℕ)
-      → CastsAtomically s construct → AllCast parts.0 → Casts clauses.0 → Casts steps.0 → Casts picked.0 → Casts (construct_core place construct numbers focus free parts clauses steps picked).0
+      → CastsAtomically s construct → AllCast parts.0 → Casts clauses.0 → Casts steps.0 → Casts picked.0 → Casts (construct_core signatures place construct numbers focus free parts clauses steps picked).0
   construct_casts place (constructs.Variable name binder) numbers focus free parts clauses steps picked c h k l m = variable_casts place (number_at numbers binder)
   construct_casts place constructs.Context numbers focus free parts clauses steps picked c h k l m = context_casts place focus.context.item
   construct_casts place (constructs.Call functions.Position) numbers focus free parts clauses steps picked c h k l m = context_casts place focus.context.position
@@ -590,99 +603,99 @@ module _ (s : SchemaSet) (is : IsSchemaSet s) where
   key_in_front_casts place order part (At there outer tt operator parts) h k = (tt, tt)
 
   mutual
-    core_casts : (tree : ResolvedTree) (numbers : Numbers) (focus : Focus) (free : ℕ) → AreCastsAtomic s tree → Casts (core_of tree numbers focus free).0
+    core_casts : (tree : ResolvedTree) (numbers : Numbers) (focus : Focus) (free : ℕ) → AreCastsAtomic s tree → Casts (core_of signatures tree numbers focus free).0
     core_casts (resolved_at place construct parts) numbers focus free c =
-        branch_or_casts construct (branch_core place construct parts numbers focus free)
-        (construct_core place construct numbers focus free (cores_of parts numbers focus free) (clauses_core (ending_of_clauses construct parts focus.greatest) place parts numbers focus free) (path_core (is_to_descendants construct) place parts numbers focus free) (predicates_core place parts numbers focus free))
+        branch_or_casts construct (branch_core signatures place construct parts numbers focus free)
+        (construct_core signatures place construct numbers focus free (cores_of signatures parts numbers focus free) (clauses_core signatures (ending_of_clauses construct parts focus.greatest) place parts numbers focus free) (path_core signatures (is_to_descendants construct) place parts numbers focus free) (predicates_core signatures place parts numbers focus free))
         (branch_core_casts place construct parts numbers focus free c.0 c.1)
-        (construct_casts place construct numbers focus free (cores_of parts numbers focus free) (clauses_core (ending_of_clauses construct parts focus.greatest) place parts numbers focus free) (path_core (is_to_descendants construct) place parts numbers focus free)
-        (predicates_core place parts numbers focus free) c.0
+        (construct_casts place construct numbers focus free (cores_of signatures parts numbers focus free) (clauses_core signatures (ending_of_clauses construct parts focus.greatest) place parts numbers focus free) (path_core signatures (is_to_descendants construct) place parts numbers focus free)
+        (predicates_core signatures place parts numbers focus free) c.0
         (cores_cast parts numbers focus free c.1) (clauses_cast (ending_of_clauses construct parts focus.greatest) place parts numbers focus free c.1) (path_casts (is_to_descendants construct) place parts numbers focus free c.1)
         (predicates_cast place parts numbers focus free c.1))
 
-    cores_cast : (parts : ResolvedTrees) (numbers : Numbers) (focus : Focus) (free : ℕ) → AreAllCastsAtomic s parts → AllCast (cores_of parts numbers focus free).0
+    cores_cast : (parts : ResolvedTrees) (numbers : Numbers) (focus : Focus) (free : ℕ) → AreAllCastsAtomic s parts → AllCast (cores_of signatures parts numbers focus free).0
     cores_cast no_resolved numbers focus free c = tt
     cores_cast (a_resolved first others) numbers focus free c =
-        parts_with_cast (is_kept_part focus first) (core_of first numbers focus free) (cores_of others numbers focus) free (core_casts first numbers focus free c.0) (λ n. cores_cast others numbers focus n c.1)
+        parts_with_cast (is_kept_part focus first) (core_of signatures first numbers focus free) (cores_of signatures others numbers focus) free (core_casts first numbers focus free c.0) (λ n. cores_cast others numbers focus n c.1)
 
-    clauses_cast : (ending : Ending) (place : Place) (parts : ResolvedTrees) (numbers : Numbers) (focus : Focus) (free : ℕ) → AreAllCastsAtomic s parts → Casts (clauses_core ending place parts numbers focus free).0
+    clauses_cast : (ending : Ending) (place : Place) (parts : ResolvedTrees) (numbers : Numbers) (focus : Focus) (free : ℕ) → AreAllCastsAtomic s parts → Casts (clauses_core signatures ending place parts numbers focus free).0
     clauses_cast ending place no_resolved numbers focus free c = (tt, tt)
     clauses_cast (Sorted greatest) place (a_resolved (resolved_at there (constructs.For bound None) (a_resolved source more)) others) numbers focus free c =
-        let middle = (core_of source numbers focus free).1 in
+        let middle = (core_of signatures source numbers focus free).1 in
         let inner : Numbers = (bound.place, middle) ∷ numbers in
-        clause_in_front_casts place (kinds.For (numbered_binder bound middle) 0) (core_of source numbers focus free).0 (clauses_core (Sorted greatest) place others inner focus (middle + 1)).0
+        clause_in_front_casts place (kinds.For (numbered_binder bound middle) 0) (core_of signatures source numbers focus free).0 (clauses_core signatures (Sorted greatest) place others inner focus (middle + 1)).0
         (core_casts source numbers focus free c.0.1.0) (clauses_cast (Sorted greatest) place others inner focus (middle + 1) c.1)
     clauses_cast (Sorted greatest) place (a_resolved (resolved_at there (constructs.For bound (Some position)) (a_resolved source more)) others) numbers focus free c =
-        let middle = (core_of source numbers focus free).1 in
+        let middle = (core_of signatures source numbers focus free).1 in
         let inner : Numbers = (position.place, middle + 1) ∷ (bound.place, middle) ∷ numbers in
-        clause_in_front_casts place (kinds.For (numbered_binder bound middle) (middle + 1)) (core_of source numbers focus free).0 (clauses_core (Sorted greatest) place others inner focus (middle + 2)).0
+        clause_in_front_casts place (kinds.For (numbered_binder bound middle) (middle + 1)) (core_of signatures source numbers focus free).0 (clauses_core signatures (Sorted greatest) place others inner focus (middle + 2)).0
         (core_casts source numbers focus free c.0.1.0) (clauses_cast (Sorted greatest) place others inner focus (middle + 2) c.1)
     clauses_cast (Sorted greatest) place (a_resolved (resolved_at there (constructs.Let bound) (a_resolved value more)) others) numbers focus free c =
-        let middle = (core_of value numbers focus free).1 in
+        let middle = (core_of signatures value numbers focus free).1 in
         let inner : Numbers = (bound.place, middle) ∷ numbers in
-        clause_in_front_casts place (kinds.Let (numbered_binder bound middle)) (core_of value numbers focus free).0 (clauses_core (Sorted greatest) place others inner focus (middle + 1)).0
+        clause_in_front_casts place (kinds.Let (numbered_binder bound middle)) (core_of signatures value numbers focus free).0 (clauses_core signatures (Sorted greatest) place others inner focus (middle + 1)).0
         (core_casts value numbers focus free c.0.1.0) (clauses_cast (Sorted greatest) place others inner focus (middle + 1) c.1)
     clauses_cast (Sorted greatest) place (a_resolved (resolved_at there constructs.Where (a_resolved condition more)) others) numbers focus free c =
-        let middle = (core_of condition numbers focus free).1 in
-        clause_in_front_casts place kinds.Where (boolean_around (core_of condition numbers focus free).0) (clauses_core (Sorted greatest) place others numbers focus middle).0
+        let middle = (core_of signatures condition numbers focus free).1 in
+        clause_in_front_casts place kinds.Where (boolean_around (core_of signatures condition numbers focus free).0) (clauses_core signatures (Sorted greatest) place others numbers focus middle).0
         (tt, (core_casts condition numbers focus free c.0.1.0, tt)) (clauses_cast (Sorted greatest) place others numbers focus middle c.1)
     clauses_cast (Sorted greatest) place (a_resolved (resolved_at there (constructs.Key order) (a_resolved key more)) others) numbers focus free c =
-        let middle = (core_of key numbers focus free).1 in
-        key_in_front_casts place (key_order greatest order) (data_around (core_of key numbers focus free).0) (clauses_core (Sorted greatest) place others numbers focus middle).0
+        let middle = (core_of signatures key numbers focus free).1 in
+        key_in_front_casts place (key_order greatest order) (data_around (core_of signatures key numbers focus free).0) (clauses_core signatures (Sorted greatest) place others numbers focus middle).0
         (tt, (core_casts key numbers focus free c.0.1.0, tt)) (clauses_cast (Sorted greatest) place others numbers focus middle c.1)
     clauses_cast ending place (a_resolved (resolved_at there (constructs.Key order) (a_resolved key more)) others) numbers focus free c = (tt, tt)
     clauses_cast ending place (a_resolved (resolved_at there (constructs.For bound None) (a_resolved source more)) others) numbers focus free c =
-        let middle = (core_of source numbers focus free).1 in
+        let middle = (core_of signatures source numbers focus free).1 in
         (tt, (core_casts source numbers focus free c.0.1.0, (clauses_cast ending place others ((bound.place, middle) ∷ numbers) focus (middle + 1) c.1, tt)))
     clauses_cast ending place (a_resolved (resolved_at there (constructs.For bound (Some position)) (a_resolved source more)) others) numbers focus free c =
-        let middle = (core_of source numbers focus free).1 in
+        let middle = (core_of signatures source numbers focus free).1 in
         (tt, (core_casts source numbers focus free c.0.1.0, (clauses_cast ending place others ((position.place, middle + 1) ∷ (bound.place, middle) ∷ numbers) focus (middle + 2) c.1, tt)))
     clauses_cast ending place (a_resolved (resolved_at there (constructs.Let bound) (a_resolved value more)) others) numbers focus free c =
-        let middle = (core_of value numbers focus free).1 in
+        let middle = (core_of signatures value numbers focus free).1 in
         (tt, (core_casts value numbers focus free c.0.1.0, (clauses_cast ending place others ((bound.place, middle) ∷ numbers) focus (middle + 1) c.1, tt)))
     clauses_cast ending place (a_resolved (resolved_at there constructs.Where (a_resolved condition more)) others) numbers focus free c =
-        let middle = (core_of condition numbers focus free).1 in
+        let middle = (core_of signatures condition numbers focus free).1 in
         (tt, ((tt, (core_casts condition numbers focus free c.0.1.0, tt)), (clauses_cast ending place others numbers focus middle c.1, ((tt, tt), tt))))
     clauses_cast Returned place (a_resolved (resolved_at there (constructs.In bound) (a_resolved source more)) others) numbers focus free c = (tt, tt)
     clauses_cast (Sorted greatest) place (a_resolved (resolved_at there (constructs.In bound) (a_resolved source more)) others) numbers focus free c = (tt, tt)
     clauses_cast (Condition true) place (a_resolved (resolved_at there (constructs.In bound) (a_resolved source more)) others) numbers focus free c =
-        let middle = (core_of source numbers focus free).1 in
+        let middle = (core_of signatures source numbers focus free).1 in
         (tt, (core_casts source numbers focus free c.0.1.0, (clauses_cast (Condition true) place others ((bound.place, middle) ∷ numbers) focus (middle + 1) c.1, tt)))
     clauses_cast (Condition false) place (a_resolved (resolved_at there (constructs.In bound) (a_resolved source more)) others) numbers focus free c =
-        let middle = (core_of source numbers focus free).1 in
+        let middle = (core_of signatures source numbers focus free).1 in
         (tt, (core_casts source numbers focus free c.0.1.0, (clauses_cast (Condition false) place others ((bound.place, middle) ∷ numbers) focus (middle + 1) c.1, tt)))
     clauses_cast Returned place (a_resolved last others) numbers focus free c = core_casts last numbers focus free c.0
     clauses_cast (Sorted greatest) place (a_resolved last others) numbers focus free c = (tt, (core_casts last numbers focus free c.0, tt))
     clauses_cast (Condition every) place (a_resolved last others) numbers focus free c = (tt, (core_casts last numbers focus free c.0, tt))
 
     branch_core_casts : (place : Place) (construct : Construct) (parts : ResolvedTrees) (numbers : Numbers) (focus : Focus) (free : ℕ) → CastsAtomically s construct → AreAllCastsAtomic s parts
-        → Casts (branch_core place construct parts numbers focus free).0
+        → Casts (branch_core signatures place construct parts numbers focus free).0
     branch_core_casts place construct (a_resolved body no_resolved) numbers focus free k c =
-        let b = core_of body (clause_numbers construct free ++ numbers) focus (behind_clause construct free) in
+        let b = core_of signatures body (clause_numbers construct free ++ numbers) focus (behind_clause construct free) in
         branch_casts place construct free b.0 k (core_casts body (clause_numbers construct free ++ numbers) focus (behind_clause construct free) c.0)
     branch_core_casts place construct _ numbers focus free k c = (tt, tt)
 
-    path_casts : (descendants : Bool) (place : Place) (parts : ResolvedTrees) (numbers : Numbers) (focus : Focus) (free : ℕ) → AreAllCastsAtomic s parts → Casts (path_core descendants place parts numbers focus free).0
+    path_casts : (descendants : Bool) (place : Place) (parts : ResolvedTrees) (numbers : Numbers) (focus : Focus) (free : ℕ) → AreAllCastsAtomic s parts → Casts (path_core signatures descendants place parts numbers focus free).0
     path_casts descendants place (a_resolved first (a_resolved second no_resolved)) numbers focus free c =
-        let a = left_of_path descendants place (core_of first numbers focus free) in
+        let a = left_of_path descendants place (core_of signatures first numbers focus free) in
         let use' = path_use (asks_context asked.Position second) (asks_context asked.Last second) in
-        let b = core_of second numbers (focus_with focus use' a.1) (behind_context use' a.1) in
-        loop_casts use' true place a.1 (nodes_at place a.0) b.0 (tt, (left_casts descendants place (core_of first numbers focus free) (core_casts first numbers focus free c.0), tt))
+        let b = core_of signatures second numbers (focus_with focus use' a.1) (behind_context use' a.1) in
+        loop_casts use' true place a.1 (nodes_at place a.0) b.0 (tt, (left_casts descendants place (core_of signatures first numbers focus free) (core_casts first numbers focus free c.0), tt))
         (core_casts second numbers (focus_with focus use' a.1) (behind_context use' a.1) c.1.0)
     path_casts descendants place _ numbers focus free c = (tt, tt)
 
-    predicates_cast : (place : Place) (parts : ResolvedTrees) (numbers : Numbers) (focus : Focus) (free : ℕ) → AreAllCastsAtomic s parts → Casts (predicates_core place parts numbers focus free).0
+    predicates_cast : (place : Place) (parts : ResolvedTrees) (numbers : Numbers) (focus : Focus) (free : ℕ) → AreAllCastsAtomic s parts → Casts (predicates_core signatures place parts numbers focus free).0
     predicates_cast place no_resolved numbers focus free c = (tt, tt)
     predicates_cast place (a_resolved operand predicates) numbers focus free c =
-        let e = core_of operand numbers focus free in
+        let e = core_of signatures operand numbers focus free in
         filtered_cast (is_reverse_step operand) place e.0 predicates numbers focus e.1 (core_casts operand numbers focus free c.0) c.1
 
     filtered_cast : (reverse : Bool) (place : Place) (e : CoreExpression) (predicates : ResolvedTrees) (numbers : Numbers) (focus : Focus) (free : ℕ) → Casts e → AreAllCastsAtomic s predicates
-        → Casts (filtered_core reverse place e predicates numbers focus free).0
+        → Casts (filtered_core signatures reverse place e predicates numbers focus free).0
     filtered_cast reverse place e no_resolved numbers focus free h c = h
     filtered_cast reverse place e (a_resolved predicate others) numbers focus free h c =
         let use' = predicate_use reverse (asks_context asked.Last predicate) in
-        let condition = core_of predicate numbers (focus_with focus use' free) (behind_context use' free) in
+        let condition = core_of signatures predicate numbers (focus_with focus use' free) (behind_context use' free) in
         let f = filtered_by (predicate_of predicate) reverse use' place free e condition in
         filtered_cast reverse place f.0 others numbers focus f.1
         (filtered_by_casts (predicate_of predicate) reverse use' place free e condition h (core_casts predicate numbers (focus_with focus use' free) (behind_context use' free) c.0)) c.1
@@ -708,14 +721,20 @@ module _ (s : SchemaSet) (is : IsSchemaSet s) where
   -- ---- declarations
 
   abbrev AllKnown : List Declaration → Type 0
-  AllKnown declarations = (focus : Focus) (numbers : Numbers) (free : ℕ) → ExternalsAreDocuments s (declarations_of focus declarations numbers free) → AreNamedWell s (declarations_of focus declarations numbers free)
+  AllKnown declarations = (focus : Focus) (numbers : Numbers) (free : ℕ) → ExternalsAreDocuments s (declarations_of signatures focus declarations numbers free) → AreNamedWell s (declarations_of signatures focus declarations numbers free)
+
+  parameters_same : (parameters : List Parameter) (environment : Environment) → (with_parameters parameters environment).schemas ≡ environment.schemas
+  parameters_same [] environment = refl
+  parameters_same (parameter ∷ parameters) environment = parameters_same parameters (with_variable parameter.variable environment)
 
   one_known : (environment : Environment) (place : Place) (node : DefinitionNode) (others : List Declaration) → Under environment → AllKnown others → AllKnown (declaration_resolved environment place node ∷ others)
   one_known environment place (definitions.Variable binder kind (initial.Value value)) others e rest focus numbers free h =
       (core_casts (tree_resolved environment value) numbers focus free (atomic_tree environment value e), rest focus _ _ h)
   one_known environment place (definitions.Variable binder kind initial.External) others e rest focus numbers free h =
       (document_is_normal (Some (declared_type (option_map (type_written environment) kind))) h.0, rest focus _ _ h.1)
-  one_known environment place (definitions.Function name parameters result body) others e rest focus numbers free h = rest focus numbers free h
+  one_known environment place (definitions.Function name parameters result body) others e rest focus numbers free h =
+      let f = function_resolved environment place name parameters result body in
+      (core_casts f.body (inside_parameters f.parameters free numbers) focus (free + length f.parameters) (atomic_tree (with_parameters parameters environment) body (parameters_same parameters environment ∙ e)), rest focus numbers _ h)
 
   declarations_known : (ds : List Definition) (environment : Environment) → Under environment → AllKnown (declarations_resolved ds environment)
   declarations_known [] environment e focus numbers free h = tt
@@ -738,14 +757,15 @@ named_well s query core is e =
     let environment : Environment = with_functions query.definitions (prolog_environment s query.settings) in
     let resolved = query_resolved s query in
     let focus = no_focus (is_empty_greatest false resolved.settings.empty_order) resolved.settings.preserves_boundary_space in
-    let behind = behind_declarations focus resolved.declarations [] 1 in
+    let signatures = signatures_of resolved.declarations in
+    let behind = behind_declarations signatures focus resolved.declarations [] 1 in
     let whole = query_core resolved in
     let same = whole_named (query_refusals s query) whole core e in
     let documents : ExternalsAreDocuments s whole.declarations = subst (λ (c : Core). ExternalsAreDocuments s c.declarations) (sym same) (named_queries_have_documents s query core e) in
-    let body = atomic_tree s is (scope_after query.definitions environment) query.body (scope_same query.definitions environment) in
+    let body = atomic_tree s is signatures (scope_after query.definitions environment) query.body (scope_same query.definitions environment) in
     let well : IsWholeNamedWell s whole = record {
-      values = declarations_known s is query.definitions environment refl focus [] 1 documents;
-      body = core_casts s is (tree_resolved (scope_after query.definitions environment) query.body) behind.0 focus behind.1 body;
+      values = declarations_known s is signatures query.definitions environment refl focus [] 1 documents;
+      body = core_casts s is signatures (tree_resolved (scope_after query.definitions environment) query.body) behind.0 focus behind.1 body;
     } in
     subst (λ (c : Core). IsWholeNamedWell s c) same well
 

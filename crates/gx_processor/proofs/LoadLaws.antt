@@ -14,7 +14,6 @@ use Rattle.gx_static.specs.QueryJudgement.{QueryJudgement, query_typed, query_re
 use Rattle.gx_io.specs.Load.{file_of}
 use Rattle.gx_ast.specs.declared.query.Query.{Query as SyntaxQuery}
 use Rattle.gx_parse_grammar.specs.Query.{Parsing, parsed, refused, Parses}
-use Rattle.gx_normal.specs.Unbuilt.{unbuilt_query}
 use Rattle.gx_processor.specs.NamedQuery.{NamedQuery, named_query, unknown_name, query_named}
 use Rattle.gx_xml.specs.Reading.{IsDocumentOf}
 use Rattle.gx_xml.specs.SourceTree.{SourceTree}
@@ -24,7 +23,7 @@ use Rattle.gx_documents.specs.Bindings.{Misbound, misbound}
 use Rattle.gx_documents.specs.Documents.{Files, Request, HoldKept, DocumentsLoaded, tree_requests}
 use Rattle.gx_processor.specs.declared.status.Status.{Status}
 use Rattle.gx_processor.specs.declared.status.Status.TheVariants as status
-use Rattle.gx_processor.specs.Answer.{Answer, refuses, can_be_written, AnswersEvaluated, AnswersRead, AnswersKept, AnswersLoaded, AnswersFiles, AnswersBound, AnswersRun, AnswersTyped, AnswersJudged, AnswersNamed, AnswersImported, AnswersSources, AnswersSchemas, AnswersBuilt, AnswersParsed, AnswersBytes, AnswersFile, AnswersCommand, AnswersWords}
+use Rattle.gx_processor.specs.Answer.{Answer, refuses, can_be_written, AnswersEvaluated, AnswersRead, AnswersKept, AnswersLoaded, AnswersFiles, AnswersBound, AnswersRun, AnswersTyped, AnswersJudged, AnswersNamed, AnswersImported, AnswersSources, AnswersSchemas, AnswersParsed, AnswersBytes, AnswersFile, AnswersCommand, AnswersWords}
 use Rattle.gx_processor.specs.Command.{Command, run_file, check_file, query_file, command_of, texts_to_compare}
 use Rattle.gx_processor.specs.Externals.{external_words, documents_bound}
 use Rattle.gx_processor.specs.FaultLines.{code_line, placed_line, long_document_line}
@@ -136,14 +135,9 @@ module _ (single : ImportsAreOne) (files others : Files) where
       files_move status.Schema (schema_requests read.tree) l.0 [] (AnswersSources files command read.tree) (AnswersSources others command read.tree) a l.1 l.2
       (λ sources held k. sources_move command name read sources a held f k) h
 
-  built_moves : (command : Command) (name bytes : List ℕ) (tree : SyntaxQuery) (unbuilt : Option Place) (a : Answer) → file_of files name ≡ Some bytes → length bytes ≤ 16777216 → Parses bytes (parsed tree) → unbuilt_query tree ≡ unbuilt → Trees name → Queries command name a
-      → AnswersBuilt files command tree unbuilt a → AnswersBuilt others command tree unbuilt a
-  built_moves command name bytes tree None a held within p b trees f h =
-      schemas_move command name (record { tree = tree; bytes = bytes; held = held; within = within; query = record { parses = p; built = b } }) a trees f h
-  built_moves command name bytes tree (Some place) a held within p b trees f h = h
-
   parsed_moves : (command : Command) (name bytes : List ℕ) (p : Parsing) (a : Answer) → file_of files name ≡ Some bytes → length bytes ≤ 16777216 → Parses bytes p → Trees name → Queries command name a → AnswersParsed files command p a → AnswersParsed others command p a
-  parsed_moves command name bytes (parsed tree) a held within p trees f h = built_moves command name bytes tree (unbuilt_query tree) a held within p refl trees f h
+  parsed_moves command name bytes (parsed tree) a held within p trees f h =
+      schemas_move command name (record { tree = tree; bytes = bytes; held = held; within = within; parses = p }) a trees f h
   parsed_moves command name bytes (refused rule place) a held within p trees f h = h
 
   query_moves : (command : Command) (name bytes : List ℕ) (short : Bool) (a c : Answer) → file_of files name ≡ Some bytes → nat_le (length bytes) 16777216 ≡ short → Trees name → Queries command name a → MatchBool short (AnswersBytes files command bytes a) (a ≡ c)

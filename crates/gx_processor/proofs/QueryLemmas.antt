@@ -17,7 +17,6 @@ use Rattle.gx_base.specs.declared.place.Place.{Place}
 use Rattle.gx_parse_grammar.specs.Query.{Parsing, Parses, parsed, refused}
 use Rattle.gx_parse_grammar.specs.declared.refusal.SyntaxRule.{SyntaxRule}
 use Rattle.gx_parse_grammar.proofs.OneParsing.{one_parsing}
-use Rattle.gx_normal.specs.Unbuilt.{unbuilt_query}
 use Rattle.gx_processor.specs.declared.refusal.Refusal.{Refusal}
 use Rattle.gx_processor.specs.declared.refusal.Refusal.TheVariants.{ReadFault, TooLong, Query, SchemaFile, Schema, Binding, Document, Dynamic, Memory}
 use Rattle.gx_documents.specs.declared.documents.DocumentFault.TheVariants as faults
@@ -33,10 +32,10 @@ use Rattle.gx_names.specs.Laws.{IsOfStaticCode}
 use Rattle.gx_names.proofs.StaticCodes.{names_are_refused_with_static_codes}
 use Rattle.gx_normal.specs.Normalisation.{query_core}
 use Rattle.gx_processor.specs.NamedQuery.{NamedQuery, named_query, unknown_name, unless_refused, query_named}
-use Rattle.gx_processor.specs.Query.{IsTreeOf, HoldsSyntax, ImportsSchemas, HoldsQuery}
-use Rattle.gx_processor.specs.QueryReplies.{AreOfNone, IsNotBuilt, HoldsThisTree}
+use Rattle.gx_processor.specs.Query.{HoldsSyntax, ImportsSchemas, HoldsQuery}
+use Rattle.gx_processor.specs.QueryReplies.{AreOfNone, HoldsNone, HoldsThisTree}
 use Rattle.gx_processor.specs.SchemaFiles.{schema_requests}
-use Rattle.gx_processor.specs.Answer.{Answer, writes, refuses, AnswersTyped, AnswersJudged, AnswersNamed, AnswersSources, AnswersSchemas, AnswersBuilt, AnswersBytes, AnswersFile, AnswersCommand}
+use Rattle.gx_processor.specs.Answer.{Answer, writes, refuses, AnswersTyped, AnswersJudged, AnswersNamed, AnswersSources, AnswersSchemas, AnswersBytes, AnswersFile, AnswersCommand}
 use Rattle.gx_processor.specs.Replies.{RefusesSo}
 use Rattle.gx_processor.specs.RunReplies.{AnswersSo}
 use Rattle.gx_processor.proofs.LoadLemmas.{kept_answer}
@@ -72,9 +71,6 @@ pub schemas_answer : (files : Files) (command : Command) (tree : SyntaxQuery) (s
 schemas_answer files command tree schemas a i h =
     kept_answer status.Schema files (schema_requests tree) i.sources [] (AnswersSources files command tree) a i.held (declares schemas, i.imports, h)
 
-built_answers : (files : Files) (command : Command) (tree : SyntaxQuery) (unbuilt : Option Place) (a : Answer) → unbuilt ≡ None → AnswersSchemas files command tree a → AnswersBuilt files command tree unbuilt a
-built_answers files command tree unbuilt a e h = subst (λ (o : Option Place). AnswersBuilt files command tree o a) (sym e) h
-
 short_answers : (files : Files) (command : Command) (short : Bool) (bytes : List ℕ) (a b : Answer) → short ≡ true → AnswersBytes files command bytes a → MatchBool short (AnswersBytes files command bytes a) (a ≡ b)
 short_answers files command short bytes a b e h = subst (λ (s : Bool). MatchBool s (AnswersBytes files command bytes a) (a ≡ b)) (sym e) h
 
@@ -83,11 +79,11 @@ file_answers files command file bytes a held within h =
     subst (λ (o : Option (List ℕ)). AnswersFile files command o a) (sym held)
     (short_answers files command (nat_le (length bytes) 16777216) bytes a (refuses status.Query (code_line GLXS0001)) (le-leb (length bytes) 16777216 within) h)
 
--- a file that holds a query, all of whose productions are built
+-- a file that holds a query
 pub tree_in_file : (files : Files) (name : List ℕ) (command : Command) (read : HoldsSyntax files name) (a : Answer) → AnswersSchemas files command read.tree a → AnswersFile files command (file_of files name) a
 tree_in_file files name command read a h =
     file_answers files command (file_of files name) read.bytes a read.held read.within
-    (parsed read.tree, read.query.parses, built_answers files command read.tree (unbuilt_query read.tree) a read.query.built h)
+    (parsed read.tree, read.parses, h)
 
 -- a file that holds a query that has a type
 pub query_answers : (files : Files) (command : Command) (schemas : SchemaSet) (core : Core) (t : TypedCore) (a : Answer) → HoldsQuery files (query_file command) schemas core → query_judged schemas core ≡ query_typed t → AnswersTyped files command schemas core t a
@@ -108,27 +104,14 @@ bytes_refused None name bytes r held within h = tt
 bytes_refused (Some files) name bytes (Ok v) held within h = tt
 bytes_refused (Some files) name bytes (Err e) held within h = file_refused (Some files) name bytes e held within h
 
--- a production that is not built is refused where it stands
-pub unbuilt_refused : (bytes : List ℕ) (tree : SyntaxQuery) (r : Refusal) → Parses bytes (parsed tree) → ((files : Files) (command : Command) → RefusesSo r (AnswersBuilt files command tree (unbuilt_query tree))) → (files : Files) (command : Command) → RefusesSo r (AnswersBytes files command bytes)
-unbuilt_refused bytes tree r p h files command = refuses_through r (AnswersBuilt files command tree (unbuilt_query tree)) (AnswersBytes files command bytes) (λ a k. (parsed tree, p, k)) (h files command)
-
-pub built_refused : {V : Type 0} (bytes : List ℕ) (tree : SyntaxQuery) (r : Result V Refusal) → Parses bytes (parsed tree) → IfErr r (λ e. (files : Files) (command : Command) → RefusesSo e (AnswersBuilt files command tree (unbuilt_query tree))) → IfErr r (λ e. (files : Files) (command : Command) → RefusesSo e (AnswersBytes files command bytes))
-built_refused bytes tree (Ok v) p h = tt
-built_refused bytes tree (Err e) p h = unbuilt_refused bytes tree e p h
-
--- the query that is kept is the one that was parsed
-pub kept_parses : {E : Type 0} (bytes : List ℕ) (tree : SyntaxQuery) (r : Result SyntaxQuery E) → Parses bytes (parsed tree) → IfOk r (λ kept. kept ≡ tree) → IfOk r (λ kept. Parses bytes (parsed kept))
-kept_parses bytes tree (Ok kept) p e = subst (λ t. Parses bytes (parsed t)) (sym e) p
-kept_parses bytes tree (Err e) p h = tt
-
--- what is refused has no tree that is built
+-- what is refused has no tree
 abbrev is_parsed : Parsing → Bool
 is_parsed (parsed tree) = true
 is_parsed (refused rule place) = false
 
-pub not_parsed : (bytes : List ℕ) (rule : SyntaxRule) (place : Place) → Parses bytes (refused rule place) → (tree : SyntaxQuery) → IsTreeOf bytes tree → ⊥
+pub not_parsed : (bytes : List ℕ) (rule : SyntaxRule) (place : Place) → Parses bytes (refused rule place) → (tree : SyntaxQuery) → Parses bytes (parsed tree) → ⊥
 not_parsed bytes rule place p tree t =
-    let same = ap is_parsed (one_parsing bytes (parsed tree) (refused rule place) t.parses p) in cc
+    let same = ap is_parsed (one_parsing bytes (parsed tree) (refused rule place) t p) in cc
 
 abbrev tree_of_parsing : Parsing → SyntaxQuery → SyntaxQuery
 tree_of_parsing (parsed tree) other = tree
@@ -137,26 +120,34 @@ tree_of_parsing (refused rule place) other = other
 pub same_tree : (bytes : List ℕ) (a b : SyntaxQuery) → Parses bytes (parsed a) → Parses bytes (parsed b) → a ≡ b
 same_tree bytes a b p q = ap (λ (x : Parsing). tree_of_parsing x a) (one_parsing bytes (parsed a) (parsed b) p q)
 
-unbuilt_is_none : (bytes : List ℕ) (tree : SyntaxQuery) (e : Refusal) → Parses bytes (parsed tree) → IsNotBuilt tree e → AreOfNone bytes e
-unbuilt_is_none bytes tree (Query code place) p h = λ other t. h (subst (λ (q : SyntaxQuery). unbuilt_query q ≡ None) (same_tree bytes other tree t.parses p) t.built)
-unbuilt_is_none bytes tree ReadFault p h = tt
-unbuilt_is_none bytes tree TooLong p h = absurd h
-unbuilt_is_none bytes tree (SchemaFile file fault) p h = tt
-unbuilt_is_none bytes tree (Schema rule file name) p h = tt
-unbuilt_is_none bytes tree (Binding fault) p h = tt
-unbuilt_is_none bytes tree (Document file fault) p h = tt
-unbuilt_is_none bytes tree (Dynamic code) p h = tt
-unbuilt_is_none bytes tree Memory p h = tt
-
-pub not_built : {V : Type 0} (bytes : List ℕ) (tree : SyntaxQuery) (r : Result V Refusal) → Parses bytes (parsed tree) → IfErr r (IsNotBuilt tree) → IfErr r (AreOfNone bytes)
-not_built bytes tree (Ok v) p h = tt
-not_built bytes tree (Err e) p h = unbuilt_is_none bytes tree e p h
-
-pub held_tree : {E : Type 0} (told : Option Files) (name bytes : List ℕ) (r : Result SyntaxQuery E) → IfSome told (λ files. file_of files name ≡ Some bytes) → length bytes ≤ 16777216 → IfOk r (λ tree. Parses bytes (parsed tree)) → IfOk r (λ tree. unbuilt_query tree ≡ None)
+pub held_tree : {E : Type 0} (told : Option Files) (name bytes : List ℕ) (r : Result SyntaxQuery E) → IfSome told (λ files. file_of files name ≡ Some bytes) → length bytes ≤ 16777216 → IfOk r (λ tree. Parses bytes (parsed tree))
     → IfSome told (λ files. IfOk r (HoldsThisTree files name))
-held_tree None name bytes r held within p b = tt
-held_tree (Some files) name bytes (Ok tree) held within p b = (record { tree = tree; bytes = bytes; held = held; within = within; query = record { parses = p; built = b } }, refl)
-held_tree (Some files) name bytes (Err e) held within p b = tt
+held_tree None name bytes r held within p = tt
+held_tree (Some files) name bytes (Ok tree) held within p = (record { tree = tree; bytes = bytes; held = held; within = within; parses = p }, refl)
+held_tree (Some files) name bytes (Err e) held within p = tt
+
+-- a file whose bytes are refused holds none
+tree_of_bytes : (files : Files) (name bytes : List ℕ) (read : HoldsSyntax files name) → file_of files name ≡ Some bytes → Parses bytes (parsed read.tree)
+tree_of_bytes files name bytes read held =
+    let here : file_of files name ≡ Some read.bytes = read.held in
+    let same : read.bytes ≡ bytes = cc in
+    subst (λ (xs : List ℕ). Parses xs (parsed read.tree)) same read.parses
+
+none_by : (files : Files) (name bytes : List ℕ) (e : Refusal) → file_of files name ≡ Some bytes → AreOfNone bytes e → HoldsNone files name e
+none_by files name bytes (Query code place) held h = λ read. h read.tree (tree_of_bytes files name bytes read held)
+none_by files name bytes ReadFault held h = tt
+none_by files name bytes TooLong held h = absurd h
+none_by files name bytes (SchemaFile file fault) held h = tt
+none_by files name bytes (Schema rule file list) held h = tt
+none_by files name bytes (Binding fault) held h = tt
+none_by files name bytes (Document file fault) held h = tt
+none_by files name bytes (Dynamic code) held h = tt
+none_by files name bytes Memory held h = tt
+
+pub holds_none : {V : Type 0} (told : Option Files) (name bytes : List ℕ) (r : Result V Refusal) → IfSome told (λ files. file_of files name ≡ Some bytes) → IfErr r (AreOfNone bytes) → IfSome told (λ files. IfErr r (HoldsNone files name))
+holds_none None name bytes r held h = tt
+holds_none (Some files) name bytes (Ok v) held h = tt
+holds_none (Some files) name bytes (Err e) held h = none_by files name bytes e held h
 
 -- what a command writes of a query that has a type, and how it refuses
 pub typed_output : {Z : Type 0} (told : Option Files) (command : Command) (schemas : SchemaSet) (core : Core) (t : TypedCore) (r : Result (String Z) Refusal) → IfSome told (λ files. HoldsQuery files (query_file command) schemas core) → query_judged schemas core ≡ query_typed t

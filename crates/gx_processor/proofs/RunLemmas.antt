@@ -2,6 +2,7 @@
 use Rattle.std.proofs.Common.{◌≡◌, ℕ, Bool, true, false, ◌||◌, List, [], ◌∷◌, ◌++◌, map, Option, Some, None, Result, Ok, Err, String, IfErr, inl, inr, refl, sym, ◌∙◌, ap, subst, string_bytes, if◌then◌else◌}
 use Rattle.std.specs.Prelude.{bytes_eq}
 use Rattle.std.specs.Bool.{MatchBool}
+use Rattle.gx_base.specs.declared.limits.TheConstants.{ACTIVE_CALLS}
 use Rattle.gx_base.specs.declared.code.Code.{Code}
 use Rattle.gx_base.specs.declared.code.Code.TheVariants.{SENR0001}
 use Rattle.gx_base.specs.Code.{is_dynamic}
@@ -310,4 +311,4 @@ module _ (library : LibraryUse) (bindings : List (List ℕ)) (schemas : SchemaSe
 
 -- an evaluation raises the code of a dynamic error
 pub dynamic_error : (schemas : SchemaSet) (core : Core) (documents : List PlainNode) (forest : Forest) (code : Code) → query_outcome schemas core documents forest ≡ raises code → is_dynamic code ≡ true
-dynamic_error schemas core documents forest code h = queries_raise_dynamic_codes schemas core documents forest code h
+dynamic_error schemas core documents forest code h = queries_raise_dynamic_codes ACTIVE_CALLS schemas core documents forest code h

@@ -9,6 +9,7 @@ use Rattle.gx_base.specs.declared.name.Name.{Name}
 use Rattle.gx_base.specs.declared.type_name.Builtin.TheVariants.{Untyped, AnyType}
 use Rattle.gx_base.specs.declared.type_name.TypeName.{TypeName}
 use Rattle.gx_base.specs.declared.type_name.TypeName.TheVariants as names
+use Rattle.gx_ast.specs.declared.query.Query.{Query}
 use Rattle.gx_ast.specs.declared.query.Definition.{Definition}
 use Rattle.gx_ast.specs.declared.query.DefinitionNode.{DefinitionNode}
 use Rattle.gx_ast.specs.declared.query.DefinitionNode.TheVariants as definitions
@@ -35,10 +36,13 @@ use Rattle.gx_names.specs.SettingRefusals.{prolog_environment, settings_refusals
 use Rattle.gx_names_scope.specs.Refusing.{refused_if, where_named, unless_found, prefix_refusals}
 use Rattle.gx_names_types.specs.TypeNames.{declared_refusals, test_refusals, written_type_refusals, element_tested, element_declared, type_written, document_item}
 use Rattle.gx_processor.specs.ExternalDocuments.{IsDocumentType, ExternalsAreDocuments, NamedQueriesHaveDocuments}
+use Rattle.gx_core.specs.Invariant.{HasQueryVariablesInOrder, CallsDeclaredFunctions}
+use Rattle.gx_normal.specs.declared.signatures.Signatures.{Signatures}
+use Rattle.gx_normal.proofs.PublicLaws.{cores_have_variables_in_order, cores_call_declared_functions}
 use Rattle.gx_normal.specs.Clauses.{Numbers}
 use Rattle.gx_normal.specs.declared.focus.Focus.{Focus}
 use Rattle.gx_normal.specs.Normalisation.{declared_type, declarations_of, query_core}
-use Rattle.gx_processor.specs.NamedQuery.{named_query, unless_refused}
+use Rattle.gx_processor.specs.NamedQuery.{query_named, named_query, unless_refused}
 
 -- ---- lists of which nothing is there
 
@@ -118,18 +122,18 @@ kind_is_document environment (Some (sequences.Items (written.Kind test) indicate
 -- ---- declarations
 
 abbrev AreDocuments : SchemaSet → List Declaration → Type 0
-AreDocuments schemas declarations = (focus : Focus) (numbers : Numbers) (free : ℕ) → ExternalsAreDocuments schemas (declarations_of focus declarations numbers free)
+AreDocuments schemas declarations = (signatures : Signatures) (focus : Focus) (numbers : Numbers) (free : ℕ) → ExternalsAreDocuments schemas (declarations_of signatures focus declarations numbers free)
 
 one_more : (environment : Environment) (bodies : Bodies) (earlier : Functions) (place : Place) (node : DefinitionNode) (others : List Declaration) → definition_refusals environment bodies earlier place node ≡ []
     → AreDocuments environment.schemas others → AreDocuments environment.schemas (declaration_resolved environment place node ∷ others)
-one_more environment bodies earlier place (definitions.Variable binder kind (initial.Value value)) others h rest focus numbers free = rest focus _ _
-one_more environment bodies earlier place (definitions.Variable binder kind initial.External) others h rest focus numbers free =
+one_more environment bodies earlier place (definitions.Variable binder kind (initial.Value value)) others h rest signatures focus numbers free = rest signatures focus _ _
+one_more environment bodies earlier place (definitions.Variable binder kind initial.External) others h rest signatures focus numbers free =
     let external = front_is_empty (external_refusals environment place binder kind) (binder_refusals environment binder kind) h in
     let asked = rest_is_empty (doubled_variable environment place binder) (refused_if (not (is_document_type environment kind)) place GLXS0004) external in
     let bound = rest_is_empty (external_refusals environment place binder kind) (binder_refusals environment binder kind) h in
     let written = rest_is_empty (prefix_refusals (plain_name environment binder.name) binder.place) (written_type_refusals environment kind) bound in
-    (kind_is_document environment kind written (not_refused (is_document_type environment kind) place GLXS0004 asked), rest focus _ _)
-one_more environment bodies earlier place (definitions.Function name parameters result body) others h rest focus numbers free = rest focus numbers free
+    (kind_is_document environment kind written (not_refused (is_document_type environment kind) place GLXS0004 asked), rest signatures focus _ _)
+one_more environment bodies earlier place (definitions.Function name parameters result body) others h rest signatures focus numbers free = rest signatures focus numbers _
 
 -- a definition leaves the schemas as they are
 pub same_schemas : (node : DefinitionNode) (environment : Environment) → (definition_scope node environment).schemas ≡ environment.schemas
@@ -137,15 +141,15 @@ same_schemas (definitions.Variable binder kind initialiser) environment = refl
 same_schemas (definitions.Function name parameters result body) environment = refl
 
 all_documents : (ds : List Definition) (bodies : Bodies) (earlier : Functions) (environment : Environment) → definitions_refusals ds bodies earlier environment ≡ [] → AreDocuments environment.schemas (declarations_resolved ds environment)
-all_documents [] bodies earlier environment h focus numbers free = tt
-all_documents (d ∷ ds) bodies earlier environment h focus numbers free =
+all_documents [] bodies earlier environment h signatures focus numbers free = tt
+all_documents (d ∷ ds) bodies earlier environment h signatures focus numbers free =
     let after = functions_with environment.namespaces d.place d.node earlier in
     let scope = definition_scope d.node environment in
     let others = all_documents ds bodies after scope (rest_is_empty (definition_refusals environment bodies earlier d.place d.node) (definitions_refusals ds bodies after scope) h) in
     one_more environment bodies earlier d.place d.node (declarations_resolved ds scope)
     (front_is_empty (definition_refusals environment bodies earlier d.place d.node) (definitions_refusals ds bodies after scope) h)
     (subst (λ (schemas : SchemaSet). AreDocuments schemas (declarations_resolved ds scope)) (same_schemas d.node environment) others)
-    focus numbers free
+    signatures focus numbers free
 
 -- ---- whole queries
 
@@ -166,4 +170,15 @@ named_queries_have_documents schemas query core e =
     let main = rest_is_empty (settings_refusals [] [] schemas.targets query.settings) (main_refusals environment query.definitions query.body) none in
     let variables = front_is_empty (definitions_refusals query.definitions bodies [] environment) (tree_refusals (scope_after query.definitions environment) query.body) main in
     subst (λ (c : Core). ExternalsAreDocuments schemas c.declarations) (whole_named (query_refusals schemas query) whole core e)
-    (all_documents query.definitions bodies [] environment variables _ [] 1)
+    (all_documents query.definitions bodies [] environment variables _ _ [] 1)
+
+-- the Core of a query whose names are resolved keeps to what the Core of every query keeps to
+pub named_in_order : (schemas : SchemaSet) (query : Query) (core : Core) → query_named schemas query ≡ named_query core → HasQueryVariablesInOrder core
+named_in_order schemas query core e =
+    subst (λ (c : Core). HasQueryVariablesInOrder c) (whole_named (query_refusals schemas query) (query_core (query_resolved schemas query)) core e)
+    (cores_have_variables_in_order (query_resolved schemas query))
+
+pub named_calls : (schemas : SchemaSet) (query : Query) (core : Core) → query_named schemas query ≡ named_query core → CallsDeclaredFunctions core
+named_calls schemas query core e =
+    subst (λ (c : Core). CallsDeclaredFunctions c) (whole_named (query_refusals schemas query) (query_core (query_resolved schemas query)) core e)
+    (cores_call_declared_functions (query_resolved schemas query))

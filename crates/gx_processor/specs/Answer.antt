@@ -31,7 +31,6 @@ use Rattle.gx_processor.specs.declared.status.Status.TheVariants as status
 use Rattle.gx_ast.specs.declared.query.Query.{Query}
 use Rattle.gx_parse_grammar.specs.Query.{Parsing, parsed, refused, Parses}
 use Rattle.gx_processor.specs.RuleCode.{rule_code}
-use Rattle.gx_normal.specs.Unbuilt.{unbuilt_query}
 use Rattle.gx_processor.specs.NamedQuery.{NamedQuery, named_query, unknown_name, query_named}
 use Rattle.gx_processor.specs.Serialisation.{serialised}
 use Rattle.gx_processor.specs.TypeBytes.{type_bytes}
@@ -143,15 +142,10 @@ abbrev pub AnswersSchemas : Files → Command → Query → Answer → Type 0
 AnswersSchemas files command tree answer =
     AnswersFiles status.Schema files (schema_requests tree) [] (AnswersSources files command tree) answer
 
--- a production that is not built yet
-abbrev pub AnswersBuilt : Files → Command → Query → (unbuilt : Option Place) → Answer → Type 0
-AnswersBuilt files command tree (Some place) answer = answer ≡ refuses status.Query (placed_line XPST0003 place)
-AnswersBuilt files command tree None answer = AnswersSchemas files command tree answer
-
 -- parsing
 abbrev pub AnswersParsed : Files → Command → Parsing → Answer → Type 0
 AnswersParsed files command (refused rule place) answer = answer ≡ refuses status.Query (placed_line (rule_code rule) place)
-AnswersParsed files command (parsed tree) answer = AnswersBuilt files command tree (unbuilt_query tree) answer
+AnswersParsed files command (parsed tree) answer = AnswersSchemas files command tree answer
 
 abbrev pub AnswersBytes : Files → Command → List ℕ → Answer → Type 0
 AnswersBytes files command bytes answer = (parsing : Parsing) × Parses bytes parsing × AnswersParsed files command parsing answer

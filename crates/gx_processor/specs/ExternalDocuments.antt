@@ -12,7 +12,7 @@ use Rattle.gx_types.specs.SchemaSet.{SchemaSet, global_type}
 use Rattle.gx_types.specs.SequenceType.{SequenceType, item}
 use Rattle.gx_model.specs.Forest.{Forest}
 use Rattle.gx_core.specs.Queries.{Core, CoreDeclaration}
-use Rattle.gx_core.specs.declared.expression.Declaration.TheVariants.{Global}
+use Rattle.gx_core.specs.declared.expression.Declaration.TheVariants.{Global, Function}
 use Rattle.gx_documents.specs.Documents.{Asked, AreDocumentTrees}
 use Rattle.gx_processor.specs.Externals.{external_words, documents_asked}
 use Rattle.gx_processor.specs.NamedQuery.{named_query, query_named}
@@ -36,6 +36,7 @@ IsDocumentType schemas kind =
 
 abbrev pub ExternalsAreDocuments : SchemaSet → List CoreDeclaration → Type 0
 ExternalsAreDocuments schemas [] = Unit {0}
+ExternalsAreDocuments schemas (Function function ∷ others) = ExternalsAreDocuments schemas others
 ExternalsAreDocuments schemas (Global name binder (Some value) ∷ others) = ExternalsAreDocuments schemas others
 ExternalsAreDocuments schemas (Global name binder None ∷ others) = IsDocumentType schemas binder.kind × ExternalsAreDocuments schemas others
 

@@ -5,7 +5,7 @@ use Rattle.gx_types.specs.declared.item_type.ItemType.{ItemType}
 use Rattle.gx_types.specs.declared.item_type.ItemType.TheVariants.{Document}
 use Rattle.gx_types.specs.SequenceType.{SequenceType, item}
 use Rattle.gx_core.specs.Queries.{CoreDeclaration}
-use Rattle.gx_core.specs.declared.expression.Declaration.TheVariants.{Global}
+use Rattle.gx_core.specs.declared.expression.Declaration.TheVariants.{Global, Function}
 use Rattle.gx_documents.specs.Bindings.{files_bound, word_of_name}
 use Rattle.gx_documents.specs.Documents.{Asked}
 
@@ -13,6 +13,7 @@ use Rattle.gx_documents.specs.Documents.{Asked}
 abbrev pub external_words : List CoreDeclaration → List (List ℕ)
 external_words [] = []
 external_words (Global name binder None ∷ others) = word_of_name name ∷ external_words others
+external_words (Function function ∷ others) = external_words others
 external_words (Global name binder (Some value) ∷ others) = external_words others
 
 -- the global element as which the document of a variable is validated, if its type names one
@@ -27,6 +28,7 @@ root_asked _ = None
 -- files, one for each of these variables, each with the root that the type of the variable asks for
 abbrev pub documents_asked : List CoreDeclaration → (files : List (List ℕ)) → List Asked
 documents_asked [] files = []
+documents_asked (Function function ∷ others) files = documents_asked others files
 documents_asked (Global name binder (Some value) ∷ others) files = documents_asked others files
 documents_asked (Global name binder None ∷ others) [] = []
 documents_asked (Global name binder None ∷ others) (file ∷ files) = (file, root_asked binder.kind) ∷ documents_asked others files

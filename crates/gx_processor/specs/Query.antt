@@ -9,22 +9,16 @@ use Rattle.gx_ast.specs.declared.query.Query.{Query}
 use Rattle.gx_parse_grammar.specs.Query.{Parses, parsed}
 use Rattle.gx_xml.specs.declared.source.Source.{Source}
 use Rattle.gx_schema.specs.Import.{IsImported, declares}
-use Rattle.gx_normal.specs.Unbuilt.{unbuilt_query}
 use Rattle.gx_processor.specs.SchemaFiles.{schema_requests}
 use Rattle.gx_processor.specs.NamedQuery.{named_query, query_named}
 
--- the bytes are those of a query, all of whose productions are built
-pub record IsTreeOf (bytes : List ℕ) (tree : Query) : Type 0 where
-  pub parses : Parses bytes (parsed tree)
-  pub built : unbuilt_query tree ≡ None
-
--- the file of that name holds such a query
+-- the file of that name holds a query
 pub record HoldsSyntax (files : Files) (name : List ℕ) : Type 0 where
   pub tree : Query
   pub bytes : List ℕ
   pub held : file_of files name ≡ Some bytes
   pub within : length bytes ≤ FILE_BYTES
-  pub query : IsTreeOf bytes tree
+  pub parses : Parses bytes (parsed tree)
 
 -- the schema files that a query names hold documents, which declare these schemas
 pub record ImportsSchemas (files : Files) (tree : Query) (schemas : SchemaSet) : Type 0 where

@@ -5,8 +5,8 @@ use Rattle.gx_core.specs.QueryMeaning.{plain_query}
 use Rattle.gx_io.specs.LibraryUse.{LibraryUse, LoadsOnly}
 use Rattle.gx_io.specs.Load.{file_of}
 use Rattle.gx_ast.specs.declared.query.Query.{Query}
+use Rattle.gx_parse_grammar.specs.Query.{Parses, parsed}
 use Rattle.gx_documents.specs.Documents.{Files, DocumentsLoaded}
-use Rattle.gx_normal.specs.Unbuilt.{unbuilt_query}
 use Rattle.gx_processor.specs.declared.query.TypedQuery.{TypedQuery}
 use Rattle.gx_processor.specs.declared.refusal.Refusal.{Refusal}
 use Rattle.gx_processor.specs.declared.refusal.Refusal.TheVariants as refusal
@@ -15,7 +15,7 @@ use Rattle.gx_processor.specs.Command.{Command}
 use Rattle.gx_processor.specs.ImportReplies.{AnswersImport, FailsAtSchema}
 use Rattle.gx_processor.specs.Loading.{QueryLoads, loads_behind}
 use Rattle.gx_processor.specs.NamedQuery.{named_query, query_named}
-use Rattle.gx_processor.specs.Query.{IsTreeOf, HoldsSyntax, HoldsQuery}
+use Rattle.gx_processor.specs.Query.{HoldsSyntax, HoldsQuery}
 use Rattle.gx_processor.specs.SchemaFiles.{schema_requests}
 use Rattle.gx_processor.specs.Replies.{RefusesSo, IsOfQuery, IsOfReader, NamesOneOf, OutcomeLoads, OutcomeFailed}
 
@@ -23,16 +23,11 @@ use Rattle.gx_processor.specs.Replies.{RefusesSo, IsOfQuery, IsOfReader, NamesOn
 abbrev pub HoldsThisTree : Files → (name : List ℕ) → Query → Type 0
 HoldsThisTree files name tree = (read : HoldsSyntax files name) × (read.tree ≡ tree)
 
--- the bytes that a rule of syntax refuses, or a production that is not built, are those of no query that is built
+-- the bytes that a rule of syntax refuses are those of no query
 abbrev pub AreOfNone : List ℕ → Refusal → Type 0
-AreOfNone bytes (refusal.Query code place) = (tree : Query) → IsTreeOf bytes tree → ⊥
+AreOfNone bytes (refusal.Query code place) = (tree : Query) → Parses bytes (parsed tree) → ⊥
 AreOfNone bytes refusal.TooLong = ⊥
 AreOfNone bytes _ = Unit {0}
-
-abbrev pub IsNotBuilt : Query → Refusal → Type 0
-IsNotBuilt tree (refusal.Query code place) = unbuilt_query tree ≡ None → ⊥
-IsNotBuilt tree refusal.TooLong = ⊥
-IsNotBuilt tree _ = Unit {0}
 
 -- the file that is refused holds none, where it can be read
 abbrev pub HoldsNone : Files → (name : List ℕ) → Refusal → Type 0

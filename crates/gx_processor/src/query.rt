@@ -2,6 +2,7 @@
 
 ghost use Rattle.std.specs.Prelude.{◌≡◌, ◌≤◌, true, [], ◌∷◌, length, IfOk, IfErr, IfSome, Some, None};
 ghost use Rattle.gx_base.specs.Code.{is_static};
+ghost use Rattle.gx_core.specs.Invariant.{CallsDeclaredFunctions, HasQueryVariablesInOrder};
 ghost use Rattle.gx_core.specs.QueryMeaning.{plain_query, IsSoundQuery};
 ghost use Rattle.gx_static.specs.QueryJudgement.{query_judged, query_typed};
 ghost use Rattle.gx_io.specs.Calls.{Loads};
@@ -9,16 +10,15 @@ ghost use Rattle.gx_io.specs.Faults.{Rose};
 ghost use Rattle.gx_io.specs.LibraryUse.{library_use};
 ghost use Rattle.gx_io.specs.Load.{file_of};
 ghost use Rattle.gx_parse_grammar.specs.Query.{Parses, parsed};
-ghost use Rattle.gx_processor.specs.Answer.{AnswersFile, AnswersBytes, AnswersBuilt, AnswersNamed, AnswersJudged};
+ghost use Rattle.gx_processor.specs.Answer.{AnswersFile, AnswersBytes, AnswersNamed, AnswersJudged};
 ghost use Rattle.gx_documents.specs.Documents.{Files};
 ghost use Rattle.gx_types.specs.SchemaInvariant.{IsSchemaSet};
 ghost use Rattle.gx_processor.specs.ExternalDocuments.{ExternalsAreDocuments};
 ghost use Rattle.gx_processor.specs.Command.{Command};
-ghost use Rattle.gx_processor.specs.QueryReplies.{AreOfNone, HoldsNone, HoldsThisTree, IsNotBuilt, QuerySo, TreeSo};
+ghost use Rattle.gx_processor.specs.QueryReplies.{AreOfNone, HoldsNone, HoldsThisTree, QuerySo, TreeSo};
 ghost use Rattle.gx_processor.specs.NamedQuery.{query_named, named_query};
 ghost use Rattle.gx_processor.specs.Replies.{RefusesSo, IsOfRules, IsOfText};
 ghost use Rattle.gx_processor.specs.RuleCode.{rule_code};
-ghost use Rattle.gx_normal.specs.Unbuilt.{unbuilt_query};
 
 use crate::imports::imported_schemas;
 use crate::laws::named_queries_have_documents;
@@ -32,7 +32,6 @@ use gx_io::{Library, LoadError};
 use gx_names::resolve::resolve;
 use gx_names_scope::refusal::NameRefusal;
 use gx_normal::normalise::normalise;
-use gx_normal::unbuilt::unbuilt_query;
 use gx_parse::parser::parse;
 use gx_parse_grammar::refusal::{SyntaxRefusal, SyntaxRule};
 use gx_static::error::InferError;
@@ -68,9 +67,8 @@ pub fn typed_query<L: Library>(
     }
 }
 
-// The query of a tree, all of whose productions are built. The tree ends here.
+// The query of a tree, which ends here.
 fn query_of<L: Library>(alloc: Global, tree: Query, library: &mut L) -> Result<TypedQuery, Refusal>
-    requires built { unbuilt_query tree ≡ None }
     ensures query { TreeSo (library_use L.files L.faults L.was_loaded library.old library.new) tree result }
     ensures told { L.files library.new ≡ L.files library.old }
     ensures counted { L.faults library.old ≤ L.faults library.new }
@@ -106,13 +104,12 @@ fn query_under(alloc: Global, tree: Query, schemas: Schemas) -> Result<TypedQuer
     Ok(TypedQuery { schemas, core })
 }
 
-// The tree of the query in a file, all of whose productions are built.
+// The tree of the query in a file.
 fn tree_in<L: Library>(alloc: Global, file: &str, library: &mut L) -> Result<Query, Refusal>
     ensures loads { Loads L.was_loaded (file.now ∷ []) library.old library.new }
     ensures told { L.files library.new ≡ L.files library.old }
     ensures counted { L.faults library.old ≤ L.faults library.new }
     ensures tree { IfSome (L.files library.old) (λ files. IfOk result (HoldsThisTree files file.now)) }
-    ensures built { IfOk result (λ tree. unbuilt_query tree ≡ None) }
     ensures refused { IfSome (L.files library.old) (λ files. IfErr result (λ refusal.
         (command : Command) → RefusesSo refusal (AnswersFile files command (file_of files file.now)))) }
     ensures none { IfSome (L.files library.old) (λ files. IfErr result (HoldsNone files file.now)) }
@@ -142,17 +139,16 @@ fn bytes_of<L: Library>(alloc: Global, file: &str, library: &mut L) -> Result<Ve
     }
 }
 
-// The syntax tree of the bytes, all of whose productions are built.
+// The syntax tree of the bytes.
 fn tree_of(alloc: Global, bytes: &[u8]) -> Result<Query, Refusal>
     requires { length bytes.now ≤ FILE_BYTES }
     ensures tree { IfOk result (λ tree. Parses bytes.now (parsed tree)) }
-    ensures built { IfOk result (λ tree. unbuilt_query tree ≡ None) }
     ensures refused { IfErr result (λ refusal. (files : Files) (command : Command) → RefusesSo refusal (AnswersBytes files command bytes.now)) }
     ensures none { IfErr result (AreOfNone bytes.now) }
     ensures cause { IfErr result (IsOfText ⊥) }
 {
     match parse(alloc, bytes) {
-        Ok(tree) => built(alloc, tree),
+        Ok(tree) => Ok(tree),
         Err(SyntaxRefusal::Refused { rule, place }) => {
             let code = rule_code(rule);
             Err(Refusal::Query { code, place })
@@ -174,24 +170,6 @@ fn rule_code(rule: SyntaxRule) -> Code
     }
 }
 
-// A tree all of whose productions are built; another one ends here.
-fn built(alloc: Global, tree: Query) -> Result<Query, Refusal>
-    ensures same { IfOk result (λ kept. kept ≡ tree) }
-    ensures built { IfOk result (λ kept. unbuilt_query kept ≡ None) }
-    ensures refused { IfErr result (λ refusal. (files : Files) (command : Command) → RefusesSo refusal (AnswersBuilt files command tree (unbuilt_query tree))) }
-    ensures none { IfErr result (IsNotBuilt tree) }
-    ensures cause { IfErr result (IsOfText ⊥) }
-{
-    let Some(place) = unbuilt_query(&tree) else {
-        return Ok(tree);
-    };
-    drop_query(alloc, tree);
-    Err(Refusal::Query {
-        code: Code::XPST0003,
-        place,
-    })
-}
-
 // Drops a query, its trees by a loop.
 fn drop_query(alloc: Global, query: Query) {
     let Query {
@@ -208,8 +186,11 @@ fn drop_query(alloc: Global, query: Query) {
 
 fn drop_definition(alloc: Global, definition: Definition) {
     let Definition { place: _, node } = definition;
-    if let DefinitionNode::Variable(_variable, _kind, initialiser) = node {
-        drop_initialiser(alloc, initialiser);
+    match node {
+        DefinitionNode::Variable(_variable, _kind, initialiser) => {
+            drop_initialiser(alloc, initialiser);
+        }
+        DefinitionNode::Function(_name, _parameters, _kind, body) => dismantle(alloc, body),
     }
 }
 
@@ -223,6 +204,8 @@ fn drop_initialiser(alloc: Global, initialiser: Initialiser) {
 #[tactic(auto, using(crate::proofs::QueryLemmas::named_so, crate::proofs::QueryLemmas::refused_so, crate::proofs::QueryLemmas::static_name))]
 fn core_of(alloc: Global, schemas: &Schemas, tree: Query) -> Result<Core, Refusal>
     ensures core { IfOk result (λ core. query_named schemas.now tree ≡ named_query core) }
+    ensures variables { IfOk result (λ core. HasQueryVariablesInOrder core) }
+    ensures calls { IfOk result (λ core. CallsDeclaredFunctions core) }
     ensures refused { IfErr result (λ refusal. (files : Files) (command : Command) → RefusesSo refusal (AnswersNamed files command schemas.now (query_named schemas.now tree))) }
     ensures cause { IfErr result IsOfRules }
 {
@@ -238,6 +221,8 @@ fn core_of(alloc: Global, schemas: &Schemas, tree: Query) -> Result<Core, Refusa
 // A Core with its types under schemas.
 #[tactic(auto, using(crate::proofs::QueryLemmas::static_type))]
 fn typed_core(alloc: Global, schemas: &Schemas, core: Core) -> Result<TypedCore, Refusal>
+    requires variables { HasQueryVariablesInOrder core }
+    requires calls { CallsDeclaredFunctions core }
     ensures typed { IfOk result (λ t. query_judged schemas.now core ≡ query_typed t) }
     ensures same { IfOk result (λ t. plain_query t ≡ core) }
     ensures sound { IfOk result (λ t. IsSoundQuery schemas.now t) }

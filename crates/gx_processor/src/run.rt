@@ -174,8 +174,12 @@ fn document_requests<'a>(
     let mut left = declarations;
     let mut files = files;
     while let Some((declaration, others)) = left.split_first() {
-        let TypedDeclaration::Global { binder, value, .. } = declaration;
-        if value.is_none() {
+        if let TypedDeclaration::Global {
+            binder,
+            value: None,
+            ..
+        } = declaration
+        {
             let Some((file, rest)) = files.split_first() else {
                 return Ok(requests);
             };
@@ -252,8 +256,12 @@ fn external_words(
     let mut words = Vec::new(alloc);
     let mut left = declarations;
     while let Some((declaration, others)) = left.split_first() {
-        let TypedDeclaration::Global { name, value, .. } = declaration;
-        if value.is_none() {
+        if let TypedDeclaration::Global {
+            name,
+            value: None,
+            ..
+        } = declaration
+        {
             words.push(word_of_name(alloc, name)?)?;
         }
         left = others;

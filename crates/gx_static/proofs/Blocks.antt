@@ -31,9 +31,10 @@ use Rattle.gx_core.specs.Blocks.{Tuple, key_of, tuple_keys, tuples_of_each, tupl
 use Rattle.gx_core.specs.Comparing.{condition_of}
 use Rattle.gx_core.specs.Expression.{Parts, no_parts, a_part, each_of, annotation_of}
 use Rattle.gx_core.specs.Outcome.{Outcome, gives, raises, wrong, after, given}
-use Rattle.gx_core.specs.Meaning.{Bindings, Denotation, item_bound, meaning, meanings}
-use Rattle.gx_core.specs.Soundness.{TypedExpression, Setting, typed_setting, context_of, IsOfType, KeepsFact, Keeps, Fits, Situation, KeepsItsType}
-use Rattle.gx_core.proofs.KeptFacts.{fact_after, fact_at_once, binding_fits, bindings_fit_still, later}
+use Rattle.gx_core.specs.Meaning.{CallOutcomes, Bindings, Denotation, item_bound, meaning, meanings}
+use Rattle.gx_core.specs.declared.signature.FunctionSignature.{FunctionSignature}
+use Rattle.gx_core.specs.Soundness.{TypedExpression, Setting, calling_setting, context_of, IsOfType, KeepsFact, Keeps, Fits, CallsKeepTypes, Situation, KeepsItsType}
+use Rattle.gx_core.proofs.KeptFacts.{fact_after, fact_at_once, binding_fits, bindings_fit_still, calls_keep_still, later}
 use Rattle.gx_static.specs.declared.comparison.Family.{Family}
 use Rattle.gx_static.specs.declared.comparison.Family.TheVariants as families
 use Rattle.gx_static.specs.Rule.{Ruling, has_type, has_none, is_of_family, are_of_family, are_of_one_family, is_at_most_one, allows_clause, allows_key, product, tuples_occur, returned_rule, clauses_rule}
@@ -100,34 +101,34 @@ pub binds_here : (operator : Operator) (before : List SequenceType) (kinds : Lis
 binds_here operator before kinds bound b = ap (types_bound operator) (sym (append-nil before)) ∙ b [] ∙ none_more kinds bound
 
 -- a part keeps its type under what is bound for it
-part_keeps : (s : SchemaSet) (operator : Operator) (before : List SequenceType) (kinds : List ClauseKind) (bound types : Types) (part : TypedExpression) → Binds operator before kinds bound
-    → KeepsItsType (typed_setting s) part (types_bound operator before ++ types) → KeepsItsType (typed_setting s) part (bound ++ types)
-part_keeps s operator before kinds bound types part b h = subst (λ (ts : Types). KeepsItsType (typed_setting s) part (ts ++ types)) (binds_here operator before kinds bound b) h
+part_keeps : (s : SchemaSet) (known : List FunctionSignature) (calls : CallOutcomes) (operator : Operator) (before : List SequenceType) (kinds : List ClauseKind) (bound types : Types) (part : TypedExpression) → Binds operator before kinds bound
+    → KeepsItsType (calling_setting s known calls) part (types_bound operator before ++ types) → KeepsItsType (calling_setting s known calls) part (bound ++ types)
+part_keeps s known calls operator before kinds bound types part b h = subst (λ (ts : Types). KeepsItsType (calling_setting s known calls) part (ts ++ types)) (binds_here operator before kinds bound b) h
 
 -- ---- the keys of a tuple
 
 abbrev AnyKeys : Forest → List (Option Atomic) → Type 0
 AnyKeys forest keys = Unit {0}
 
-keys_keep : (s : SchemaSet) (operator : Operator) (orders : List KeyOrder) (tuples : Occurs) (t : SequenceType) (parts : Parts SequenceType) (before : List SequenceType) (bound types : Types)
-    → returned_rule (allows_key s) orders tuples (each_of annotation_of parts) ≡ has_type t → PartsKeepTypes s operator before parts types → Binds operator before [] bound
-    → (situation : Situation (typed_setting s) (bound ++ types))
-    → KeepsFact (typed_setting s) situation.forest AnyKeys (tuple_keys orders (meanings (context_of (typed_setting s)) parts) situation.bindings situation.forest)
-keys_keep s operator [] tuples t parts before bound types e h b situation = fact_at_once (typed_setting s) situation.forest AnyKeys [] situation.honest tt
-keys_keep s operator (order ∷ orders) tuples t no_parts before bound types e h b situation = absurd (cc)
-keys_keep s operator (order ∷ orders) tuples t (a_part part parts) before bound types e h b situation =
-    let setting : Setting = typed_setting s in
+keys_keep : (s : SchemaSet) (known : List FunctionSignature) (calls : CallOutcomes) (operator : Operator) (orders : List KeyOrder) (tuples : Occurs) (t : SequenceType) (parts : Parts SequenceType) (before : List SequenceType) (bound types : Types)
+    → returned_rule (allows_key s) orders tuples (each_of annotation_of parts) ≡ has_type t → PartsKeepTypes s known calls operator before parts types → Binds operator before [] bound
+    → (situation : Situation (calling_setting s known calls) (bound ++ types))
+    → KeepsFact (calling_setting s known calls) situation.forest AnyKeys (tuple_keys orders (meanings (context_of (calling_setting s known calls)) parts) situation.bindings situation.forest)
+keys_keep s known calls operator [] tuples t parts before bound types e h b situation = fact_at_once (calling_setting s known calls) situation.forest AnyKeys [] situation.honest tt
+keys_keep s known calls operator (order ∷ orders) tuples t no_parts before bound types e h b situation = absurd (cc)
+keys_keep s known calls operator (order ∷ orders) tuples t (a_part part parts) before bound types e h b situation =
+    let setting : Setting = calling_setting s known calls in
     let k = context_of setting in
     let u : SequenceType = annotation_of part in
     let q = passed (allows_key s u) (returned_rule (allows_key s) orders tuples (each_of annotation_of parts)) _ None t e in
     let others : Forest → Outcome (List (Option Atomic)) = λ left. tuple_keys orders (meanings k parts) situation.bindings left in
     fact_after setting situation.forest (IsOfType s u) AnyKeys (meaning k part situation.bindings situation.forest) (λ xs left. given (key_of xs) (λ key. after (others left) (λ keys last. gives (key ∷ keys) last)))
-    (part_keeps s operator before [] bound types part b h.0 situation)
+    (part_keeps s known calls operator before [] bound types part b h.0 situation)
     (λ xs now grown honest belongs.
     let key = key_found s now u xs q.0 belongs in
     subst (λ (found : Option (Option Atomic)). KeepsFact setting now AnyKeys (given found (λ key. after (others now) (λ keys last. gives (key ∷ keys) last)))) (sym key.1)
     (fact_after setting now AnyKeys AnyKeys (others now) (λ keys last. gives (key.0 ∷ keys) last)
-    (keys_keep s operator orders tuples t parts (before ++ u ∷ []) bound types q.1 h.1 (binds_further operator before bound u b) (later setting (bound ++ types) situation now grown honest))
+    (keys_keep s known calls operator orders tuples t parts (before ++ u ∷ []) bound types q.1 h.1 (binds_further operator before bound u b) (later setting (bound ++ types) situation now grown honest))
     (λ keys last more still any. fact_at_once setting last AnyKeys (key.0 ∷ keys) still tt)))
 
 -- ---- tuples
@@ -214,23 +215,23 @@ tuples_so setting before P Q (gives ts now) h k = record { grown = k.grown; hone
 tuples_so setting before P Q (raises code) h k = tt
 tuples_so setting before P Q wrong h k = absurd k
 
-tuples_keep : (s : SchemaSet) (operator : Operator) (kinds : List ClauseKind) (orders : List KeyOrder) (tuples : Occurs) (t : SequenceType) (number : ℕ) (parts : Parts SequenceType) (before : List SequenceType) (here types : Types)
+tuples_keep : (s : SchemaSet) (known : List FunctionSignature) (calls : CallOutcomes) (operator : Operator) (kinds : List ClauseKind) (orders : List KeyOrder) (tuples : Occurs) (t : SequenceType) (number : ℕ) (parts : Parts SequenceType) (before : List SequenceType) (here types : Types)
     (bound outer : Bindings) (forest : Forest)
-    → clauses_rule (allows_clause s) kinds number (returned_rule (allows_key s) orders tuples) (each_of annotation_of parts) ≡ has_type t → PartsKeepTypes s operator before parts types → Binds operator before kinds here
-    → IsHonest s forest → Fits s forest (here ++ types) (bound ++ outer)
-    → KeepsFact (typed_setting s) forest (Found s (block_types_bound kinds (each_of annotation_of parts) here ++ types) outer (tuples_occur kinds (each_of annotation_of parts)))
-    (tuples_of kinds orders (meanings (context_of (typed_setting s)) parts) bound outer forest)
-tuples_keep s operator [] orders tuples t number parts before here types bound outer forest e h b honest fits =
-    let setting : Setting = typed_setting s in
+    → clauses_rule (allows_clause s) kinds number (returned_rule (allows_key s) orders tuples) (each_of annotation_of parts) ≡ has_type t → PartsKeepTypes s known calls operator before parts types → Binds operator before kinds here
+    → IsHonest s forest → Fits s forest (here ++ types) (bound ++ outer) → CallsKeepTypes (calling_setting s known calls) forest
+    → KeepsFact (calling_setting s known calls) forest (Found s (block_types_bound kinds (each_of annotation_of parts) here ++ types) outer (tuples_occur kinds (each_of annotation_of parts)))
+    (tuples_of kinds orders (meanings (context_of (calling_setting s known calls)) parts) bound outer forest)
+tuples_keep s known calls operator [] orders tuples t number parts before here types bound outer forest e h b honest fits calls_keep =
+    let setting : Setting = calling_setting s known calls in
     let tuple : List (Option Atomic) → Tuple = λ keys. record { keys = keys; bound = bound } in
     let Result : Forest → List Tuple → Type 0 = Found s (here ++ types) outer (occurs 1 1) in
     fact_after setting forest AnyKeys Result (tuple_keys orders (meanings (context_of setting) parts) (bound ++ outer) forest) (λ keys left. gives (tuple keys ∷ []) left)
-    (keys_keep s operator orders tuples t parts before here types e h b (record { bindings = bound ++ outer; forest = forest; honest = honest; fits = fits }))
+    (keys_keep s known calls operator orders tuples t parts before here types e h b (record { bindings = bound ++ outer; forest = forest; honest = honest; fits = fits; calls_keep = calls_keep }))
     (λ keys now grown still any. fact_at_once setting now Result (tuple keys ∷ []) still
     (record { fit = (bindings_fit_still setting (here ++ types) (bound ++ outer) forest now grown fits, tt); count = record { least = omega arith; greatest = λ few. omega arith } }))
-tuples_keep s operator (kind ∷ kinds) orders tuples t number no_parts before here types bound outer forest e h b honest fits = absurd (cc)
-tuples_keep s operator (For binder position ∷ kinds) orders tuples t number (a_part part parts) before here types bound outer forest e h b honest fits =
-    let setting : Setting = typed_setting s in
+tuples_keep s known calls operator (kind ∷ kinds) orders tuples t number no_parts before here types bound outer forest e h b honest fits calls_keep = absurd (cc)
+tuples_keep s known calls operator (For binder position ∷ kinds) orders tuples t number (a_part part parts) before here types bound outer forest e h b honest fits calls_keep =
+    let setting : Setting = calling_setting s known calls in
     let k = context_of setting in
     let u : SequenceType = annotation_of part in
     let ts : List SequenceType = each_of annotation_of parts in
@@ -240,7 +241,7 @@ tuples_keep s operator (For binder position ∷ kinds) orders tuples t number (a
     let q = passed (allows_clause s (For binder position) u) (clauses_rule (allows_clause s) kinds (number + 1) (returned_rule (allows_key s) orders tuples) ts) _ (Some number) t e in
     let turn : ℕ → Item → Forest → Outcome (List Tuple) = λ n x now. tuples_of kinds orders (meanings k parts) (item_bound binder.variable position n x ++ bound) outer now in
     fact_after setting forest (IsOfType s u) (Found s full outer (product (occurrence_of u) o)) (meaning k part (bound ++ outer) forest) (λ xs left. tuples_of_each turn 1 xs left)
-    (part_keeps s operator before (For binder position ∷ kinds) here types part b h.0 (record { bindings = bound ++ outer; forest = forest; honest = honest; fits = fits }))
+    (part_keeps s known calls operator before (For binder position ∷ kinds) here types part b h.0 (record { bindings = bound ++ outer; forest = forest; honest = honest; fits = fits; calls_keep = calls_keep }))
     (λ xs now grown still belongs.
     tuples_so setting now (FoundTimes s full outer o (length xs)) (Found s full outer (product (occurrence_of u) o)) (tuples_of_each turn 1 xs now)
     (λ last found f. products_allow s full outer (occurrence_of u) o (length xs) last found (belongs_within s now u xs belongs) f)
@@ -249,13 +250,14 @@ tuples_keep s operator (For binder position ∷ kinds) orders tuples t number (a
     let joined : Fits s last ((clause_types_bound (For binder position) u) ++ (here ++ types)) (item_bound binder.variable position n x ++ (bound ++ outer)) =
     item_fits setting binder position n (prime_of u) x (here ++ types) (bound ++ outer) last
     (bindings_fit_still setting (here ++ types) (bound ++ outer) forest last (growth_is_an_order.transitive forest now last grown more) fits) one in
-    tuples_keep s operator kinds orders tuples t (number + 1) parts (before ++ u ∷ []) inner types (item_bound binder.variable position n x ++ bound) outer last q.1 h.1
+    tuples_keep s known calls operator kinds orders tuples t (number + 1) parts (before ++ u ∷ []) inner types (item_bound binder.variable position n x ++ bound) outer last q.1 h.1
     (binds_behind operator before (For binder position) kinds here u b) hon
     (subst (λ (bs : Bindings). Fits s last (inner ++ types) bs) (sym (append_assoc (item_bound binder.variable position n x) bound outer))
-    (subst (λ (ts : Types). Fits s last ts (item_bound binder.variable position n x ++ (bound ++ outer))) (sym (append_assoc (clause_types_bound (For binder position) u) here types)) joined)))
+    (subst (λ (ts : Types). Fits s last ts (item_bound binder.variable position n x ++ (bound ++ outer))) (sym (append_assoc (clause_types_bound (For binder position) u) here types)) joined))
+    (calls_keep_still setting forest last (growth_is_an_order.transitive forest now last grown more) calls_keep))
     xs 1 now (growth_is_an_order.reflexive now) still (items_belong s now u xs belongs)))
-tuples_keep s operator (Let binder ∷ kinds) orders tuples t number (a_part part parts) before here types bound outer forest e h b honest fits =
-    let setting : Setting = typed_setting s in
+tuples_keep s known calls operator (Let binder ∷ kinds) orders tuples t number (a_part part parts) before here types bound outer forest e h b honest fits calls_keep =
+    let setting : Setting = calling_setting s known calls in
     let k = context_of setting in
     let u : SequenceType = annotation_of part in
     let ts : List SequenceType = each_of annotation_of parts in
@@ -263,12 +265,13 @@ tuples_keep s operator (Let binder ∷ kinds) orders tuples t number (a_part par
     let Result : Forest → List Tuple → Type 0 = Found s (block_types_bound kinds ts inner ++ types) outer (tuples_occur kinds ts) in
     let q = passed (allows_clause s (Let binder) u) (clauses_rule (allows_clause s) kinds (number + 1) (returned_rule (allows_key s) orders tuples) ts) _ (Some number) t e in
     fact_after setting forest (IsOfType s u) Result (meaning k part (bound ++ outer) forest) (λ xs left. tuples_of kinds orders (meanings k parts) ((binder.variable, xs) ∷ bound) outer left)
-    (part_keeps s operator before (Let binder ∷ kinds) here types part b h.0 (record { bindings = bound ++ outer; forest = forest; honest = honest; fits = fits }))
+    (part_keeps s known calls operator before (Let binder ∷ kinds) here types part b h.0 (record { bindings = bound ++ outer; forest = forest; honest = honest; fits = fits; calls_keep = calls_keep }))
     (λ xs now grown still belongs.
-    tuples_keep s operator kinds orders tuples t (number + 1) parts (before ++ u ∷ []) inner types ((binder.variable, xs) ∷ bound) outer now q.1 h.1 (binds_behind operator before (Let binder) kinds here u b) still
-    (binding_fits setting binder u xs (here ++ types) (bound ++ outer) now (bindings_fit_still setting (here ++ types) (bound ++ outer) forest now grown fits) belongs))
-tuples_keep s operator (Where ∷ kinds) orders tuples t number (a_part part parts) before here types bound outer forest e h b honest fits =
-    let setting : Setting = typed_setting s in
+    tuples_keep s known calls operator kinds orders tuples t (number + 1) parts (before ++ u ∷ []) inner types ((binder.variable, xs) ∷ bound) outer now q.1 h.1 (binds_behind operator before (Let binder) kinds here u b) still
+    (binding_fits setting binder u xs (here ++ types) (bound ++ outer) now (bindings_fit_still setting (here ++ types) (bound ++ outer) forest now grown fits) belongs)
+    (calls_keep_still setting forest now grown calls_keep))
+tuples_keep s known calls operator (Where ∷ kinds) orders tuples t number (a_part part parts) before here types bound outer forest e h b honest fits calls_keep =
+    let setting : Setting = calling_setting s known calls in
     let k = context_of setting in
     let u : SequenceType = annotation_of part in
     let ts : List SequenceType = each_of annotation_of parts in
@@ -281,12 +284,12 @@ tuples_keep s operator (Where ∷ kinds) orders tuples t number (a_part part par
     elim truth as (λ (b : Bool). KeepsFact setting now (Found s full outer fewer) (tuples_if b rest now)) [
       | true ↦ tuples_so setting now (Found s full outer o) (Found s full outer fewer) (rest now)
           (λ last found f. record { fit = f.fit; count = record { least = omega arith; greatest = f.count.greatest } })
-          (tuples_keep s operator kinds orders tuples t (number + 1) parts (before ++ u ∷ []) here types bound outer now q.1 h.1 (binds_behind operator before Where kinds here u b) still
-          (bindings_fit_still setting (here ++ types) (bound ++ outer) forest now grown fits))
+          (tuples_keep s known calls operator kinds orders tuples t (number + 1) parts (before ++ u ∷ []) here types bound outer now q.1 h.1 (binds_behind operator before Where kinds here u b) still
+          (bindings_fit_still setting (here ++ types) (bound ++ outer) forest now grown fits) (calls_keep_still setting forest now grown calls_keep))
       | false ↦ fact_at_once setting now (Found s full outer fewer) [] still (record { fit = tt; count = record { least = omega arith; greatest = λ few. omega arith } })
     ] in
     fact_after setting forest (IsOfType s u) (Found s full outer fewer) (meaning k part (bound ++ outer) forest) (λ xs left. given (condition_of xs) (λ truth. tuples_if truth rest left))
-    (part_keeps s operator before (Where ∷ kinds) here types part b h.0 (record { bindings = bound ++ outer; forest = forest; honest = honest; fits = fits }))
+    (part_keeps s known calls operator before (Where ∷ kinds) here types part b h.0 (record { bindings = bound ++ outer; forest = forest; honest = honest; fits = fits; calls_keep = calls_keep }))
     (λ xs now grown still belongs.
     let truth = one_condition s now u xs q.0 belongs in
     subst (λ (found : Option Bool). KeepsFact setting now (Found s full outer fewer) (given found (λ truth. tuples_if truth rest now))) (sym truth.1) (chosen truth.0 now grown still))
@@ -294,34 +297,34 @@ tuples_keep s operator (Where ∷ kinds) orders tuples t number (a_part part par
 -- ---- what is returned
 
 -- the last part, behind the clauses and the keys
-record IsReturned (s : SchemaSet) (types : Types) (returns : List Denotation) (tuples : Occurs) (t : SequenceType) : Type 0 where
+record IsReturned (s : SchemaSet) (known : List FunctionSignature) (calls : CallOutcomes) (types : Types) (returns : List Denotation) (tuples : Occurs) (t : SequenceType) : Type 0 where
   body : TypedExpression
-  there : returns ≡ meaning (context_of (typed_setting s)) body ∷ []
-  keeps : KeepsItsType (typed_setting s) body types
+  there : returns ≡ meaning (context_of (calling_setting s known calls)) body ∷ []
+  keeps : KeepsItsType (calling_setting s known calls) body types
   type : t ≡ times_of (annotation_of body) tuples
 
-returned_behind_keys : (s : SchemaSet) (operator : Operator) (orders : List KeyOrder) (tuples : Occurs) (t : SequenceType) (parts : Parts SequenceType) (before : List SequenceType) (here types : Types)
-    → returned_rule (allows_key s) orders tuples (each_of annotation_of parts) ≡ has_type t → PartsKeepTypes s operator before parts types → Binds operator before [] here
-    → IsReturned s (here ++ types) (drop (length orders) (meanings (context_of (typed_setting s)) parts)) tuples t
-returned_behind_keys s operator [] tuples t no_parts before here types e h b = absurd (cc)
-returned_behind_keys s operator [] tuples t (a_part body no_parts) before here types e h b =
-    record { body = body; there = refl; keeps = part_keeps s operator before [] here types body b h.0; type = sym (ruled (times_of (annotation_of body) tuples) t e) }
-returned_behind_keys s operator [] tuples t (a_part body (a_part other parts)) before here types e h b = absurd (cc)
-returned_behind_keys s operator (order ∷ orders) tuples t no_parts before here types e h b = absurd (cc)
-returned_behind_keys s operator (order ∷ orders) tuples t (a_part part parts) before here types e h b =
+returned_behind_keys : (s : SchemaSet) (known : List FunctionSignature) (calls : CallOutcomes) (operator : Operator) (orders : List KeyOrder) (tuples : Occurs) (t : SequenceType) (parts : Parts SequenceType) (before : List SequenceType) (here types : Types)
+    → returned_rule (allows_key s) orders tuples (each_of annotation_of parts) ≡ has_type t → PartsKeepTypes s known calls operator before parts types → Binds operator before [] here
+    → IsReturned s known calls (here ++ types) (drop (length orders) (meanings (context_of (calling_setting s known calls)) parts)) tuples t
+returned_behind_keys s known calls operator [] tuples t no_parts before here types e h b = absurd (cc)
+returned_behind_keys s known calls operator [] tuples t (a_part body no_parts) before here types e h b =
+    record { body = body; there = refl; keeps = part_keeps s known calls operator before [] here types body b h.0; type = sym (ruled (times_of (annotation_of body) tuples) t e) }
+returned_behind_keys s known calls operator [] tuples t (a_part body (a_part other parts)) before here types e h b = absurd (cc)
+returned_behind_keys s known calls operator (order ∷ orders) tuples t no_parts before here types e h b = absurd (cc)
+returned_behind_keys s known calls operator (order ∷ orders) tuples t (a_part part parts) before here types e h b =
     let u : SequenceType = annotation_of part in
     let q = passed (allows_key s u) (returned_rule (allows_key s) orders tuples (each_of annotation_of parts)) _ None t e in
-    returned_behind_keys s operator orders tuples t parts (before ++ u ∷ []) here types q.1 h.1 (binds_further operator before here u b)
+    returned_behind_keys s known calls operator orders tuples t parts (before ++ u ∷ []) here types q.1 h.1 (binds_further operator before here u b)
 
-returned_behind : (s : SchemaSet) (operator : Operator) (kinds : List ClauseKind) (orders : List KeyOrder) (tuples : Occurs) (t : SequenceType) (number : ℕ) (parts : Parts SequenceType) (before : List SequenceType) (here types : Types)
-    → clauses_rule (allows_clause s) kinds number (returned_rule (allows_key s) orders tuples) (each_of annotation_of parts) ≡ has_type t → PartsKeepTypes s operator before parts types → Binds operator before kinds here
-    → IsReturned s (block_types_bound kinds (each_of annotation_of parts) here ++ types) (drop (length orders) (drop (length kinds) (meanings (context_of (typed_setting s)) parts))) tuples t
-returned_behind s operator [] orders tuples t number parts before here types e h b = returned_behind_keys s operator orders tuples t parts before here types e h b
-returned_behind s operator (kind ∷ kinds) orders tuples t number no_parts before here types e h b = absurd (cc)
-returned_behind s operator (kind ∷ kinds) orders tuples t number (a_part part parts) before here types e h b =
+returned_behind : (s : SchemaSet) (known : List FunctionSignature) (calls : CallOutcomes) (operator : Operator) (kinds : List ClauseKind) (orders : List KeyOrder) (tuples : Occurs) (t : SequenceType) (number : ℕ) (parts : Parts SequenceType) (before : List SequenceType) (here types : Types)
+    → clauses_rule (allows_clause s) kinds number (returned_rule (allows_key s) orders tuples) (each_of annotation_of parts) ≡ has_type t → PartsKeepTypes s known calls operator before parts types → Binds operator before kinds here
+    → IsReturned s known calls (block_types_bound kinds (each_of annotation_of parts) here ++ types) (drop (length orders) (drop (length kinds) (meanings (context_of (calling_setting s known calls)) parts))) tuples t
+returned_behind s known calls operator [] orders tuples t number parts before here types e h b = returned_behind_keys s known calls operator orders tuples t parts before here types e h b
+returned_behind s known calls operator (kind ∷ kinds) orders tuples t number no_parts before here types e h b = absurd (cc)
+returned_behind s known calls operator (kind ∷ kinds) orders tuples t number (a_part part parts) before here types e h b =
     let u : SequenceType = annotation_of part in
     let q = passed (allows_clause s kind u) (clauses_rule (allows_clause s) kinds (number + 1) (returned_rule (allows_key s) orders tuples) (each_of annotation_of parts)) _ (Some number) t e in
-    returned_behind s operator kinds orders tuples t (number + 1) parts (before ++ u ∷ []) (clause_types_bound kind u ++ here) types q.1 h.1 (binds_behind operator before kind kinds here u b)
+    returned_behind s known calls operator kinds orders tuples t (number + 1) parts (before ++ u ∷ []) (clause_types_bound kind u ++ here) types q.1 h.1 (binds_behind operator before kind kinds here u b)
 
 -- the bindings of tuples, without their keys
 abbrev RowsFit : SchemaSet → Forest → Types → (outer : Bindings) → List Bindings → Type 0
@@ -336,21 +339,22 @@ rows_of_fitting s forest types outer [] h = tt
 rows_of_fitting s forest types outer (t ∷ tuples) h = (h.0, rows_of_fitting s forest types outer tuples h.1)
 
 returns_keep : (setting : Setting) (types : Types) (outer : Bindings) (u : SequenceType) (body : Denotation) → ((situation : Situation setting types) → Keeps setting situation.forest u (body situation.bindings situation.forest))
-    → (rows : List Bindings) (n m : ℕ) (done : Items) (forest : Forest) → m ≡ n + length rows → IsHonest setting.schemas forest → RowsFit setting.schemas forest types outer rows → Made setting.schemas u n forest done
+    → (rows : List Bindings) (n m : ℕ) (done : Items) (forest : Forest) → m ≡ n + length rows → IsHonest setting.schemas forest → RowsFit setting.schemas forest types outer rows
+    → CallsKeepTypes setting forest → Made setting.schemas u n forest done
     → KeepsFact setting forest (Made setting.schemas u m) (returned body outer done rows forest)
-returns_keep setting types outer u body keeps [] n m done forest e honest fit made =
+returns_keep setting types outer u body keeps [] n m done forest e honest fit calls_keep made =
     let same : n ≡ m = omega (arith, e) in
     fact_at_once setting forest (Made setting.schemas u m) done honest (subst (λ (k : ℕ). Made setting.schemas u k forest done) same made)
-returns_keep setting types outer u body keeps (bound ∷ rows) n m done forest e honest fit made =
+returns_keep setting types outer u body keeps (bound ∷ rows) n m done forest e honest fit calls_keep made =
     fact_after setting forest (IsOfType setting.schemas u) (Made setting.schemas u m) (body (bound ++ outer) forest) (λ more left. returned body outer (done ++ more) rows left)
-    (keeps (record { bindings = bound ++ outer; forest = forest; honest = honest; fits = fit.0 }))
-    (λ more now grown still b. returns_keep setting types outer u body keeps rows (suc n) m (done ++ more) now (omega (arith, e)) still (rows_still setting types outer rows forest now grown fit.1)
+    (keeps (record { bindings = bound ++ outer; forest = forest; honest = honest; fits = fit.0; calls_keep = calls_keep }))
+    (λ more now grown still b. returns_keep setting types outer u body keeps rows (suc n) m (done ++ more) now (omega (arith, e)) still (rows_still setting types outer rows forest now grown fit.1) (calls_keep_still setting forest now grown calls_keep)
     (one_more_made setting.schemas now u n done more (values_stay setting.schemas forest now done (copies n u) grown made) b))
 
-sorted_returns_keep : (s : SchemaSet) (types : Types) (outer : Bindings) (orders : List KeyOrder) (returns : List Denotation) (o : Occurs) (t : SequenceType) (tuples : List Tuple) (forest : Forest)
-    → IsReturned s types returns o t → IsHonest s forest → Found s types outer o forest tuples → Keeps (typed_setting s) forest t (block_returned orders returns outer tuples forest)
-sorted_returns_keep s types outer orders returns o t tuples forest r honest f =
-    let setting : Setting = typed_setting s in
+sorted_returns_keep : (s : SchemaSet) (known : List FunctionSignature) (calls : CallOutcomes) (types : Types) (outer : Bindings) (orders : List KeyOrder) (returns : List Denotation) (o : Occurs) (t : SequenceType) (tuples : List Tuple) (forest : Forest)
+    → IsReturned s known calls types returns o t → IsHonest s forest → CallsKeepTypes (calling_setting s known calls) forest → Found s types outer o forest tuples → Keeps (calling_setting s known calls) forest t (block_returned orders returns outer tuples forest)
+sorted_returns_keep s known calls types outer orders returns o t tuples forest r honest calls_keep f =
+    let setting : Setting = calling_setting s known calls in
     let body : Denotation = meaning (context_of setting) r.body in
     let u : SequenceType = annotation_of r.body in
     let precedes : Tuple → Tuple → Bool = λ a b. keys_precede orders a.keys b.keys in
@@ -363,18 +367,18 @@ sorted_returns_keep s types outer orders returns o t tuples forest r honest f =
     (subst (λ (ds : List Denotation). Keeps setting forest (times_of u o) (block_returned orders ds outer tuples forest)) (sym r.there)
     (fact_so setting forest (Made s u (length rows)) (IsOfType s (times_of u o)) (returned body outer [] rows forest)
     (λ now ys made. joined_belongs_times s now u o (length rows) ys made.seen (subst (λ (n : ℕ). Allows o n) (sym count) f.count) made.shaped (copies_joined s u (length rows) made.seen made.taken))
-    (returns_keep setting types outer u body r.keeps rows 0 (length rows) [] forest (omega arith) honest fit none)))
+    (returns_keep setting types outer u body r.keeps rows 0 (length rows) [] forest (omega arith) honest fit calls_keep none)))
 
 pub block_keeps : BlockKeepsType
-block_keeps s clauses keys parts types place outer t e h situation =
-    let setting : Setting = typed_setting s in
+block_keeps s clauses keys known calls parts types place outer t e known_call h situation =
+    let setting : Setting = calling_setting s known calls in
     let k = context_of setting in
     let operator : Operator = operators.Block clauses keys in
     let ts : List SequenceType = each_of annotation_of parts in
     let o : Occurs = tuples_occur clauses ts in
     let full : Types = block_types_bound clauses ts [] ++ types in
     let returns : List Denotation = drop (length keys) (drop (length clauses) (meanings k parts)) in
-    let r : IsReturned s full returns o t = returned_behind s operator clauses keys o t 0 parts [] [] types e h (λ more. refl) in
+    let r : IsReturned s known calls full returns o t = returned_behind s known calls operator clauses keys o t 0 parts [] [] types e h (λ more. refl) in
     fact_after setting situation.forest (Found s full situation.bindings o) (IsOfType s t) (tuples_of clauses keys (meanings k parts) [] situation.bindings situation.forest) (block_returned keys returns situation.bindings)
-    (tuples_keep s operator clauses keys o t 0 parts [] [] types [] situation.bindings situation.forest e h (λ more. refl) situation.honest situation.fits)
-    (λ tuples now grown honest f. sorted_returns_keep s full situation.bindings keys returns o t tuples now r honest f)
+    (tuples_keep s known calls operator clauses keys o t 0 parts [] [] types [] situation.bindings situation.forest e h (λ more. refl) situation.honest situation.fits situation.calls_keep)
+    (λ tuples now grown honest f. sorted_returns_keep s known calls full situation.bindings keys returns o t tuples now r honest (calls_keep_still setting situation.forest now grown situation.calls_keep) f)

@@ -38,7 +38,7 @@ use Rattle.gx_static.proofs.Comparisons.{truth_keeps}
 use Rattle.gx_static.proofs.Keeping.{type_so, single_keeps}
 use Rattle.gx_static.proofs.Singles.{nothing_belongs, atom_belongs}
 
-fits_so : (s : SchemaSet) (v : AtomValue) (kind : TypeName) → FitsKind s v kind → ValueFits s v kind
+pub fits_so : (s : SchemaSet) (v : AtomValue) (kind : TypeName) → FitsKind s v kind → ValueFits s v kind
 fits_so s (Untyped t) kind h = h
 fits_so s (Str t) kind h = h
 fits_so s (Truth b) kind h = h

@@ -20,7 +20,7 @@ use Rattle.gx_core.specs.Expression.{no_parts, a_part, annotation_of}
 use Rattle.gx_core.specs.Outcome.{Outcome, gives, raises, wrong, after, given}
 use Rattle.gx_core.specs.Meaning.{branch, meaning}
 use Rattle.gx_core.specs.Comparing.{truth_of_value, condition_of}
-use Rattle.gx_core.specs.Soundness.{Setting, typed_setting, context_of, IsOfType, Keeps}
+use Rattle.gx_core.specs.Soundness.{Setting, calling_setting, context_of, IsOfType, Keeps}
 use Rattle.gx_core.proofs.KeptFacts.{fact_after, later}
 use Rattle.gx_static.specs.Rule.{is_at_least_one, is_at_most_one, is_all_in, is_optional_in}
 use Rattle.gx_static.specs.Laws.{ConditionalKeepsType}
@@ -62,8 +62,8 @@ widened setting forest t u (raises code) h k = tt
 widened setting forest t u wrong h k = absurd k
 
 pub conditional_keeps : ConditionalKeepsType
-conditional_keeps s (a_part a (a_part b (a_part c no_parts))) types place outer t e h situation =
-    let setting : Setting = typed_setting s in
+conditional_keeps s known calls (a_part a (a_part b (a_part c no_parts))) types place outer t e known_call h situation =
+    let setting : Setting = calling_setting s known calls in
     let k = context_of setting in
     let r = type_so (is_at_least_one (annotation_of a) && is_optional_in s Boolean (annotation_of a)) (choice_of (annotation_of b) (annotation_of c)) t e in
     subst (λ (u : SequenceType). Keeps setting situation.forest u (after (meaning k a situation.bindings situation.forest) (λ xs left. given (condition_of xs) (λ truth. branch truth (meaning k b) (meaning k c) situation.bindings left)))) r.1
@@ -74,10 +74,10 @@ conditional_keeps s (a_part a (a_part b (a_part c no_parts))) types place outer 
     subst (λ (found : Option Bool). Keeps setting now (choice_of (annotation_of b) (annotation_of c)) (given found (λ truth. branch truth (meaning k b) (meaning k c) situation.bindings now))) (sym truth.1)
     (branch_keeps truth.0 now grown honest)))
   where
-    branch_keeps : (truth : Bool) (now : Forest) → Extends situation.forest now → IsHonest s now → Keeps (typed_setting s) now (choice_of (annotation_of b) (annotation_of c)) (branch truth (meaning (context_of (typed_setting s)) b) (meaning (context_of (typed_setting s)) c) situation.bindings now)
-    branch_keeps true now grown honest = widened (typed_setting s) now (annotation_of b) (choice_of (annotation_of b) (annotation_of c)) _ (λ f xs. chosen_belongs s f (annotation_of b) (annotation_of c) xs) (h.1.0 (later (typed_setting s) types situation now grown honest))
-    branch_keeps false now grown honest = widened (typed_setting s) now (annotation_of c) (choice_of (annotation_of b) (annotation_of c)) _ (λ f xs. other_belongs s f (annotation_of b) (annotation_of c) xs) (h.1.1.0 (later (typed_setting s) types situation now grown honest))
-conditional_keeps s no_parts types place outer t e h situation = absurd (cc)
-conditional_keeps s (a_part a no_parts) types place outer t e h situation = absurd (cc)
-conditional_keeps s (a_part a (a_part b no_parts)) types place outer t e h situation = absurd (cc)
-conditional_keeps s (a_part a (a_part b (a_part c (a_part d others)))) types place outer t e h situation = absurd (cc)
+    branch_keeps : (truth : Bool) (now : Forest) → Extends situation.forest now → IsHonest s now → Keeps (calling_setting s known calls) now (choice_of (annotation_of b) (annotation_of c)) (branch truth (meaning (context_of (calling_setting s known calls)) b) (meaning (context_of (calling_setting s known calls)) c) situation.bindings now)
+    branch_keeps true now grown honest = widened (calling_setting s known calls) now (annotation_of b) (choice_of (annotation_of b) (annotation_of c)) _ (λ f xs. chosen_belongs s f (annotation_of b) (annotation_of c) xs) (h.1.0 (later (calling_setting s known calls) types situation now grown honest))
+    branch_keeps false now grown honest = widened (calling_setting s known calls) now (annotation_of c) (choice_of (annotation_of b) (annotation_of c)) _ (λ f xs. other_belongs s f (annotation_of b) (annotation_of c) xs) (h.1.1.0 (later (calling_setting s known calls) types situation now grown honest))
+conditional_keeps s known calls no_parts types place outer t e known_call h situation = absurd (cc)
+conditional_keeps s known calls (a_part a no_parts) types place outer t e known_call h situation = absurd (cc)
+conditional_keeps s known calls (a_part a (a_part b no_parts)) types place outer t e known_call h situation = absurd (cc)
+conditional_keeps s known calls (a_part a (a_part b (a_part c (a_part d others)))) types place outer t e known_call h situation = absurd (cc)

@@ -246,9 +246,9 @@ atoms_again [] = refl
 atoms_again (a ∷ values) = ap (option_map (λ (others : List Atomic). a ∷ others)) (atoms_again values)
 
 -- an atomized value is of atomic values
-record AreAtoms (items : Items) : Type 0 where
-  values : List Atomic
-  are : items ≡ atoms values
+pub record AreAtoms (items : Items) : Type 0 where
+  pub values : List Atomic
+  pub are : items ≡ atoms values
 
 atoms_joined : (xs ys : Items) → AreAtoms xs → AreAtoms ys → AreAtoms (xs ++ ys)
 atoms_joined xs ys a b = record { values = a.values ++ b.values; are = (λ i. a.are i ++ b.are i) ∙ both_atoms a.values b.values }
@@ -265,7 +265,7 @@ values_are_atoms s forest (node place) found e = by_values (value_of_node s fore
     by_values None f = absurd (cc)
     by_values (Some values) f = let same : atoms values ≡ found = cc in record { values = values; are = sym same }
 
-atomized_are_atoms : (s : SchemaSet) (forest : Forest) (xs found : Items) → atomized s forest xs ≡ Some found → AreAtoms found
+pub atomized_are_atoms : (s : SchemaSet) (forest : Forest) (xs found : Items) → atomized s forest xs ≡ Some found → AreAtoms found
 atomized_are_atoms s forest [] found e = let same : [] ≡ found = cc in record { values = []; are = sym same }
 atomized_are_atoms s forest (x ∷ xs) found e =
     by_parts (values_of_item s forest x) (atomized s forest xs) refl e (λ ys f. values_are_atoms s forest x ys f) (atomized_are_atoms s forest xs)

@@ -6,7 +6,6 @@ use Rattle.gx_types.specs.SchemaSet.{SchemaSet}
 use Rattle.gx_types.specs.SequenceType.{SequenceType}
 use Rattle.gx_funcs.specs.declared.function.Function.{Function}
 use Rattle.gx_core.specs.declared.expression.Binder.{Binder}
-use Rattle.gx_core.specs.declared.constructor.Constructor.{Constructor}
 use Rattle.gx_core.specs.declared.operator.Operator.{Operator}
 use Rattle.gx_core.specs.declared.operator.Operator.TheVariants as operators
 use Rattle.gx_core.specs.Expression.{CoreExpression, core_at, Parts, no_parts, a_part, one_part, two_parts, three_parts, all_parts, each_of, annotation_of}
@@ -103,17 +102,21 @@ call_opens schemas tasks parts types declared place outer function arguments =
     ≡ then_typed (judged schemas (core_at place outer (operators.Call function) (all_parts arguments)) types) (λ t. continued schemas tasks (t ∷ parts) types declared)) count
     (operator_opens schemas (operators.Call function) (λ before. refl) place outer types (λ t below. continued schemas tasks (t ∷ below) types declared) parts arguments)
 
-pub constructor_opens : (schemas : SchemaSet) (tasks : List Task) (parts : List TypedExpression) (types : Types) (declared : List TypedDeclaration) (place outer : Place) (constructor : Constructor) (number : ℕ) (content : List CoreExpression)
+-- an operator that has so many parts as it says, and binds nothing
+pub counted_opens : (schemas : SchemaSet) (make : ℕ → Operator) → ((number : ℕ) (before : List SequenceType) → types_bound (make number) before ≡ []) → ((number : ℕ) → part_count (make number) ≡ number)
+    → (tasks : List Task) (parts : List TypedExpression) (types : Types) (declared : List TypedDeclaration) (place outer : Place) (number : ℕ) (content : List CoreExpression)
     → number ≡ length content
-    → typed_in_order schemas content types (λ parts. continued schemas (Finish place outer (operators.Construct constructor number) ∷ tasks) parts types declared) parts
-    ≡ then_typed (judged schemas (core_at place outer (operators.Construct constructor (length content)) (all_parts content)) types) (λ t. continued schemas tasks (t ∷ parts) types declared)
-constructor_opens schemas tasks parts types declared place outer constructor number content all =
-    let operator = operators.Construct constructor (length content) in
+    → typed_in_order schemas content types (λ parts. continued schemas (Finish place outer (make number) ∷ tasks) parts types declared) parts
+    ≡ then_typed (judged schemas (core_at place outer (make (length content)) (all_parts content)) types) (λ t. continued schemas tasks (t ∷ parts) types declared)
+counted_opens schemas make binds_nothing has_parts tasks parts types declared place outer number content all =
+    let operator : Operator = make (length content) in
     let count : count_with content 0 ≡ length content = omega (arith, counted content 0) in
-    ap (λ (n : ℕ). typed_in_order schemas content types (λ parts. continued schemas (Finish place outer (operators.Construct constructor n) ∷ tasks) parts types declared) parts) all
-    ∙ subst (λ (n : ℕ). typed_in_order schemas content types (λ parts. last_parts n parts no_parts (finished schemas place outer operator types (λ t below. continued schemas tasks (t ∷ below) types declared))) parts
+    let made : Parts SequenceType → List TypedExpression → Awaited = finished schemas place outer operator types (λ t below. continued schemas tasks (t ∷ below) types declared) in
+    ap (λ (n : ℕ). typed_in_order schemas content types (λ parts. continued schemas (Finish place outer (make n) ∷ tasks) parts types declared) parts) all
+    ∙ ap (λ (n : ℕ). typed_in_order schemas content types (λ parts. last_parts n parts no_parts made) parts) (has_parts (length content))
+    ∙ subst (λ (n : ℕ). typed_in_order schemas content types (λ parts. last_parts n parts no_parts made) parts
     ≡ then_typed (judged schemas (core_at place outer operator (all_parts content)) types) (λ t. continued schemas tasks (t ∷ parts) types declared)) count
-    (operator_opens schemas operator (λ before. refl) place outer types (λ t below. continued schemas tasks (t ∷ below) types declared) parts content)
+    (operator_opens schemas operator (binds_nothing (length content)) place outer types (λ t below. continued schemas tasks (t ∷ below) types declared) parts content)
 
 also_behind : (j : Judgement) (f g : TypedExpression → Awaited) → ((t : TypedExpression) → f t ≡ g t) → then_typed j f ≡ then_typed j g
 also_behind (typed t) f g h = h t

@@ -1,21 +1,24 @@
 -- Doing the tasks of declarations and of the body comes to the judgement of the query.
-use Rattle.std.proofs.Common.{◌≡◌, List, [], ◌∷◌, ◌++◌, None, Some, refl, sym, ◌∙◌, ap, append_assoc}
+use Rattle.std.proofs.Common.{◌≡◌, List, [], ◌∷◌, ◌++◌, length, drop, None, Some, refl, sym, ◌∙◌, ap, append_assoc}
 use Rattle.std.proofs.lemmas.List.{append-nil}
 use Rattle.gx_types.specs.SchemaSet.{SchemaSet}
-use Rattle.gx_core.specs.Queries.{Core, CoreDeclaration, TypedDeclaration}
-use Rattle.gx_core.specs.declared.expression.Declaration.TheVariants.{Global}
+use Rattle.gx_core.specs.Queries.{Core, CoreDeclaration, TypedDeclaration, CoreFunction}
+use Rattle.gx_core.specs.declared.expression.Declaration.TheVariants.{Global, Function}
+use Rattle.gx_core.specs.declared.expression.Binder.{Binder}
+use Rattle.gx_core.specs.CalledFunctions.{type_of_parameter}
 use Rattle.gx_core.specs.Bindings.{Types}
-use Rattle.gx_core.specs.QueryMeaning.{global_types, types_declared}
+use Rattle.gx_core.specs.QueryMeaning.{global_types, types_declared, parameter_types}
 use Rattle.gx_core.specs.Soundness.{TypedExpression}
 use Rattle.gx_static.specs.Judgement.{Judged, Judgement, typed, rejected, with_typed, judged}
-use Rattle.gx_static.specs.QueryJudgement.{declared_as, declarations_judged, core_judged}
+use Rattle.gx_static.specs.QueryJudgement.{declared_as, function_with, declarations_judged, core_typed}
 use Rattle.gx_static.specs.declared.typing.Task.{Task}
-use Rattle.gx_static.specs.declared.typing.Task.TheVariants.{Infer, Declare, External}
+use Rattle.gx_static.specs.declared.typing.Task.TheVariants.{Infer, OpenFunction, DeclareFunction, Declare, External}
 use Rattle.gx_static.specs.Typing.{Awaited, then_typed, tasks_of, continued}
 
 -- the tasks of the last declaration lie under those of the others
 pub tasks_joined : (ds : List CoreDeclaration) (d : CoreDeclaration) (behind : List Task) → tasks_of (ds ++ d ∷ []) behind ≡ tasks_of ds (tasks_of (d ∷ []) behind)
 tasks_joined [] d behind = refl
+tasks_joined (Function function ∷ ds) d behind = ap (λ (tasks : List Task). OpenFunction function ∷ tasks) (tasks_joined ds d behind)
 tasks_joined (Global name binder (Some value) ∷ ds) d behind = ap (λ (tasks : List Task). Infer value ∷ Declare name binder ∷ tasks) (tasks_joined ds d behind)
 tasks_joined (Global name binder None ∷ ds) d behind = ap (λ (tasks : List Task). External name binder ∷ tasks) (tasks_joined ds d behind)
 
@@ -50,6 +53,15 @@ declarations_continue schemas (Global name binder (Some value) ∷ ds) behind pa
     (λ ts. continued schemas behind parts (types_declared ts types) (declared ++ ts))
     (λ d. declarations_continue schemas ds behind parts (global_types d ++ types) (declared ++ d ∷ [])
     ∙ also_behind (declarations_judged schemas ds (global_types d ++ types)) _ _ (λ ts. ap (λ (us : List TypedDeclaration). continued schemas behind parts (types_declared ts (global_types d ++ types)) us) (behind_one declared ts d)))
+declarations_continue schemas (Function function ∷ ds) behind parts types declared =
+    let body : Judgement = judged schemas function.body (parameter_types function.parameters ++ types) in
+    let make : TypedExpression → Judged TypedDeclaration = function_with schemas function.place function.name function.parameters function.result in
+    first_judged body make (λ d. continued schemas (tasks_of ds behind) parts (global_types d ++ types) (declared ++ d ∷ []))
+    ∙ one_more (with_typed body make) (λ d. declarations_judged schemas ds (global_types d ++ types))
+    (λ d. continued schemas (tasks_of ds behind) parts (global_types d ++ types) (declared ++ d ∷ []))
+    (λ ts. continued schemas behind parts (types_declared ts types) (declared ++ ts))
+    (λ d. declarations_continue schemas ds behind parts (global_types d ++ types) (declared ++ d ∷ [])
+    ∙ also_behind (declarations_judged schemas ds (global_types d ++ types)) _ _ (λ ts. ap (λ (us : List TypedDeclaration). continued schemas behind parts (types_declared ts (global_types d ++ types)) us) (behind_one declared ts d)))
 declarations_continue schemas (Global name binder None ∷ ds) behind parts types declared =
     one_more (typed (Global name binder None)) (λ d. declarations_judged schemas ds (global_types d ++ types))
     (λ d. continued schemas (tasks_of ds behind) parts (global_types d ++ types) (declared ++ d ∷ []))
@@ -67,6 +79,26 @@ body_judged schemas core (typed ds) = last_judged (judged schemas core.body (typ
     last_judged (typed t) = refl
     last_judged (rejected place code) = refl
 
-pub tasks_come_to_the_judgement : (schemas : SchemaSet) (core : Core) → continued schemas (tasks_of core.declarations (Infer core.body ∷ [])) [] [] [] ≡ Some (core_judged schemas core)
+pub tasks_come_to_the_judgement : (schemas : SchemaSet) (core : Core) → continued schemas (tasks_of core.declarations (Infer core.body ∷ [])) [] [] [] ≡ Some (core_typed schemas core)
 tasks_come_to_the_judgement schemas core =
     declarations_continue schemas core.declarations (Infer core.body ∷ []) [] [] [] ∙ body_judged schemas core (declarations_judged schemas core.declarations [])
+
+-- parameters go out of scope
+pub parameters_end : (parameters : List Binder) (types : Types) → drop (length parameters) (parameter_types parameters ++ types) ≡ types
+parameters_end [] types = refl
+parameters_end (parameter ∷ parameters) types = parameters_end parameters types
+
+-- the last parameter is bound first
+pub last_parameter : (before : List Binder) (parameter : Binder) (types : Types)
+    → parameter_types (before ++ parameter ∷ []) ++ types ≡ parameter_types before ++ ((parameter.variable, type_of_parameter parameter) ∷ types)
+last_parameter [] parameter types = refl
+last_parameter (first ∷ before) parameter types = ap (λ (ts : Types). (first.variable, type_of_parameter first) ∷ ts) (last_parameter before parameter types)
+
+-- typing the body of a function with its parameters in scope, and declaring it behind them
+pub function_opens : (schemas : SchemaSet) (function : CoreFunction) (tasks : List Task) (parts : List TypedExpression) (types : Types) (declared : List TypedDeclaration)
+    → continued schemas (Infer function.body ∷ DeclareFunction function.place function.name function.parameters function.result ∷ tasks) parts (parameter_types function.parameters ++ types) declared
+    ≡ continued schemas (OpenFunction function ∷ tasks) parts types declared
+function_opens schemas function tasks parts types declared i =
+    then_typed (judged schemas function.body (parameter_types function.parameters ++ types))
+    (λ t. then_typed (function_with schemas function.place function.name function.parameters function.result t)
+    (λ d. continued schemas tasks parts (global_types d ++ parameters_end function.parameters types i) (declared ++ d ∷ [])))

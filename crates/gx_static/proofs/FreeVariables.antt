@@ -13,13 +13,13 @@ use Rattle.gx_core.specs.FreeVariables.{names_variable, is_free_in, is_free_in_p
 use Rattle.gx_core.specs.Invariant.{is_among}
 use Rattle.gx_core.specs.Outcome.{Outcome}
 use Rattle.gx_core.specs.Meaning.{meaning}
-use Rattle.gx_core.specs.Soundness.{TypedExpression, Setting, typed_setting, context_of, Keeps, Situation}
+use Rattle.gx_core.specs.Soundness.{TypedExpression, Setting, calling_setting, context_of, Keeps, Situation}
 use Rattle.gx_core.proofs.PlainMeaning.{meaning_looks_at_no_type}
-use Rattle.gx_core.proofs.SoundQueries.{keeps_its_type}
 use Rattle.gx_static.specs.Rule.{step_ruling, variable_ruling, ruling}
 use Rattle.gx_static.specs.Judgement.{typed, with_typed, concluded, judged, parts_judged}
 use Rattle.gx_static.specs.Laws.{TypingIsSoundOnFreeVariables}
 use Rattle.gx_static.proofs.ScopedVariables.{in_scope, places_of, numbers_agree, one_more_place}
+use Rattle.gx_static.proofs.CalledTyping.{calls_with_types, keeps_its_type}
 use Rattle.gx_static.proofs.SoundTyping.{sound}
 
 -- ---- variables behind those that an operator binds
@@ -98,8 +98,8 @@ kept_only keep (b ∷ types) number t e = by (λ f. kept_only keep types number 
     by rest false k f = rest f
 
 pub typing_is_sound_on_free_variables : TypingIsSoundOnFreeVariables
-typing_is_sound_on_free_variables s e types t bindings forest is j honest fits =
-    let setting : Setting = typed_setting s in
+typing_is_sound_on_free_variables s e types t known calls bindings forest is j all honest calls_keep fits =
+    let setting : Setting = calling_setting s known calls in
     let named : Types = kept (is_free_in e) types in
     let again : judged s e named ≡ typed t = sym (same_judgement s e types named (λ number h. kept_found (is_free_in e) types number h)) ∙ j in
     let h = sound s e named t is again in
@@ -108,6 +108,7 @@ typing_is_sound_on_free_variables s e types t bindings forest is j honest fits =
       forest = forest;
       honest = honest;
       fits = λ number u found. let free = kept_only (is_free_in e) types number u found in fits number u free (kept_found (is_free_in e) types number free ∙ found);
+      calls_keep = calls_keep;
     } in
     subst (λ (c : CoreExpression). Keeps setting forest (annotation_of t) (meaning (context_of setting) c bindings forest)) h.same
-    (subst (λ (o : Outcome Items). Keeps setting forest (annotation_of t) o) (sym (meaning_looks_at_no_type (context_of setting) t bindings forest)) (keeps_its_type setting t named h.sound situation))
+    (subst (λ (o : Outcome Items). Keeps setting forest (annotation_of t) o) (sym (meaning_looks_at_no_type (context_of setting) t bindings forest)) (keeps_its_type setting t named (h.sound known calls (calls_with_types known t e h.same all)) situation))

@@ -30,6 +30,7 @@ use Rattle.gx_core.specs.declared.expression.BinaryClass.{BinaryClass}
 use Rattle.gx_core.specs.declared.expression.BinaryClass.TheVariants as classes
 use Rattle.gx_core.specs.declared.expression.Binder.{Binder}
 use Rattle.gx_core.specs.declared.expression.Declaration.TheVariants.{Global}
+use Rattle.gx_core.specs.declared.expression.Declaration.TheVariants as declarations
 use Rattle.gx_sorting.specs.declared.keys.KeyOrder.{KeyOrder}
 use Rattle.gx_core.specs.declared.operator.ClauseKind.{ClauseKind}
 use Rattle.gx_core.specs.declared.operator.ClauseKind.TheVariants as kinds
@@ -38,19 +39,19 @@ use Rattle.gx_core.specs.declared.operator.Operator.{Operator}
 use Rattle.gx_core.specs.declared.operator.Operator.TheVariants as operators
 use Rattle.gx_core.specs.BinaryOperators.{class_of}
 use Rattle.gx_core.specs.Bindings.{Types, types_bound}
-use Rattle.gx_core.specs.Expression.{CoreExpression, At, Parts, no_parts, a_part, each_of, annotation_of}
-use Rattle.gx_core.specs.Queries.{CoreDeclaration, TypedDeclaration}
-use Rattle.gx_core.specs.QueryMeaning.{external_types, global_types, types_declared}
+use Rattle.gx_core.specs.Expression.{CoreExpression, At, Parts, no_parts, a_part, each_of, annotation_of, outer_of}
+use Rattle.gx_core.specs.Queries.{CoreDeclaration, TypedDeclaration, CoreFunction}
+use Rattle.gx_core.specs.QueryMeaning.{external_types, global_types, types_declared, parameter_types}
 use Rattle.gx_core.specs.Soundness.{TypedExpression}
 use Rattle.gx_static.specs.declared.comparison.Family.{Family}
 use Rattle.gx_static.specs.declared.comparison.Family.TheVariants as families
 use Rattle.gx_static.proofs.NormalRules.{seen_is_normal}
-use Rattle.gx_static.specs.Rule.{if_taken, seen_argument, called_type, Ruling, has_type, has_none, type_if, atomic, all_items, is_atomic_in, is_of_family, is_at_most_one, is_at_least_one, is_all_in, is_optional_in, are_of_one_family, are_comparable_items, integer_if, both_occur, number_type, arithmetic_rule, negation_rule, range_rule, value_comparison_type, value_comparison_rule, general_comparison_rule, binary_rule, conditional_rule, quantifier_rule, order_rule, cast_rule, castable_rule, nodes_type, is_as_written, takes_argument, arguments_rule, answer_rule, call_rule, rule, ruling, allows_clause, allows_key, tuples_occur, returned_rule, clauses_rule}
-use Rattle.gx_static.specs.Judgement.{typed, rejected, with_typed, judged}
-use Rattle.gx_static.specs.QueryJudgement.{declared_as, declaration_judged, declarations_judged}
+use Rattle.gx_static.specs.Rule.{result_rule, if_taken, seen_argument, called_type, Ruling, has_type, has_none, type_if, atomic, all_items, is_atomic_in, is_of_family, is_at_most_one, is_at_least_one, is_all_in, is_optional_in, are_of_one_family, are_comparable_items, integer_if, both_occur, number_type, arithmetic_rule, negation_rule, range_rule, value_comparison_type, value_comparison_rule, general_comparison_rule, binary_rule, conditional_rule, quantifier_rule, order_rule, cast_rule, castable_rule, nodes_type, is_as_written, takes_argument, arguments_rule, answer_rule, call_rule, rule, ruling, allows_clause, allows_key, tuples_occur, returned_rule, clauses_rule}
+use Rattle.gx_static.specs.Judgement.{Judged, typed, rejected, with_typed, judged}
+use Rattle.gx_static.specs.QueryJudgement.{declared_as, declared_where, function_with, declaration_judged, declarations_judged}
 use Rattle.gx_static.specs.NormalTypes.{GivesNormalType, CastsToAtomicType, IsOfKnownType, IsMadeOfItems, IsNormalType, HaveNormalTypes, CastsToAtomicTypes, PartsCastToAtomicTypes, IsNormalThroughout, AreNormalThroughout}
 use Rattle.gx_static.specs.Demands.{Demand, of_type, of_family, of_atomic, of_any, meets_demand, demanded_type, family_type, AreOfOneFamily}
-use Rattle.gx_static.specs.ByInclusion.{includes_clause, includes_key, is_optional_value, are_values, number_included, arithmetic_included, negation_included, range_included, are_optional_in, value_comparison_included, is_item_of, are_comparable_kinds, general_comparison_included, binary_included, conditional_included, quantifier_included, order_included, cast_included, castable_included, parameter_type, arguments_included, call_included, rule_included, ruling_included, IsJudgedByInclusion, PartsAreJudgedByInclusion, ValuesAreJudgedByInclusion, IsNormalIfWritten, NameKnownTypes, QueriesAreJudgedByInclusion}
+use Rattle.gx_static.specs.ByInclusion.{includes_clause, includes_key, is_optional_value, are_values, number_included, arithmetic_included, negation_included, range_included, are_optional_in, value_comparison_included, is_item_of, are_comparable_kinds, general_comparison_included, binary_included, conditional_included, quantifier_included, order_included, cast_included, castable_included, taken_type, arguments_included, call_included, rule_included, ruling_included, IsJudgedByInclusion, PartsAreJudgedByInclusion, ValuesAreJudgedByInclusion, IsNormalIfWritten, NameKnownTypes, QueriesAreJudgedByInclusion}
 use Rattle.gx_static.proofs.DemandLaws.{demands_are_inclusion}
 use Rattle.gx_static.proofs.DemandRules.{gives_if, all_pass, all_rules_demand_inclusion}
 use Rattle.gx_type_laws.proofs.Items.{both_hold}
@@ -282,7 +283,7 @@ module _ (s : SchemaSet) (is : IsSchemaSet s) where
 
   -- ---- calls
 
-  argument_same : (takes : ParameterType) (t : SequenceType) → IsNormalType s t → takes_argument s takes t ≡ is_included s t (parameter_type takes)
+  argument_same : (takes : ParameterType) (t : SequenceType) → IsNormalType s t → takes_argument s takes t ≡ is_included s t (taken_type takes)
   argument_same parameters.Items t n = sym (all_pass s t) ∙ any_same of_any t n
   argument_same parameters.OptionalItem t n =
       let a = (all_rules_demand_inclusion s g).argument t n in
@@ -295,7 +296,7 @@ module _ (s : SchemaSet) (is : IsSchemaSet s) where
   argument_same parameters.OptionalValue t n = optional_same of_atomic t n
 
   taken_same : (p : Parameter) (number : ℕ) (next other : Ruling) (r : Ruling) → GivesNormalType s r → next ≡ other
-      → if_taken (takes_argument s p.takes) p.code number next r ≡ if_taken (λ t. is_included s t (parameter_type p.takes)) p.code number other r
+      → if_taken (takes_argument s p.takes) p.code number next r ≡ if_taken (λ t. is_included s t (taken_type p.takes)) p.code number other r
   taken_same p number next other (has_type t) n e = let test = argument_same p.takes t n in λ i. if test i then e i else has_none p.code (Some number)
   taken_same p number next other (has_none code part) n e = refl
 
@@ -376,8 +377,28 @@ value_is_normal : (s : SchemaSet) → IsSchemaSet s → (name : Name) (binder : 
 value_is_normal s is name binder value types c n =
     made_typed (IsNormalThroughout s) (DeclaresNormally s) (judged s value types) (declared_as s name binder) (judged_is_normal s is value types c n) (λ t h. declared_is_normal s name binder t h)
 
+-- a function declares no variable
+function_is_normal : (s : SchemaSet) (function : CoreFunction) (types : Types) → IfTyped (DeclaresNormally s) (declaration_judged s (declarations.Function function) types)
+function_is_normal s function types =
+    made_typed (λ t. Unit {0}) (DeclaresNormally s) (judged s function.body (parameter_types function.parameters ++ types)) (function_with s function.place function.name function.parameters function.result)
+    (always (judged s function.body (parameter_types function.parameters ++ types))) (λ t h. by_ruling t (result_rule s function.result (annotation_of t)))
+  where
+    always : (j : Judged TypedExpression) → IfTyped (λ t. Unit {0}) j
+    always (typed t) = tt
+    always (rejected place code) = tt
+
+    by_ruling : (t : TypedExpression) (r : Ruling) → IfTyped (DeclaresNormally s)
+        (declared_where (outer_of t) (declarations.Function (record { place = function.place; name = function.name; parameters = function.parameters; result = function.result; body = t })) r)
+    by_ruling t (has_type u) = tt
+    by_ruling t (has_none code part) = tt
+
 values_included : (s : SchemaSet) → IsSchemaSet s → (ds : List CoreDeclaration) (types : Types) → NameKnownTypes s ds → HaveNormalTypes s types → ValuesAreJudgedByInclusion s ds types
 values_included s is [] types h n = tt
+values_included s is (declarations.Function function ∷ ds) types h n = (
+  expression_included s is function.body (parameter_types function.parameters ++ types) h.1 (both_hold (IsNormalBinding s) (parameter_types function.parameters) types h.0 n),
+  λ d j. values_included s is ds (global_types d ++ types) h.2
+      (both_hold (IsNormalBinding s) (global_types d) types (subst (IfTyped (DeclaresNormally s)) j (function_is_normal s function types)) n),
+)
 values_included s is (Global name binder None ∷ ds) types h n =
     values_included s is ds (external_types binder binder.kind ++ types) h.1 (both_hold (IsNormalBinding s) (external_types binder binder.kind) types (external_is_normal s binder binder.kind h.0) n)
 values_included s is (Global name binder (Some value) ∷ ds) types h n = (
@@ -392,6 +413,11 @@ LeaveNormally s types ds = HaveNormalTypes s (types_declared ds types)
 
 declarations_are_normal : (s : SchemaSet) → IsSchemaSet s → (ds : List CoreDeclaration) (types : Types) → NameKnownTypes s ds → HaveNormalTypes s types → IfTyped (LeaveNormally s types) (declarations_judged s ds types)
 declarations_are_normal s is [] types h n = n
+declarations_are_normal s is (declarations.Function function ∷ ds) types h n =
+    made_typed (DeclaresNormally s) (LeaveNormally s types) (declaration_judged s (declarations.Function function) types) (λ d. with_typed (declarations_judged s ds (global_types d ++ types)) (λ ts. typed (d ∷ ts)))
+    (function_is_normal s function types)
+    (λ d k. made_typed (LeaveNormally s (global_types d ++ types)) (LeaveNormally s types) (declarations_judged s ds (global_types d ++ types)) (λ ts. typed (d ∷ ts))
+    (declarations_are_normal s is ds (global_types d ++ types) h.2 (both_hold (IsNormalBinding s) (global_types d) types k n)) (λ ts l. l))
 declarations_are_normal s is (Global name binder None ∷ ds) types h n =
     made_typed (LeaveNormally s (external_types binder binder.kind ++ types)) (LeaveNormally s types) (declarations_judged s ds (external_types binder binder.kind ++ types)) (λ ts. typed (Global name binder None ∷ ts))
     (declarations_are_normal s is ds (external_types binder binder.kind ++ types) h.1 (both_hold (IsNormalBinding s) (external_types binder binder.kind) types (external_is_normal s binder binder.kind h.0) n))

@@ -25,10 +25,12 @@ use Rattle.gx_core.specs.declared.operator.Operator.TheVariants as operators
 use Rattle.gx_core.specs.Expression.{Parts, no_parts, a_part, each_of, annotation_of}
 use Rattle.gx_core.specs.Bindings.{look_up, Types, types_bound}
 use Rattle.gx_core.specs.Outcome.{Outcome, gives, after, given}
-use Rattle.gx_core.specs.Meaning.{Context, Bindings, Denotation, binary_meaning, acts, all_of, denoted, meaning, meanings}
-use Rattle.gx_core.specs.Soundness.{Setting, typed_setting, context_of, IsOfType, AreOfTypes, Keeps, Situation}
+use Rattle.gx_core.specs.declared.signature.FunctionSignature.{FunctionSignature}
+use Rattle.gx_core.specs.Outcome.{raises, wrong}
+use Rattle.gx_core.specs.Meaning.{CallOutcomes, Context, Bindings, Denotation, binary_meaning, acts, all_of, denoted, meaning, meanings}
+use Rattle.gx_core.specs.Soundness.{Setting, typed_setting, calling_setting, context_of, IsOfType, AreOfTypes, KeepsFact, Keeps, Situation}
 use Rattle.gx_core.specs.Laws.{AllKeep}
-use Rattle.gx_core.proofs.KeptFacts.{fact_after, fact_at_once, binding_fits, bindings_fit_still, operands_keep}
+use Rattle.gx_core.proofs.KeptFacts.{fact_after, fact_at_once, binding_fits, bindings_fit_still, calls_keep_still, operands_keep}
 use Rattle.gx_static.specs.Rule.{is_as_written, has_type, has_none, type_if, shown_type, data_rule, binary_rule, rule, ruling, variable_ruling}
 use Rattle.gx_static.specs.Laws.{ActsKeepType, PartsKeepTypes, OperatorKeepsType, LiteralKeepsType, VariableKeepsType, EmptyKeepsType, SequenceKeepsType, LetKeepsType, DataKeepsType}
 use Rattle.gx_static.proofs.LiteralLemmas.{literal_fits}
@@ -122,24 +124,37 @@ data_keeps s is (a ∷ []) t forest (xs ∷ ys ∷ values) e honest h = absurd h
 data_keeps s is [] t forest values e honest h = absurd (cc)
 data_keeps s is (a ∷ b ∷ ps) t forest values e honest h = absurd (cc)
 
+-- what an outcome keeps looks at no function that may be called
+pub keeps_with_calls : {R : Type 0} (s : SchemaSet) (known : List FunctionSignature) (calls : CallOutcomes) (before : Forest) (Fact : Forest → R → Type 0)
+    (o : Outcome R) → KeepsFact (typed_setting s) before Fact o → KeepsFact (calling_setting s known calls) before Fact o
+keeps_with_calls s known calls before Fact (gives x now) k = k
+keeps_with_calls s known calls before Fact (raises code) k = k
+keeps_with_calls s known calls before Fact wrong k = k
+
+pub keeps_without_calls : {R : Type 0} (s : SchemaSet) (known : List FunctionSignature) (calls : CallOutcomes) (before : Forest) (Fact : Forest → R → Type 0)
+    (o : Outcome R) → KeepsFact (calling_setting s known calls) before Fact o → KeepsFact (typed_setting s) before Fact o
+keeps_without_calls s known calls before Fact (gives x now) k = k
+keeps_without_calls s known calls before Fact (raises code) k = k
+keeps_without_calls s known calls before Fact wrong k = k
+
 -- a variable, where it stands
 
-bound_keeps : (s : SchemaSet) (number : ℕ) (types : Types) (situation : Situation (typed_setting s) types) (t : SequenceType) (found : Option SequenceType)
+bound_keeps : (s : SchemaSet) (known : List FunctionSignature) (calls : CallOutcomes) (number : ℕ) (types : Types) (situation : Situation (calling_setting s known calls) types) (t : SequenceType) (found : Option SequenceType)
     → look_up types number ≡ found → variable_ruling s number found ≡ has_type t
-    → Keeps (typed_setting s) situation.forest t (given (look_up situation.bindings number) (λ value. gives value situation.forest))
-bound_keeps s number types situation t None found e = absurd (cc)
-bound_keeps s number types situation t (Some u) found e =
+    → Keeps (calling_setting s known calls) situation.forest t (given (look_up situation.bindings number) (λ value. gives value situation.forest))
+bound_keeps s known calls number types situation t None found e = absurd (cc)
+bound_keeps s known calls number types situation t (Some u) found e =
     let b = situation.fits number u found in
-    subst (λ (o : Option Items). Keeps (typed_setting s) situation.forest t (given o (λ value. gives value situation.forest))) (sym b.bound)
+    subst (λ (o : Option Items). Keeps (calling_setting s known calls) situation.forest t (given o (λ value. gives value situation.forest))) (sym b.bound)
     (value_keeps s u t situation.forest b.value (ruled u t e) situation.honest b.belongs)
 
 pub variable_keeps : VariableKeepsType
-variable_keeps s number no_parts types place outer t e h situation = bound_keeps s number types situation t (look_up types number) refl e
-variable_keeps s number (a_part first others) types place outer t e h situation = absurd (cc)
+variable_keeps s number known calls no_parts types place outer t e c h situation = bound_keeps s known calls number types situation t (look_up types number) refl e
+variable_keeps s number known calls (a_part first others) types place outer t e c h situation = absurd (cc)
 
 pub let_keeps : LetKeepsType
-let_keeps s binder (a_part a (a_part b no_parts)) types place outer t e h situation =
-    let setting : Setting = typed_setting s in
+let_keeps s binder known calls (a_part a (a_part b no_parts)) types place outer t e known_call h situation =
+    let setting : Setting = calling_setting s known calls in
     let k : Context = context_of setting in
     fact_after setting situation.forest (IsOfType s (annotation_of a)) (IsOfType s t) (meaning k a situation.bindings situation.forest)
     (λ xs left. meaning k b ((binder.variable, xs) ∷ situation.bindings) left) (h.0 situation)
@@ -149,31 +164,37 @@ let_keeps s binder (a_part a (a_part b no_parts)) types place outer t e h situat
       forest = now;
       honest = honest;
       fits = binding_fits setting binder (annotation_of a) xs types situation.bindings now (bindings_fit_still setting types situation.bindings situation.forest now grown situation.fits) belongs;
+      calls_keep = calls_keep_still setting situation.forest now grown situation.calls_keep;
     })))
-let_keeps s binder no_parts types place outer t e h situation = absurd (cc)
-let_keeps s binder (a_part a no_parts) types place outer t e h situation = absurd (cc)
-let_keeps s binder (a_part a (a_part b (a_part c others))) types place outer t e h situation = absurd (cc)
+let_keeps s binder known calls no_parts types place outer t e known_call h situation = absurd (cc)
+let_keeps s binder known calls (a_part a no_parts) types place outer t e known_call h situation = absurd (cc)
+let_keeps s binder known calls (a_part a (a_part b (a_part c others))) types place outer t e known_call h situation = absurd (cc)
 
 -- a strict operator keeps its type, since what it makes of values does
 
-parts_all_keep : (s : SchemaSet) (operator : Operator) → ((before : List SequenceType) → types_bound operator before ≡ []) → (before : List SequenceType) (parts : Parts SequenceType) (types : Types)
-    → PartsKeepTypes s operator before parts types → AllKeep (typed_setting s) types (meanings (context_of (typed_setting s)) parts) (each_of annotation_of parts)
-parts_all_keep s operator none before no_parts types h = tt
-parts_all_keep s operator none before (a_part a others) types h = (
-  subst (λ (bound : Types). (situation : Situation (typed_setting s) (bound ++ types)) → Keeps (typed_setting s) situation.forest (annotation_of a) (meaning (context_of (typed_setting s)) a situation.bindings situation.forest)) (none before) h.0,
-  parts_all_keep s operator none (before ++ annotation_of a ∷ []) others types h.1,
+pub parts_all_keep : (s : SchemaSet) (known : List FunctionSignature) (calls : CallOutcomes) (operator : Operator) → ((before : List SequenceType) → types_bound operator before ≡ []) → (before : List SequenceType) (parts : Parts SequenceType) (types : Types)
+    → PartsKeepTypes s known calls operator before parts types → AllKeep (calling_setting s known calls) types (meanings (context_of (calling_setting s known calls)) parts) (each_of annotation_of parts)
+parts_all_keep s known calls operator none before no_parts types h = tt
+parts_all_keep s known calls operator none before (a_part a others) types h = (
+  subst (λ (bound : Types). (situation : Situation (calling_setting s known calls) (bound ++ types)) → Keeps (calling_setting s known calls) situation.forest (annotation_of a) (meaning (context_of (calling_setting s known calls)) a situation.bindings situation.forest)) (none before) h.0,
+  parts_all_keep s known calls operator none (before ++ annotation_of a ∷ []) others types h.1,
 )
 
 pub record IsStrict (operator : Operator) : Type 0 where
   pub denotes : (context : Context) (parts : List Denotation) (bindings : Bindings) (forest : Forest) → denoted context operator parts bindings forest ≡ after (all_of parts bindings forest) (acts context operator)
   pub binds_nothing : (before : List SequenceType) → types_bound operator before ≡ []
   pub ruled : (s : SchemaSet) (parts : List SequenceType) (types : Types) → ruling s operator parts types ≡ rule s operator parts
+  pub silent : (s : SchemaSet) (calls : CallOutcomes) (values : List Items) (forest : Forest)
+      → acts (record { schemas = s; calls = calls }) operator values forest ≡ acts (context_of (typed_setting s)) operator values forest
 
 pub strict_keeps : (s : SchemaSet) (operator : Operator) → IsStrict operator → ActsKeepType s operator → OperatorKeepsType s operator
-strict_keeps s operator strict keeps parts types place outer t e h situation =
-    let setting : Setting = typed_setting s in
+strict_keeps s operator strict keeps known calls parts types place outer t e known_call h situation =
+    let setting : Setting = calling_setting s known calls in
     let k : Context = context_of setting in
     subst (λ (o : Outcome Items). Keeps setting situation.forest t o) (sym (strict.denotes k (meanings k parts) situation.bindings situation.forest))
     (fact_after setting situation.forest (AreOfTypes s (each_of annotation_of parts)) (IsOfType s t) (all_of (meanings k parts) situation.bindings situation.forest) (acts k operator)
-    (operands_keep setting types (meanings k parts) (each_of annotation_of parts) situation (parts_all_keep s operator strict.binds_nothing [] parts types h))
-    (λ values now grown honest belong. keeps (each_of annotation_of parts) t now values (sym (strict.ruled s (each_of annotation_of parts) types) ∙ e) honest belong))
+    (operands_keep setting types (meanings k parts) (each_of annotation_of parts) situation (parts_all_keep s known calls operator strict.binds_nothing [] parts types h))
+    (λ values now grown honest belong.
+    subst (λ (o : Outcome Items). Keeps setting now t o) (sym (strict.silent s calls values now))
+    (keeps_with_calls s known calls now (IsOfType s t) (acts (context_of (typed_setting s)) operator values now)
+    (keeps (each_of annotation_of parts) t now values (sym (strict.ruled s (each_of annotation_of parts) types) ∙ e) honest belong))))

@@ -25,6 +25,8 @@ pub mod Casts
 pub mod CallLemmas
 pub mod BooleanTypes
 pub mod Calls
+pub mod CalledTyping
+pub mod UserCalls
 pub mod SoundTyping
 pub mod Failing
 pub mod ScopedVariables

@@ -25,8 +25,8 @@ use Rattle.gx_core.specs.Bindings.{Types, position_bound}
 use Rattle.gx_core.specs.Expression.{no_parts, a_part, annotation_of}
 use Rattle.gx_core.specs.Outcome.{Outcome, gives, raises, wrong, after}
 use Rattle.gx_core.specs.Meaning.{Bindings, for_each, item_bound, meaning}
-use Rattle.gx_core.specs.Soundness.{Setting, typed_setting, context_of, IsOfType, KeepsFact, Keeps, Fits}
-use Rattle.gx_core.proofs.KeptFacts.{fact_after, fact_at_once, binding_fits, bindings_fit_still}
+use Rattle.gx_core.specs.Soundness.{Setting, calling_setting, context_of, IsOfType, KeepsFact, Keeps, Fits}
+use Rattle.gx_core.proofs.KeptFacts.{fact_after, fact_at_once, binding_fits, bindings_fit_still, calls_keep_still}
 use Rattle.gx_static.specs.Rule.{atomic, is_as_written}
 use Rattle.gx_static.specs.Laws.{ForKeepsType}
 use Rattle.gx_static.proofs.ItemLemmas.{belongs_within}
@@ -163,8 +163,8 @@ item_fits setting binder (suc position) number p x types bindings forest fits on
     (binding_fits setting of_position (atomic Integer) (atom (integer_atom (pos number)) ∷ []) types bindings forest fits counted) one
 
 pub for_keeps : ForKeepsType
-for_keeps s binder position (a_part a (a_part b no_parts)) types place outer t e h situation =
-    let setting : Setting = typed_setting s in
+for_keeps s binder position known calls (a_part a (a_part b no_parts)) types place outer t e known_call h situation =
+    let setting : Setting = calling_setting s known calls in
     let k = context_of setting in
     let p : SequenceType = prime_of (annotation_of a) in
     let turn : ℕ → Item → Forest → Outcome Items = λ number x now. meaning k b (item_bound binder.variable position number x ++ situation.bindings) now in
@@ -180,7 +180,8 @@ for_keeps s binder position (a_part a (a_part b no_parts)) types place outer t e
       fits =
           item_fits setting binder position number p x types situation.bindings now
           (bindings_fit_still setting types situation.bindings situation.forest now (growth_is_an_order.transitive situation.forest left now grown more_grown) situation.fits) one;
+      calls_keep = calls_keep_still setting situation.forest now (growth_is_an_order.transitive situation.forest left now grown more_grown) situation.calls_keep;
     }))))
-for_keeps s binder position no_parts types place outer t e h situation = absurd (cc)
-for_keeps s binder position (a_part a no_parts) types place outer t e h situation = absurd (cc)
-for_keeps s binder position (a_part a (a_part b (a_part c others))) types place outer t e h situation = absurd (cc)
+for_keeps s binder position known calls no_parts types place outer t e known_call h situation = absurd (cc)
+for_keeps s binder position known calls (a_part a no_parts) types place outer t e known_call h situation = absurd (cc)
+for_keeps s binder position known calls (a_part a (a_part b (a_part c others))) types place outer t e known_call h situation = absurd (cc)

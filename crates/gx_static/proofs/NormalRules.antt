@@ -41,7 +41,7 @@ use Rattle.gx_core.specs.declared.constructor.Constructor.{Constructor}
 use Rattle.gx_core.specs.declared.constructor.Constructor.TheVariants as constructors
 use Rattle.gx_core.specs.declared.operator.Operator.TheVariants as operators
 use Rattle.gx_core.specs.BinaryOperators.{class_of}
-use Rattle.gx_static.specs.Rule.{if_atomized, if_all_atomized, only_element_of, constructor_rule, called_type, Ruling, has_type, has_none, type_if, atomic, all_items, is_atomic, is_all_in, is_optional_in, is_at_most_one, is_at_least_one, both_occur, integer_if, number_type, arithmetic_type, compared_occur, are_of_one_family, value_comparison_type, are_comparable_types, shown_type, literal_rule, is_as_written, data_rule, optional_node, nodes_type, set_type, order_rule, takes_argument, arguments_rule, answer_rule, call_rule, binary_rule, is_first, allows_clause, allows_key, tuples_occur, returned_rule, clauses_rule, if_taken, seen_argument, constructed_text, constructed_element}
+use Rattle.gx_static.specs.Rule.{converted_type, converted_arguments_rule, if_atomized, if_all_atomized, only_element_of, constructor_rule, called_type, Ruling, has_type, has_none, type_if, atomic, all_items, is_atomic, is_all_in, is_optional_in, is_at_most_one, is_at_least_one, both_occur, integer_if, number_type, arithmetic_type, compared_occur, are_of_one_family, value_comparison_type, are_comparable_types, shown_type, literal_rule, is_as_written, data_rule, optional_node, nodes_type, set_type, order_rule, takes_argument, arguments_rule, answer_rule, call_rule, binary_rule, is_first, allows_clause, allows_key, tuples_occur, returned_rule, clauses_rule, if_taken, seen_argument, constructed_text, constructed_element}
 use Rattle.gx_funcs.specs.declared.function.ParameterType.{ParameterType}
 use Rattle.gx_funcs.specs.declared.function.ParameterType.TheVariants as parameters
 use Rattle.gx_funcs.specs.declared.text_function.TextFunction.{TextFunction}
@@ -202,6 +202,16 @@ call_is_normal : (s : SchemaSet) (function : Function) (arguments : List Sequenc
 unfolding call_rule
 call_is_normal s function arguments = arguments_are_normal s (parameters_of function) arguments 0 (answer_rule (called_type function)) (answer_is_normal s function)
 
+-- ---- calls of declared functions
+
+converted_are_normal : (s : SchemaSet) (parameters arguments : List SequenceType) (number : ℕ) (ruling : Ruling) → GivesNormalType s ruling
+    → GivesNormalType s (converted_arguments_rule s parameters arguments number ruling)
+converted_are_normal s [] [] number ruling n = n
+converted_are_normal s (expected ∷ others) (argument ∷ arguments) number ruling n =
+    taken_is_normal s (λ t. is_included s t expected) XPTY0004 number (converted_arguments_rule s others arguments (number + 1) ruling) (converted_type s expected argument)
+    (converted_are_normal s others arguments (number + 1) ruling n)
+converted_are_normal s _ _ number ruling n = tt
+
 -- ---- blocks
 
 returned_is_normal : (s : SchemaSet) (orders : List KeyOrder) (tuples : Occurs) (types : List SequenceType) → HoldsOfEach (IsNormalType s) types → GivesNormalType s (returned_rule (allows_key s) orders tuples types)
@@ -258,6 +268,8 @@ rules_give_normal_types s (operators.Castable kind allows_empty) (operand ∷ []
 rules_give_normal_types s (operators.Treat kind) (operand ∷ []) is c n = c
 rules_give_normal_types s (operators.Call function) arguments is c n = call_is_normal s function arguments
 rules_give_normal_types s (operators.Construct constructor count) parts is c n = constructor_is_normal s constructor parts
+rules_give_normal_types s (operators.User signature count) arguments is c n =
+    converted_are_normal s signature.parameters arguments 0 (has_type signature.result) c
 rules_give_normal_types s operators.Neg (operand ∷ []) is c n =
     type_if_normal s (is_optional_in s Decimal operand) (times_of (atomic (integer_if (is_all_in s Integer operand))) (occurrence_of operand))
     (times_is_normal s (atomic (integer_if (is_all_in s Integer operand))) (occurrence_of operand) (whole_is_atomic s (is_all_in s Integer operand)))

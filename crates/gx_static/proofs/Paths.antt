@@ -1,5 +1,5 @@
 -- Steps and the operands of paths keep their types.
-use Rattle.std.proofs.Common.{◌≡◌, ℕ, Bool, true, false, ◌&&◌, [], ◌∷◌, map, Option, None, Some, refl, sym, ◌∙◌, ap, subst, if◌then◌else◌}
+use Rattle.std.proofs.Common.{◌≡◌, ℕ, Bool, true, false, ◌&&◌, List, [], ◌∷◌, map, Option, None, Some, refl, sym, ◌∙◌, ap, subst, if◌then◌else◌}
 use Rattle.std.specs.Prelude.{not}
 use Rattle.std.specs.List.{list_all}
 use Rattle.gx_base.specs.declared.code.Code.TheVariants.{XPST0005}
@@ -23,12 +23,14 @@ use Rattle.gx_core.specs.Expression.{no_parts, a_part}
 use Rattle.gx_core.specs.Bindings.{look_up, Types}
 use Rattle.gx_core.specs.Outcome.{gives, wrong, given}
 use Rattle.gx_core.specs.Paths.{stepped, is_node}
-use Rattle.gx_core.specs.Soundness.{typed_setting, Situation, Keeps}
+use Rattle.gx_core.specs.declared.signature.FunctionSignature.{FunctionSignature}
+use Rattle.gx_core.specs.Meaning.{CallOutcomes}
+use Rattle.gx_core.specs.Soundness.{typed_setting, calling_setting, IsOfType, Situation, Keeps}
 use Rattle.gx_static.specs.Rule.{Ruling, has_type, has_none, nodes_type, step_rule, reaching, step_ruling}
 use Rattle.gx_static.specs.Laws.{StepKeepsType, NodesKeepType, NoContextKeepsType}
 use Rattle.gx_static.proofs.ItemLemmas.{EachItem, IsNode, items_are_nodes, the_item, one_item}
 use Rattle.gx_static.proofs.HonestValues.{included_belongs}
-use Rattle.gx_static.proofs.Keeping.{tested, value_keeps}
+use Rattle.gx_static.proofs.Keeping.{tested, value_keeps, keeps_with_calls}
 
 -- ---- operands of nodes
 
@@ -84,18 +86,19 @@ stepped_keeps s forest axis asks xs context t is honest r b =
     (value_keeps s (step_type s axis asks context) t forest (map node (on_axis s forest n.0 axis asks)) r.type honest
     (steps_keep_their_types s forest n.0 axis asks context is honest (subst (λ (ys : Items). Belongs s forest ys context) n.1 b)))
 
-bound_step_keeps : (s : SchemaSet) (axis : Axis) (asks : Test) (number : ℕ) (types : Types) (situation : Situation (typed_setting s) types) (t : SequenceType) (found : Option SequenceType) → IsSchemaSet s
+bound_step_keeps : (s : SchemaSet) (known : List FunctionSignature) (calls : CallOutcomes) (axis : Axis) (asks : Test) (number : ℕ) (types : Types) (situation : Situation (calling_setting s known calls) types) (t : SequenceType) (found : Option SequenceType) → IsSchemaSet s
     → look_up types number ≡ found → step_ruling s axis asks number found ≡ has_type t
-    → Keeps (typed_setting s) situation.forest t (given (look_up situation.bindings number) (λ value. stepped s axis asks value situation.forest))
-bound_step_keeps s axis asks number types situation t None is found e = absurd (cc)
-bound_step_keeps s axis asks number types situation t (Some u) is found e =
+    → Keeps (calling_setting s known calls) situation.forest t (given (look_up situation.bindings number) (λ value. stepped s axis asks value situation.forest))
+bound_step_keeps s known calls axis asks number types situation t None is found e = absurd (cc)
+bound_step_keeps s known calls axis asks number types situation t (Some u) is found e =
     let b = situation.fits number u found in
-    subst (λ (o : Option Items). Keeps (typed_setting s) situation.forest t (given o (λ value. stepped s axis asks value situation.forest))) (sym b.bound)
-    (stepped_keeps s situation.forest axis asks b.value u t is situation.honest (step_so s axis asks u t (reached u (step_rule s axis asks u) t e)) b.belongs)
+    subst (λ (o : Option Items). Keeps (calling_setting s known calls) situation.forest t (given o (λ value. stepped s axis asks value situation.forest))) (sym b.bound)
+    (keeps_with_calls s known calls situation.forest (IsOfType s t) (stepped s axis asks b.value situation.forest)
+    (stepped_keeps s situation.forest axis asks b.value u t is situation.honest (step_so s axis asks u t (reached u (step_rule s axis asks u) t e)) b.belongs))
 
 pub step_keeps : StepKeepsType
-step_keeps s axis asks number is no_parts types place outer t e h situation = bound_step_keeps s axis asks number types situation t (look_up types number) is refl e
-step_keeps s axis asks number is (a_part first others) types place outer t e h situation = absurd (cc)
+step_keeps s axis asks number is known calls no_parts types place outer t e known_call h situation = bound_step_keeps s known calls axis asks number types situation t (look_up types number) is refl e
+step_keeps s axis asks number is known calls (a_part first others) types place outer t e known_call h situation = absurd (cc)
 
 -- ---- no context
 

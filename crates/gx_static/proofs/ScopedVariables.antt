@@ -8,6 +8,7 @@ use Rattle.gx_base.specs.declared.code.Code.TheVariants.{XPST0005, XPST0008, XPT
 use Rattle.gx_base.specs.declared.type_name.Builtin.{Builtin}
 use Rattle.gx_types.specs.declared.item_type.ItemType.TheVariants as items
 use Rattle.gx_base.specs.declared.type_name.Builtin.TheVariants.{UntypedAtomic}
+use Rattle.gx_base.specs.declared.type_name.TypeName.{TypeName}
 use Rattle.gx_base.specs.declared.type_name.TypeName.TheVariants as names
 use Rattle.gx_types.specs.SchemaSet.{SchemaSet}
 use Rattle.gx_types.specs.declared.step.Axis.{Axis}
@@ -42,7 +43,8 @@ use Rattle.gx_core.specs.declared.operator.Operator.TheVariants as operators
 use Rattle.gx_core.specs.Expression.{CoreExpression, At, Parts, no_parts, a_part, each_of, annotation_of}
 use Rattle.gx_core.specs.Bindings.{look_up, Types, types_bound, numbers_bound_by, branch_numbers, branch_types, position_bound, position_numbers, clause_types_bound, clause_numbers_bound, block_types_bound, block_numbers_bound}
 use Rattle.gx_core.specs.Invariant.{is_among, IsInScope, IsScoped, ArePartsScoped}
-use Rattle.gx_static.specs.Rule.{Ruling, if_atomized, if_all_atomized, constructor_rule, called_type, has_type, has_none, all_items, is_atomic, nodes_type, step_rule, reaching, step_ruling, order_rule, data_rule, binary_rule, takes_argument, arguments_rule, answer_rule, call_rule, ruling, variable_ruling, allows_clause, allows_key, tuples_occur, returned_rule, clauses_rule, if_taken, seen_argument, constructed_text}
+use Rattle.gx_core.specs.Converting.{expected_atomic}
+use Rattle.gx_static.specs.Rule.{cast_ruling, converted_ruling, converted_type, converted_arguments_rule, Ruling, if_atomized, if_all_atomized, constructor_rule, called_type, has_type, has_none, all_items, is_atomic, nodes_type, step_rule, reaching, step_ruling, order_rule, data_rule, binary_rule, takes_argument, arguments_rule, answer_rule, call_rule, ruling, variable_ruling, allows_clause, allows_key, tuples_occur, returned_rule, clauses_rule, if_taken, seen_argument, constructed_text}
 use Rattle.gx_static.specs.Judgement.{typed, with_typed, concluded, judged, parts_judged}
 use Rattle.gx_static.specs.Laws.{ScopedVariablesHaveTypes}
 use Rattle.gx_static.proofs.Failing.{IfRejected, made_fails, own_fails}
@@ -197,6 +199,29 @@ constructor_code s constructors.Document [] code part e = other_code code part e
 constructor_code s constructors.Document (t ∷ []) code part e = tested_code _ _ XPTY0004 code part (λ x. cc) e
 constructor_code s constructors.Document (t ∷ u ∷ ts) code part e = other_code code part e
 
+-- ---- calls of declared functions
+
+cast_code : (kind : TypeName) (r : Ruling) (code : Code) (part : Option ℕ) → ((c : Code) (there : Option ℕ) → r ≡ has_none c there → c ≢ XPST0008) → cast_ruling kind r ≡ has_none code part → code ≢ XPST0008
+cast_code kind (has_type t) code part h e = absurd (cc)
+cast_code kind (has_none own there) code part h e = h code part e
+
+conversion_code : (s : SchemaSet) (o : Option TypeName) (t : SequenceType) (code : Code) (part : Option ℕ) → converted_ruling s o t ≡ has_none code part → code ≢ XPST0008
+conversion_code s None t code part e = absurd (cc)
+conversion_code s (Some kind) t code part e = cast_code kind (data_rule s t) code part (data_code s t) e
+
+pub converted_code : (s : SchemaSet) (expected t : SequenceType) (code : Code) (part : Option ℕ) → converted_type s expected t ≡ has_none code part → code ≢ XPST0008
+unfolding converted_type
+converted_code s expected t code part e = conversion_code s (expected_atomic expected) t code part e
+
+converted_arguments_code : (s : SchemaSet) (parameters ts : List SequenceType) (number : ℕ) (result : SequenceType) (code : Code) (part : Option ℕ)
+    → converted_arguments_rule s parameters ts number (has_type result) ≡ has_none code part → code ≢ XPST0008
+converted_arguments_code s [] [] number result code part e = absurd (cc)
+converted_arguments_code s [] (t ∷ ts) number result code part e = other_code code part e
+converted_arguments_code s (p ∷ parameters) [] number result code part e = other_code code part e
+converted_arguments_code s (p ∷ parameters) (t ∷ ts) number result code part e =
+    taken_code (λ u. is_included s u p) XPTY0004 number (converted_arguments_rule s parameters ts (number + 1) (has_type result)) (converted_type s p t) code part (λ x. cc)
+    (λ other there k. converted_code s p t other there k) (λ k. converted_arguments_code s parameters ts (number + 1) result code part k) e
+
 -- ---- blocks
 
 returned_code : (s : SchemaSet) (orders : List KeyOrder) (tuples : Occurs) (ts : List SequenceType) (code : Code) (part : Option ℕ) → returned_rule (allows_key s) orders tuples ts ≡ has_none code part → code ≢ XPST0008
@@ -265,6 +290,7 @@ ruling_code s (operators.Treat kind) (t ∷ []) types code part h e = absurd (cc
 ruling_code s (operators.Treat kind) _ types code part h e = other_code code part e
 ruling_code s (operators.Call function) ts types code part h e = call_code s function ts code part e
 ruling_code s (operators.Construct constructor count) ts types code part h e = constructor_code s constructor ts code part e
+ruling_code s (operators.User signature count) ts types code part h e = converted_arguments_code s signature.parameters ts 0 signature.result code part e
 ruling_code s operators.Neg (t ∷ []) types code part h e = tested_code _ _ XPTY0004 code part (λ x. cc) e
 ruling_code s operators.Neg _ types code part h e = other_code code part e
 ruling_code s (operators.Binary operator) (t ∷ u ∷ []) types code part h e = binary_code s (class_of operator) t u code part e

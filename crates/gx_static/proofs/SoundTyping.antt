@@ -14,8 +14,11 @@ use Rattle.gx_core.specs.declared.operator.Operator.{Operator}
 use Rattle.gx_core.specs.declared.operator.Operator.TheVariants as operators
 use Rattle.gx_core.specs.Expression.{CoreExpression, At, Parts, no_parts, a_part, each_of, annotation_of, plain_parts}
 use Rattle.gx_core.specs.Bindings.{Types, types_bound}
-use Rattle.gx_core.specs.Soundness.{typed_setting, PartsAreSound}
-use Rattle.gx_core.proofs.SoundQueries.{keeps_its_type}
+use Rattle.gx_core.specs.declared.signature.FunctionSignature.{FunctionSignature}
+use Rattle.gx_core.specs.CalledFunctions.{AllCallsInParts}
+use Rattle.gx_core.specs.Meaning.{CallOutcomes}
+use Rattle.gx_core.specs.Soundness.{calling_setting, PartsAreSound}
+use Rattle.gx_static.proofs.CalledTyping.{keeps_its_type}
 use Rattle.gx_static.specs.Rule.{Ruling, has_type, has_none, ruling}
 use Rattle.gx_static.specs.Judgement.{Judged, typed, rejected, with_typed, concluded, judged, parts_judged}
 use Rattle.gx_static.specs.Laws.{ActsKeepType, PartsKeepTypes, OperatorKeepsType, IsTypedSoundly, TypingIsSound}
@@ -37,6 +40,7 @@ use Rattle.gx_static.proofs.Casts.{cast_keeps, castable_keeps}
 use Rattle.gx_static.proofs.Treating.{treat_keeps}
 use Rattle.gx_static.proofs.Calls.{call_keeps}
 use Rattle.gx_static.proofs.ConstructorTypes.{constructor_keeps}
+use Rattle.gx_static.proofs.UserCalls.{user_keeps}
 
 binary_keeps : (s : SchemaSet) → Grounded (bases_of s) → (operator : BinaryOp) (class : BinaryClass) → class_of operator ≡ class → ActsKeepType s (operators.Binary operator)
 binary_keeps s g operator (classes.Arithmetic operation) e = arithmetic_keeps operation s operator e
@@ -56,40 +60,41 @@ operator_keeps s is (operators.Block clauses keys) = block_keeps s clauses keys
 operator_keeps s is (operators.Let binder) = let_keeps s binder
 operator_keeps s is (operators.Step axis asks number) = step_keeps s axis asks number is
 operator_keeps s is operators.Nodes =
-    strict_keeps s operators.Nodes (record { denotes = λ k ps bs f. refl; binds_nothing = λ before. refl; ruled = λ s ps types. refl }) (nodes_keep s is.grounded)
+    strict_keeps s operators.Nodes (record { denotes = λ k ps bs f. refl; binds_nothing = λ before. refl; ruled = λ s ps types. refl; silent = λ s calls values f. refl }) (nodes_keep s is.grounded)
 operator_keeps s is operators.Order =
-    strict_keeps s operators.Order (record { denotes = λ k ps bs f. refl; binds_nothing = λ before. refl; ruled = λ s ps types. refl }) (order_keeps s is.grounded)
+    strict_keeps s operators.Order (record { denotes = λ k ps bs f. refl; binds_nothing = λ before. refl; ruled = λ s ps types. refl; silent = λ s calls values f. refl }) (order_keeps s is.grounded)
 operator_keeps s is operators.NoContext =
-    strict_keeps s operators.NoContext (record { denotes = λ k ps bs f. refl; binds_nothing = λ before. refl; ruled = λ s ps types. refl }) (no_context_keeps s)
+    strict_keeps s operators.NoContext (record { denotes = λ k ps bs f. refl; binds_nothing = λ before. refl; ruled = λ s ps types. refl; silent = λ s calls values f. refl }) (no_context_keeps s)
 operator_keeps s is (operators.Lit value) =
-    strict_keeps s (operators.Lit value) (record { denotes = λ k ps bs f. refl; binds_nothing = λ before. refl; ruled = λ s ps types. refl }) (literal_keeps s value)
+    strict_keeps s (operators.Lit value) (record { denotes = λ k ps bs f. refl; binds_nothing = λ before. refl; ruled = λ s ps types. refl; silent = λ s calls values f. refl }) (literal_keeps s value)
 operator_keeps s is operators.Empty =
-    strict_keeps s operators.Empty (record { denotes = λ k ps bs f. refl; binds_nothing = λ before. refl; ruled = λ s ps types. refl }) (empty_keeps s)
+    strict_keeps s operators.Empty (record { denotes = λ k ps bs f. refl; binds_nothing = λ before. refl; ruled = λ s ps types. refl; silent = λ s calls values f. refl }) (empty_keeps s)
 operator_keeps s is operators.Seq =
-    strict_keeps s operators.Seq (record { denotes = λ k ps bs f. refl; binds_nothing = λ before. refl; ruled = λ s ps types. refl }) (sequence_keeps s)
+    strict_keeps s operators.Seq (record { denotes = λ k ps bs f. refl; binds_nothing = λ before. refl; ruled = λ s ps types. refl; silent = λ s calls values f. refl }) (sequence_keeps s)
 operator_keeps s is (operators.Switch cases default) = switch_keeps s cases default
 operator_keeps s is (operators.Nth number backwards) =
-    strict_keeps s (operators.Nth number backwards) (record { denotes = λ k ps bs f. refl; binds_nothing = λ before. refl; ruled = λ s ps types. refl }) (nth_keeps s number backwards)
+    strict_keeps s (operators.Nth number backwards) (record { denotes = λ k ps bs f. refl; binds_nothing = λ before. refl; ruled = λ s ps types. refl; silent = λ s calls values f. refl }) (nth_keeps s number backwards)
 operator_keeps s is (operators.Final backwards) =
-    strict_keeps s (operators.Final backwards) (record { denotes = λ k ps bs f. refl; binds_nothing = λ before. refl; ruled = λ s ps types. refl }) (final_keeps s backwards)
+    strict_keeps s (operators.Final backwards) (record { denotes = λ k ps bs f. refl; binds_nothing = λ before. refl; ruled = λ s ps types. refl; silent = λ s calls values f. refl }) (final_keeps s backwards)
 operator_keeps s is operators.DataOf =
-    strict_keeps s operators.DataOf (record { denotes = λ k ps bs f. refl; binds_nothing = λ before. refl; ruled = λ s ps types. refl }) (data_keeps s is)
+    strict_keeps s operators.DataOf (record { denotes = λ k ps bs f. refl; binds_nothing = λ before. refl; ruled = λ s ps types. refl; silent = λ s calls values f. refl }) (data_keeps s is)
 operator_keeps s is operators.If = conditional_keeps s
 operator_keeps s is (operators.Cast kind allows_empty) =
-    strict_keeps s (operators.Cast kind allows_empty) (record { denotes = λ k ps bs f. refl; binds_nothing = λ before. refl; ruled = λ s ps types. refl }) (cast_keeps s kind allows_empty)
+    strict_keeps s (operators.Cast kind allows_empty) (record { denotes = λ k ps bs f. refl; binds_nothing = λ before. refl; ruled = λ s ps types. refl; silent = λ s calls values f. refl }) (cast_keeps s kind allows_empty)
 operator_keeps s is (operators.Castable kind allows_empty) =
-    strict_keeps s (operators.Castable kind allows_empty) (record { denotes = λ k ps bs f. refl; binds_nothing = λ before. refl; ruled = λ s ps types. refl }) (castable_keeps s kind allows_empty)
+    strict_keeps s (operators.Castable kind allows_empty) (record { denotes = λ k ps bs f. refl; binds_nothing = λ before. refl; ruled = λ s ps types. refl; silent = λ s calls values f. refl }) (castable_keeps s kind allows_empty)
 operator_keeps s is (operators.Treat kind) =
-    strict_keeps s (operators.Treat kind) (record { denotes = λ k ps bs f. refl; binds_nothing = λ before. refl; ruled = λ s ps types. refl }) (treat_keeps s kind)
+    strict_keeps s (operators.Treat kind) (record { denotes = λ k ps bs f. refl; binds_nothing = λ before. refl; ruled = λ s ps types. refl; silent = λ s calls values f. refl }) (treat_keeps s kind)
 operator_keeps s is (operators.Call function) =
-    strict_keeps s (operators.Call function) (record { denotes = λ k ps bs f. refl; binds_nothing = λ before. refl; ruled = λ s ps types. refl }) (call_keeps s function is)
+    strict_keeps s (operators.Call function) (record { denotes = λ k ps bs f. refl; binds_nothing = λ before. refl; ruled = λ s ps types. refl; silent = λ s calls values f. refl }) (call_keeps s function is)
 operator_keeps s is (operators.Construct constructor count) =
-    strict_keeps s (operators.Construct constructor count) (record { denotes = λ k ps bs f. refl; binds_nothing = λ before. refl; ruled = λ s ps types. refl })
+    strict_keeps s (operators.Construct constructor count) (record { denotes = λ k ps bs f. refl; binds_nothing = λ before. refl; ruled = λ s ps types. refl; silent = λ s calls values f. refl })
     (constructor_keeps s constructor count is)
+operator_keeps s is (operators.User signature count) = user_keeps s signature count is
 operator_keeps s is operators.Neg =
-    strict_keeps s operators.Neg (record { denotes = λ k ps bs f. refl; binds_nothing = λ before. refl; ruled = λ s ps types. refl }) (negation_keeps s)
+    strict_keeps s operators.Neg (record { denotes = λ k ps bs f. refl; binds_nothing = λ before. refl; ruled = λ s ps types. refl; silent = λ s calls values f. refl }) (negation_keeps s)
 operator_keeps s is (operators.Binary operator) =
-    strict_keeps s (operators.Binary operator) (record { denotes = λ k ps bs f. refl; binds_nothing = λ before. refl; ruled = λ s ps types. refl }) (binary_keeps s is.grounded operator (class_of operator) refl)
+    strict_keeps s (operators.Binary operator) (record { denotes = λ k ps bs f. refl; binds_nothing = λ before. refl; ruled = λ s ps types. refl; silent = λ s calls values f. refl }) (binary_keeps s is.grounded operator (class_of operator) refl)
 
 -- what holds of what has types, if there is something
 abbrev pub IfTyped : {R : Type 0} → (R → Type 0) → Judged R → Type 0
@@ -103,18 +108,22 @@ made_holds (rejected place code) next P Q h f = tt
 
 record AreTypedSoundly (s : SchemaSet) (operator : Operator) (before : List SequenceType) (parts : Parts (Unit {0})) (types : Types) (ts : Parts SequenceType) : Type 0 where
   same : plain_parts ts ≡ parts
-  sound : PartsAreSound (typed_setting s) operator before ts types
+  sound : (known : List FunctionSignature) (calls : CallOutcomes) → AllCallsInParts known ts → PartsAreSound (calling_setting s known calls) operator before ts types
 
-parts_keep : (s : SchemaSet) (operator : Operator) (before : List SequenceType) (ts : Parts SequenceType) (types : Types) → PartsAreSound (typed_setting s) operator before ts types → PartsKeepTypes s operator before ts types
-parts_keep s operator before no_parts types h = tt
-parts_keep s operator before (a_part t ts) types h = (keeps_its_type (typed_setting s) t (types_bound operator before ++ types) h.0, parts_keep s operator (before ++ annotation_of t ∷ []) ts types h.1)
+parts_keep : (s : SchemaSet) (known : List FunctionSignature) (calls : CallOutcomes) (operator : Operator) (before : List SequenceType) (ts : Parts SequenceType) (types : Types)
+    → PartsAreSound (calling_setting s known calls) operator before ts types → PartsKeepTypes s known calls operator before ts types
+parts_keep s known calls operator before no_parts types h = tt
+parts_keep s known calls operator before (a_part t ts) types h = (keeps_its_type (calling_setting s known calls) t (types_bound operator before ++ types) h.0, parts_keep s known calls operator (before ++ annotation_of t ∷ []) ts types h.1)
 
 -- an operator whose parts are sound, with the type of its rule
 concluded_holds : (s : SchemaSet) → IsSchemaSet s → (place outer : Place) (operator : Operator) (parts : Parts (Unit {0})) (types : Types) (ts : Parts SequenceType) (r : Ruling) → ruling s operator (each_of annotation_of ts) types ≡ r
     → AreTypedSoundly s operator [] parts types ts → IfTyped (IsTypedSoundly s (At place outer tt operator parts) types) (concluded place outer operator ts r)
 concluded_holds s is place outer operator parts types ts (has_type t) e h = record {
   same = ap (At place outer tt operator) h.same;
-  sound = (operator_keeps s is operator ts types place outer t e (parts_keep s operator [] ts types h.sound), h.sound);
+  sound = λ known calls all. (
+    operator_keeps s is operator known calls ts types place outer t e all.0 (parts_keep s known calls operator [] ts types (h.sound known calls all.1)),
+    h.sound known calls all.1,
+  );
 }
 concluded_holds s is place outer operator parts types ts (has_none code part) e h = tt
 
@@ -126,13 +135,13 @@ mutual
       (λ ts h. concluded_holds s is place outer operator parts types ts (ruling s operator (each_of annotation_of ts) types) refl h)
 
   parts_hold : (s : SchemaSet) → IsSchemaSet s → (operator : Operator) (before : List SequenceType) (parts : Parts (Unit {0})) (types : Types) → IfTyped (AreTypedSoundly s operator before parts types) (parts_judged s operator before parts types)
-  parts_hold s is operator before no_parts types = record { same = refl; sound = tt }
+  parts_hold s is operator before no_parts types = record { same = refl; sound = λ known calls all. tt }
   parts_hold s is operator before (a_part first others) types =
       made_holds (judged s first (types_bound operator before ++ types)) (λ t. with_typed (parts_judged s operator (before ++ annotation_of t ∷ []) others types) (λ ts. typed (a_part t ts)))
       (IsTypedSoundly s first (types_bound operator before ++ types)) (AreTypedSoundly s operator before (a_part first others) types) (judged_holds s is first (types_bound operator before ++ types))
       (λ t h. made_holds (parts_judged s operator (before ++ annotation_of t ∷ []) others types) (λ ts. typed (a_part t ts))
       (AreTypedSoundly s operator (before ++ annotation_of t ∷ []) others types) (AreTypedSoundly s operator before (a_part first others) types) (parts_hold s is operator (before ++ annotation_of t ∷ []) others types)
-      (λ ts k. record { same = ap (λ e. a_part e (plain_parts ts)) h.same ∙ ap (a_part first) k.same; sound = (h.sound, k.sound) }))
+      (λ ts k. record { same = ap (λ e. a_part e (plain_parts ts)) h.same ∙ ap (a_part first) k.same; sound = λ known calls all. (h.sound known calls all.0, k.sound known calls all.1) }))
 
 pub sound : TypingIsSound
 sound s e types t is j = subst (IfTyped (IsTypedSoundly s e types)) j (judged_holds s is e types)

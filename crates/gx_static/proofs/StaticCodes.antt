@@ -9,6 +9,7 @@ use Rattle.gx_base.specs.Code.{is_static}
 use Rattle.gx_base.specs.declared.type_name.Builtin.{Builtin}
 use Rattle.gx_types.specs.declared.item_type.ItemType.TheVariants as items
 use Rattle.gx_base.specs.declared.type_name.Builtin.TheVariants.{UntypedAtomic}
+use Rattle.gx_base.specs.declared.type_name.TypeName.{TypeName}
 use Rattle.gx_base.specs.declared.type_name.TypeName.TheVariants as names
 use Rattle.gx_types.specs.SchemaSet.{SchemaSet}
 use Rattle.gx_types.specs.declared.step.Axis.{Axis}
@@ -33,6 +34,7 @@ use Rattle.gx_core.specs.declared.expression.BinaryClass.{BinaryClass}
 use Rattle.gx_core.specs.declared.expression.BinaryClass.TheVariants as classes
 use Rattle.gx_core.specs.declared.expression.Binder.{Binder}
 use Rattle.gx_core.specs.declared.expression.Declaration.TheVariants.{Global}
+use Rattle.gx_core.specs.declared.expression.Declaration.TheVariants as declarations
 use Rattle.gx_core.specs.BinaryOperators.{class_of}
 use Rattle.gx_types.specs.Occurs.{Occurs}
 use Rattle.gx_sorting.specs.declared.keys.KeyOrder.{KeyOrder}
@@ -41,14 +43,16 @@ use Rattle.gx_core.specs.declared.operator.Operator.{Operator}
 use Rattle.gx_core.specs.declared.constructor.Constructor.{Constructor}
 use Rattle.gx_core.specs.declared.constructor.Constructor.TheVariants as constructors
 use Rattle.gx_core.specs.declared.operator.Operator.TheVariants as operators
-use Rattle.gx_core.specs.Queries.{Core, CoreDeclaration}
-use Rattle.gx_core.specs.Expression.{CoreExpression, At, Parts, no_parts, a_part, each_of, annotation_of}
+use Rattle.gx_core.specs.Queries.{Core, TypedCore, CoreDeclaration}
+use Rattle.gx_core.specs.Expression.{CoreExpression, At, Parts, no_parts, a_part, each_of, annotation_of, outer_of}
 use Rattle.gx_core.specs.Bindings.{look_up, Types, types_bound}
-use Rattle.gx_core.specs.QueryMeaning.{global_types, types_declared}
+use Rattle.gx_core.specs.QueryMeaning.{global_types, types_declared, parameter_types}
 use Rattle.gx_core.specs.Soundness.{TypedExpression}
-use Rattle.gx_static.specs.Rule.{if_atomized, if_all_atomized, constructor_rule, called_type, Ruling, has_type, has_none, all_items, is_atomic, is_as_written, nodes_type, step_rule, reaching, step_ruling, order_rule, data_rule, binary_rule, takes_argument, arguments_rule, answer_rule, call_rule, ruling, variable_ruling, allows_clause, allows_key, tuples_occur, returned_rule, clauses_rule, if_taken, seen_argument, constructed_text}
+use Rattle.gx_core.specs.Converting.{expected_atomic}
+use Rattle.gx_static.specs.Rule.{included_ruling, result_rule, cast_ruling, converted_ruling, converted_type, converted_arguments_rule, if_atomized, if_all_atomized, constructor_rule, called_type, Ruling, has_type, has_none, all_items, is_atomic, is_as_written, nodes_type, step_rule, reaching, step_ruling, order_rule, data_rule, binary_rule, takes_argument, arguments_rule, answer_rule, call_rule, ruling, variable_ruling, allows_clause, allows_key, tuples_occur, returned_rule, clauses_rule, if_taken, seen_argument, constructed_text}
 use Rattle.gx_static.specs.Judgement.{typed, rejected, with_typed, concluded, judged, parts_judged}
-use Rattle.gx_static.specs.QueryJudgement.{declared_as, declaration_judged, declarations_judged, core_judged, QueriesAreRejectedWithStaticCodes}
+use Rattle.gx_settling.specs.Reaching.{function_uses}
+use Rattle.gx_static.specs.QueryJudgement.{declared_as, declared_where, function_with, declaration_judged, declarations_judged, core_typed, first_unsettled, unless_unsettled, core_judged, QueriesAreRejectedWithStaticCodes}
 use Rattle.gx_static.specs.Laws.{ExpressionsAreRejectedWithStaticCodes}
 use Rattle.gx_static.proofs.Failing.{IfRejected, made_fails, own_fails}
 use Rattle.gx_static.proofs.QueryLaws.{whole_rejected}
@@ -162,6 +166,28 @@ static_call : (s : SchemaSet) (function : Function) (ts : List SequenceType) →
 unfolding call_rule
 static_call s function ts = static_arguments s (parameters_of function) ts 0 (answer_rule (called_type function)) (parameters_static function) (static_answer (called_type function))
 
+-- ---- calls of declared functions
+
+static_cast : (kind : TypeName) (r : Ruling) → RulesStatically r → RulesStatically (cast_ruling kind r)
+static_cast kind (has_type t) h = tt
+static_cast kind (has_none code part) h = h
+
+static_conversion : (s : SchemaSet) (o : Option TypeName) (t : SequenceType) → RulesStatically (converted_ruling s o t)
+static_conversion s None t = tt
+static_conversion s (Some kind) t = static_cast kind (data_rule s t) (static_data s t)
+
+pub static_converted : (s : SchemaSet) (expected t : SequenceType) → RulesStatically (converted_type s expected t)
+unfolding converted_type
+static_converted s expected t = static_conversion s (expected_atomic expected) t
+
+static_converted_arguments : (s : SchemaSet) (parameters ts : List SequenceType) (number : ℕ) (r : Ruling) → RulesStatically r → RulesStatically (converted_arguments_rule s parameters ts number r)
+static_converted_arguments s [] [] number r h = h
+static_converted_arguments s [] (t ∷ ts) number r h = refl
+static_converted_arguments s (p ∷ parameters) [] number r h = refl
+static_converted_arguments s (p ∷ parameters) (t ∷ ts) number r h =
+    static_taken (λ u. is_included s u p) XPTY0004 number (converted_arguments_rule s parameters ts (number + 1) r) (converted_type s p t) refl (static_converted s p t)
+    (static_converted_arguments s parameters ts (number + 1) r h)
+
 -- ---- blocks
 
 static_returned : (s : SchemaSet) (orders : List KeyOrder) (tuples : Occurs) (ts : List SequenceType) → RulesStatically (returned_rule (allows_key s) orders tuples ts)
@@ -223,6 +249,7 @@ static_ruling s (operators.Castable kind allows_empty) (t ∷ []) types = static
 static_ruling s (operators.Treat kind) (t ∷ []) types = tt
 static_ruling s (operators.Call function) ts types = static_call s function ts
 static_ruling s (operators.Construct constructor count) ts types = static_constructor s constructor ts
+static_ruling s (operators.User signature count) ts types = static_converted_arguments s signature.parameters ts 0 (has_type signature.result) tt
 static_ruling s operators.Neg (t ∷ []) types = static_test _ _ XPTY0004 refl
 static_ruling s (operators.Binary operator) (t ∷ u ∷ []) types = static_binary s (class_of operator) t u
 static_ruling s operators.NoContext [] types = refl
@@ -258,10 +285,25 @@ static_declared s name binder t =
       | false ↦ refl
     ]
 
+static_included : (s : SchemaSet) (expected : SequenceType) (r : Ruling) → RulesStatically r → RulesStatically (included_ruling s expected r)
+static_included s expected (has_type t) h = static_test (is_included s t expected) t XPTY0004 refl
+static_included s expected (has_none code part) h = h
+
+static_result : (s : SchemaSet) (expected t : SequenceType) → RulesStatically (result_rule s expected t)
+static_result s expected t = static_included s expected (converted_type s expected t) (static_converted s expected t)
+
 static_declaration : (s : SchemaSet) (d : CoreDeclaration) (types : Types) → IfRejected IsStatic (declaration_judged s d types)
 static_declaration s (Global name binder (Some value)) types =
     made_fails (judged s value types) (declared_as s name binder) IsStatic IsStatic (static_expression s value types) (λ place code k. k) (λ t e. static_declared s name binder t)
 static_declaration s (Global name binder None) types = tt
+static_declaration s (declarations.Function function) types =
+    made_fails (judged s function.body (parameter_types function.parameters ++ types)) (function_with s function.place function.name function.parameters function.result) IsStatic IsStatic (static_expression s function.body (parameter_types function.parameters ++ types)) (λ place code k. k)
+    (λ t e. by_ruling t (result_rule s function.result (annotation_of t)) (static_result s function.result (annotation_of t)))
+  where
+    by_ruling : (t : TypedExpression) (r : Ruling) → RulesStatically r → IfRejected IsStatic
+        (declared_where (outer_of t) (declarations.Function (record { place = function.place; name = function.name; parameters = function.parameters; result = function.result; body = t })) r)
+    by_ruling t (has_type u) h = tt
+    by_ruling t (has_none code part) h = h
 
 static_declarations : (s : SchemaSet) (ds : List CoreDeclaration) (types : Types) → IfRejected IsStatic (declarations_judged s ds types)
 static_declarations s [] types = tt
@@ -270,12 +312,21 @@ static_declarations s (d ∷ ds) types =
     IsStatic IsStatic (static_declaration s d types) (λ place code k. k)
     (λ t e. made_fails (declarations_judged s ds (global_types t ++ types)) (λ ts. typed (t ∷ ts)) IsStatic IsStatic (static_declarations s ds (global_types t ++ types)) (λ place code k. k) (λ ts f. tt))
 
-static_core : (s : SchemaSet) (core : Core) → IfRejected IsStatic (core_judged s core)
-static_core s core =
+static_typing : (s : SchemaSet) (core : Core) → IfRejected IsStatic (core_typed s core)
+static_typing s core =
     made_fails (declarations_judged s core.declarations []) (λ ds. with_typed (judged s core.body (types_declared ds [])) (λ t. typed (record { declarations = ds; body = t })))
     IsStatic IsStatic (static_declarations s core.declarations []) (λ place code k. k)
     (λ ds e. made_fails (judged s core.body (types_declared ds [])) (λ t. typed (record { declarations = ds; body = t })) IsStatic IsStatic (static_expression s core.body (types_declared ds []))
     (λ place code k. k) (λ t f. tt))
+
+static_core : (s : SchemaSet) (core : Core) → IfRejected IsStatic (core_judged s core)
+static_core s core =
+    made_fails (core_typed s core) (λ query. unless_unsettled (first_unsettled (function_uses core.declarations) query.declarations []) query) IsStatic IsStatic (static_typing s core) (λ place code k. k)
+    (λ query e. by_place query (first_unsettled (function_uses core.declarations) query.declarations []))
+  where
+    by_place : (query : TypedCore) (o : Option Place) → IfRejected IsStatic (unless_unsettled o query)
+    by_place query None = tt
+    by_place query (Some place) = refl
 
 pub queries_are_rejected_with_static_codes : QueriesAreRejectedWithStaticCodes
 queries_are_rejected_with_static_codes s core place code j = subst (IfRejected IsStatic) (whole_rejected (core_judged s core) place code j) (static_core s core)

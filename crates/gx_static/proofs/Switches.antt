@@ -22,9 +22,10 @@ use Rattle.gx_core.specs.Bindings.{Types, position_bound, branch_types}
 use Rattle.gx_core.specs.Instances.{is_instance}
 use Rattle.gx_core.proofs.InstanceLemmas.{instances_belong}
 use Rattle.gx_core.specs.Outcome.{Outcome, after}
-use Rattle.gx_core.specs.Meaning.{Bindings, switched, meaning, meanings}
-use Rattle.gx_core.specs.Soundness.{Setting, TypedExpression, typed_setting, context_of, IsOfType, Keeps, Situation, KeepsItsType, Fits}
-use Rattle.gx_core.proofs.KeptFacts.{fact_after, binding_fits, bindings_fit_still}
+use Rattle.gx_core.specs.Meaning.{CallOutcomes, Bindings, switched, meaning, meanings}
+use Rattle.gx_core.specs.declared.signature.FunctionSignature.{FunctionSignature}
+use Rattle.gx_core.specs.Soundness.{Setting, TypedExpression, typed_setting, calling_setting, context_of, IsOfType, Keeps, Situation, KeepsItsType, Fits}
+use Rattle.gx_core.proofs.KeptFacts.{fact_after, binding_fits, bindings_fit_still, calls_keep_still}
 use Rattle.gx_static.specs.Laws.{PartsKeepTypes, SwitchKeepsType}
 use Rattle.gx_static.proofs.Conditionals.{widened}
 use Rattle.gx_static.proofs.Keeping.{type_so}
@@ -44,17 +45,18 @@ branch_fits s (suc number) t xs types bindings forest fits b =
     binding_fits (typed_setting s) binder t xs types bindings forest fits b
 
 -- a branch, with its variable bound to the value
-one_branch : (s : SchemaSet) (e : TypedExpression) (number : ℕ) (t u : SequenceType) (types : Types) → KeepsItsType (typed_setting s) e (position_bound number t ++ types)
+one_branch : (s : SchemaSet) (known : List FunctionSignature) (calls : CallOutcomes) (e : TypedExpression) (number : ℕ) (t u : SequenceType) (types : Types) → KeepsItsType (calling_setting s known calls) e (position_bound number t ++ types)
     → ((now : Forest) (ys : Items) → Belongs s now ys (annotation_of e) → Belongs s now ys u)
-    → (situation : Situation (typed_setting s) types) (xs : Items) (now : Forest) → Extends situation.forest now → IsHonest s now → Belongs s now xs t
-    → Keeps (typed_setting s) now u (meaning (context_of (typed_setting s)) e (position_bound number xs ++ situation.bindings) now)
-one_branch s e number t u types keeps wider situation xs now grown honest b =
-    widened (typed_setting s) now (annotation_of e) u _ wider
+    → (situation : Situation (calling_setting s known calls) types) (xs : Items) (now : Forest) → Extends situation.forest now → IsHonest s now → Belongs s now xs t
+    → Keeps (calling_setting s known calls) now u (meaning (context_of (calling_setting s known calls)) e (position_bound number xs ++ situation.bindings) now)
+one_branch s known calls e number t u types keeps wider situation xs now grown honest b =
+    widened (calling_setting s known calls) now (annotation_of e) u _ wider
     (keeps (record {
       bindings = position_bound number xs ++ situation.bindings;
       forest = now;
       honest = honest;
-      fits = branch_fits s number t xs types situation.bindings now (bindings_fit_still (typed_setting s) types situation.bindings situation.forest now grown situation.fits) b;
+      fits = branch_fits s number t xs types situation.bindings now (bindings_fit_still (calling_setting s known calls) types situation.bindings situation.forest now grown situation.fits) b;
+      calls_keep = calls_keep_still (calling_setting s known calls) situation.forest now grown situation.calls_keep;
     }))
 
 -- ---- all branches
@@ -75,22 +77,22 @@ next_is all left default operand done g = ap (λ (d : List SequenceType). branch
 pub one_more_done : (all left : List TypeCase) (c : TypeCase) (default : ℕ) (operand t : SequenceType) (done : List SequenceType) → GoesOn all (c ∷ left) default operand done → GoesOn all left default operand (done ++ t ∷ [])
 one_more_done all left c default operand t done g more = ap (λ (d : List SequenceType). branch_types all default operand d) (append_assoc done (t ∷ []) more) ∙ g (t ∷ more)
 
-module _ (s : SchemaSet) (all : List TypeCase) (default : ℕ) (operand u : SequenceType) (types : Types) (situation : Situation (typed_setting s) types) (xs : Items) (now : Forest)
+module _ (s : SchemaSet) (known : List FunctionSignature) (calls : CallOutcomes) (all : List TypeCase) (default : ℕ) (operand u : SequenceType) (types : Types) (situation : Situation (calling_setting s known calls) types) (xs : Items) (now : Forest)
     (grown : Extends situation.forest now) (honest : IsHonest s now) (b : Belongs s now xs operand) where
-  either_branch : (test : Bool) (chosen others : Outcome Items) → (test ≡ true → Keeps (typed_setting s) now u chosen) → Keeps (typed_setting s) now u others → Keeps (typed_setting s) now u (if test then chosen else others)
+  either_branch : (test : Bool) (chosen others : Outcome Items) → (test ≡ true → Keeps (calling_setting s known calls) now u chosen) → Keeps (calling_setting s known calls) now u others → Keeps (calling_setting s known calls) now u (if test then chosen else others)
   either_branch true chosen others h k = h refl
   either_branch false chosen others h k = k
 
   branches_keep : (left : List TypeCase) (branches : Parts SequenceType) (done : List SequenceType) → GoesOn all left default operand done → length (each_of annotation_of branches) ≡ length left + 1
-      → AreWithin s u branches → PartsKeepTypes s (operators.Switch all default) (operand ∷ done) branches types
-      → Keeps (typed_setting s) now u (switched s left default (meanings (context_of (typed_setting s)) branches) xs situation.bindings now)
+      → AreWithin s u branches → PartsKeepTypes s known calls (operators.Switch all default) (operand ∷ done) branches types
+      → Keeps (calling_setting s known calls) now u (switched s left default (meanings (context_of (calling_setting s known calls)) branches) xs situation.bindings now)
   branches_keep [] (a_part e no_parts) done g n w h =
-      one_branch s e default operand u types
-      (subst (λ (bound : Types). KeepsItsType (typed_setting s) e (bound ++ types)) (next_is all [] default operand done g) h.0) w.0 situation xs now grown honest b
+      one_branch s known calls e default operand u types
+      (subst (λ (bound : Types). KeepsItsType (calling_setting s known calls) e (bound ++ types)) (next_is all [] default operand done g) h.0) w.0 situation xs now grown honest b
   branches_keep (c ∷ left) (a_part e others) done g n w h =
-      either_branch (is_instance s now c.kind xs) (meaning (context_of (typed_setting s)) e (position_bound c.variable xs ++ situation.bindings) now)
-      (switched s left default (meanings (context_of (typed_setting s)) others) xs situation.bindings now)
-      (λ i. one_branch s e c.variable c.kind u types (subst (λ (bound : Types). KeepsItsType (typed_setting s) e (bound ++ types)) (next_is all (c ∷ left) default operand done g) h.0) w.0
+      either_branch (is_instance s now c.kind xs) (meaning (context_of (calling_setting s known calls)) e (position_bound c.variable xs ++ situation.bindings) now)
+      (switched s left default (meanings (context_of (calling_setting s known calls)) others) xs situation.bindings now)
+      (λ i. one_branch s known calls e c.variable c.kind u types (subst (λ (bound : Types). KeepsItsType (calling_setting s known calls) e (bound ++ types)) (next_is all (c ∷ left) default operand done g) h.0) w.0
       situation xs now grown honest (instance_belongs s now c.kind operand xs i b))
       (branches_keep left others (done ++ annotation_of e ∷ []) (one_more_done all left c default operand (annotation_of e) done g) (omega (arith, n)) w.1 h.1)
   branches_keep [] no_parts done g n w h = absurd (omega (arith, n))
@@ -117,8 +119,8 @@ all_within s front (a_part b others) all e = (
 )
 
 pub switch_keeps : SwitchKeepsType
-switch_keeps s cases default (a_part a branches) types place outer t e h situation =
-    let setting : Setting = typed_setting s in
+switch_keeps s cases default known calls (a_part a branches) types place outer t e known_call h situation =
+    let setting : Setting = calling_setting s known calls in
     let k = context_of setting in
     let kinds : List SequenceType = each_of annotation_of branches in
     let u : SequenceType = limited (choice_among kinds) in
@@ -126,6 +128,6 @@ switch_keeps s cases default (a_part a branches) types place outer t e h situati
     subst (λ (v : SequenceType). Keeps setting situation.forest v (after (meaning k a situation.bindings situation.forest) (λ xs left. switched s cases default (meanings k branches) xs situation.bindings left))) r.1
     (fact_after setting situation.forest (IsOfType s (annotation_of a)) (IsOfType s u) (meaning k a situation.bindings situation.forest)
     (λ xs left. switched s cases default (meanings k branches) xs situation.bindings left) (h.0 situation)
-    (λ xs now grown honest b. branches_keep s cases default (annotation_of a) u types situation xs now grown honest b cases branches [] (λ more. refl)
+    (λ xs now grown honest b. branches_keep s known calls cases default (annotation_of a) u types situation xs now grown honest b cases branches [] (λ more. refl)
     (eqb-true (length kinds) (length cases + 1) r.0) (all_within s [] branches kinds refl) h.1))
-switch_keeps s cases default no_parts types place outer t e h situation = absurd (cc)
+switch_keeps s cases default known calls no_parts types place outer t e known_call h situation = absurd (cc)

@@ -70,7 +70,7 @@ record HasTexts (s : SchemaSet) (forest : Forest) (takes : ParameterType) (xs : 
   are : argument_texts s forest xs ≡ Some texts
   fit : FitsParameter takes texts
 
-atomized_type : (s : SchemaSet) (a u : SequenceType) → data_rule s a ≡ has_type u → (has_data s a ≡ true) × (type_of_data s a ≡ u)
+pub atomized_type : (s : SchemaSet) (a u : SequenceType) → data_rule s a ≡ has_type u → (has_data s a ≡ true) × (type_of_data s a ≡ u)
 unfolding data_rule
 atomized_type s a u e = tested (has_data s a) (type_of_data s a) u _ _ e
 

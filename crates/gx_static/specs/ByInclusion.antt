@@ -26,6 +26,7 @@ use Rattle.gx_core.specs.declared.expression.BinaryClass.{BinaryClass}
 use Rattle.gx_core.specs.declared.expression.BinaryClass.TheVariants.{Arithmetic, Value, General, Range, Nodes, Combination}
 use Rattle.gx_core.specs.declared.expression.Binder.{Binder}
 use Rattle.gx_core.specs.declared.expression.Declaration.TheVariants.{Global}
+use Rattle.gx_core.specs.declared.expression.Declaration.TheVariants as declarations
 use Rattle.gx_sorting.specs.declared.keys.KeyOrder.{KeyOrder}
 use Rattle.gx_core.specs.declared.operator.ClauseKind.{ClauseKind}
 use Rattle.gx_core.specs.declared.operator.ClauseKind.TheVariants as kinds
@@ -35,14 +36,14 @@ use Rattle.gx_core.specs.BinaryOperators.{class_of}
 use Rattle.gx_core.specs.Bindings.{Types, types_bound}
 use Rattle.gx_core.specs.Expression.{CoreExpression, At, Parts, no_parts, a_part, each_of, annotation_of}
 use Rattle.gx_core.specs.Queries.{Core, CoreDeclaration, TypedDeclaration}
-use Rattle.gx_core.specs.QueryMeaning.{global_types, types_declared}
+use Rattle.gx_core.specs.QueryMeaning.{global_types, types_declared, parameter_types}
 use Rattle.gx_core.specs.Soundness.{TypedExpression}
 use Rattle.gx_static.specs.declared.comparison.Family.{Family}
 use Rattle.gx_static.specs.declared.comparison.Family.TheVariants as families
 use Rattle.gx_static.specs.Rule.{Ruling, has_type, has_none, type_if, atomic, all_items, integer_if, both_occur, value_comparison_type, boolean_types, nodes_type, answer_rule, called_type, seen_argument, if_taken, rule, ruling, is_as_written, node_comparison_rule, set_rule, tuples_occur, returned_rule, clauses_rule}
 use Rattle.gx_static.specs.Demands.{family_type}
 use Rattle.gx_static.specs.Judgement.{typed, judged, parts_judged}
-use Rattle.gx_static.specs.NormalTypes.{IsNormalType, CastsToAtomicTypes}
+use Rattle.gx_static.specs.NormalTypes.{IsNormalType, HaveNormalTypes, CastsToAtomicTypes}
 use Rattle.gx_static.specs.QueryJudgement.{declaration_judged, declarations_judged}
 
 -- ---- arithmetic, negations and ranges
@@ -151,19 +152,19 @@ castable_included schemas operand = type_if (is_optional_value schemas AnyAtomic
 
 -- ---- calls
 
-abbrev pub parameter_type : ParameterType → SequenceType
-parameter_type parameters.Items = star any_item
-parameter_type parameters.OptionalItem = optional any_item
-parameter_type parameters.TruthValue = boolean_types
-parameter_type parameters.OptionalText = optional (family_type families.Text)
-parameter_type parameters.OneText = family_type families.Text
-parameter_type parameters.Texts = star (family_type families.Text)
-parameter_type parameters.OptionalValue = optional (atomic AnyAtomic)
+abbrev pub taken_type : ParameterType → SequenceType
+taken_type parameters.Items = star any_item
+taken_type parameters.OptionalItem = optional any_item
+taken_type parameters.TruthValue = boolean_types
+taken_type parameters.OptionalText = optional (family_type families.Text)
+taken_type parameters.OneText = family_type families.Text
+taken_type parameters.Texts = star (family_type families.Text)
+taken_type parameters.OptionalValue = optional (atomic AnyAtomic)
 
 abbrev pub arguments_included : SchemaSet → List Parameter → List SequenceType → (number : ℕ) → Ruling → Ruling
 arguments_included schemas [] [] number ruling = ruling
 arguments_included schemas (parameter ∷ others) (argument ∷ arguments) number ruling =
-    if_taken (λ t. is_included schemas t (parameter_type parameter.takes)) parameter.code number (arguments_included schemas others arguments (number + 1) ruling)
+    if_taken (λ t. is_included schemas t (taken_type parameter.takes)) parameter.code number (arguments_included schemas others arguments (number + 1) ruling)
     (seen_argument schemas parameter.takes argument)
 arguments_included schemas _ _ number ruling = has_none XPTY0004 None
 
@@ -207,9 +208,12 @@ abbrev mutual
       IsJudgedByInclusion schemas first (types_bound operator before ++ types)
       × ((t : TypedExpression) → judged schemas first (types_bound operator before ++ types) ≡ typed t → PartsAreJudgedByInclusion schemas operator (before ++ annotation_of t ∷ []) others types)
 
--- each value in turn, under the types of the globals before it
+-- each value and each body in turn, under the types of the globals before it
 abbrev pub ValuesAreJudgedByInclusion : SchemaSet → List CoreDeclaration → Types → Type 0
 ValuesAreJudgedByInclusion schemas [] types = Unit {0}
+ValuesAreJudgedByInclusion schemas (declarations.Function function ∷ others) types =
+    IsJudgedByInclusion schemas function.body (parameter_types function.parameters ++ types)
+    × ((d : TypedDeclaration) → declaration_judged schemas (declarations.Function function) types ≡ typed d → ValuesAreJudgedByInclusion schemas others (global_types d ++ types))
 ValuesAreJudgedByInclusion schemas (Global name binder None ∷ others) types =
     ValuesAreJudgedByInclusion schemas others (global_types (Global name binder None) ++ types)
 ValuesAreJudgedByInclusion schemas (Global name binder (Some value) ∷ others) types =
@@ -223,13 +227,15 @@ pub record IsQueryJudgedByInclusion (schemas : SchemaSet) (core : Core) : Type 0
 
 -- ---- laws
 
--- each cast of a query names an atomic type, and the type of each external variable is normal
+-- each cast of a query names an atomic type, and the type of each external variable and of each parameter is normal
 abbrev pub IsNormalIfWritten : SchemaSet → Option SequenceType → Type 0
 IsNormalIfWritten schemas None = Unit {0}
 IsNormalIfWritten schemas (Some t) = IsNormalType schemas t
 
 abbrev pub NameKnownTypes : SchemaSet → List CoreDeclaration → Type 0
 NameKnownTypes schemas [] = Unit {0}
+NameKnownTypes schemas (declarations.Function function ∷ others) =
+    HaveNormalTypes schemas (parameter_types function.parameters) × CastsToAtomicTypes schemas function.body × NameKnownTypes schemas others
 NameKnownTypes schemas (Global name binder None ∷ others) = IsNormalIfWritten schemas binder.kind × NameKnownTypes schemas others
 NameKnownTypes schemas (Global name binder (Some value) ∷ others) = CastsToAtomicTypes schemas value × NameKnownTypes schemas others
 

@@ -15,6 +15,8 @@ use Rattle.gx_types.specs.SequenceType.{SequenceType}
 use Rattle.gx_model.specs.Forest.{Forest}
 use Rattle.gx_model.specs.Honest.{IsHonest}
 use Rattle.gx_model.specs.Item.{Items}
+use Rattle.gx_model.specs.Belongs.{Belongs}
+use Rattle.gx_include.specs.Decision.{is_included}
 use Rattle.gx_core.specs.declared.cases.TypeCase.{TypeCase}
 use Rattle.gx_core.specs.declared.expression.Binder.{Binder}
 use Rattle.gx_base.specs.declared.type_name.TypeName.{TypeName}
@@ -27,6 +29,7 @@ use Rattle.gx_core.specs.declared.expression.BinaryClass.TheVariants as classes
 use Rattle.gx_core.specs.declared.expression.NodeComparison.{NodeComparison}
 use Rattle.gx_core.specs.declared.expression.NodeCombination.{NodeCombination}
 use Rattle.gx_core.specs.BinaryOperators.{class_of}
+use Rattle.gx_core.specs.Converting.{converted}
 use Rattle.gx_sorting.specs.declared.keys.KeyOrder.{KeyOrder}
 use Rattle.gx_core.specs.declared.constructor.Constructor.{Constructor}
 use Rattle.gx_core.specs.declared.operator.ClauseKind.{ClauseKind}
@@ -36,32 +39,37 @@ use Rattle.gx_core.specs.Expression.{CoreExpression, At, Parts, no_parts, a_part
 use Rattle.gx_core.specs.Bindings.{Types, types_bound}
 use Rattle.gx_core.specs.FreeVariables.{FitsFree}
 use Rattle.gx_core.specs.Invariant.{IsScoped}
-use Rattle.gx_core.specs.Meaning.{Bindings, acts, meaning}
-use Rattle.gx_core.specs.Soundness.{TypedExpression, typed_setting, context_of, AreOfTypes, Keeps, KeepsItsType, IsSound}
-use Rattle.gx_static.specs.Rule.{has_type, rule, ruling}
+use Rattle.gx_core.specs.Meaning.{CallOutcomes, Bindings, acts, meaning}
+use Rattle.gx_core.specs.declared.signature.FunctionSignature.{FunctionSignature}
+use Rattle.gx_core.specs.CalledFunctions.{IsCallOf, AllCalls}
+use Rattle.gx_core.specs.Soundness.{TypedExpression, typed_setting, calling_setting, context_of, AreOfTypes, Keeps, KeepsItsType, CallsKeepTypes, IsSoundWithCalls}
+use Rattle.gx_static.specs.Rule.{has_type, rule, ruling, converted_type}
 use Rattle.gx_static.specs.Judgement.{typed, rejected, judged}
 use Rattle.gx_static.specs.Failure.{FailsFirst}
 
--- what a strict operator makes of values keeps the type of its rule, where the values belong to the types of the parts
+-- what a strict operator that calls no declared function makes of values keeps the type of its rule, where the values belong to the types
+-- of the parts
 abbrev pub ActsKeepType : SchemaSet → Operator → Type 0
 ActsKeepType schemas operator =
     (parts : List SequenceType) (t : SequenceType) (forest : Forest) (values : List Items) → rule schemas operator parts ≡ has_type t
     → IsHonest schemas forest → AreOfTypes schemas parts forest values
     → Keeps (typed_setting schemas) forest t (acts (context_of (typed_setting schemas)) operator values forest)
 
--- each part keeps its type, under what the operator binds for it
-abbrev pub PartsKeepTypes : SchemaSet → Operator → (before : List SequenceType) → Parts SequenceType → Types → Type 0
-PartsKeepTypes schemas operator before no_parts types = Unit {0}
-PartsKeepTypes schemas operator before (a_part first others) types =
-    KeepsItsType (typed_setting schemas) first (types_bound operator before ++ types)
-    × PartsKeepTypes schemas operator (before ++ annotation_of first ∷ []) others types
+-- each part keeps its type, under what the operator binds for it, where these functions may be called
+abbrev pub PartsKeepTypes : SchemaSet → (known : List FunctionSignature) → CallOutcomes → Operator → (before : List SequenceType)
+    → Parts SequenceType → Types → Type 0
+PartsKeepTypes schemas known calls operator before no_parts types = Unit {0}
+PartsKeepTypes schemas known calls operator before (a_part first others) types =
+    KeepsItsType (calling_setting schemas known calls) first (types_bound operator before ++ types)
+    × PartsKeepTypes schemas known calls operator (before ++ annotation_of first ∷ []) others types
 
--- wherever the ruling gives an expression a type and its parts keep theirs, it keeps the type
+-- wherever the ruling gives an expression a type and its parts keep theirs, it keeps the type, where it calls none but known functions
 abbrev pub OperatorKeepsType : SchemaSet → Operator → Type 0
 OperatorKeepsType schemas operator =
-    (parts : Parts SequenceType) (types : Types) (place outer : Place) (t : SequenceType)
-    → ruling schemas operator (each_of annotation_of parts) types ≡ has_type t → PartsKeepTypes schemas operator [] parts types
-    → KeepsItsType (typed_setting schemas) (At place outer t operator parts) types
+    (known : List FunctionSignature) (calls : CallOutcomes) (parts : Parts SequenceType) (types : Types) (place outer : Place) (t : SequenceType)
+    → ruling schemas operator (each_of annotation_of parts) types ≡ has_type t → IsCallOf known operator
+    → PartsKeepTypes schemas known calls operator [] parts types
+    → KeepsItsType (calling_setting schemas known calls) (At place outer t operator parts) types
 
 abbrev pub LiteralKeepsType : Type 0
 LiteralKeepsType = (schemas : SchemaSet) (value : Atomic) → ActsKeepType schemas (operators.Lit value)
@@ -161,22 +169,38 @@ CallKeepsType = (schemas : SchemaSet) (function : Function) → IsSchemaSet sche
 abbrev pub ConstructorKeepsType : Type 0
 ConstructorKeepsType = (schemas : SchemaSet) (constructor : Constructor) (count : ℕ) → IsSchemaSet schemas → ActsKeepType schemas (operators.Construct constructor count)
 
+-- a call keeps the type of the result where calls of known functions do
+abbrev pub UserCallKeepsType : Type 0
+UserCallKeepsType =
+    (schemas : SchemaSet) (signature : FunctionSignature) (count : ℕ) → IsSchemaSet schemas → OperatorKeepsType schemas (operators.User signature count)
+
+-- a value whose type, converted as an expected type asks for it, is included in the expected type comes, so converted, to a value of the
+-- expected type, or a cast fails
+abbrev pub ConvertedValuesBelong : Type 0
+ConvertedValuesBelong =
+    (schemas : SchemaSet) (expected given seen : SequenceType) (forest : Forest) (value : Items) → IsSchemaSet schemas → IsHonest schemas forest
+    → converted_type schemas expected given ≡ has_type seen → is_included schemas seen expected ≡ true → Belongs schemas forest value given
+    → Keeps (typed_setting schemas) forest expected (converted schemas expected value forest)
+
 -- what is judged to have a type is the same tree with its types, and it is sound
 pub record IsTypedSoundly (schemas : SchemaSet) (e : CoreExpression) (types : Types) (t : TypedExpression) : Type 0 where
   pub same : plain t ≡ e
-  pub sound : IsSound (typed_setting schemas) t types
+  pub sound : IsSoundWithCalls schemas t types
 
 abbrev pub TypingIsSound : Type 0
 TypingIsSound =
     (schemas : SchemaSet) (e : CoreExpression) (types : Types) (t : TypedExpression) → IsSchemaSet schemas → judged schemas e types ≡ typed t → IsTypedSoundly schemas e types t
 
 -- the value of an expression that is judged to have a type belongs to it also where those variables alone that the expression names and
--- does not bind are bound to values of their types
+-- does not bind are bound to values of their types, whatever functions it may call, where calls of these keep their types
 abbrev pub TypingIsSoundOnFreeVariables : Type 0
 TypingIsSoundOnFreeVariables =
-    (schemas : SchemaSet) (e : CoreExpression) (types : Types) (t : TypedExpression) (bindings : Bindings) (forest : Forest) → IsSchemaSet schemas → judged schemas e types ≡ typed t
-    → IsHonest schemas forest → FitsFree schemas forest e types bindings
-    → Keeps (typed_setting schemas) forest (annotation_of t) (meaning (context_of (typed_setting schemas)) e bindings forest)
+    (schemas : SchemaSet) (e : CoreExpression) (types : Types) (t : TypedExpression) (known : List FunctionSignature) (calls : CallOutcomes)
+    (bindings : Bindings) (forest : Forest)
+    → IsSchemaSet schemas → judged schemas e types ≡ typed t → AllCalls known e → IsHonest schemas forest
+    → CallsKeepTypes (calling_setting schemas known calls) forest → FitsFree schemas forest e types bindings
+    → Keeps (calling_setting schemas known calls) forest (annotation_of t)
+    (meaning (context_of (calling_setting schemas known calls)) e bindings forest)
 
 -- where a Core is rejected, the place and the code are those of the first expression in it that fails
 abbrev pub RejectionNamesFailure : Type 0

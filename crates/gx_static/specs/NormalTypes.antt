@@ -57,11 +57,12 @@ abbrev pub GivesNormalType : SchemaSet → Ruling → Type 0
 GivesNormalType schemas (has_type type) = IsNormalType schemas type
 GivesNormalType schemas (has_none code part) = Unit {0}
 
--- the type that a cast names is atomic, and those of cases and of `treat as` are normal
+-- the type that a cast names is atomic, and those of cases, of `treat as` and of the results of declared functions are normal
 abbrev pub CastsToAtomicType : SchemaSet → Operator → Type 0
 CastsToAtomicType schemas (operators.Cast kind allows_empty) = DerivesFrom schemas kind (names.Builtin AnyAtomic)
 CastsToAtomicType schemas (operators.Switch cases default) = HoldsOfEach (λ (c : TypeCase). IsNormalType schemas c.kind) cases
 CastsToAtomicType schemas (operators.Treat kind) = IsNormalType schemas kind
+CastsToAtomicType schemas (operators.User signature count) = IsNormalType schemas signature.result
 CastsToAtomicType schemas _ = Unit {0}
 
 -- each operator gives a normal type where its parts have such
@@ -77,7 +78,7 @@ abbrev pub HaveNormalTypes : SchemaSet → Types → Type 0
 HaveNormalTypes schemas types = HoldsOfEach (λ (binding : ℕ × SequenceType). IsNormalType schemas binding.1) types
 
 abbrev mutual
-  -- each cast in an expression names an atomic type, and each case and each `treat as` a normal one
+  -- each cast in an expression names an atomic type, and each case, each `treat as` and each function that is called a normal one
   pub CastsToAtomicTypes : SchemaSet → CoreExpression → Type 0
   CastsToAtomicTypes schemas (At place outer annotation operator parts) = CastsToAtomicType schemas operator × PartsCastToAtomicTypes schemas parts
 

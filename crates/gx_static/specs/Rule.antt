@@ -27,6 +27,7 @@ use Rattle.gx_types.specs.declared.step.Axis.{Axis}
 use Rattle.gx_types.specs.declared.step.Test.{Test}
 use Rattle.gx_steptype.specs.StepType.{any_element, any_attribute, any_document, text_item, node_type, any_item, step_type}
 use Rattle.gx_steptype.specs.DataType.{has_data, type_of_data}
+use Rattle.gx_steptype.specs.Replaced.{replaced_items}
 use Rattle.gx_funcs.specs.declared.function.Function.{Function}
 use Rattle.gx_funcs.specs.declared.function.Function.TheVariants as functions
 use Rattle.gx_funcs.specs.declared.function.Parameter.{Parameter}
@@ -44,6 +45,8 @@ use Rattle.gx_core.specs.declared.cases.TypeCase.{TypeCase}
 use Rattle.gx_sorting.specs.declared.keys.KeyOrder.{KeyOrder}
 use Rattle.gx_core.specs.declared.constructor.Constructor.{Constructor}
 use Rattle.gx_core.specs.declared.constructor.Constructor.TheVariants as constructors
+use Rattle.gx_core.specs.declared.signature.FunctionSignature.{FunctionSignature}
+use Rattle.gx_core.specs.Converting.{expected_atomic, is_any_atomic_type}
 use Rattle.gx_core.specs.declared.operator.ClauseKind.{ClauseKind}
 use Rattle.gx_core.specs.declared.operator.ClauseKind.TheVariants as kinds
 use Rattle.gx_core.specs.declared.operator.Operator.{Operator}
@@ -470,6 +473,49 @@ constructor_rule schemas constructors.Text (content ∷ []) = text_rule schemas 
 constructor_rule schemas constructors.Document (content ∷ []) = document_rule schemas content
 constructor_rule schemas _ parts = has_none XPTY0004 None
 
+-- ---- conversions, and calls of declared functions
+
+-- an item type of untyped values, each of which is cast to a type
+abbrev pub cast_item : TypeName → ItemType → SequenceType
+cast_item kind (items.Atom own) = item (items.Atom (if same_type_name own (names.Builtin UntypedAtomic) then kind else own))
+cast_item kind own = item own
+
+-- the type of values each of which is cast where it is untyped, unless all atomic values are expected
+abbrev pub untyped_cast : TypeName → SequenceType → SequenceType
+untyped_cast kind t = if is_any_atomic_type kind then t else replaced_items (cast_item kind) t
+
+abbrev pub cast_ruling : TypeName → Ruling → Ruling
+cast_ruling kind (has_type t) = has_type (untyped_cast kind t)
+cast_ruling kind (has_none code part) = has_none code part
+
+abbrev pub converted_ruling : SchemaSet → (atomic_type : Option TypeName) → SequenceType → Ruling
+converted_ruling schemas None t = has_type t
+converted_ruling schemas (Some kind) t = cast_ruling kind (data_rule schemas t)
+
+-- the type of a value as an expected type asks for it: where that is of atomic values, the value is atomized, and what is untyped is cast
+unfoldable pub converted_type : SchemaSet → (expected : SequenceType) → SequenceType → Ruling
+converted_type schemas expected t = converted_ruling schemas (expected_atomic expected) t
+
+-- the arguments, numbered from this number on, each as its parameter asks for it
+abbrev pub converted_arguments_rule : SchemaSet → (parameters : List SequenceType) → List SequenceType → (number : ℕ) → Ruling → Ruling
+converted_arguments_rule schemas [] [] number ruling = ruling
+converted_arguments_rule schemas (expected ∷ others) (argument ∷ arguments) number ruling =
+    if_taken (λ t. is_included schemas t expected) XPTY0004 number (converted_arguments_rule schemas others arguments (number + 1) ruling)
+    (converted_type schemas expected argument)
+converted_arguments_rule schemas _ _ number ruling = has_none XPTY0004 None
+
+-- a call of a declared function has the type of the result
+abbrev pub user_rule : SchemaSet → FunctionSignature → (arguments : List SequenceType) → Ruling
+user_rule schemas signature arguments = converted_arguments_rule schemas signature.parameters arguments 0 (has_type signature.result)
+
+-- the value of the body of a function, as the type of the result asks for it, is of that type
+abbrev pub included_ruling : SchemaSet → (expected : SequenceType) → Ruling → Ruling
+included_ruling schemas expected (has_type t) = type_if (is_included schemas t expected) t
+included_ruling schemas expected (has_none code part) = has_none code part
+
+abbrev pub result_rule : SchemaSet → (expected body : SequenceType) → Ruling
+result_rule schemas expected body = included_ruling schemas expected (converted_type schemas expected body)
+
 -- how many parts an operator has
 abbrev pub arity : Operator → ℕ
 arity (operators.Lit value) = 0
@@ -497,6 +543,7 @@ arity (operators.Call function) = arity_of function
 arity operators.Neg = 1
 arity (operators.Binary operator) = 2
 arity (operators.Construct constructor count) = count
+arity (operators.User signature count) = count
 
 -- each operator, from the types of its parts; the one part of a variable and of a step is what the variable is bound to
 abbrev pub rule : SchemaSet → Operator → List SequenceType → Ruling
@@ -525,6 +572,7 @@ rule schemas (operators.Call function) arguments = call_rule schemas function ar
 rule schemas operators.Neg (operand ∷ []) = negation_rule schemas operand
 rule schemas (operators.Binary operator) (left ∷ right ∷ []) = binary_rule schemas (class_of operator) left right
 rule schemas (operators.Construct constructor count) parts = constructor_rule schemas constructor parts
+rule schemas (operators.User signature count) arguments = user_rule schemas signature arguments
 rule schemas _ _ = has_none XPTY0004 None
 
 -- the rule of a variable, where its number has a type in scope

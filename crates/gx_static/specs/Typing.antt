@@ -1,5 +1,5 @@
 -- What a typing in its midst comes to.
-use Rattle.std.specs.Prelude.{◌≡◌, ℕ, zero, suc, List, [], ◌∷◌, ◌++◌, Option, None, Some, drop, map, flat_map}
+use Rattle.std.specs.Prelude.{◌≡◌, ℕ, zero, suc, List, [], ◌∷◌, ◌++◌, length, Option, None, Some, drop, map, flat_map}
 use Rattle.gx_base.specs.declared.place.Place.{Place}
 use Rattle.gx_types.specs.SchemaSet.{SchemaSet}
 use Rattle.gx_types.specs.SequenceType.{SequenceType}
@@ -18,15 +18,15 @@ use Rattle.gx_core.specs.declared.expression.Clause.{Clause}
 use Rattle.gx_core.specs.declared.expression.SortKey.{SortKey}
 use Rattle.gx_core.specs.Soundness.{TypedExpression}
 use Rattle.gx_core.specs.Queries.{TypedCore, CoreDeclaration, TypedDeclaration}
-use Rattle.gx_core.specs.declared.expression.Declaration.TheVariants.{Global}
-use Rattle.gx_core.specs.QueryMeaning.{global_types, external_types}
+use Rattle.gx_core.specs.declared.expression.Declaration.TheVariants.{Global, Function}
+use Rattle.gx_core.specs.QueryMeaning.{global_types, external_types, parameter_types}
 use Rattle.gx_static.specs.Rule.{atomic, arity, ruling}
 use Rattle.gx_static.specs.Judgement.{Judged, typed, rejected, judged, concluded}
-use Rattle.gx_static.specs.QueryJudgement.{declared_as}
+use Rattle.gx_static.specs.QueryJudgement.{declared_as, function_with}
 use Rattle.gx_static.specs.declared.error.InferError.{InferError}
 use Rattle.gx_static.specs.declared.error.InferError.TheVariants as errors
 use Rattle.gx_static.specs.declared.typing.Task.{Task}
-use Rattle.gx_static.specs.declared.typing.Task.TheVariants.{Infer, Bind, BindItem, Branches, NextBranch, Unbind, Finish, FinishCall, FinishSwitch, Declare, External}
+use Rattle.gx_static.specs.declared.typing.Task.TheVariants.{Infer, Bind, BindItem, Branches, NextBranch, Unbind, Finish, FinishCall, FinishSwitch, OpenFunction, DeclareFunction, Declare, External}
 use Rattle.gx_static.specs.declared.typing.Typing.{Typing}
 
 -- what a typing comes to, where no part is missing
@@ -81,9 +81,10 @@ clause_unbinding (kinds.For binder (suc position)) = Unbind ∷ Unbind ∷ []
 clause_unbinding (kinds.Let binder) = Unbind ∷ []
 clause_unbinding kinds.Where = []
 
--- the tasks of declarations, each with its value first, and what is left to do behind them
+-- the tasks of declarations, each global with its value first, and what is left to do behind them
 abbrev pub tasks_of : List CoreDeclaration → (behind : List Task) → List Task
 tasks_of [] behind = behind
+tasks_of (Function function ∷ others) behind = OpenFunction function ∷ tasks_of others behind
 tasks_of (Global name binder (Some value) ∷ others) behind = Infer value ∷ Declare name binder ∷ tasks_of others behind
 tasks_of (Global name binder None ∷ others) behind = External name binder ∷ tasks_of others behind
 
@@ -114,6 +115,14 @@ continued schemas (FinishCall place outer function count ∷ tasks) parts types 
     last_parts count parts no_parts (finished schemas place outer (operators.Call function) types (λ t below. continued schemas tasks (t ∷ below) types declared))
 continued schemas (FinishSwitch place outer cases default count ∷ tasks) parts types declared =
     last_parts (suc count) parts no_parts (finished schemas place outer (operators.Switch cases default) types (λ t below. continued schemas tasks (t ∷ below) types declared))
+continued schemas (OpenFunction function ∷ tasks) parts types declared =
+    then_typed (judged schemas function.body (parameter_types function.parameters ++ types))
+    (λ t. then_typed (function_with schemas function.place function.name function.parameters function.result t)
+    (λ d. continued schemas tasks parts (global_types d ++ types) (declared ++ d ∷ [])))
+continued schemas (DeclareFunction place name parameters result ∷ tasks) [] types declared = None
+continued schemas (DeclareFunction place name parameters result ∷ tasks) (t ∷ parts) types declared =
+    then_typed (function_with schemas place name parameters result t)
+    (λ d. continued schemas tasks parts (global_types d ++ drop (length parameters) types) (declared ++ d ∷ []))
 continued schemas (Declare name binder ∷ tasks) [] types declared = None
 continued schemas (Declare name binder ∷ tasks) (t ∷ parts) types declared =
     then_typed (declared_as schemas name binder t) (λ d. continued schemas tasks parts (global_types d ++ types) (declared ++ d ∷ []))

@@ -15,6 +15,7 @@ ghost use Rattle.gx_static.specs.Typing.{Awaited, part_count, last_parts};
 use crate::block_parts::{block_form, block_form_type};
 use crate::call::call_type;
 use crate::constructors::constructor_type;
+use crate::conversions::user_type;
 use crate::error::RuleError;
 use crate::filtering::{is_first, one_of_type, switch_type};
 use crate::item_tests::no_type;
@@ -31,6 +32,7 @@ use gx_core::constructor::Constructor;
 use gx_core::expression::{Form, TypedExpr};
 use gx_core::operator::Operator;
 use gx_core::scope::Scope;
+use gx_core::signature::FunctionSignature;
 use gx_types::schemas::Schemas;
 use gx_types::sequence_type::{Ty, TyNode};
 use std::alloc::{AllocError, Global};
@@ -104,6 +106,7 @@ pub(crate) fn form(
         Operator::Construct(constructor, count) => {
             constructor_form(alloc, constructor, count, parts)
         }
+        Operator::User(signature, count) => user_form(alloc, signature, count, parts),
         Operator::Neg => Ok(Form::Neg(part(alloc, parts)?)),
         Operator::Binary(operator) => {
             let right = part(alloc, parts)?;
@@ -129,6 +132,25 @@ fn constructor_form(
         return Err(AllocError);
     };
     Ok(Form::Construct(constructor, taken))
+}
+
+// A call of a declared function with so many arguments on top.
+fn user_form(
+    alloc: Global,
+    signature: FunctionSignature,
+    count: usize,
+    parts: &mut Stack<TypedExpr>,
+) -> Result<Form<Ty>, AllocError>
+    requires { count ≤ length parts.old }
+    ensures operator { IfOk result (λ form. operator_of form ≡ operators.User signature count) }
+    ensures parts { (next : Parts SequenceType → List TypedExpression → Awaited)
+        → IfOk result (λ form. last_parts count parts.old no_parts next ≡ next (parts_of form) parts.new) }
+{
+    let Ok(taken) = last(alloc, count, parts) else {
+        drop(signature);
+        return Err(AllocError);
+    };
+    Ok(Form::User(signature, taken))
 }
 
 // A switch over so many branches on top, and over the operand below them.
@@ -244,6 +266,10 @@ pub(crate) fn form_type(
         Form::Construct(constructor, parts) => {
             let kinds = kinds(alloc, parts.as_slice())?;
             constructor_type(alloc, schemas, constructor, kinds.as_slice())
+        }
+        Form::User(signature, arguments) => {
+            let kinds = kinds(alloc, arguments.as_slice())?;
+            user_type(alloc, schemas, signature, kinds.as_slice())
         }
         Form::Neg(operand) => negation_type(alloc, schemas, &operand.kind),
         Form::Binary(operator, left, right) => {

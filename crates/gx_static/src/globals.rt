@@ -107,5 +107,6 @@ fn put_down(declaration: CoreDeclaration, tasks: &mut Stack<Task>) -> Result<(),
             }
             None => tasks.push(Task::External(name, binder)),
         },
+        CoreDeclaration::Function(function) => tasks.push(Task::OpenFunction(function)),
     }
 }

@@ -1,6 +1,6 @@
 // Laws of typing: one for each operator, and the one that is joined of them.
 
-ghost use Rattle.gx_static.specs.Laws.{LiteralKeepsType, VariableKeepsType, EmptyKeepsType, SequenceKeepsType, ForKeepsType, SomeKeepsType, EveryKeepsType, LetKeepsType, StepKeepsType, NodesKeepType, OrderKeepsType, FinalKeepsType, NthKeepsType, SwitchKeepsType, NoContextKeepsType, DataKeepsType, ArithmeticKeepsType, NegationKeepsType, ValueComparisonKeepsType, GeneralComparisonKeepsType, RangeKeepsType, ConditionalKeepsType, CastKeepsType, CastableKeepsType, TreatKeepsType, CallKeepsType, TypingIsSound, TypingIsSoundOnFreeVariables, RejectionNamesFailure, ScopedVariablesHaveTypes, ExpressionsAreRejectedWithStaticCodes, NodeComparisonKeepsType, NodeSetKeepsType, BlockKeepsType, ConstructorKeepsType};
+ghost use Rattle.gx_static.specs.Laws.{LiteralKeepsType, VariableKeepsType, EmptyKeepsType, SequenceKeepsType, ForKeepsType, SomeKeepsType, EveryKeepsType, LetKeepsType, StepKeepsType, NodesKeepType, OrderKeepsType, FinalKeepsType, NthKeepsType, SwitchKeepsType, NoContextKeepsType, DataKeepsType, ArithmeticKeepsType, NegationKeepsType, ValueComparisonKeepsType, GeneralComparisonKeepsType, RangeKeepsType, ConditionalKeepsType, CastKeepsType, CastableKeepsType, TreatKeepsType, CallKeepsType, TypingIsSound, TypingIsSoundOnFreeVariables, RejectionNamesFailure, ScopedVariablesHaveTypes, ExpressionsAreRejectedWithStaticCodes, NodeComparisonKeepsType, NodeSetKeepsType, BlockKeepsType, ConstructorKeepsType, UserCallKeepsType, ConvertedValuesBelong};
 ghost use Rattle.gx_static.specs.NormalTypes.{RulesGiveNormalTypes, TypingGivesNormalTypes};
 ghost use Rattle.gx_static.specs.Demands.{MetDemandsAreInclusion, DemandsAreInclusion, AllRulesDemandInclusion};
 ghost use Rattle.gx_static.specs.ByInclusion.{QueriesAreJudgedByInclusion};
@@ -160,6 +160,17 @@ pub fn treat_keeps_its_type()
 /// schemas end at built-in ones.
 pub fn call_keeps_its_type()
     ensures { CallKeepsType }
+{}
+
+/// A call of a declared function keeps the type of its result, where calls of known functions do (XQuery 1.0, section 3.1.5).
+pub fn user_call_keeps_its_type()
+    ensures { UserCallKeepsType }
+{}
+
+/// A value whose type, converted as an expected type asks for it, is included in that type comes to a value of the expected type, or a
+/// cast fails (XQuery 1.0, section 3.1.5).
+pub fn converted_values_belong()
+    ensures { ConvertedValuesBelong }
 {}
 
 /// What is judged to have a type is the same tree with its types; no expression in it goes wrong, and the value of each

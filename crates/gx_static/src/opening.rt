@@ -78,6 +78,10 @@ impl Typing {
                 let operator = Operator::Construct(constructor, parts.len());
                 self.open_parts(place, outer, operator, parts)
             }
+            Form::User(signature, arguments) => {
+                let operator = Operator::User(signature, arguments.len());
+                self.open_parts(place, outer, operator, arguments)
+            }
             Form::Neg(operand) => self.open_single(place, outer, Operator::Neg, operand),
             Form::Binary(operator, left, right) => {
                 self.open_pair(place, outer, Operator::Binary(operator), left, right)

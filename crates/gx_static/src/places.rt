@@ -60,7 +60,7 @@ fn form_place(place: Place, form: &Form<Ty>, part: Option<u32>) -> Place
             &[condition.outer, chosen.outer, otherwise.outer],
             part,
         ),
-        Form::Call(_, arguments) | Form::Construct(_, arguments) => {
+        Form::Call(_, arguments) | Form::Construct(_, arguments) | Form::User(_, arguments) => {
             argument_place(place, arguments.as_slice(), part)
         }
     }

@@ -12,6 +12,7 @@ use crate::block::block_type;
 use crate::call::call_type;
 use crate::comparison::{general_comparison_type, value_comparison_type};
 use crate::constructors::constructor_type;
+use crate::conversions::user_type;
 use crate::error::RuleError;
 use crate::filtering::{is_first, one_of_type, switch_type};
 use crate::item_tests::{
@@ -88,6 +89,9 @@ pub fn operator_type(
         (Operator::Call(function), arguments) => call_type(alloc, schemas, *function, arguments),
         (Operator::Construct(constructor, _), parts) => {
             constructor_type(alloc, schemas, constructor, parts)
+        }
+        (Operator::User(signature, _), arguments) => {
+            user_type(alloc, schemas, signature, arguments)
         }
         (Operator::Neg, [operand]) => negation_type(alloc, schemas, operand),
         (Operator::Binary(operator), [left, right]) => {

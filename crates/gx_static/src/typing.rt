@@ -4,7 +4,7 @@ ghost use Rattle.std.specs.Prelude.{◌≡◌, ◌≢◌, [], ◌∷◌, None, S
 ghost use Rattle.gx_types.specs.SchemaSet.{SchemaSet};
 ghost use Rattle.gx_core.specs.ExpressionView.{operator_of, parts_of};
 ghost use Rattle.gx_static.specs.Judgement.{typed};
-ghost use Rattle.gx_static.specs.QueryJudgement.{core_judged};
+ghost use Rattle.gx_static.specs.QueryJudgement.{core_typed};
 ghost use Rattle.gx_static.specs.Typing.{continued, finished, judgement_of, judgement_with, EndsRejected};
 ghost use Rattle.gx_static.specs.declared.typing.Task.TheVariants as tasks;
 
@@ -19,7 +19,9 @@ use gx_base::stack::Stack;
 use gx_base::type_name::Builtin;
 use gx_core::cases::{Cases, TypeCase};
 use gx_core::dismantle::{dismantle, dismantle_declarations, dismantle_form};
-use gx_core::expression::{Binder, Core, CoreExpr, Form, TypedCore, TypedDeclaration, TypedExpr};
+use gx_core::expression::{
+    Binder, Core, CoreExpr, CoreFunction, Form, TypedCore, TypedDeclaration, TypedExpr,
+};
 use gx_core::listed::Listed;
 use gx_core::operator::Operator;
 use gx_core::scope::Scope;
@@ -33,8 +35,9 @@ use std::alloc::{AllocError, Global};
 // part on top, or to that of an item of it, and another one to that of the position of the item; to type the branches of a
 // switch, whose operand is on top, or those that are left, over an operand of a type; to take the innermost binding away; to make
 // the expression of an operator, of a call with so many arguments, or of a switch with so many branches, at its place and that of
-// its outermost parentheses, of the parts on top; to declare a global variable, whose value is the part on top; or to declare an
-// external variable.
+// its outermost parentheses, of the parts on top; to type the body of a function with its parameters in
+// scope, and to declare the function, whose body is the part on top; to declare a global variable, whose value is the part on top;
+// or to declare an external variable.
 #[derive(Drop)]
 pub(crate) enum Task {
     Infer(CoreExpr),
@@ -46,6 +49,8 @@ pub(crate) enum Task {
     Finish(Place, Place, Operator),
     FinishCall(Place, Place, Function, usize),
     FinishSwitch(Place, Place, Cases, u32, usize),
+    OpenFunction(CoreFunction),
+    DeclareFunction(Place, Name, Listed<Binder>, Ty),
     Declare(Name, Binder),
     External(Name, Binder),
 }
@@ -62,7 +67,7 @@ impl Typing {
     // The typing of a query.
     #[tactic(auto, using(crate::proofs::Declaring::tasks_come_to_the_judgement))]
     pub(crate) fn new(alloc: Global, core: Core) -> Result<Typing, AllocError>
-        ensures { (schemas : SchemaSet) → IfOk result (λ t. judgement_of schemas t ≡ Some (core_judged schemas core)) }
+        ensures { (schemas : SchemaSet) → IfOk result (λ t. judgement_of schemas t ≡ Some (core_typed schemas core)) }
     {
         let tasks = tasks_of(alloc, core)?;
         Ok(Typing {
@@ -131,6 +136,10 @@ impl Typing {
             }
             Task::FinishSwitch(place, outer, cases, default, count) => {
                 self.finish_switch(alloc, schemas, place, outer, cases, default, count)
+            }
+            Task::OpenFunction(function) => Ok(self.open_function(function)?),
+            Task::DeclareFunction(place, name, parameters, result) => {
+                self.declare_function(alloc, schemas, place, name, parameters, result)
             }
             Task::Declare(name, binder) => self.declare(alloc, schemas, name, binder),
             Task::External(name, binder) => Ok(self.declare_external(name, binder)?),
@@ -245,6 +254,7 @@ impl Typing {
 fn dismantle_task(alloc: Global, task: Task) {
     match task {
         Task::Infer(expression) => dismantle(alloc, expression),
+        Task::OpenFunction(function) => dismantle(alloc, function.body),
         Task::Branches(_, _, branches) => dismantle_all(alloc, branches.into_items()),
         Task::NextBranch(_, _, _, branches) => dismantle_all(alloc, branches.into_items()),
         _ => {}

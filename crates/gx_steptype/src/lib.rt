@@ -12,6 +12,6 @@ pub mod error;
 pub mod laws;
 mod nodes;
 mod relatives;
-mod replace;
+pub mod replace;
 pub mod tested;
 mod type_lists;

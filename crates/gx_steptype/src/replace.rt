@@ -10,8 +10,8 @@ use gx_types::sequence_type::{Ty, TyNode};
 use gx_types::type_rules::{choose, join, optional, plus, star};
 use std::alloc::{AllocError, Global};
 
-// What stands in the place of an item type.
-pub(crate) trait Replacement {
+/// What stands in the place of an item type.
+pub trait Replacement {
     ghost gives: { Self → KindOfItem → SequenceType };
 
     // What was found for one item type may be kept for the next.
@@ -24,9 +24,9 @@ pub(crate) trait Replacement {
         ensures given { IfOk result (λ t. t ≡ gives self.old item.now) };
 }
 
-// A type with what a replacement gives in the place of each item type, however long it is.
+/// A type with what a replacement gives in the place of each item type, however long it is.
 #[cycle(replace)]
-pub(crate) fn replace<R: Replacement>(alloc: Global, with: &mut R, t: &Ty) -> Result<Ty, AllocError>
+pub fn replace<R: Replacement>(alloc: Global, with: &mut R, t: &Ty) -> Result<Ty, AllocError>
     requires { R.fits with.old }
     ensures same { R.gives with.new ≡ R.gives with.old }
     ensures fits { R.fits with.new }

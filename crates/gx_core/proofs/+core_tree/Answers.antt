@@ -80,3 +80,13 @@ expression::Expr::drop-drop-form-requires-22 g t c κs = λ lives.
     ap (λ (f : Form g.row.K.Denot). parts_size (parts_of f)) given.1 in
     let weight : (e : Expression g.row.K.Denot) → size-Expr g.row.K.Denot e ≤ 3 * (expression_size e + 1) = λ e. omega arith in
     (((omega (arith, arguments_are_smaller (size-Expr g.row.K.Denot) weight given.0.1.0.items), tt), tt), (search rules, search rules))
+
+pub expression::Expr::drop-drop-form-requires-24-2 : goal.expression::Expr::drop-drop-form-requires-24-2
+expression::Expr::drop-drop-form-requires-24-2 g t c κs = λ lives.
+    let size : 3 * (expression_size c.args.self + 1) + 0 ≡ t = c.decreases in
+    let whole : expression_size c.args.self ≡ 1 + parts_size (parts_of c.self.inside.form) = ap expression_size (sym c.self.view_is) in
+    let given = c._form-45-1.given in
+    let parts : parts_size (parts_of c.self.inside.form) ≡ parts_size (all_parts given.0.1.0.items) =
+    ap (λ (f : Form g.row.K.Denot). parts_size (parts_of f)) given.1 in
+    let weight : (e : Expression g.row.K.Denot) → size-Expr g.row.K.Denot e ≤ 3 * (expression_size e + 1) = λ e. omega arith in
+    (((omega (arith, arguments_are_smaller (size-Expr g.row.K.Denot) weight given.0.1.0.items), tt), tt), (search rules, search rules))

@@ -1,13 +1,12 @@
 use Rattle.std.proofs.Common.{List, ap, sym, ◌∙◌, subst}
+use Rattle.gx_base.specs.declared.limits.TheConstants.{ACTIVE_CALLS}
 use Rattle.gx_model.specs.Forest.{PlainNode}
 use Rattle.gx_model.specs.Item.{Items}
 use Rattle.gx_core.specs.Outcome.{Outcome}
-use Rattle.gx_core.specs.QueryMeaning.{query_type}
+use Rattle.gx_core.specs.QueryMeaning.{outcome_within, query_type}
 use Rattle.gx_core.specs.Soundness.{typed_setting, Keeps}
 use Rattle.gx_store.specs.Places.{node_places}
 use Rattle.gx_eval.specs.Failing.{FailsSo}
-use Rattle.gx_eval.specs.Resume.{context_over, typed_outcome}
-use Rattle.gx_eval.proofs.Globals.{query_outcome_is}
 use Rattle.gx_eval.proofs.MadeTrees.{places_stay, extends_itself}
 use Rattle.gx_eval.proofs.evaluator.evaluate.Goals as goal
 
@@ -16,9 +15,9 @@ returns-in-Ok-clause-value c =
     let s = c.args.schemas.now in
     let core = c.args.core.now in
     let before = c.args.store.now in
-    let now = c.value_of.new.store in
-    query_outcome_is s core (node_places before c.args.documents.now) before
-    ∙ ap (λ (documents : List PlainNode). typed_outcome (context_over s) core documents before) (sym (places_stay before now c.args.documents.now c.requires.there c.value_of.ensures.grows.extends))
+    let now = c.query_value.new.store in
+    c.query_meaning_looks_at_no_type.ensures ACTIVE_CALLS s core (node_places before c.args.documents.now) before
+    ∙ ap (λ (documents : List PlainNode). outcome_within ACTIVE_CALLS s core documents before) (sym (places_stay before now c.args.documents.now c.requires.there c.query_value.ensures.grows.extends))
     ∙ c.in-Ok.ensures.value now (extends_itself now)
 
 pub returns-in-Ok-clause-belongs : goal.returns-in-Ok-clause-belongs
@@ -26,30 +25,31 @@ returns-in-Ok-clause-belongs c = λ honest fits sound.
     let s = c.args.schemas.now in
     let core = c.args.core.now in
     let before = c.args.store.now in
-    let now = c.value_of.new.store in
+    let now = c.query_value.new.store in
     let documents : List PlainNode = node_places before c.args.documents.now in
     (subst (λ (o : Outcome Items). Keeps (typed_setting s) before (query_type core) o)
-    (query_outcome_is s core documents before
-    ∙ ap (λ (ds : List PlainNode). typed_outcome (context_over s) core ds before) (sym (places_stay before now c.args.documents.now c.requires.there c.value_of.ensures.grows.extends))
+    (c.query_meaning_looks_at_no_type.ensures ACTIVE_CALLS s core documents before
+    ∙ ap (λ (ds : List PlainNode). outcome_within ACTIVE_CALLS s core ds before) (sym (places_stay before now c.args.documents.now c.requires.there c.query_value.ensures.grows.extends))
     ∙ c.in-Ok.ensures.value now (extends_itself now))
-    (c.sound_queries_keep_their_types.ensures s core documents before honest fits sound)).fact
+    (c.sound_queries_keep_their_types.ensures ACTIVE_CALLS s core documents before honest fits sound)).fact
 
 pub returns-in-Err-Raised-clause-raised : goal.returns-in-Err-Raised-clause-raised
 returns-in-Err-Raised-clause-raised c =
     let s = c.args.schemas.now in
     let core = c.args.core.now in
     let before = c.args.store.now in
-    let now = c.value_of.new.store in
-    query_outcome_is s core (node_places before c.args.documents.now) before
-    ∙ ap (λ (ds : List PlainNode). typed_outcome (context_over s) core ds before) (sym (places_stay before now c.args.documents.now c.requires.there c.value_of.ensures.grows.extends))
-    ∙ subst (λ e. FailsSo e (typed_outcome (context_over s) core (node_places now c.args.documents.now) before)) c.in-Err-Raised.field-0-is (c.in-Err-Raised.ensures.failed now (extends_itself now))
+    let now = c.query_value.new.store in
+    c.query_meaning_looks_at_no_type.ensures ACTIVE_CALLS s core (node_places before c.args.documents.now) before
+    ∙ ap (λ (documents : List PlainNode). outcome_within ACTIVE_CALLS s core documents before) (sym (places_stay before now c.args.documents.now c.requires.there c.query_value.ensures.grows.extends))
+    ∙ subst (λ e. FailsSo e (outcome_within ACTIVE_CALLS s core (node_places now c.args.documents.now) before)) c.in-Err-Raised.field-0-is (c.in-Err-Raised.ensures.failed now (extends_itself now))
 
 pub unreachable-requires : goal.unreachable-requires
 unreachable-requires c =
     let s = c.args.schemas.now in
     let core = c.args.core.now in
     let before = c.args.store.now in
-    let now = c.value_of.new.store in
-    c.requires.right (query_outcome_is s core (node_places before c.args.documents.now) before
-    ∙ ap (λ (ds : List PlainNode). typed_outcome (context_over s) core ds before) (sym (places_stay before now c.args.documents.now c.requires.there c.value_of.ensures.grows.extends))
-    ∙ subst (λ e. FailsSo e (typed_outcome (context_over s) core (node_places now c.args.documents.now) before)) c.in-Err-Wrong.field-0-is (c.in-Err-Wrong.ensures.failed now (extends_itself now)))
+    let now = c.query_value.new.store in
+    c.requires.right
+    (c.query_meaning_looks_at_no_type.ensures ACTIVE_CALLS s core (node_places before c.args.documents.now) before
+    ∙ ap (λ (documents : List PlainNode). outcome_within ACTIVE_CALLS s core documents before) (sym (places_stay before now c.args.documents.now c.requires.there c.query_value.ensures.grows.extends))
+    ∙ subst (λ e. FailsSo e (outcome_within ACTIVE_CALLS s core (node_places now c.args.documents.now) before)) c.in-Err-Wrong.field-0-is (c.in-Err-Wrong.ensures.failed now (extends_itself now)))

@@ -5,27 +5,27 @@ use Rattle.gx_model.specs.Item.{Items}
 use Rattle.gx_nodes.specs.Entries.{place_of_number}
 use Rattle.gx_eval.specs.BoundItems.{hand_items}
 use Rattle.gx_eval.specs.OneItem.{only_node}
-use Rattle.gx_eval.specs.Resume.{context_over, items_of}
+use Rattle.gx_eval.specs.Resume.{context_with, items_of}
 use Rattle.gx_eval.proofs.AtHand.{if_both, if_found, node_is_typed}
 use Rattle.gx_eval.proofs.NodeOperators.{data_at_hand}
 use Rattle.gx_eval.proofs.hand.atoms_at_hand.Goals as goal
 
 pub returns-in-Some-only_node : goal.returns-in-Some-only_node
-returns-in-Some-only_node c = λ later x.
-    let k : Context = context_over c.args.schemas.now in
+returns-in-Some-only_node c = λ calls later x.
+    let k : Context = context_with c.args.schemas.now calls in
     let forest = c.args.store.now in
     let xs : Items = hand_items later c.in-Some.hand in
     let bindings : Bindings = items_of later c.args.scope.now in
-    let e : meaning k c.args.operand.now bindings forest ≡ gives xs forest = rw c.in-Some.is at (c.in_ok-hand.ensures later x) in
+    let e : meaning k c.args.operand.now bindings forest ≡ gives xs forest = rw c.in-Some.is at (c.in_ok-hand.ensures calls later x) in
     let alone : only_node xs ≡ Some (place_of_number later c.in-Some-only_node.node.number) = ap only_node (sym (c.as_slice.ensures later)) ∙ sym (c.in-Some-only_node.ensures later) in
     if_found c.typed_at_hand.result (c.typed_at_hand.ensures later x)
     (λ hand t. node_is_typed k forest (meaning k c.args.operand.now) xs (hand_items later hand) (place_of_number later c.in-Some-only_node.node.number) bindings e alone t)
 
 pub returns-in-None : goal.returns-in-None
-returns-in-None c = λ later x.
-    let k : Context = context_over c.args.schemas.now in
+returns-in-None c = λ calls later x.
+    let k : Context = context_with c.args.schemas.now calls in
     let forest = c.args.store.now in
     let bindings : Bindings = items_of later c.args.scope.now in
-    let e : meaning k c.args.operand.now bindings forest ≡ gives (hand_items later c.in-Some.hand) forest = rw c.in-Some.is at (c.in_ok-hand.ensures later x) in
+    let e : meaning k c.args.operand.now bindings forest ≡ gives (hand_items later c.in-Some.hand) forest = rw c.in-Some.is at (c.in_ok-hand.ensures calls later x) in
     if_both c.atoms_alone.result (c.atoms_alone.ensures.alone later) (c.atoms_alone.ensures.same later)
     (λ hand alone same. data_at_hand k forest (meaning k c.args.operand.now) (hand_items later hand) bindings (e ∙ ap (λ (v : Items). gives v forest) (sym same)) alone)

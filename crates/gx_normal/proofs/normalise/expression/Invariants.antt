@@ -7,4 +7,4 @@ use Rattle.gx_normal.proofs.normalise.expression.Given as goal
 abbrev pub invariant-loop : goal.invariant-loop
 invariant-loop l =
     core_to_make l.normalising
-    ≡ record { made = ((core_of l.fn.tree l.fn.numbers l.fn.focus l.fn.free).0 ∷ []) ∷ []; numbers = l.fn.numbers; focus = l.fn.focus; free = (core_of l.fn.tree l.fn.numbers l.fn.focus l.fn.free).1 }
+    ≡ record { made = ((core_of l.fn.signatures l.fn.tree l.fn.numbers l.fn.focus l.fn.free).0 ∷ []) ∷ []; numbers = l.fn.numbers; focus = l.fn.focus; free = (core_of l.fn.signatures l.fn.tree l.fn.numbers l.fn.focus l.fn.free).1 }

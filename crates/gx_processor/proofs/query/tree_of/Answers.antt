@@ -1,17 +1,8 @@
 use Rattle.std.proofs.Common.{refl, subst}
 use Rattle.gx_parse_grammar.specs.Query.{refused, RefusesBytes}
 use Rattle.gx_parse_grammar.specs.declared.refusal.SyntaxRefusal.{SyntaxRefusal}
-use Rattle.gx_processor.proofs.QueryLemmas.{built_refused, kept_parses, not_built, not_parsed}
+use Rattle.gx_processor.proofs.QueryLemmas.{not_parsed}
 use Rattle.gx_processor.proofs.query.tree_of.Goals as goal
-
-pub returns-in-Ok-clause-tree : goal.returns-in-Ok-clause-tree
-returns-in-Ok-clause-tree c = kept_parses c.args.bytes.now c.in-Ok.tree c.built.result c.in-Ok.ensures.tree c.built.ensures.same
-
-pub returns-in-Ok-clause-refused : goal.returns-in-Ok-clause-refused
-returns-in-Ok-clause-refused c = built_refused c.args.bytes.now c.in-Ok.tree c.built.result c.in-Ok.ensures.tree c.built.ensures.refused
-
-pub returns-in-Ok-clause-none : goal.returns-in-Ok-clause-none
-returns-in-Ok-clause-none c = not_built c.args.bytes.now c.in-Ok.tree c.built.result c.in-Ok.ensures.tree c.built.ensures.none
 
 pub returns-in-Err-Refused-clause-refused : goal.returns-in-Err-Refused-clause-refused
 returns-in-Err-Refused-clause-refused c = λ files command.

@@ -1,10 +1,8 @@
-use Rattle.std.proofs.Common.{ap}
-use Rattle.gx_static.specs.QueryJudgement.{core_judged, whole_judgement}
+use Rattle.gx_static.specs.QueryJudgement.{core_typed}
 use Rattle.gx_static.proofs.Continuing.{judgement_is}
 use Rattle.gx_static.proofs.infer.typed_core.Goals as goal
 
 pub returns-in-None-clause-typed : goal.returns-in-None-clause-typed
 returns-in-None-clause-typed c =
-    ap whole_judgement
-    (judgement_is c.args.schemas.now c.loop.typing.parts c.loop.typing.scope c.loop.typing.declared.items (core_judged c.args.schemas.now c.args.core) c.result.result
-    (rw c.in-None.ensures.0 at c.loop.invariant) (c.result.ensures c.args.schemas.now))
+    judgement_is c.args.schemas.now c.loop.typing.parts c.loop.typing.scope c.loop.typing.declared.items (core_typed c.args.schemas.now c.args.core) c.result.result
+    (rw c.in-None.ensures.0 at c.loop.invariant) (c.result.ensures c.args.schemas.now)

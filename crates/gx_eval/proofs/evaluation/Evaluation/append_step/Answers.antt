@@ -7,13 +7,13 @@ use Rattle.gx_core.specs.Outcome.{after, given}
 use Rattle.gx_core.specs.Paths.{stepped}
 use Rattle.gx_store.specs.Items.{items_in}
 use Rattle.gx_store.specs.Places.{node_places}
-use Rattle.gx_eval.specs.Resume.{Stacks, context_over, resume, items_of, stacks_of}
+use Rattle.gx_eval.specs.Resume.{Stacks, context_with, resume, items_of, stacks_of}
 use Rattle.gx_eval.proofs.LaterItems.{found_items, no_items}
 use Rattle.gx_eval.proofs.Resuming.{answer_behind, fails_also, fails_through}
 use Rattle.gx_eval.proofs.evaluation.Evaluation.append_step.Goals as goal
 
 pub returns-in_err-found-clause-failed : goal.returns-in_err-found-clause-failed
-returns-in_err-found-clause-failed c = λ later x.
+returns-in_err-found-clause-failed c = λ calls later x.
     let s = c.args.schemas.now in
     let forest = c.args.store.now in
     let xs : Items = items_in later c.as_slice.result.now in
@@ -21,13 +21,13 @@ returns-in_err-found-clause-failed c = λ later x.
     let found : look_up bindings c.args.number ≡ Some xs = found_items later c.args.self.now.scope c.args.number c.in-Some.bound.now xs c.in-Some.ensures (c.as_slice.ensures later) in
     let p = err_from_is_err_and c.from_residual.result c.from_residual.ensures.1 in
     rw (p.1, p.2)
-    (fails_through (given (look_up bindings c.args.number) (λ ys. stepped s c.args.axis c.args.test.now ys forest)) (λ more left. resume (context_over s) c.args.self.now.work (items_in later c.args.self.now.values.items ++ more) (stacks_of later c.args.self.now) bindings left) _
+    (fails_through (given (look_up bindings c.args.number) (λ ys. stepped s c.args.axis c.args.test.now ys forest)) (λ more left. resume (context_with s calls) c.args.self.now.work (items_in later c.args.self.now.values.items ++ more) (stacks_of later c.args.self.now) bindings left) _
     (fails_also _ _ _ (ap (λ (o : Option Items). given o (λ ys. stepped s c.args.axis c.args.test.now ys forest)) found) (c.in_err-found.ensures.failed later x)))
 
 pub returns-clause-value : goal.returns-clause-value
-returns-clause-value c = λ later x.
+returns-clause-value c = λ calls later x.
     let s = c.args.schemas.now in
-    let k : Context = context_over s in
+    let k : Context = context_with s calls in
     let forest = c.args.store.now in
     let xs : Items = items_in later c.as_slice.result.now in
     let values : Items = items_in later c.args.self.now.values.items in
@@ -41,8 +41,8 @@ returns-clause-value c = λ later x.
     (ap (λ (o : Option Items). given o (λ ys. stepped s c.args.axis c.args.test.now ys forest)) found ∙ c.in_ok-found.ensures.value later x)
 
 pub returns-in_default-clause-failed : goal.returns-in_default-clause-failed
-returns-in_default-clause-failed c = λ later x.
+returns-in_default-clause-failed c = λ calls later x.
     let s = c.args.schemas.now in
     ap (λ (o : Option Items). after (given o (λ ys. stepped s c.args.axis c.args.test.now ys c.args.store.now))
-    (λ more left. resume (context_over s) c.args.self.now.work (items_in later c.args.self.now.values.items ++ more) (stacks_of later c.args.self.now) (items_of later c.args.self.now.scope) left))
+    (λ more left. resume (context_with s calls) c.args.self.now.work (items_in later c.args.self.now.values.items ++ more) (stacks_of later c.args.self.now) (items_of later c.args.self.now.scope) left))
     (no_items later c.args.self.now.scope c.args.number c.in_default.ensures)

@@ -14,18 +14,18 @@ use Rattle.gx_store.specs.declared.item.Item.{Item}
 use Rattle.gx_build.specs.Parts.{parts_in}
 use Rattle.gx_eval.specs.Answering.{answer_items}
 use Rattle.gx_eval.specs.Failing.{FailsSo}
-use Rattle.gx_eval.specs.Resume.{Stacks, context_over, between_marks, operated, resume, with_marks, items_of, stacks_of}
+use Rattle.gx_eval.specs.Resume.{Stacks, context_with, between_marks, operated, resume, with_marks, items_of, stacks_of}
 use Rattle.gx_eval.proofs.Resuming.{more_are_wrong, many_apply, many_fail}
 use Rattle.gx_eval.proofs.evaluation.Evaluation.apply_call.Goals as goal
 
 pub returns-in_default-clause-failed : goal.returns-in_default-clause-failed
-returns-in_default-clause-failed c = λ later x.
-    more_are_wrong (context_over c.args.schemas.now) c.args.store.now c.args.function c.args.self.now.work (items_in later c.args.self.now.values.items) (stacks_of later c.args.self.now) (items_of later c.args.self.now.scope) c.args.more
+returns-in_default-clause-failed c = λ calls later x.
+    more_are_wrong (context_with c.args.schemas.now calls) c.args.store.now c.args.function c.args.self.now.work (items_in later c.args.self.now.values.items) (stacks_of later c.args.self.now) (items_of later c.args.self.now.scope) c.args.more
     (sym c.text_function.ensures ∙ c.in_default.is)
 
 pub returns-in_err-operands-clause-failed : goal.returns-in_err-operands-clause-failed
-returns-in_err-operands-clause-failed c = λ later x.
-    let k : Context = context_over c.args.schemas.now in
+returns-in_err-operands-clause-failed c = λ calls later x.
+    let k : Context = context_with c.args.schemas.now calls in
     let stacks : Stacks = stacks_of later c.args.self.now in
     let marks : List ℕ = c.args.self.now.marks in
     let values : Items = items_in later c.args.self.now.values.items in
@@ -36,9 +36,9 @@ returns-in_err-operands-clause-failed c = λ later x.
     rw (p.1, p.2) (subst (λ (n : ℕ). FailsSo c.in_err-operands.field-0.0 (between_marks n marks values [] next)) all (c.in_err-operands.ensures.failed later next))
 
 pub returns-in_err-answer-clause-failed : goal.returns-in_err-answer-clause-failed
-returns-in_err-answer-clause-failed c = λ later x.
+returns-in_err-answer-clause-failed c = λ calls later x.
     let s = c.args.schemas.now in
-    let k : Context = context_over s in
+    let k : Context = context_with s calls in
     let forest = c.args.store.now in
     let function = c.args.function in
     let error = c.in_err-answer.field-0.0 in
@@ -62,9 +62,9 @@ returns-in_err-answer-clause-failed c = λ later x.
     (many_fail k forest function c.args.self.now.work operands rest (with_marks stacks c.take_operands.new.marks) bindings error failed)))
 
 pub returns-clause-value : goal.returns-clause-value
-returns-clause-value c = λ later x.
+returns-clause-value c = λ calls later x.
     let s = c.args.schemas.now in
-    let k : Context = context_over s in
+    let k : Context = context_with s calls in
     let forest = c.args.store.now in
     let function = c.args.function in
     let stacks : Stacks = stacks_of later c.args.self.now in

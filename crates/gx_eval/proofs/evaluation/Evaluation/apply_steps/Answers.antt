@@ -7,14 +7,14 @@ use Rattle.gx_core.specs.PathLaws.{stepped_from_each}
 use Rattle.gx_store.specs.Items.{items_in}
 use Rattle.gx_store.specs.Places.{node_places}
 use Rattle.gx_store.specs.declared.number.NodeId.{NodeId}
-use Rattle.gx_eval.specs.Resume.{context_over, resume, items_of, stacks_of}
+use Rattle.gx_eval.specs.Resume.{context_with, resume, items_of, stacks_of}
 use Rattle.gx_eval.proofs.ManySteps.{goes_on}
 use Rattle.gx_eval.proofs.Resuming.{Rest, fails_also, fails_through}
 use Rattle.gx_eval.proofs.evaluation.Evaluation.apply_steps.Goals as goal
 
 pub returns-in_err-found-clause-failed : goal.returns-in_err-found-clause-failed
-returns-in_err-found-clause-failed c = λ later x.
-    let k : Context = context_over c.args.schemas.now in
+returns-in_err-found-clause-failed c = λ calls later x.
+    let k : Context = context_with c.args.schemas.now calls in
     let forest = c.args.store.now in
     let values : Items = items_in later c.args.self.now.values.items in
     let front : Items = take c.args.first values in
@@ -25,8 +25,8 @@ returns-in_err-found-clause-failed c = λ later x.
     (fails_also _ _ _ (ap (λ (v : Items). stepped_from_each k.schemas c.args.axis c.args.test.now front v forest) (sym (c.values_from-operand.ensures later))) (c.in_err-found.ensures.failed later front x)))
 
 pub returns-clause-value : goal.returns-clause-value
-returns-clause-value c = λ later x.
-    let k : Context = context_over c.args.schemas.now in
+returns-clause-value c = λ calls later x.
+    let k : Context = context_with c.args.schemas.now calls in
     let forest = c.args.store.now in
     let values : Items = items_in later c.args.self.now.values.items in
     let front : Items = take c.args.first values in

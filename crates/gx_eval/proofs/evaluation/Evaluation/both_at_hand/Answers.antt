@@ -6,19 +6,19 @@ use Rattle.gx_core.specs.Outcome.{gives}
 use Rattle.gx_core.specs.Meaning.{Context, Bindings, binary_meaning, meaning}
 use Rattle.gx_store.specs.Items.{items_in}
 use Rattle.gx_eval.specs.BoundItems.{hand_items}
-use Rattle.gx_eval.specs.Resume.{context_over, items_of}
+use Rattle.gx_eval.specs.Resume.{context_with, items_of}
 use Rattle.gx_eval.proofs.Resuming.{both_are, fails_also}
 use Rattle.gx_eval.proofs.evaluation.Evaluation.both_at_hand.Goals as goal
 
 pub returns-in_err-of_two-in-Some-2-clause-failed : goal.returns-in_err-of_two-in-Some-2-clause-failed
-returns-in_err-of_two-in-Some-2-clause-failed c = λ later x.
-    let k : Context = context_over c.args.schemas.now in
+returns-in_err-of_two-in-Some-2-clause-failed c = λ calls later x.
+    let k : Context = context_with c.args.schemas.now calls in
     let forest = c.args.store.now in
     let bindings : Bindings = items_of later c.args.self.now.scope in
     let xs : Items = items_in later c.as_slice.result.now in
     let ys : Items = items_in later c.as_slice-in-Some-2.result.now in
-    let e : meaning k c.args.left.now bindings forest ≡ gives (hand_items later c.in-Some.first) forest = rw c.in-Some.is at (c.in_ok-first.ensures later x) in
-    let h : meaning k c.args.right.now bindings forest ≡ gives (hand_items later c.in-Some-2.second) forest = rw c.in-Some-2.is at (c.in_ok-second.ensures later x) in
+    let e : meaning k c.args.left.now bindings forest ≡ gives (hand_items later c.in-Some.first) forest = rw c.in-Some.is at (c.in_ok-first.ensures calls later x) in
+    let h : meaning k c.args.right.now bindings forest ≡ gives (hand_items later c.in-Some-2.second) forest = rw c.in-Some-2.is at (c.in_ok-second.ensures calls later x) in
     let p = err_from_is_err_and c.from_residual-in_err-of_two-in-Some-2.result c.from_residual-in_err-of_two-in-Some-2.ensures.1 in
     rw (p.1, p.2)
     (fails_also _ _ _
@@ -27,14 +27,14 @@ returns-in_err-of_two-in-Some-2-clause-failed c = λ later x.
     (c.in_err-of_two-in-Some-2.ensures.failed later x))
 
 pub returns-in-Some-2-clause-value : goal.returns-in-Some-2-clause-value
-returns-in-Some-2-clause-value c = λ later x.
-    let k : Context = context_over c.args.schemas.now in
+returns-in-Some-2-clause-value c = λ calls later x.
+    let k : Context = context_with c.args.schemas.now calls in
     let forest = c.args.store.now in
     let bindings : Bindings = items_of later c.args.self.now.scope in
     let xs : Items = items_in later c.as_slice.result.now in
     let ys : Items = items_in later c.as_slice-in-Some-2.result.now in
-    let e : meaning k c.args.left.now bindings forest ≡ gives (hand_items later c.in-Some.first) forest = rw c.in-Some.is at (c.in_ok-first.ensures later x) in
-    let h : meaning k c.args.right.now bindings forest ≡ gives (hand_items later c.in-Some-2.second) forest = rw c.in-Some-2.is at (c.in_ok-second.ensures later x) in
+    let e : meaning k c.args.left.now bindings forest ≡ gives (hand_items later c.in-Some.first) forest = rw c.in-Some.is at (c.in_ok-first.ensures calls later x) in
+    let h : meaning k c.args.right.now bindings forest ≡ gives (hand_items later c.in-Some-2.second) forest = rw c.in-Some-2.is at (c.in_ok-second.ensures calls later x) in
     both_are k forest c.args.operator (meaning k c.args.left.now) (meaning k c.args.right.now) xs ys bindings (e ∙ ap (λ (v : Items). gives v forest) (sym (c.as_slice.ensures later))) (h ∙ ap (λ (v : Items). gives v forest) (sym (c.as_slice-in-Some-2.ensures later)))
     ∙ ap (λ (class : BinaryClass). binary_meaning class xs ys forest) (sym c.class.ensures)
     ∙ c.in_ok-of_two-in-Some-2.ensures.value later x

@@ -12,13 +12,13 @@ use Rattle.gx_store.specs.declared.item.Item.{Item}
 use Rattle.gx_build.specs.Parts.{parts_in}
 use Rattle.gx_eval.specs.Failing.{FailsSo}
 use Rattle.gx_eval.specs.MadeNodes.{node_items}
-use Rattle.gx_eval.specs.Resume.{Stacks, context_over, operated, resume, with_marks, items_of, stacks_of}
+use Rattle.gx_eval.specs.Resume.{Stacks, context_with, operated, resume, with_marks, items_of, stacks_of}
 use Rattle.gx_eval.proofs.MadeTrees.{operated_gives, operated_fails}
 use Rattle.gx_eval.proofs.evaluation.Evaluation.construct.Goals as goal
 
 pub returns-in_err-parts-clause-failed : goal.returns-in_err-parts-clause-failed
-returns-in_err-parts-clause-failed c = λ later x.
-    let k : Context = context_over c.args.schemas.now in
+returns-in_err-parts-clause-failed c = λ calls later x.
+    let k : Context = context_with c.args.schemas.now calls in
     let stacks : Stacks = stacks_of later c.args.self.now in
     let p = err_from_is_err_and c.from_residual.result c.from_residual.ensures.1 in
     rw (p.1, p.2)
@@ -26,9 +26,9 @@ returns-in_err-parts-clause-failed c = λ later x.
     (λ vs left. resume k c.args.self.now.work vs (with_marks stacks below) (items_of later c.args.self.now.scope) left)))
 
 pub returns-in_err-made-clause-failed : goal.returns-in_err-made-clause-failed
-returns-in_err-made-clause-failed c = λ later x.
+returns-in_err-made-clause-failed c = λ calls later x.
     let s = c.args.schemas.now in
-    let k : Context = context_over s in
+    let k : Context = context_with s calls in
     let before = c.args.store.now in
     let constructor = c.args.constructor.now in
     let error = c.in_err-made.field-0.0 in
@@ -46,9 +46,9 @@ returns-in_err-made-clause-failed c = λ later x.
     (λ more left. resume k c.args.self.now.work (rest ++ more) (with_marks stacks c.take_operands.new.marks) bindings left) failed))
 
 pub returns-clause-value : goal.returns-clause-value
-returns-clause-value c = λ later x.
+returns-clause-value c = λ calls later x.
     let s = c.args.schemas.now in
-    let k : Context = context_over s in
+    let k : Context = context_with s calls in
     let before = c.args.store.now in
     let now = c.constructed.new.store in
     let constructor = c.args.constructor.now in

@@ -1,47 +1,22 @@
-use Rattle.std.proofs.Common.{◌≡◌, ◌+◌, ◌-◌, ◌∷◌, [], ℕ, List, length, map, ap, sym, ◌∙◌, arith}
-use Rattle.std.proofs.lemmas.List.{map-append, nil_from_length, length-map}
+use Rattle.std.proofs.Common.{◌≡◌, ◌+◌, ◌-◌, List, length, map, ap, ◌∙◌, arith}
+use Rattle.std.proofs.lemmas.List.{length-map}
 use Rattle.gx_model.specs.Item.{Items}
 use Rattle.gx_core.specs.Meaning.{Bindings, Denotation, meaning}
 use Rattle.gx_core.specs.Soundness.{TypedExpression}
 use Rattle.gx_store.specs.Items.{items_in}
-use Rattle.gx_store.specs.Places.{node_places}
 use Rattle.gx_eval.specs.declared.evaluation.Pending.{Pending}
-use Rattle.gx_eval.specs.declared.evaluation.Pending.TheVariants.{Mark}
-use Rattle.gx_eval.specs.FoundTuples.{found_in}
-use Rattle.gx_eval.specs.Resume.{Stacks, items_of, stacks_of, in_order}
-use Rattle.gx_eval.proofs.Resuming.{last_in_order, call_opens, resume_marked}
+use Rattle.gx_eval.specs.Resume.{Stacks, items_of, stacks_of, in_order, resume_marked}
+use Rattle.gx_eval.proofs.Resuming.{call_opens}
 use Rattle.gx_eval.proofs.evaluation.Evaluation.open_arguments.Goals as goal
-
-pub loop-argument-preserved : goal.loop-argument-preserved
-loop-argument-preserved c = record {
-  same = λ k stacks values marks bindings forest.
-      ap (λ (work : List Pending). in_order (map (meaning k) c.in-Some.front.now) (resume_marked k work stacks) values marks bindings forest) (c.in_ok-push-3.ensures.ok ∙ ap (λ (work : List Pending). Mark ∷ work) c.in_ok-push-2.ensures.ok)
-      ∙ sym (last_in_order (map (meaning k) c.in-Some.front.now) (meaning k c.in-Some.argument.now) (resume_marked k c.loop-argument.self.work stacks) values marks bindings forest)
-      ∙ ap (λ (parts : List Denotation). in_order parts (resume_marked k c.loop-argument.self.work stacks) values marks bindings forest)
-      (sym (map-append (meaning k) c.in-Some.front.now (c.in-Some.argument.now ∷ [])) ∙ ap (map (meaning k)) (sym c.in-Some.ensures.cases.0))
-      ∙ c.loop-argument.invariant.same k stacks values marks bindings forest;
-  same_values = c.loop-argument.invariant.same_values;
-  same_marks = c.loop-argument.invariant.same_marks;
-  same_sources = c.loop-argument.invariant.same_sources;
-  same_documents = c.loop-argument.invariant.same_documents;
-  same_tuples = c.loop-argument.invariant.same_tuples;
-  same_scope = c.loop-argument.invariant.same_scope;
-}
 
 pub returns : goal.returns
 returns c = λ k forest later.
-    let work : List Pending = c.loop-argument.self.work in
     let values : Items = items_in later c.args.self.now.values.items in
     let stacks : Stacks = stacks_of later c.args.self.now in
     let bindings : Bindings = items_of later c.args.self.now.scope in
-    let arguments : List TypedExpression = c.args.arguments.now in
-    let all : (length arguments - 2) + 2 ≡ length (map (meaning k) arguments) = omega (arith, c.requires, length-map arguments (meaning k)) in
-    ap (λ v. resume_marked k work (stacks_of later c.loop-argument.self) (items_in later v.items) c.loop-argument.self.marks (items_of later c.loop-argument.self.scope) forest) c.loop-argument.invariant.same_values
-    ∙ ap (λ v. resume_marked k work (record { marks = c.loop-argument.self.marks; sources = items_in later v.items; documents = node_places later c.loop-argument.self.documents.now; found = found_in later c.loop-argument.self.tuples }) values c.loop-argument.self.marks (items_of later c.loop-argument.self.scope) forest) c.loop-argument.invariant.same_sources
-    ∙ ap (λ v. resume_marked k work (record { marks = c.loop-argument.self.marks; sources = items_in later c.args.self.now.sources.items; documents = node_places later v.now; found = found_in later c.loop-argument.self.tuples }) values c.loop-argument.self.marks (items_of later c.loop-argument.self.scope) forest) c.loop-argument.invariant.same_documents
-    ∙ ap (λ v. resume_marked k work (record { marks = c.loop-argument.self.marks; sources = items_in later c.args.self.now.sources.items; documents = node_places later c.args.self.now.documents.now; found = found_in later v }) values c.loop-argument.self.marks (items_of later c.loop-argument.self.scope) forest) c.loop-argument.invariant.same_tuples
-    ∙ ap (λ (ms : List ℕ). resume_marked k work (record { marks = ms; sources = items_in later c.args.self.now.sources.items; documents = node_places later c.args.self.now.documents.now; found = found_in later c.args.self.now.tuples }) values ms (items_of later c.loop-argument.self.scope) forest) c.loop-argument.invariant.same_marks
-    ∙ ap (λ s. resume_marked k work stacks values stacks.marks (items_of later s) forest) c.loop-argument.invariant.same_scope
-    ∙ ap (λ (es : List TypedExpression). in_order (map (meaning k) es) (resume_marked k work stacks) values stacks.marks bindings forest) (sym (nil_from_length c.loop-argument.rest.now c.in_default.ensures.cases))
-    ∙ c.loop-argument.invariant.same k stacks values stacks.marks bindings forest
-    ∙ call_opens k c.args.function (length arguments - 2) c.args.self.now.work values stacks bindings forest (map (meaning k) arguments) all
+    let parts : List TypedExpression = c.args.arguments.now in
+    let means : List Denotation = map (meaning k) parts in
+    let all : (length parts - 2) + 2 ≡ length means = omega (arith, c.requires, length-map parts (meaning k)) in
+    c.in_ok-mark_parts.ensures k stacks values stacks.marks bindings forest
+    ∙ ap (λ (work : List Pending). in_order means (resume_marked k work stacks) values stacks.marks bindings forest) c.in_ok-push.ensures.ok
+    ∙ call_opens k c.args.function (length parts - 2) c.args.self.now.work values stacks bindings forest means all

@@ -5,23 +5,23 @@ use Rattle.gx_core.specs.Outcome.{gives}
 use Rattle.gx_core.specs.Meaning.{Context, Bindings, denoted, meaning}
 use Rattle.gx_store.specs.Items.{items_in}
 use Rattle.gx_eval.specs.Answering.{answer_items}
-use Rattle.gx_eval.specs.Resume.{context_over, resume, items_of, stacks_of}
+use Rattle.gx_eval.specs.Resume.{context_with, resume, items_of, stacks_of}
 use Rattle.gx_eval.proofs.Resuming.{answer_behind, binary_opens_at}
 use Rattle.gx_eval.proofs.evaluation.Evaluation.open_binary.Goals as goal
 
 pub returns-in-Some-clause-value : goal.returns-in-Some-clause-value
-returns-in-Some-clause-value c = λ later x.
-    let k : Context = context_over c.args.schemas.now in
+returns-in-Some-clause-value c = λ calls later x.
+    let k : Context = context_with c.args.schemas.now calls in
     let forest = c.args.store.now in
     let bindings : Bindings = items_of later c.args.self.now.scope in
-    let e : denoted k (operators.Binary c.args.operator) (meaning k c.args.left.now ∷ meaning k c.args.right.now ∷ []) bindings forest ≡ gives (answer_items later c.in-Some.answer) forest = rw c.in-Some.is at (c.in_ok-answer.ensures.value later x) in
+    let e : denoted k (operators.Binary c.args.operator) (meaning k c.args.left.now ∷ meaning k c.args.right.now ∷ []) bindings forest ≡ gives (answer_items later c.in-Some.answer) forest = rw c.in-Some.is at (c.in_ok-answer.ensures.value calls later x) in
     ap (λ (v : Items). resume k c.args.self.now.work v (stacks_of later c.args.self.now) bindings forest) (c.in_ok-put.ensures later)
     ∙ answer_behind (denoted k (operators.Binary c.args.operator) (meaning k c.args.left.now ∷ meaning k c.args.right.now ∷ []) bindings forest) forest (items_in later c.args.self.now.values.items) (answer_items later c.in-Some.answer)
     (λ vs left. resume k c.args.self.now.work vs (stacks_of later c.args.self.now) bindings left) e
 
 pub returns-clause-value : goal.returns-clause-value
-returns-clause-value c = λ later x.
-    let k : Context = context_over c.args.schemas.now in
+returns-clause-value c = λ calls later x.
+    let k : Context = context_with c.args.schemas.now calls in
     let values : Items = items_in later c.args.self.now.values.items in
     let bindings : Bindings = items_of later c.args.self.now.scope in
     c.in_ok-open_part.ensures k c.args.store.now later

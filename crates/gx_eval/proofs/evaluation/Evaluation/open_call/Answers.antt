@@ -9,28 +9,28 @@ use Rattle.gx_core.specs.Soundness.{TypedExpression}
 use Rattle.gx_store.specs.Items.{items_in}
 use Rattle.gx_eval.specs.Answering.{answer_items}
 use Rattle.gx_eval.specs.Failing.{FailsSo}
-use Rattle.gx_eval.specs.Resume.{Stacks, context_over, outcome_of, outcome_behind, resume, items_of, stacks_of}
+use Rattle.gx_eval.specs.Resume.{Stacks, context_with, outcome_of, outcome_behind, resume, items_of, stacks_of}
 use Rattle.gx_eval.proofs.Operands.{the_single}
 use Rattle.gx_eval.proofs.Resuming.{none_applies}
 use Rattle.gx_eval.proofs.evaluation.Evaluation.open_call.Goals as goal
 
 pub returns-in-len1-clause-value : goal.returns-in-len1-clause-value
-returns-in-len1-clause-value c = λ later x.
-    let k : Context = context_over c.args.schemas.now in
+returns-in-len1-clause-value c = λ calls later x.
+    let k : Context = context_with c.args.schemas.now calls in
     let l : length c.args.arguments.now ≡ 1 = omega arith in
     subst (λ (es : List TypedExpression). OnOk c.open_single.result (outcome_of k c.args.store.now later c.open_single.new.self ≡ outcome_behind k later (denoted k (operators.Call c.args.function) (map (meaning k) es) (items_of later c.args.self.now.scope) c.args.store.now) c.args.self.now))
-    (sym (the_single c.args.arguments.now c.argument-item.result l c.argument-item.is)) (c.open_single.ensures.value later x)
+    (sym (the_single c.args.arguments.now c.argument-item.result l c.argument-item.is)) (c.open_single.ensures.value calls later x)
 
 pub returns-in-len1-clause-failed : goal.returns-in-len1-clause-failed
-returns-in-len1-clause-failed c = λ later x.
-    let k : Context = context_over c.args.schemas.now in
+returns-in-len1-clause-failed c = λ calls later x.
+    let k : Context = context_with c.args.schemas.now calls in
     let l : length c.args.arguments.now ≡ 1 = omega arith in
     subst (λ (es : List TypedExpression). IfErr c.open_single.result (λ e. FailsSo e (outcome_behind k later (denoted k (operators.Call c.args.function) (map (meaning k) es) (items_of later c.args.self.now.scope) c.args.store.now) c.args.self.now)))
-    (sym (the_single c.args.arguments.now c.argument-item.result l c.argument-item.is)) (c.open_single.ensures.failed later x)
+    (sym (the_single c.args.arguments.now c.argument-item.result l c.argument-item.is)) (c.open_single.ensures.failed calls later x)
 
 pub returns-in_ok-put-in-empty-clause-value : goal.returns-in_ok-put-in-empty-clause-value
-returns-in_ok-put-in-empty-clause-value c = λ later x.
-    let k : Context = context_over c.args.schemas.now in
+returns-in_ok-put-in-empty-clause-value c = λ calls later x.
+    let k : Context = context_with c.args.schemas.now calls in
     let forest = c.args.store.now in
     let values : Items = items_in later c.args.self.now.values.items in
     let stacks : Stacks = stacks_of later c.args.self.now in

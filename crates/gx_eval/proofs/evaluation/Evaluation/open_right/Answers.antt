@@ -6,24 +6,24 @@ use Rattle.gx_store.specs.Items.{items_in}
 use Rattle.gx_eval.specs.Answering.{answer_items}
 use Rattle.gx_eval.specs.declared.evaluation.Pending.{Pending}
 use Rattle.gx_eval.specs.declared.evaluation.Pending.TheVariants.{Evaluate}
-use Rattle.gx_eval.specs.Resume.{context_over, resume, right_meaning, items_of, stacks_of}
+use Rattle.gx_eval.specs.Resume.{context_with, resume, right_meaning, items_of, stacks_of}
 use Rattle.gx_eval.proofs.Resuming.{right_at_once, right_opens}
 use Rattle.gx_eval.proofs.evaluation.Evaluation.open_right.Goals as goal
 
 pub returns-in-Some-clause-value : goal.returns-in-Some-clause-value
-returns-in-Some-clause-value c = λ later x.
-    let k : Context = context_over c.args.schemas.now in
+returns-in-Some-clause-value c = λ calls later x.
+    let k : Context = context_with c.args.schemas.now calls in
     let forest = c.args.store.now in
     let values : Items = items_in later c.args.self.now.values.items in
     let answer : Items = answer_items later c.in-Some.answer in
     let bindings : Bindings = items_of later c.args.self.now.scope in
-    let e : right_meaning k c.args.operator c.args.first c.args.right.now values bindings forest ≡ gives answer forest = rw c.in-Some.is at (c.in_ok-answer.ensures.value later x) in
+    let e : right_meaning k c.args.operator c.args.first c.args.right.now values bindings forest ≡ gives answer forest = rw c.in-Some.is at (c.in_ok-answer.ensures.value calls later x) in
     ap (λ (v : Items). resume k c.args.self.now.work v (stacks_of later c.args.self.now) bindings forest) (c.in_ok-put.ensures later ∙ ap (λ (v : Items). v ++ answer) (c.cut_off.ensures later))
     ∙ right_at_once k forest c.args.operator c.args.right.now c.args.self.now.work values answer c.args.first (stacks_of later c.args.self.now) bindings e
 
 pub returns-clause-value : goal.returns-clause-value
-returns-clause-value c = λ later x.
-    let k : Context = context_over c.args.schemas.now in
+returns-clause-value c = λ calls later x.
+    let k : Context = context_with c.args.schemas.now calls in
     let forest = c.args.store.now in
     let values : Items = items_in later c.args.self.now.values.items in
     let bindings : Bindings = items_of later c.args.self.now.scope in

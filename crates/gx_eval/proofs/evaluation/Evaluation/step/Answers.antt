@@ -6,111 +6,102 @@ use Rattle.gx_core.specs.Meaning.{Bindings}
 use Rattle.gx_store.specs.Items.{items_in}
 use Rattle.gx_eval.specs.declared.bound.Bound.{Bound}
 use Rattle.gx_eval.specs.BoundItems.{bound_items}
-use Rattle.gx_eval.specs.Resume.{context_over, resume, with_marks, items_of, stacks_of}
+use Rattle.gx_eval.specs.Resume.{context_with, resume, with_marks, items_of, stacks_of}
 use Rattle.gx_eval.proofs.evaluation.Evaluation.step.Goals as goal
 
 pub returns-in-Evaluate-clause-value : goal.returns-in-Evaluate-clause-value
-returns-in-Evaluate-clause-value c = λ later x. rw c.in-Evaluate.is (c.open.ensures.value later x)
+returns-in-Evaluate-clause-value c = λ calls later x. rw c.in-Evaluate.is (c.open.ensures.value calls later x)
 
 pub returns-in-Evaluate-clause-failed : goal.returns-in-Evaluate-clause-failed
-returns-in-Evaluate-clause-failed c = λ later x. rw c.in-Evaluate.is (c.open.ensures.failed later x)
+returns-in-Evaluate-clause-failed c = λ calls later x. rw c.in-Evaluate.is (c.open.ensures.failed calls later x)
 
 pub returns-in-Change-clause-value : goal.returns-in-Change-clause-value
-returns-in-Change-clause-value c = λ later x. rw c.in-Change.is (c.apply_change.ensures.value later x)
+returns-in-Change-clause-value c = λ calls later x. rw c.in-Change.is (c.apply_change.ensures.value calls later x)
 
 pub returns-in-Change-clause-failed : goal.returns-in-Change-clause-failed
-returns-in-Change-clause-failed c = λ later x. rw c.in-Change.is (c.apply_change.ensures.failed later x)
+returns-in-Change-clause-failed c = λ calls later x. rw c.in-Change.is (c.apply_change.ensures.failed calls later x)
 
 pub returns-in-Steps-clause-value : goal.returns-in-Steps-clause-value
-returns-in-Steps-clause-value c = λ later x. rw c.in-Steps.is (c.apply_steps.ensures.value later x)
+returns-in-Steps-clause-value c = λ calls later x. rw c.in-Steps.is (c.apply_steps.ensures.value calls later x)
 
 pub returns-in-Steps-clause-failed : goal.returns-in-Steps-clause-failed
-returns-in-Steps-clause-failed c = λ later x. rw c.in-Steps.is (c.apply_steps.ensures.failed later x)
+returns-in-Steps-clause-failed c = λ calls later x. rw c.in-Steps.is (c.apply_steps.ensures.failed calls later x)
 
 pub returns-in-Single-clause-value : goal.returns-in-Single-clause-value
-returns-in-Single-clause-value c = λ later x. rw c.in-Single.is (c.apply_single.ensures.value later x)
+returns-in-Single-clause-value c = λ calls later x. rw c.in-Single.is (c.apply_single.ensures.value calls later x)
 
 pub returns-in-Single-clause-failed : goal.returns-in-Single-clause-failed
-returns-in-Single-clause-failed c = λ later x. rw c.in-Single.is (c.apply_single.ensures.failed later x)
+returns-in-Single-clause-failed c = λ calls later x. rw c.in-Single.is (c.apply_single.ensures.failed calls later x)
 
 pub returns-in-Right-clause-value : goal.returns-in-Right-clause-value
-returns-in-Right-clause-value c = λ later x. rw c.in-Right.is (c.open_right.ensures.value later x)
+returns-in-Right-clause-value c = λ calls later x. rw c.in-Right.is (c.open_right.ensures.value calls later x)
 
 pub returns-in-Right-clause-failed : goal.returns-in-Right-clause-failed
-returns-in-Right-clause-failed c = λ later x. rw c.in-Right.is (c.open_right.ensures.failed later x)
+returns-in-Right-clause-failed c = λ calls later x. rw c.in-Right.is (c.open_right.ensures.failed calls later x)
 
 pub returns-in-Binary-clause-value : goal.returns-in-Binary-clause-value
-returns-in-Binary-clause-value c = λ later x. rw c.in-Binary.is (c.apply_binary.ensures.value (context_over c.args.schemas.now) later x)
+returns-in-Binary-clause-value c = λ calls later x. rw c.in-Binary.is (c.apply_binary.ensures.value (context_with c.args.schemas.now calls) later x)
 
 pub returns-in-Binary-clause-failed : goal.returns-in-Binary-clause-failed
-returns-in-Binary-clause-failed c = λ later x. rw c.in-Binary.is (c.apply_binary.ensures.failed (context_over c.args.schemas.now) later x)
+returns-in-Binary-clause-failed c = λ calls later x. rw c.in-Binary.is (c.apply_binary.ensures.failed (context_with c.args.schemas.now calls) later x)
 
 pub returns-in-Choose-clause-value : goal.returns-in-Choose-clause-value
-returns-in-Choose-clause-value c = λ later x. rw c.in-Choose.is (c.choose.ensures.value (context_over c.args.schemas.now) c.args.store.now later)
+returns-in-Choose-clause-value c = λ calls later x. rw c.in-Choose.is (c.choose.ensures.value (context_with c.args.schemas.now calls) c.args.store.now later)
 
 pub returns-in-Choose-clause-failed : goal.returns-in-Choose-clause-failed
-returns-in-Choose-clause-failed c = λ later x. rw c.in-Choose.is (c.choose.ensures.failed (context_over c.args.schemas.now) c.args.store.now later)
+returns-in-Choose-clause-failed c = λ calls later x. rw c.in-Choose.is (c.choose.ensures.failed (context_with c.args.schemas.now calls) c.args.store.now later)
 
 pub returns-in-Call-clause-value : goal.returns-in-Call-clause-value
-returns-in-Call-clause-value c = λ later x. rw c.in-Call.is (c.apply_call.ensures.value later x)
+returns-in-Call-clause-value c = λ calls later x. rw c.in-Call.is (c.apply_call.ensures.value calls later x)
 
 pub returns-in-Call-clause-failed : goal.returns-in-Call-clause-failed
-returns-in-Call-clause-failed c = λ later x. rw c.in-Call.is (c.apply_call.ensures.failed later x)
+returns-in-Call-clause-failed c = λ calls later x. rw c.in-Call.is (c.apply_call.ensures.failed calls later x)
 
 pub returns-in-Construct-clause-grows : goal.returns-in-Construct-clause-grows
 returns-in-Construct-clause-grows c = inr c.construct.ensures.grows
 
 pub returns-in-Construct-clause-value : goal.returns-in-Construct-clause-value
-returns-in-Construct-clause-value c = λ later x. rw c.in-Construct.is (c.construct.ensures.value later x)
+returns-in-Construct-clause-value c = λ calls later x. rw c.in-Construct.is (c.construct.ensures.value calls later x)
 
 pub returns-in-Construct-clause-failed : goal.returns-in-Construct-clause-failed
-returns-in-Construct-clause-failed c = λ later x. rw c.in-Construct.is (c.construct.ensures.failed later x)
-
-pub returns-in-External-clause-value : goal.returns-in-External-clause-value
-returns-in-External-clause-value c = λ later x. rw c.in-External.is (c.bind_document.ensures.value (context_over c.args.schemas.now) c.args.store.now later)
-
-pub returns-in-External-clause-failed : goal.returns-in-External-clause-failed
-returns-in-External-clause-failed c = λ later x. rw c.in-External.is (c.bind_document.ensures.failed (context_over c.args.schemas.now) c.args.store.now later)
+returns-in-Construct-clause-failed c = λ calls later x. rw c.in-Construct.is (c.construct.ensures.failed calls later x)
 
 pub returns-in_ok-gather-in-Gather-clause-value : goal.returns-in_ok-gather-in-Gather-clause-value
-returns-in_ok-gather-in-Gather-clause-value c = λ later x. rw c.in-Gather.is (c.in_ok-gather-in-Gather.ensures (context_over c.args.schemas.now) c.args.store.now later)
+returns-in_ok-gather-in-Gather-clause-value c = λ calls later x. rw c.in-Gather.is (c.in_ok-gather-in-Gather.ensures (context_with c.args.schemas.now calls) c.args.store.now later)
 
 pub returns-in_ok-repeat-in-Each-clause-value : goal.returns-in_ok-repeat-in-Each-clause-value
-returns-in_ok-repeat-in-Each-clause-value c = λ later x. rw c.in-Each.is (c.in_ok-repeat-in-Each.ensures (context_over c.args.schemas.now) c.args.store.now later)
+returns-in_ok-repeat-in-Each-clause-value c = λ calls later x. rw c.in-Each.is (c.in_ok-repeat-in-Each.ensures (context_with c.args.schemas.now calls) c.args.store.now later)
 
 pub returns-in_ok-bind-in-Bind-clause-value : goal.returns-in_ok-bind-in-Bind-clause-value
-returns-in_ok-bind-in-Bind-clause-value c = λ later x. rw c.in-Bind.is (c.in_ok-bind-in-Bind.ensures (context_over c.args.schemas.now) c.args.store.now later)
-
-pub returns-in_ok-declare-in-Declare-clause-value : goal.returns-in_ok-declare-in-Declare-clause-value
-returns-in_ok-declare-in-Declare-clause-value c = λ later x. rw c.in-Declare.is (c.in_ok-declare-in-Declare.ensures (context_over c.args.schemas.now) c.args.store.now later)
+returns-in_ok-bind-in-Bind-clause-value c = λ calls later x. rw c.in-Bind.is (c.in_ok-bind-in-Bind.ensures (context_with c.args.schemas.now calls) c.args.store.now later)
 
 pub returns-in_ok-push-in-Mark-clause-value : goal.returns-in_ok-push-in-Mark-clause-value
-returns-in_ok-push-in-Mark-clause-value c = λ later x.
+returns-in_ok-push-in-Mark-clause-value c = λ calls later x.
     rw c.in-Mark.is
-    (ap (λ (marks : List ℕ). resume (context_over c.args.schemas.now) c.args.self.now.work (items_in later c.args.self.now.values.items) (with_marks (stacks_of later c.args.self.now) marks) (items_of later c.args.self.now.scope) c.args.store.now)
+    (ap (λ (marks : List ℕ). resume (context_with c.args.schemas.now calls) c.args.self.now.work (items_in later c.args.self.now.values.items) (with_marks (stacks_of later c.args.self.now) marks) (items_of later c.args.self.now.scope) c.args.store.now)
     (c.in_ok-push-in-Mark.ensures.ok ∙ ap (λ (n : ℕ). n ∷ c.args.self.now.marks) (c.count_of.ensures later)))
 
 pub returns-in-Decide-clause-value : goal.returns-in-Decide-clause-value
-returns-in-Decide-clause-value c = λ later x. rw c.in-Decide.is (c.decide.ensures.value (context_over c.args.schemas.now) c.args.store.now later)
+returns-in-Decide-clause-value c = λ calls later x. rw c.in-Decide.is (c.decide.ensures.value (context_with c.args.schemas.now calls) c.args.store.now later)
 
 pub returns-in-Decide-clause-failed : goal.returns-in-Decide-clause-failed
-returns-in-Decide-clause-failed c = λ later x. rw c.in-Decide.is (c.decide.ensures.failed (context_over c.args.schemas.now) c.args.store.now later)
+returns-in-Decide-clause-failed c = λ calls later x. rw c.in-Decide.is (c.decide.ensures.failed (context_with c.args.schemas.now calls) c.args.store.now later)
 
 pub returns-in-Switch-clause-value : goal.returns-in-Switch-clause-value
-returns-in-Switch-clause-value c = λ later x. rw c.in-Switch.is (c.switch.ensures.value later x)
+returns-in-Switch-clause-value c = λ calls later x. rw c.in-Switch.is (c.switch.ensures.value calls later x)
 
 pub returns-in-Switch-clause-failed : goal.returns-in-Switch-clause-failed
-returns-in-Switch-clause-failed c = λ later x. rw c.in-Switch.is (c.switch.ensures.failed later x)
+returns-in-Switch-clause-failed c = λ calls later x. rw c.in-Switch.is (c.switch.ensures.failed calls later x)
 
 pub returns-in-Block-clause-value : goal.returns-in-Block-clause-value
-returns-in-Block-clause-value c = λ later x. rw c.in-Block.is (c.step_block.ensures.value (context_over c.args.schemas.now) c.args.store.now later)
+returns-in-Block-clause-value c = λ calls later x. rw c.in-Block.is (c.step_block.ensures.value (context_with c.args.schemas.now calls) c.args.store.now later)
 
 pub returns-in-Block-clause-failed : goal.returns-in-Block-clause-failed
-returns-in-Block-clause-failed c = λ later x. rw c.in-Block.is (c.step_block.ensures.failed (context_over c.args.schemas.now) c.args.store.now later)
+returns-in-Block-clause-failed c = λ calls later x. rw c.in-Block.is (c.step_block.ensures.failed (context_with c.args.schemas.now calls) c.args.store.now later)
 
-pub returns-in-Unbind-clause-value : goal.returns-in-Unbind-clause-value
-returns-in-Unbind-clause-value c = λ later x.
+pub returns-in_ok-unbind_innermost-in-Unbind-clause-value : goal.returns-in_ok-unbind_innermost-in-Unbind-clause-value
+returns-in_ok-unbind_innermost-in-Unbind-clause-value c = λ calls later x.
     let values : Items = items_in later c.args.self.now.values.items in
-    let run : Bindings → Outcome Items = λ bindings. resume (context_over c.args.schemas.now) c.args.self.now.work values (stacks_of later c.args.self.now) bindings c.args.store.now in
+    let run : Bindings → Outcome Items = λ bindings. resume (context_with c.args.schemas.now calls) c.args.self.now.work values (stacks_of later c.args.self.now) bindings c.args.store.now in
     rw c.in-Unbind.is
-    (ap (λ scope. run (items_of later scope)) c.unbind_innermost.ensures ∙ ap run (sym (drop-map (λ (binding : ℕ × Bound). (binding.0, bound_items later binding.1)) c.in-Unbind.count c.args.self.now.scope)))
+    (ap (λ scope. run (items_of later scope)) c.in_ok-unbind_innermost-in-Unbind.ensures ∙ ap run (sym (drop-map (λ (binding : ℕ × Bound). (binding.0, bound_items later binding.1)) c.in-Unbind.count c.args.self.now.scope)))

@@ -5,27 +5,27 @@ use Rattle.gx_core.specs.Instances.{is_instance}
 use Rattle.gx_core.specs.Meaning.{Context, Bindings}
 use Rattle.gx_store.specs.Items.{items_in}
 use Rattle.gx_eval.specs.declared.evaluation.Pending.{Pending}
-use Rattle.gx_eval.specs.Resume.{Stacks, context_over, resume, items_of, stacks_of}
+use Rattle.gx_eval.specs.Resume.{Stacks, context_with, resume, items_of, stacks_of}
 use Rattle.gx_eval.proofs.Resuming.{no_branch, no_case, first_case, later_case}
 use Rattle.gx_eval.proofs.evaluation.Evaluation.switch.Goals as goal
 
 pub returns-in_default-clause-failed : goal.returns-in_default-clause-failed
-returns-in_default-clause-failed c = λ later x.
+returns-in_default-clause-failed c = λ calls later x.
     let forest = c.args.store.now in
     let values : Items = items_in later c.args.self.now.values.items in
     let stacks : Stacks = stacks_of later c.args.self.now in
     let bindings : Bindings = items_of later c.args.self.now.scope in
-    let k : Context = context_over c.args.schemas.now in
+    let k : Context = context_with c.args.schemas.now calls in
     no_branch k forest c.args.choice.default c.args.choice.cases.now c.args.choice.branches.now (drop c.args.first values) bindings (λ more left. resume k c.args.self.now.work (take c.args.first values ++ more) stacks bindings left)
     (nil_from_length c.args.choice.branches.now c.in_default.ensures.cases)
 
 pub returns-in_default-split_first-clause-value : goal.returns-in_default-split_first-clause-value
-returns-in_default-split_first-clause-value c = λ later x.
+returns-in_default-split_first-clause-value c = λ calls later x.
     let forest = c.args.store.now in
     let values : Items = items_in later c.args.self.now.values.items in
     let stacks : Stacks = stacks_of later c.args.self.now in
     let bindings : Bindings = items_of later c.args.self.now.scope in
-    let k : Context = context_over c.args.schemas.now in
+    let k : Context = context_with c.args.schemas.now calls in
     let branches : c.args.choice.branches.now ≡ c.in-Some.branch.now ∷ c.in-Some.others.now = search rules in
     let none : length c.in-Some.others.now ≡ 0 = search rules in
     c.in_ok-choose_branch.ensures k forest later
@@ -33,12 +33,12 @@ returns-in_default-split_first-clause-value c = λ later x.
     (nil_from_length c.args.choice.cases.now c.in_default-split_first.ensures.cases) branches (nil_from_length c.in-Some.others.now none)
 
 pub returns-then-is_instance-clause-value : goal.returns-then-is_instance-clause-value
-returns-then-is_instance-clause-value c = λ later x.
+returns-then-is_instance-clause-value c = λ calls later x.
     let forest = c.args.store.now in
     let values : Items = items_in later c.args.self.now.values.items in
     let stacks : Stacks = stacks_of later c.args.self.now in
     let bindings : Bindings = items_of later c.args.self.now.scope in
-    let k : Context = context_over c.args.schemas.now in
+    let k : Context = context_with c.args.schemas.now calls in
     let branches : c.args.choice.branches.now ≡ c.in-Some.branch.now ∷ c.in-Some.others.now = search rules in
     let cases : c.args.choice.cases.now ≡ c.in-Some-split_first.case.now ∷ c.in-Some-split_first.rest.now = search rules in
     let holds : is_instance c.args.schemas.now forest c.in-Some-split_first.case.now.kind (drop c.args.first values) ≡ true =
@@ -48,12 +48,12 @@ returns-then-is_instance-clause-value c = λ later x.
     (λ more left. resume k c.args.self.now.work (take c.args.first values ++ more) stacks bindings left) cases branches holds
 
 pub returns-clause-value : goal.returns-clause-value
-returns-clause-value c = λ later x.
+returns-clause-value c = λ calls later x.
     let forest = c.args.store.now in
     let values : Items = items_in later c.args.self.now.values.items in
     let stacks : Stacks = stacks_of later c.args.self.now in
     let bindings : Bindings = items_of later c.args.self.now.scope in
-    let k : Context = context_over c.args.schemas.now in
+    let k : Context = context_with c.args.schemas.now calls in
     let branches : c.args.choice.branches.now ≡ c.in-Some.branch.now ∷ c.in-Some.others.now = search rules in
     let cases : c.args.choice.cases.now ≡ c.in-Some-split_first.case.now ∷ c.in-Some-split_first.rest.now = search rules in
     let fails : is_instance c.args.schemas.now forest c.in-Some-split_first.case.now.kind (drop c.args.first values) ≡ false =

@@ -17,7 +17,7 @@ returns-in_default c =
     let parts : List ResolvedTree = c.as_slice-in_default.result.now in
     let of_parts : is_of_parts construct ≡ true = search rules in
     let whole =
-    ap (λ (tree : ResolvedTree). core_of tree n.numbers n.focus n.free) (sym c.tree.view_is)
-    ∙ ap (λ (trees : List ResolvedTree). core_of (resolved_at place construct (resolved_parts trees)) n.numbers n.focus n.free) (sym c.as_slice-in_default.ensures.value)
-    ∙ core_of_parts place construct (resolved_parts parts) n.numbers n.focus n.free of_parts in
-    subst (λ (e : CoreExpression × ℕ). OnOk c.open_construct.result (core_to_make c.open_construct.new.self ≡ core_left n.tasks (added e.0 n.made) n.numbers n.focus e.1)) (sym whole) c.open_construct.ensures
+    ap (λ (tree : ResolvedTree). core_of n.signatures.now tree n.numbers n.focus n.free) (sym c.tree.view_is)
+    ∙ ap (λ (trees : List ResolvedTree). core_of n.signatures.now (resolved_at place construct (resolved_parts trees)) n.numbers n.focus n.free) (sym c.as_slice-in_default.ensures.value)
+    ∙ core_of_parts n.signatures.now place construct (resolved_parts parts) n.numbers n.focus n.free of_parts in
+    subst (λ (e : CoreExpression × ℕ). OnOk c.open_construct.result (core_to_make c.open_construct.new.self ≡ core_left n.signatures.now n.tasks (added e.0 n.made) n.numbers n.focus e.1)) (sym whole) c.open_construct.ensures

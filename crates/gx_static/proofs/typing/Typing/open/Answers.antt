@@ -1,6 +1,6 @@
 use Rattle.std.proofs.Common.{◌≡◌, length, refl, rules}
 use Rattle.gx_core.specs.declared.operator.Operator.TheVariants as operators
-use Rattle.gx_static.proofs.Continuing.{single_opens, pair_opens, conditional_opens, call_opens, constructor_opens, for_opens, some_opens, every_opens, let_opens, switch_opens}
+use Rattle.gx_static.proofs.Continuing.{single_opens, pair_opens, conditional_opens, call_opens, counted_opens, for_opens, some_opens, every_opens, let_opens, switch_opens}
 use Rattle.gx_static.proofs.BlockTyping.{block_opens}
 use Rattle.gx_static.proofs.typing.Typing.open.Goals as goal
 
@@ -46,9 +46,19 @@ returns-in-Construct c = λ schemas.
     rw (
       c.into_parts-kind.ensures,
       c.in-Construct.is,
-      ← constructor_opens schemas c.args.self.now.tasks c.args.self.now.parts c.args.self.now.scope c.args.self.now.declared.items c.into_parts-kind.result.0 c.into_parts-kind.result.1 c.in-Construct.constructor c.len.result c.in-Construct.parts.items all,
+      ← counted_opens schemas (operators.Construct c.in-Construct.constructor) (λ number before. refl) (λ number. refl) c.args.self.now.tasks c.args.self.now.parts c.args.self.now.scope c.args.self.now.declared.items c.into_parts-kind.result.0 c.into_parts-kind.result.1 c.len.result c.in-Construct.parts.items all,
     )
     (c.open_parts.ensures schemas)
+
+pub returns-in-User : goal.returns-in-User
+returns-in-User c = λ schemas.
+    let all : c.len-in-User.result ≡ length c.in-User.arguments.items = search rules in
+    rw (
+      c.into_parts-kind.ensures,
+      c.in-User.is,
+      ← counted_opens schemas (operators.User c.in-User.signature) (λ number before. refl) (λ number. refl) c.args.self.now.tasks c.args.self.now.parts c.args.self.now.scope c.args.self.now.declared.items c.into_parts-kind.result.0 c.into_parts-kind.result.1 c.len-in-User.result c.in-User.arguments.items all,
+    )
+    (c.open_parts-in-User.ensures schemas)
 
 pub returns-in-Binary : goal.returns-in-Binary
 returns-in-Binary c = λ schemas.

@@ -1,0 +1,158 @@
+// The declarations of a query.
+
+ghost use Rattle.std.specs.Prelude.{◌≡◌, ◌⊎◌, ◌∷◌, [], List, IfOk, IfErr};
+ghost use Rattle.gx_model.specs.Forest.{Forest as PlainForest};
+ghost use Rattle.gx_model.specs.Growth.{Extends};
+ghost use Rattle.gx_core.specs.Functions.{functions_of};
+ghost use Rattle.gx_core.specs.Meaning.{Bindings};
+ghost use Rattle.gx_core.specs.Outcome.{Outcome, gives, after};
+ghost use Rattle.gx_core.specs.Queries.{TypedDeclaration as PlainDeclaration};
+ghost use Rattle.gx_core.specs.QueryMeaning.{globals_bound, outcome_within};
+ghost use Rattle.gx_model.specs.Item.{Items};
+ghost use Rattle.gx_store.specs.Items.{items_in};
+ghost use Rattle.gx_store.specs.Places.{node_places};
+ghost use Rattle.gx_eval.specs.Failing.{FailsSo};
+ghost use Rattle.gx_eval.specs.Frames.{functions_in};
+ghost use Rattle.gx_eval.specs.Growing.{GrowsHonestly};
+ghost use Rattle.gx_eval.specs.Resume.{items_of};
+
+use crate::bound::{Bound, take_bound};
+use crate::failure::Failure;
+use crate::frames::{Declared, value_of};
+use gx_core::expression::{TypedCore, TypedDeclaration, TypedFunction};
+use gx_core::scope::Scope;
+use gx_store::item::Item;
+use gx_store::number::NodeId;
+use gx_store::store::Store;
+use gx_types::schemas::Schemas;
+use std::alloc::{AllocError, Global};
+
+// The value of a query in which so many calls may be active: the globals are evaluated in order before the body.
+pub(crate) fn query_value(
+    alloc: Global,
+    schemas: &Schemas,
+    core: &TypedCore,
+    store: &mut Store,
+    documents: &[NodeId],
+    limit: u32,
+) -> Result<Vec<Item>, Failure>
+    ensures grows { GrowsHonestly schemas.now store.old store.new }
+    ensures value { (later : PlainForest) → Extends store.new later → IfOk result (λ v.
+        outcome_within limit schemas.now core.now (node_places later documents.now) store.old ≡ gives (items_in later v.items) store.new) }
+    ensures failed { (later : PlainForest) → Extends store.new later → IfErr result (λ e.
+        FailsSo e (outcome_within limit schemas.now core.now (node_places later documents.now) store.old)) }
+{
+    let declarations = core.declarations.as_slice();
+    let functions = functions_among(alloc, declarations)?;
+    let functions = functions.as_slice();
+    let globals = bound_globals(
+        alloc,
+        schemas,
+        store,
+        functions,
+        limit,
+        declarations,
+        documents,
+    )?;
+    let declared = Declared {
+        functions,
+        globals: &globals,
+    };
+    value_of(alloc, schemas, store, declared, limit, &core.body)
+}
+
+// The functions among declarations.
+fn functions_among<'a>(
+    alloc: Global,
+    declarations: &'a [TypedDeclaration],
+) -> Result<Vec<&'a TypedFunction>, AllocError>
+    ensures { IfOk result (λ functions. functions_in functions.items ≡ functions_of declarations.now) }
+{
+    let mut functions = Vec::new(alloc);
+    for declaration in declarations {
+        if let TypedDeclaration::Function(function) = declaration {
+            functions.push(function)?;
+        }
+    }
+    Ok(functions)
+}
+
+// The globals in order, each bound to its value, or to the next document where it is external.
+fn bound_globals(
+    alloc: Global,
+    schemas: &Schemas,
+    store: &mut Store,
+    functions: &[&TypedFunction],
+    limit: u32,
+    declarations: &[TypedDeclaration],
+    documents: &[NodeId],
+) -> Result<Scope<Bound>, Failure>
+    ensures grows { GrowsHonestly schemas.now store.old store.new }
+    ensures value { (later : PlainForest) → Extends store.new later → IfOk result (λ globals.
+        globals_bound schemas.now (functions_in functions.now) limit declarations.now (node_places later documents.now) [] store.old ≡ gives (items_of later globals) store.new) }
+    ensures failed { (later : PlainForest) (next : Bindings → PlainForest → Outcome Items) → Extends store.new later → IfErr result (λ e.
+        FailsSo e (after (globals_bound schemas.now (functions_in functions.now) limit declarations.now (node_places later documents.now) [] store.old) next)) }
+{
+    let mut globals = Scope::new(alloc);
+    let mut rest = declarations;
+    let mut left = documents;
+    while let Some((declaration, others)) = rest.split_first() {
+        left = bind_global(
+            alloc,
+            schemas,
+            store,
+            functions,
+            limit,
+            declaration,
+            left,
+            &mut globals,
+        )?;
+        rest = others;
+    }
+    Ok(globals)
+}
+
+// Binds the variable of a declaration behind the globals that are bound, and gives the documents that are left.
+fn bind_global<'d>(
+    alloc: Global,
+    schemas: &Schemas,
+    store: &mut Store,
+    functions: &[&TypedFunction],
+    limit: u32,
+    declaration: &TypedDeclaration,
+    documents: &'d [NodeId],
+    globals: &mut Scope<Bound>,
+) -> Result<&'d [NodeId], Failure>
+    ensures grows { (store.new ≡ store.old) ⊎ GrowsHonestly schemas.now store.old store.new }
+    ensures value { (others : List PlainDeclaration) (later : PlainForest) → Extends store.new later → IfOk result (λ left.
+        globals_bound schemas.now (functions_in functions.now) limit (declaration.now ∷ others) (node_places later documents.now) (items_of later globals.old) store.old
+        ≡ globals_bound schemas.now (functions_in functions.now) limit others (node_places later left.now) (items_of later globals.new) store.new) }
+    ensures failed { (others : List PlainDeclaration) (later : PlainForest) (next : Bindings → PlainForest → Outcome Items) → Extends store.new later → IfErr result (λ e.
+        FailsSo e (after (globals_bound schemas.now (functions_in functions.now) limit (declaration.now ∷ others) (node_places later documents.now) (items_of later globals.old) store.old) next)) }
+{
+    match declaration {
+        TypedDeclaration::Function(_) => Ok(documents),
+        TypedDeclaration::Global {
+            binder,
+            value: Some(value),
+            ..
+        } => {
+            let declared = Declared { functions, globals };
+            let mut items = value_of(alloc, schemas, store, declared, limit, value)?;
+            let bound = take_bound(alloc, &mut items, 0)?;
+            globals.bind(binder.variable, bound)?;
+            Ok(documents)
+        }
+        TypedDeclaration::Global {
+            binder,
+            value: None,
+            ..
+        } => {
+            let Some((document, others)) = documents.split_first() else {
+                return Err(Failure::Wrong);
+            };
+            globals.bind(binder.variable, Bound::One(Item::Node(*document)))?;
+            Ok(others)
+        }
+    }
+}

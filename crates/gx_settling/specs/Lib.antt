@@ -1,0 +1,4 @@
+pub mod Uses
+pub mod Gathering
+pub mod Reaching
+pub mod Laws
