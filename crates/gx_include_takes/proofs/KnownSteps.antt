@@ -16,6 +16,7 @@ use Rattle.gx_base.specs.declared.type_name.TypeName.{TypeName}
 use Rattle.gx_types.specs.declared.item_type.ItemType.{ItemType}
 use Rattle.gx_types.specs.declared.item_type.ItemType.TheVariants as items
 use Rattle.gx_types.specs.declared.shape.Shape.{Shape}
+use Rattle.gx_types.specs.declared.shape.Shape.TheVariants as shapes
 use Rattle.gx_types.specs.Derivation.{is_derived}
 use Rattle.gx_types.specs.ItemTakes.{name_fits}
 use Rattle.gx_types.specs.SchemaSet.{SchemaSet}
@@ -26,7 +27,7 @@ use Rattle.gx_include_takes.specs.declared.automaton.State.{State}
 use Rattle.gx_include_takes.specs.declared.shape_key.ShapeKey.{ShapeKey}
 use Rattle.gx_include_takes.specs.declared.shape_key.ShapeKey.TheVariants as keys
 use Rattle.gx_include_takes.specs.declared.shape_key.StepKey.{StepKey}
-use Rattle.gx_include_takes.specs.Automaton.{shape_keyed, same_step, state_set, set_at, AreStates, KeepTheirNumbers, IsStep, IsAutomaton}
+use Rattle.gx_include_takes.specs.Automaton.{shape_keyed, shape_key, same_step, state_set, set_at, AreStates, KeepTheirNumbers, IsStep, IsAutomaton}
 use Rattle.gx_types.specs.TypeIndex.{equal_kinds}
 use Rattle.gx_include_positions.specs.Positions.{both_set}
 use Rattle.gx_include_positions.specs.Step.{all_next, step_over, is_end}
@@ -41,6 +42,14 @@ same_shape = (shape_keys.ghosts).eq
 -- what `==` says of two states
 abbrev same_state : State → State → Bool
 same_state = (state_tests.ghosts).eq
+
+shape_of_key : (shape : Shape) → shape_keyed (shape_key shape) ≡ shape
+shape_of_key (shapes.Elem name t) = refl
+shape_of_key (shapes.Attr name t) = refl
+shape_of_key shapes.Text = refl
+shape_of_key (shapes.Doc None) = refl
+shape_of_key (shapes.Doc (Some element)) = refl
+shape_of_key (shapes.Atom t) = refl
 
 -- equal keys are taken by the same item types
 
@@ -161,6 +170,14 @@ module _ {S : Type 0} (s : SchemaSet) (t : SequenceType) where
   pub step_is : (states : List State) (targets : IndexMap StepKey ℕ S) (key : StepKey) (target : ℕ) → IsAutomaton s t states targets → get same_step targets key ≡ Some target
       → IsStep s t states key target
   step_is states targets key target is found = subst (IsKept s t states key) found (is.steps key)
+
+  -- a step that is kept for an equal key is that of a shape in a state
+  pub kept_step : (states : List State) (targets : IndexMap StepKey ℕ S) (key : StepKey) (target state : ℕ) (shape : Shape) → IsAutomaton s t states targets → get same_step targets key ≡ Some target
+      → same_step key (record { state = state; shape = shape_key shape }) ≡ true
+      → (target < length states) × (set_at states target ≡ step_over t (is_taken s shape) (set_at states state))
+  kept_step states targets key target state shape is found e =
+      let step = step_alike s t states key (record { state = state; shape = shape_key shape }) target e (step_is states targets key target is found) in
+      (step.target_within, step.set_is ∙ ap (λ x. step_over t (is_taken s x) (set_at states state)) (shape_of_key shape))
 
   -- more states
   pub more_states : (states more : List State) (targets : IndexMap StepKey ℕ S) → IsAutomaton s t states targets → AreStates t more → KeepTheirNumbers states more → IsAutomaton s t more targets

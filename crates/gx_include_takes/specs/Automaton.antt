@@ -22,6 +22,15 @@ shape_keyed keys.Document = shapes.Doc None
 shape_keyed (keys.DocumentOf name t) = shapes.Doc (Some (name, t))
 shape_keyed (keys.Atom t) = shapes.Atom t
 
+-- the key of a shape
+abbrev pub shape_key : Shape → ShapeKey
+shape_key (shapes.Elem name t) = keys.Element name t
+shape_key (shapes.Attr name t) = keys.Attribute name t
+shape_key shapes.Text = keys.Text
+shape_key (shapes.Doc None) = keys.Document
+shape_key (shapes.Doc (Some element)) = keys.DocumentOf element.0 element.1
+shape_key (shapes.Atom t) = keys.Atom t
+
 -- what `==` says of two keys
 abbrev pub same_step : StepKey → StepKey → Bool
 same_step = (steps.ghosts).eq

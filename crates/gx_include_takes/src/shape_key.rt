@@ -1,7 +1,7 @@
 // Shapes as keys of tables.
 
-ghost use Rattle.std.specs.Prelude.{◌≡◌, IfOk};
-ghost use Rattle.gx_include_takes.specs.Automaton.{shape_keyed};
+ghost use Rattle.std.specs.Prelude.{◌≡◌, IfOk, IsTrue, true};
+ghost use Rattle.gx_include_takes.specs.Automaton.{shape_keyed, shape_key, same_step};
 
 use gx_base::name::Name;
 use gx_base::type_name::TypeName;
@@ -37,5 +37,19 @@ pub(crate) fn key_of(shape: &Shape) -> Result<ShapeKey, AllocError>
         Shape::Doc(None) => Ok(ShapeKey::Document),
         Shape::Doc(Some((name, kind))) => Ok(ShapeKey::DocumentOf(name.clone()?, kind.clone()?)),
         Shape::Atom(kind) => Ok(ShapeKey::Atom(kind.clone()?)),
+    }
+}
+
+// Whether a key is that of a shape in a state. Of other shapes than elements and texts it is not said.
+pub(crate) fn is_step_of(key: &StepKey, state: usize, shape: &Shape) -> bool
+    ensures { IsTrue result → same_step key.now (record { state = state; shape = shape_key shape.now }) ≡ true }
+{
+    if key.state != state {
+        return false;
+    }
+    match (&key.shape, shape) {
+        (ShapeKey::Element(name, kind), Shape::Elem(given, t)) => name == given && kind == t,
+        (ShapeKey::Text, Shape::Text) => true,
+        _ => false,
     }
 }

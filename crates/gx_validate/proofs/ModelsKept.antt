@@ -1,7 +1,8 @@
--- What is kept for types stays their content models.
+-- What is kept for types stays their declarations and content models.
 use Rattle.std.proofs.Common.{◌≡◌, Bool, true, false, cond, List, [], ◌∷◌, Option, Some, IfOk, Result, refl, sym, ◌∙◌, ap, subst, if◌then◌else◌, ◌↔◌, rules}
 use Rattle.std.specs.Prelude.{IfSome, unwrap_or}
 use Rattle.std.specs.Bool.{IsTrue}
+use Rattle.std.specs.Borrow.{Bor}
 use Rattle.std.specs.Cmp.Rules.{comparing}
 use Rattle.indexmap.specs.IndexMap.{IndexMap, get}
 use Rattle.gx_base.specs.declared.type_name.TypeName.{TypeName}
@@ -18,7 +19,7 @@ use Rattle.gx_types.specs.TypeIndex.{equal_kinds}
 use Rattle.gx_include_takes.specs.Tried.{Tried}
 use Rattle.gx_model.specs.DeclaredContent.{text_model, complex_model, content_model}
 use Rattle.gx_validate.specs.Taking.{takes_shapes}
-use Rattle.gx_validate.specs.Takers.{content_tried, AreTakers}
+use Rattle.gx_validate.specs.Takers.{content_tried, AreTakers, AreHolders}
 use Rattle.gx_validate.proofs.Takings.{exact_result}
 
 equal_kinds_are : (t u : TypeName) → equal_kinds t u ≡ same_type_name t u
@@ -65,3 +66,24 @@ pub tried_answer : {E : Type 0} (s : SchemaSet) (tried : Tried) (kind : TypeName
     → IfOk r (λ answer. IsTrue answer ↔ Takes tried.schemas tried.model shapes) → IfOk r (λ answer. answer ≡ takes_shapes s (content_model (declaration_of s kind)) shapes)
 tried_answer s tried kind shapes r g is h =
     exact_result s (content_model (declaration_of s kind)) shapes r g (subst (λ (t : Tried). IfOk r (λ answer. IsTrue answer ↔ Takes t.schemas t.model shapes)) is h)
+
+abbrev IsHolderOf : SchemaSet → TypeName → Option (Bor Declared) → Type 0
+IsHolderOf s kind found = IfSome found (λ (declared : Bor Declared). declaration_of s kind ≡ Some declared.now)
+
+held_alike : (s : SchemaSet) (t u : TypeName) (declared : Declared) → equal_kinds t u ≡ true → declaration_of s t ≡ Some declared → declaration_of s u ≡ Some declared
+held_alike s t u declared e h = sym (declared_alike s.types t u (sym (equal_kinds_are t u) ∙ e)) ∙ h
+
+module _ {S : Type 0} (s : SchemaSet) where
+  -- one more declaration, or the same again
+  pub holders_with : (old new : IndexMap TypeName (Bor Declared) S) (kind : TypeName) (declared : Bor Declared) → AreHolders s old → declaration_of s kind ≡ Some declared.now
+      → ((other : TypeName) → get equal_kinds new other ≡ cond (equal_kinds kind other) (Some declared) (get equal_kinds old other)) → AreHolders s new
+  holders_with old new kind declared are is updates other = subst (IsHolderOf s other) (sym (updates other)) (by (equal_kinds kind other) refl)
+    where
+      by : (b : Bool) → equal_kinds kind other ≡ b → IsHolderOf s other (cond b (Some declared) (get equal_kinds old other))
+      by true g = held_alike s kind other declared.now g is
+      by false g = are other
+
+  -- what is kept for an equal name is the declaration
+  pub holder_is : (holders : IndexMap TypeName (Bor Declared) S) (name kind : TypeName) (declared : Bor Declared) → AreHolders s holders → get equal_kinds holders name ≡ Some declared → equal_kinds name kind ≡ true
+      → declaration_of s kind ≡ Some declared.now
+  holder_is holders name kind declared are found e = held_alike s name kind declared.now e (subst (IsHolderOf s name) found (are name))

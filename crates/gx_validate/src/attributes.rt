@@ -105,3 +105,32 @@ fn typed_attribute(
     let value = attribute.value.clone()?;
     Ok(Attribute { name, kind, value })
 }
+
+/// The same, of attributes that are taken over.
+pub fn into_typed_attributes(
+    alloc: Global,
+    uses: &[AttributeUse],
+    attributes: Vec<SourceAttribute>,
+) -> Result<Vec<Attribute>, AllocError>
+    ensures { IfOk result (λ typed. typed.items ≡ typed_attributes uses.now attributes.items) }
+{
+    let mut typed = Vec::with_capacity(alloc, attributes.len())?;
+    let mut left = attributes.into_iter();
+    while let Some(attribute) = left.next() {
+        if counts(&attribute) {
+            typed.push(into_typed_attribute(uses, attribute)?)?;
+        }
+    }
+    Ok(typed)
+}
+
+fn into_typed_attribute(
+    uses: &[AttributeUse],
+    attribute: SourceAttribute,
+) -> Result<Attribute, AllocError>
+    ensures { IfOk result (λ a. a ≡ record { name = attribute.name; kind = type_of_attribute uses.now attribute.name; value = attribute.value }) }
+{
+    let kind = type_of_attribute(uses, &attribute.name)?;
+    let SourceAttribute { name, value } = attribute;
+    Ok(Attribute { name, kind, value })
+}

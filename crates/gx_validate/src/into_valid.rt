@@ -2,19 +2,20 @@
 
 ghost use Rattle.std.specs.Prelude.{◌≡◌, ◌++◌, [], IfErr, IfOk, IsSome, OnOk, Ok, option_copied};
 ghost use Rattle.gx_types.specs.SchemaSet.{declaration_of, global_type};
-ghost use Rattle.gx_validate.specs.Outcome.{IsInvalid, at_itself, typed_child, typed_contents, typed_element, typed_root, validated};
+ghost use Rattle.gx_validate.specs.Outcome.{IsInvalid, at_itself, typed_child, typed_contents, typed_element, typed_root, validated, with_kept_text};
 ghost use Rattle.gx_validate.specs.Rules.{element_judged};
 ghost use Rattle.gx_xml.specs.SourceTree.{source};
 ghost use Rattle.gx_xml.specs.SourceView.{contents_of};
 
-use crate::attributes::{typed_attributes, uses_allowed};
+use crate::attributes::{into_typed_attributes, uses_allowed};
 use crate::child_kinds::ChildKinds;
-use crate::content::texts_allowed;
+use crate::content::{Texts, is_ignored, texts_allowed};
 use crate::invalid::{Invalid, InvalidRule};
 use crate::path::{number_among_siblings, within_step};
 use crate::takers::Takers;
-use crate::validate::{add_text, add_tree, broken_here, document, element_judged, root_type};
+use crate::validate::{add_tree, broken_here, document, element_judged, root_type};
 use gx_base::name::Name;
+use gx_base::text::Text;
 use gx_base::type_name::TypeName;
 use gx_qnames::scope::{outermost, within};
 use gx_tree::tree::{Tree, TreeNode};
@@ -137,7 +138,7 @@ fn into_typed_in_scope(
     ensures fault { IfErr result (λ e. IsInvalid e (typed_element takers.old scope.entry.now declared.entry.now (source name [] attributes.items (contents_of children.items)))) }
 {
     let (kind, holder) = judged(alloc, takers, scope, declared, &attributes, &children)?;
-    let attributes = typed_attributes(alloc, uses_allowed(holder), &attributes)?;
+    let attributes = into_typed_attributes(alloc, uses_allowed(holder), attributes)?;
     let children = into_typed_contents(alloc, takers, scope, holder, children)?;
     Ok(Tree {
         node: TreeNode::Element {
@@ -171,7 +172,7 @@ fn into_typed_contents(
                 let tree = into_typed_child(alloc, takers, scope, &kinds, &done, element)?;
                 add_tree(&mut done, tree)?;
             }
-            SourceChild::Text(text) => add_text(&mut done, texts, &text)?,
+            SourceChild::Text(text) => take_text(&mut done, texts, text)?,
         }
     }
     Ok(done)
@@ -200,4 +201,15 @@ fn into_typed_child(
             Err(within_step(alloc, &name, number, invalid))
         }
     }
+}
+
+// Takes a text over where it is part of the content.
+fn take_text(done: &mut Vec<Tree>, texts: Texts, text: Text) -> Result<(), AllocError>
+    ensures { OnOk result (done.new.items ≡ with_kept_text texts done.old.items text) }
+{
+    if is_ignored(texts, &text) {
+        return Ok(());
+    }
+    let node = TreeNode::Text(text);
+    add_tree(done, Tree { node })
 }

@@ -71,7 +71,9 @@ fn typed_root(
     }
     let declared = root_type(schemas, root)?;
     let mut takers = Takers::new(alloc, schemas);
-    typed_element(alloc, &mut takers, &outermost(alloc), &declared, element)
+    let typed = typed_element(alloc, &mut takers, &outermost(alloc), &declared, element);
+    drop(takers);
+    typed
 }
 
 // The declared type of a root of a name.
@@ -165,7 +167,7 @@ pub(crate) fn element_judged<'a, 's>(
     let Some(kind) = annotation(alloc, takers.schemas(), scope, declared, attributes)? else {
         return Err(broken_here(alloc, InvalidRule::BadXsiType));
     };
-    let holder = takers.schemas().declared(&kind);
+    let holder = takers.declared(&kind)?;
     match broken_rule(alloc, takers, scope, &kind, holder, attributes, children)? {
         Some(rule) => Err(broken_here(alloc, rule)),
         None => Ok((kind, holder)),

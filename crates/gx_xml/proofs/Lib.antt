@@ -3,6 +3,7 @@ pub mod PlainLemmas
 pub mod TagWords
 pub mod ReturnLemmas
 pub mod SpelledLemmas
+pub mod BeginningLemmas
 pub mod CharacterLemmas
 pub mod Steps
 pub mod NodeLemmas

@@ -4,7 +4,7 @@ use Rattle.std.specs.Prelude.{if◌then◌else◌, ◌==◌, ◌||◌, ◌&&◌}
 use Rattle.std.specs.Str.{chars, IsUtf8, IsAscii, IsCharBoundary}
 use Rattle.std.proofs.lemmas.Bool.{and_parts}
 use Rattle.std.proofs.lemmas.Bool.Decides.{nat_tests}
-use Rattle.std.proofs.lemmas.List.{take-append-drop, length-take-le, get_or-take}
+use Rattle.std.proofs.lemmas.List.{take-append-drop, take-take, drop-take, take_more, length-take-le, get_or-take}
 use Rattle.std.proofs.Math.Seq.{take-append_seam}
 use Rattle.std.proofs.lemmas.Str.{chars-append, chars-IsAscii, IsUtf8-from_ascii, IsCharBoundary-start, IsCharBoundary-after_ascii}
 use Rattle.std.proofs.lemmas.Str.Ascii.{IsAscii-nil, IsAscii-cons}
@@ -27,6 +27,44 @@ plain_low plain.Name c h = grind (arith, nat_tests)
 plain_ascii : (p : Plain) (x : List ℕ) → all_pass (is_plain_character p) x ≡ true → IsAscii x
 plain_ascii p [] h = IsAscii-nil
 plain_ascii p (c ∷ x) h = let both = and_parts _ _ h in IsAscii-cons c x (plain_low p c both.0) (plain_ascii p x both.1)
+
+-- of two parts all pass where all of each do
+and_assoc : (a b c : Bool) → (a && (b && c)) ≡ ((a && b) && c)
+and_assoc true b c = refl
+and_assoc false b c = refl
+
+pub all_pass_parts : (test : ℕ → Bool) (x y : List ℕ) → all_pass test (x ++ y) ≡ (all_pass test x && all_pass test y)
+all_pass_parts test [] y = refl
+all_pass_parts test (c ∷ x) y = ap (λ b. test c && b) (all_pass_parts test x y) ∙ and_assoc (test c) (all_pass test x) (all_pass test y)
+
+take_parts : (n m : ℕ) (x : List ℕ) → take (n + m) x ≡ take n x ++ take m (drop n x)
+take_parts n m x = sym (take-append-drop n (take (n + m) x)) ∙ ap (λ y. y ++ drop n (take (n + m) x)) (take-take n (n + m) x (omega arith)) ∙ ap (λ y. take n x ++ y) (drop-take n m x)
+
+-- a part more of plain characters
+pub part_more : (p : Plain) (x : List ℕ) (n m : ℕ) → all_pass (is_plain_character p) (take n x) ≡ true → all_pass (is_plain_character p) (take m (drop n x)) ≡ true
+    → all_pass (is_plain_character p) (take (n + m) x) ≡ true
+part_more p x n m h k = ap (all_pass (is_plain_character p)) (take_parts n m x) ∙ all_pass_parts (is_plain_character p) (take n x) (take m (drop n x)) ∙ ap (λ b. b && all_pass (is_plain_character p) (take m (drop n x))) h ∙ k
+
+-- one byte more
+byte_more : (p : Plain) (x : List ℕ) (i : ℕ) (b : Bool) → i < length x → is_plain_character p (get_or x i 0) ≡ b
+    → all_pass (is_plain_character p) (take (i + 1) x) ≡ (all_pass (is_plain_character p) (take i x) && (b && true))
+byte_more p x i b l e =
+    ap (all_pass (is_plain_character p)) (take_more x i 0 l) ∙ all_pass_parts (is_plain_character p) (take i x) (get_or x i 0 ∷ []) ∙ ap (λ c. all_pass (is_plain_character p) (take i x) && (c && true)) e
+
+and_false : (a : Bool) → (a && false) ≡ false
+and_false true = refl
+and_false false = refl
+
+and_true : (a : Bool) → (a && true) ≡ a
+and_true true = refl
+and_true false = refl
+
+pub byte_fails : (p : Plain) (x : List ℕ) (i : ℕ) → i < length x → is_plain_character p (get_or x i 0) ≡ false → false ≡ all_pass (is_plain_character p) (take (i + 1) x)
+byte_fails p x i l e = sym (byte_more p x i false l e ∙ and_false (all_pass (is_plain_character p) (take i x)))
+
+pub byte_passes : (p : Plain) (x : List ℕ) (i : ℕ) → i < length x → is_plain_character p (get_or x i 0) ≡ true
+    → all_pass (is_plain_character p) (take i x) ≡ all_pass (is_plain_character p) (take (i + 1) x)
+byte_passes p x i l e = sym (byte_more p x i true l e ∙ and_true (all_pass (is_plain_character p) (take i x)))
 
 -- a text is cut behind plain characters
 pub record PlainCut (p : Plain) (text : List ℕ) (n : ℕ) : Type 0 where

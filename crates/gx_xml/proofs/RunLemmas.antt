@@ -3,7 +3,8 @@ use Rattle.std.proofs.Common.{◌≡◌, ℕ, ◌+◌, ◌<◌, Bool, true, fals
 use Rattle.std.proofs.lemmas.List.{length-take-le, take_more}
 use Rattle.std.proofs.Math.Seq.{get_or-append_seam}
 use Rattle.std.specs.Prelude.{◌==◌, Option, Some, None, IfSome}
-use Rattle.gx_grammar.specs.Tokens.{strip}
+use Rattle.gx_grammar.specs.Tokens.{strip, behind_common}
+use Rattle.gx_grammar.proofs.Tokens.{equal_self}
 use Rattle.gx_grammar.specs.Walks.{Walk, walk_of, behind_walk, reached}
 
 -- what was read of a text from a state on: `front`, behind which the state is n and `rest` stands
@@ -77,3 +78,12 @@ strip_shortens (c ∷ w) (d ∷ x) = go (c == d) (strip w x) (strip_shortens w x
     go true (Some r) h = omega arith
     go true None h = tt
     go false o h = tt
+
+-- a text that begins with a word
+pub strip_whole : (w y : List ℕ) → strip w (w ++ y) ≡ Some y
+strip_whole [] y = refl
+strip_whole (c ∷ w) y = ap (λ b. if b then (strip w (w ++ y)) else None) (equal_self c) ∙ strip_whole w y
+
+pub common_whole : (w y : List ℕ) → behind_common w (w ++ y) ≡ y
+common_whole [] y = refl
+common_whole (c ∷ w) y = ap (λ b. if b then (behind_common w (w ++ y)) else (c ∷ (w ++ y))) (equal_self c) ∙ common_whole w y

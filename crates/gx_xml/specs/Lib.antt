@@ -10,6 +10,7 @@ pub mod Tokens
 pub mod Tags
 pub mod Names
 pub mod Characters
+pub mod Beginnings
 pub mod Found
 pub mod Plain
 pub mod TagView

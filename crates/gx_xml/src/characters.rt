@@ -2,6 +2,7 @@
 
 ghost use Rattle.std.specs.Prelude.{◌≡◌, ◌∷◌, ◌++◌, [], ◌==◌, IfSome, IsNone, length, take, bytes_eq};
 ghost use Rattle.std.specs.Str.{chars};
+ghost use Rattle.gx_xml.specs.Beginnings.{begins_character};
 
 use gx_base::characters::next_character;
 
@@ -25,11 +26,25 @@ fn first_of(text: &str) -> Option<(char, &str)>
     }
 }
 
-// How many characters a text has.
-fn count_of(text: &str) -> usize
+// Whether a character begins with the byte.
+fn begins_character(byte: u8) -> bool
+    ensures { result ≡ begins_character byte }
+{
+    !(128 <= byte && byte <= 191)
+}
+
+/// How many characters a text has.
+pub fn count_of(text: &str) -> usize
     ensures { result ≡ length (chars text.now) }
 {
-    text.chars().count()
+    let bytes = text.as_bytes();
+    let mut count = 0;
+    for byte in bytes {
+        if begins_character(*byte) {
+            count += 1;
+        }
+    }
+    count
 }
 
 // What stands in front of the last part of a text, where this is so many characters.

@@ -12,6 +12,9 @@ use crate::characters::Characters;
 use crate::runs::Run;
 use crate::scan::RunFound;
 
+// So many bytes are looked at as a whole.
+const PART: usize = 16;
+
 /// Kinds of plain characters.
 #[derive(Clone, Copy)]
 pub enum Plain {
@@ -42,14 +45,45 @@ impl Plain {
         }
     }
 
+    // Whether all bytes are such characters.
+    fn has_all(self, bytes: &[u8]) -> bool
+        ensures { result ≡ all_pass (is_plain_character self) bytes.now }
+    {
+        let mut all = true;
+        for byte in bytes {
+            if !self.has(*byte) {
+                all = false;
+            }
+        }
+        all
+    }
+
+    // How many of them stand at the front, as far as they fill parts that are looked at as a whole.
+    fn count_in_parts(self, bytes: &[u8]) -> usize
+        ensures within { result ≤ length bytes.now }
+        ensures plain { all_pass (is_plain_character self) (take result bytes.now) ≡ true }
+    {
+        let mut count = 0;
+        let mut left = bytes;
+        while left.len() >= PART {
+            let (part, others) = left.split_at(PART);
+            if !self.has_all(part) {
+                break;
+            }
+            count += PART;
+            left = others;
+        }
+        count
+    }
+
     // How many of them stand at the front.
     fn count(self, bytes: &[u8]) -> usize
         ensures within { result ≤ length bytes.now }
         ensures plain { all_pass (is_plain_character self) (take result bytes.now) ≡ true }
     {
-        let mut count = 0;
-        for byte in bytes {
-            if !self.has(*byte) {
+        let mut count = self.count_in_parts(bytes);
+        while count < bytes.len() {
+            if !self.has(bytes[count]) {
                 break;
             }
             count += 1;

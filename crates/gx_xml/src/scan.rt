@@ -10,6 +10,7 @@ ghost use Rattle.gx_xml.specs.Runs.{walk_for};
 ghost use Rattle.gx_xml.specs.declared.marks.Choice.TheVariants as choice_of;
 ghost use Rattle.gx_xml.specs.declared.marks.Choice.TheVariants.{Declaration, DeclarationStart};
 ghost use Rattle.std.specs.Prelude.{◌≡◌, ◌≤◌, ◌<◌, ◌+◌, ◌∷◌, [], ◌++◌, None, Some, false, if◌then◌else◌, length, true, option_map, IfSome, IsNone};
+ghost use Rattle.std.specs.Str.{chars};
 
 use crate::characters::Characters;
 use crate::marks::{Choice, Mark};
@@ -63,11 +64,33 @@ fn behind_letters<'a>(letters: &[char], text: Characters<'a>) -> (Characters<'a>
     (rest, true)
 }
 
+// What is behind a text that another one begins with.
+fn behind_text<'a>(front: &str, text: &'a str) -> Option<&'a str>
+    ensures { IfSome result (λ behind. chars text.now ≡ chars front.now ++ chars behind.now) }
+{
+    text.strip_prefix(front)
+}
+
+// What is behind characters, where a text begins with all of them.
+fn behind_all<'a>(letters: Characters<'_>, text: Characters<'a>) -> Option<Characters<'a>>
+    ensures { IfSome result (λ behind. spelled text.entry ≡ spelled letters.entry ++ spelled behind) }
+{
+    let behind = behind_text(letters.text, text.text)?;
+    let count = text.count - letters.count;
+    Some(Characters {
+        text: behind,
+        count,
+    })
+}
+
 // What is behind the characters that a text begins with, and whether these are all.
 fn behind_spelling<'a>(letters: Characters<'_>, text: Characters<'a>) -> (Characters<'a>, bool)
     ensures common { spelled result.0 ≡ behind_common (spelled letters.entry) (spelled text.entry) }
     ensures whole { strip (spelled letters.entry) (spelled text.entry) ≡ (if result.1 then (Some (spelled result.0)) else None) }
 {
+    if let Some(behind) = behind_all(letters, text) {
+        return (behind, true);
+    }
     let mut rest = text;
     let mut left = letters;
     while let Some((letter, others)) = left.first() {

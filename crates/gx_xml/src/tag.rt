@@ -42,17 +42,6 @@ pub fn push_character(out: &mut String, character: char) -> Result<(), AllocErro
     Ok(out.push(character)?)
 }
 
-// The string of characters.
-fn string_of(alloc: Global, characters: &[char]) -> Result<String, AllocError>
-    ensures { IfOk result (λ s. chars (string_bytes s) ≡ characters.now) }
-{
-    let mut text = String::with_capacity(alloc, characters.len())?;
-    for c in characters {
-        push_character(&mut text, *c)?;
-    }
-    Ok(text)
-}
-
 /// A start tag behind its name.
 pub fn begun(
     alloc: Global,
@@ -80,13 +69,12 @@ fn add(
     texts: &mut SharedTexts,
     tag: &mut StartTag,
     name: QName<'_>,
-    value: &[char],
+    value: String,
 ) -> Result<(), AllocError>
-    ensures added { OnOk result (HasAdded (spelled name.entry.prefix) (spelled name.entry.local) value.now tag.old tag.new) }
+    ensures added { OnOk result (HasAdded (spelled name.entry.prefix) (spelled name.entry.local) (chars (string_bytes value)) tag.old tag.new) }
     ensures prefix { OnOk result (tag.new.prefix ≡ tag.old.prefix) }
     ensures local { OnOk result (tag.new.local ≡ tag.old.local) }
 {
-    let value = string_of(alloc, value)?;
     let value = texts.text_of_string(alloc, value)?;
     match purpose_of(name) {
         Purpose::Default => {
@@ -130,7 +118,7 @@ fn attribute<'a>(
     equals(reader);
     let quote = quote(reader);
     let value = value(alloc, reader, name, quote)?;
-    add(alloc, texts, tag, name, &value)
+    add(alloc, texts, tag, name, value)
 }
 
 /// Reads the attributes of a tag, up to its end (XML 1.0, section 3.1).

@@ -7,14 +7,14 @@ ghost use Rattle.gx_tree.specs.Binding.{xml, xml_uri, xmlns_uri};
 ghost use Rattle.gx_xml.specs.Characters.{spelled};
 ghost use Rattle.gx_xml.specs.Grammar.{expected_at, may_refer, value, value_run};
 ghost use Rattle.gx_xml.specs.Names.{purpose_as};
-ghost use Rattle.gx_xml.specs.Runs.{character_kept, normalised, text_normalised};
+ghost use Rattle.gx_xml.specs.Runs.{character_kept, normalised, text_normalised, value_normalised};
 ghost use Rattle.gx_xml.specs.Standings.{Did, ReadValue, read_document_token};
 ghost use Rattle.gx_xml.specs.Tags.{declares_xml, is_reserved_namespace, may_close, purpose_of};
-ghost use Rattle.std.specs.Prelude.{◌≡◌, ◌≤◌, ◌<◌, ◌⊎◌, ◌++◌, [], IfOk, OnOk, bytes_eq, false, slice_get, List, ℕ, ◌∷◌, string_bytes};
+ghost use Rattle.std.specs.Prelude.{◌≡◌, ◌≤◌, ◌<◌, ◌⊎◌, ◌++◌, [], IfOk, OnOk, bytes_eq, false, length, slice_get, List, ℕ, ◌∷◌, string_bytes};
 ghost use Rattle.std.specs.Str.{chars};
 ghost use Rattle.std.specs.Option.{option_to_list};
 
-use crate::characters::Characters;
+use crate::characters::{Characters, count_of};
 use crate::marks::{Choice, Mark};
 use crate::phrases::{QName, reference};
 use crate::reader::{Reader, is_xmlns};
@@ -31,12 +31,6 @@ pub enum Purpose<'a> {
     Prefix(Characters<'a>),
     Ordinary,
 }
-
-// The URI of the prefix `xmlns`.
-const XMLNS_URI: [char; 29] = [
-    'h', 't', 't', 'p', ':', '/', '/', 'w', 'w', 'w', '.', 'w', '3', '.', 'o', 'r', 'g', '/', '2',
-    '0', '0', '0', '/', 'x', 'm', 'l', 'n', 's', '/',
-];
 
 /// What an attribute of this name is for (Namespaces in XML 1.0, section 3).
 pub fn purpose_of<'a>(name: QName<'a>) -> Purpose<'a>
@@ -63,22 +57,28 @@ fn is_text_xml(text: &str) -> bool
     text == "xml"
 }
 
-fn is_uri_of_xml(uri: &[char]) -> bool
-    ensures { result ≡ bytes_eq uri.now xml_uri }
+fn is_uri_of_xml(uri: &str) -> bool
+    ensures { result ≡ bytes_eq (chars uri.now) xml_uri }
 {
-    uri == XML_URI.as_slice()
+    uri == "http://www.w3.org/XML/1998/namespace"
 }
 
-fn is_uri_of_xmlns(uri: &[char]) -> bool
-    ensures { result ≡ bytes_eq uri.now xmlns_uri }
+fn is_uri_of_xmlns(uri: &str) -> bool
+    ensures { result ≡ bytes_eq (chars uri.now) xmlns_uri }
 {
-    uri == XMLNS_URI.as_slice()
+    uri == "http://www.w3.org/2000/xmlns/"
 }
 
-fn is_reserved(uri: &[char]) -> bool
-    ensures { result ≡ is_reserved_namespace uri.now }
+fn is_reserved(uri: &str) -> bool
+    ensures { result ≡ is_reserved_namespace (chars uri.now) }
 {
     is_uri_of_xml(uri) || is_uri_of_xmlns(uri)
+}
+
+fn is_no_uri(uri: &str) -> bool
+    ensures { result ≡ bytes_eq (chars uri.now) [] }
+{
+    uri == ""
 }
 
 // Whether the attribute declares the prefix `xml`.
@@ -92,26 +92,34 @@ fn declares_xml(purpose: Purpose<'_>) -> bool
 }
 
 // Whether a value may end behind these characters.
-fn may_close(purpose: Purpose<'_>, so_far: &[char]) -> bool
-    ensures { result ≡ may_close (purpose_as purpose.entry) so_far.now }
+fn may_close(purpose: Purpose<'_>, so_far: &String) -> bool
+    ensures { result ≡ may_close (purpose_as purpose.entry) (chars (string_bytes so_far.now)) }
 {
+    let uri = so_far.as_str();
     match purpose {
-        Purpose::Default => !is_reserved(so_far),
+        Purpose::Default => !is_reserved(uri),
         Purpose::Prefix(prefix) => {
             if is_xml(prefix) {
-                is_uri_of_xml(so_far)
+                is_uri_of_xml(uri)
             } else {
-                !(so_far.is_empty() || is_reserved(so_far))
+                !(is_no_uri(uri) || is_reserved(uri))
             }
         }
         Purpose::Ordinary => true,
     }
 }
 
-fn may_refer(of_xml: bool, so_far: &[char]) -> bool
-    ensures { result ≡ may_refer of_xml so_far.now }
+fn may_refer(of_xml: bool, so_far: &String) -> bool
+    ensures { result ≡ may_refer of_xml (chars (string_bytes so_far.now)) }
 {
-    !(of_xml && is_uri_of_xml(so_far))
+    !(of_xml && is_uri_of_xml(so_far.as_str()))
+}
+
+// How many characters a string has.
+fn length_of(text: &String) -> usize
+    ensures { result ≡ length (chars (string_bytes text.now)) }
+{
+    count_of(text.as_str())
 }
 
 // The character at a position, if there is one.
@@ -171,35 +179,6 @@ fn normalised_step(spaces: bool, behind_return: bool, c: char) -> (Option<char>,
     (Some(character_kept(spaces, c)), false)
 }
 
-fn push_kept(out: &mut Vec<char>, kept: Option<char>) -> Result<(), AllocError>
-    ensures { OnOk result (out.new.items ≡ out.old.items ++ option_to_list kept) }
-{
-    if let Some(c) = kept {
-        out.push(c)?;
-    }
-    Ok(())
-}
-
-/// Adds the characters of a run, with line ends as line feeds, and in a value with spaces for tabs and line feeds.
-pub fn push_normalised(
-    out: &mut Vec<char>,
-    run: Characters<'_>,
-    spaces: bool,
-) -> Result<(), AllocError>
-    ensures { OnOk result (out.new.items ≡ out.old.items ++ normalised spaces false (spelled run.entry)) }
-{
-    out.reserve(run.len())?;
-    let mut behind_return = false;
-    let mut left = run;
-    while let Some((c, others)) = left.first() {
-        let (kept, returned) = normalised_step(spaces, behind_return, c);
-        push_kept(out, kept)?;
-        behind_return = returned;
-        left = others;
-    }
-    Ok(())
-}
-
 fn push_kept_text(out: &mut String, kept: Option<char>) -> Result<(), AllocError>
     ensures { OnOk result (chars (string_bytes out.new) ≡ chars (string_bytes out.old) ++ option_to_list kept) }
 {
@@ -223,6 +202,36 @@ fn push_all(out: &mut String, text: &str) -> Result<(), AllocError>
     Ok(out.push_str(text)?)
 }
 
+// Whether there is a tab, a line feed or a carriage return; a value without them stands for itself.
+fn has_other_space(text: &str) -> bool
+    ensures { result ≡ false → value_normalised (chars text.now) ≡ chars text.now }
+{
+    let bytes = text.as_bytes();
+    if bytes.contains(&9) {
+        return true;
+    }
+    if bytes.contains(&10) {
+        return true;
+    }
+    bytes.contains(&13)
+}
+
+// Adds the characters of a run, with line ends as line feeds, and in a value with spaces for tabs and line feeds.
+fn push_normalised(out: &mut String, run: Characters<'_>, spaces: bool) -> Result<(), AllocError>
+    ensures { OnOk result (chars (string_bytes out.new) ≡ chars (string_bytes out.old) ++ normalised spaces false (spelled run.entry)) }
+{
+    out.reserve(run.text.len())?;
+    let mut behind_return = false;
+    let mut left = run;
+    while let Some((c, others)) = left.first() {
+        let (kept, returned) = normalised_step(spaces, behind_return, c);
+        push_kept_text(out, kept)?;
+        behind_return = returned;
+        left = others;
+    }
+    Ok(())
+}
+
 /// Adds the characters of a run of a text, with line ends as line feeds.
 pub fn push_normalised_text(out: &mut String, run: Characters<'_>) -> Result<(), AllocError>
     ensures { OnOk result (chars (string_bytes out.new) ≡ chars (string_bytes out.old) ++ text_normalised (spelled run.entry)) }
@@ -230,16 +239,17 @@ pub fn push_normalised_text(out: &mut String, run: Characters<'_>) -> Result<(),
     if !has_return(run.text) {
         return push_all(out, run.text);
     }
-    out.reserve(run.text.len())?;
-    let mut behind_return = false;
-    let mut left = run;
-    while let Some((c, others)) = left.first() {
-        let (kept, returned) = normalised_step(false, behind_return, c);
-        push_kept_text(out, kept)?;
-        behind_return = returned;
-        left = others;
+    push_normalised(out, run, false)
+}
+
+// Adds the characters of a run of a value, with spaces for line ends and tabs.
+fn push_normalised_value(out: &mut String, run: Characters<'_>) -> Result<(), AllocError>
+    ensures { OnOk result (chars (string_bytes out.new) ≡ chars (string_bytes out.old) ++ value_normalised (spelled run.entry)) }
+{
+    if !has_other_space(run.text) {
+        return push_all(out, run.text);
     }
-    Ok(())
+    push_normalised(out, run, true)
 }
 
 /// Reads a value whose opening quote was read, of an attribute of this name (XML 1.0, sections 2.3 and 3.3.3; Namespaces in
@@ -249,17 +259,18 @@ pub fn value(
     reader: &mut Reader<'_>,
     name: QName<'_>,
     quote: Quote,
-) -> Result<Vec<char>, AllocError>
-    ensures read { IfOk result (λ v. ReadValue (spelled name.entry.prefix) (spelled name.entry.local) quote [] v.items reader.old reader.new) }
+) -> Result<String, AllocError>
+    ensures read { IfOk result (λ v. ReadValue (spelled name.entry.prefix) (spelled name.entry.local) quote [] (chars (string_bytes v)) reader.old reader.new) }
     ensures shrinks { left_of reader.new ≤ left_of reader.old }
     ensures shorter { OnOk result (IsDone reader.new ⊎ (left_of reader.new < left_of reader.old)) }
 {
     let purpose = purpose_of(name);
     let of_xml = declares_xml(purpose);
-    let mut so_far = Vec::new(alloc);
+    let mut so_far = String::new(alloc);
     loop {
-        let run = value_run(reader, of_xml, quote, so_far.len());
-        push_normalised(&mut so_far, run, true)?;
+        let position = length_of(&so_far);
+        let run = value_run(reader, of_xml, quote, position);
+        push_normalised_value(&mut so_far, run)?;
         let closes = may_close(purpose, &so_far);
         let refers = may_refer(of_xml, &so_far);
         let choice = Choice::Value {
@@ -274,7 +285,8 @@ pub fn value(
         if !mark.is_reference() {
             return Ok(so_far);
         }
-        let character = reference(reader, expected_at(of_xml, so_far.len()));
-        so_far.push(character)?;
+        let expected = expected_at(of_xml, length_of(&so_far));
+        let character = reference(reader, expected);
+        push_character(&mut so_far, character)?;
     }
 }

@@ -17,8 +17,7 @@ returns-clause-read c =
     (c.equals.ensures.read _ w after
     (c.quote-quote.ensures.read (λ q. rule (value t (spelled name.prefix) (spelled name.local) q [])) w after
     (c.in_ok-value.ensures.read t w after
-    (subst (λ u. Did w c.value.new.reader after (rule (inside u)))
-    (subst (λ (v : List ℕ). HasAdded (spelled name.prefix) (spelled name.local) v c.args.tag.now c.add.new.tag) c.deref.ensures.value added room scope) h))))))
+    (subst (λ u. Did w c.value.new.reader after (rule (inside u))) (added room scope) h))))))
 
 pub returns-clause-shorter : goal.returns-clause-shorter
 returns-clause-shorter c = on_ok c.add.result c.add.ensures.added (λ added. elim c.in_ok-value.ensures.shorter [ inl d ↦ inl d | inr l ↦ inr (omega arith) ])

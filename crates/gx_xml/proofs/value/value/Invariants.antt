@@ -1,4 +1,5 @@
-use Rattle.std.proofs.Common.{◌≤◌}
+use Rattle.std.proofs.Common.{◌≤◌, string_bytes}
+use Rattle.std.specs.Str.{chars}
 use Rattle.gx_grammar.specs.Ran.{left_of}
 use Rattle.gx_xml.specs.Characters.{spelled}
 use Rattle.gx_xml.specs.Standings.{ReadSoFar}
@@ -6,7 +7,7 @@ use Rattle.gx_xml.proofs.value.value.Given as goal
 
 abbrev pub invariant-loop-so_far : goal.invariant-loop-so_far
 invariant-loop-so_far l = record {
-  read : ReadSoFar (spelled l.fn.name.prefix) (spelled l.fn.name.local) l.quote l.so_far.items l.fn.reader l.reader;
+  read : ReadSoFar (spelled l.fn.name.prefix) (spelled l.fn.name.local) l.quote (chars (string_bytes l.so_far)) l.fn.reader l.reader;
   shrinks : left_of l.reader ≤ left_of l.fn.reader;
 }
 

@@ -21,6 +21,6 @@ returns-in-Some-get_mut-clause-taken c =
     let kind = c.args.kind.now in
     let tried = c.in-Some-get_mut.taker.now in
     let taken = tried_answer s tried kind c.args.shapes.now c.takes.result c.types-declarations.ensures.invariant.grounded
-    (taker_is s c.self.inside.known kind tried c.self.invariant (sym c.in-Some-get_mut.ensures.value)) c.takes.ensures.answer in
+    (taker_is s c.self.inside.known kind tried c.self.invariant.0 (sym c.in-Some-get_mut.ensures.value)) c.takes.ensures.answer in
     let known = subst (λ (z : SchemaSet). IfOk c.takes.result (λ answer. answer ≡ takes_shapes z (content_model (declaration_of z kind)) c.args.shapes.now)) c.self.view_is taken in
     subst (λ (holder : Option Declared). IfOk c.takes.result (λ answer. answer ≡ takes_shapes c.args.self.now (content_model holder) c.args.shapes.now)) (sym c.requires) known

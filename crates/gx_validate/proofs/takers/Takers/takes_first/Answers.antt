@@ -19,9 +19,11 @@ returns-in_default-clause-taken c =
 pub invariant_of-self-2 : goal.invariant_of-self-2
 invariant_of-self-2 c =
     let s = c.self.inside.schemas.now in
-    let made = model_is s c.args.kind.now c.in-Some.model.now (ap complex_model (sym c.declared.ensures) ∙ sym c.in-Some.ensures) in
-    takers_with s c.self.inside.known c.insert.new.self c.in_ok-kind.kind c.takes.new.self c.self.invariant
-    (c.takes.ensures.same ∙ c.in_ok-taker.ensures ∙ made ∙ ap (content_tried s) (sym c.in_ok-kind.ensures.cases)) (λ other. c.in_ok-insert.ensures.updates.0 other)
+    let made = model_is s c.args.kind.now c.in-Some.model.now (ap complex_model (sym c.declared.ensures) ∙ sym c.in-Some.ensures) in (
+      takers_with s c.self.inside.known c.insert.new.self c.in_ok-kind.kind c.takes.new.self c.self.invariant.0
+          (c.takes.ensures.same ∙ c.in_ok-taker.ensures ∙ made ∙ ap (content_tried s) (sym c.in_ok-kind.ensures.cases)) (λ other. c.in_ok-insert.ensures.updates.0 other),
+      c.self.invariant.1,
+    )
 
 pub returns-clause-taken : goal.returns-clause-taken
 returns-clause-taken c =

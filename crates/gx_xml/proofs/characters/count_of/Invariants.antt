@@ -1,0 +1,10 @@
+use Rattle.std.proofs.Common.{◌≡◌, ◌≤◌, take}
+use Rattle.std.specs.List.{count_by}
+use Rattle.gx_xml.specs.Beginnings.{begins_character}
+use Rattle.gx_xml.proofs.characters.count_of.Given as goal
+
+abbrev pub invariant-loop-byte : goal.invariant-loop-byte
+invariant-loop-byte l = record {
+  counted : l.count ≡ count_by begins_character (take l.byte-index l.bytes);
+  few : l.count ≤ l.byte-index;
+}
