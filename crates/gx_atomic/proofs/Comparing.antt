@@ -1,7 +1,8 @@
 -- Values with themselves, empty lists, and values that can be compared.
 use Rattle.std.proofs.Common.{◌≡◌, Bool, true, false, cond, List, [], ◌∷◌, Some, Ok, refl, ap, ◌∙◌}
-use Rattle.std.specs.Prelude.{map, All, option_map, is_some}
-use Rattle.std.specs.declared.cmp.Ordering.TheVariants.{Equal}
+use Rattle.std.specs.Prelude.{◌↔◌, map, All, Option, None, option_map, unwrap_or, is_some}
+use Rattle.std.specs.declared.cmp.Ordering.{Ordering}
+use Rattle.std.specs.declared.cmp.Ordering.TheVariants.{Less, Equal, Greater}
 use Rattle.std.proofs.lemmas.Cmp.{nat_list_cmp_total, int_cmp_total, tied_itself}
 use Rattle.std.proofs.lemmas.List.Elements.{All-head, All-tail}
 use Rattle.gx_num.specs.Number.{units_of}
@@ -10,8 +11,10 @@ use Rattle.gx_facets.specs.declared.AtomValue.TheVariants.{Untyped, Str, Truth, 
 use Rattle.gx_facets.specs.declared.Atomic.{Atomic}
 use Rattle.gx_facets.specs.Value.{order_of}
 use Rattle.gx_atomic.specs.declared.comparison.Op.{Op}
+use Rattle.gx_atomic.specs.declared.comparison.Op.TheVariants.{Eq}
 use Rattle.gx_atomic.specs.Comparison.{Decision, holds, is_decisive, comparison_of_casts, pair_comparison, pair_decision, pairs_of, first_decision, general_comparison}
-use Rattle.gx_atomic.specs.Laws.{ValuesAreEqualToThemselves, EmptyListsCompareFalse, ComparableByFamilies, are_comparable}
+use Rattle.gx_atomic.specs.JoinKey.{join_key_of, same_key, keys_are_written_alike}
+use Rattle.gx_atomic.specs.Laws.{ValuesAreEqualToThemselves, KeysAreEqualAsValues, EmptyListsCompareFalse, ComparableByFamilies, are_comparable}
 use Rattle.gx_atomic.proofs.BooleanText.{by_boolean}
 use Rattle.gx_atomic.proofs.Decisions.{first_decision-cons}
 
@@ -26,6 +29,23 @@ order-itself (Num n) = ap Some (tied_itself int_cmp_total (units_of n))
 
 pub equal_to_themselves : ValuesAreEqualToThemselves
 equal_to_themselves op value = ap (option_map (holds op)) (order-itself value)
+
+-- ---- equal keys
+
+same_where_equal : (a b : Atomic) → (same_key (join_key_of a) (join_key_of b) ≡ true) ↔ (order_of a.value b.value ≡ Some Equal)
+same_where_equal a b = (by (order_of a.value b.value), λ e. ap (λ (o : Option Ordering). unwrap_or (option_map (holds Eq) o) false) e)
+  where
+    by : (o : Option Ordering) → unwrap_or (option_map (holds Eq) o) false ≡ true → o ≡ Some Equal
+    by None h = absurd (cc)
+    by (Some Less) h = absurd (cc)
+    by (Some Equal) h = refl
+    by (Some Greater) h = absurd (cc)
+
+pub keys_equal : KeysAreEqualAsValues
+keys_equal = record {
+  equal = same_where_equal;
+  hashed = λ a b e. keys_are_written_alike (join_key_of a) (join_key_of b) ((same_where_equal a b).1 e);
+}
 
 -- ---- empty lists
 

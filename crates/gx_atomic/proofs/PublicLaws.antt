@@ -1,6 +1,6 @@
 -- The public laws as terms, for the proofs of the crates above.
-use Rattle.gx_atomic.specs.Laws.{ValuesAreEqualToThemselves, EmptyListsCompareFalse, FirstPairDecides, ComparableByFamilies, ComparisonsFailInOneWay, CastsFitTheirTarget, CastsFailWithCodes}
-use Rattle.gx_atomic.proofs.Comparing.{equal_to_themselves, empty_lists, comparable}
+use Rattle.gx_atomic.specs.Laws.{ValuesAreEqualToThemselves, KeysAreEqualAsValues, EmptyListsCompareFalse, FirstPairDecides, ComparableByFamilies, ComparisonsFailInOneWay, CastsFitTheirTarget, CastsFailWithCodes}
+use Rattle.gx_atomic.proofs.Comparing.{equal_to_themselves, keys_equal, empty_lists, comparable}
 use Rattle.gx_atomic.proofs.Deciding as deciding
 use Rattle.gx_atomic.proofs.FailingComparisons.{fails_in_one_way}
 use Rattle.gx_atomic.proofs.Fitting.{casts_fit}
@@ -8,6 +8,9 @@ use Rattle.gx_atomic.proofs.FailingCasts.{fail_with_codes}
 
 pub values_are_equal_to_themselves : ValuesAreEqualToThemselves
 values_are_equal_to_themselves = equal_to_themselves
+
+pub keys_are_equal_as_values : KeysAreEqualAsValues
+keys_are_equal_as_values = keys_equal
 
 pub empty_lists_compare_false : EmptyListsCompareFalse
 empty_lists_compare_false = empty_lists

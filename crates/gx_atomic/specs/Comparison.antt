@@ -26,6 +26,10 @@ holds Ge order = is_ge order
 abbrev pub value_comparison : Op → AtomValue → AtomValue → Option Bool
 value_comparison op a b = option_map (holds op) (order_of a b)
 
+-- values that cannot be compared are not equal
+abbrev pub are_equal : AtomValue → AtomValue → Bool
+are_equal a b = unwrap_or (value_comparison Eq a b) false
+
 -- ---- general comparisons (3.5.2)
 
 -- what the comparison of two lists, or of a pair, comes to: whether it holds, or the error of a cast, or nothing where two

@@ -11,7 +11,7 @@ use Rattle.gx_num.specs.Number.{InRange}
 use Rattle.gx_facets.specs.declared.AtomValue.{AtomValue}
 use Rattle.gx_facets.specs.declared.AtomValue.TheVariants.{Untyped, Str, Truth, Num}
 use Rattle.gx_facets.specs.declared.Atomic.{Atomic}
-use Rattle.gx_facets.specs.Value.{same_family, printed_value}
+use Rattle.gx_facets.specs.Value.{order_of, same_family, printed_value}
 use Rattle.gx_facets.specs.ValueSpace.{FitsType}
 use Rattle.gx_facets.specs.declared.restriction.Facets.{Facets}
 use Rattle.gx_types.specs.BaseChain.{own_content}
@@ -27,6 +27,7 @@ use Rattle.gx_atomic.specs.declared.comparison.Op.TheVariants.{Eq, Ne, Lt, Le, G
 use Rattle.gx_atomic.specs.Cast.{cast_value, cast_of, code_of}
 use Rattle.gx_atomic.specs.Comparison.{Decision, holds, value_comparison, pair_comparison, pairs_of, pair_decision, general_comparison}
 use Rattle.gx_atomic.specs.Fit.{FitsItsType}
+use Rattle.gx_atomic.specs.JoinKey.{join_key_of, same_key, written_key}
 
 -- ---- comparisons
 
@@ -40,6 +41,11 @@ pub record OperatorsAreContraries : Type 0 where
 -- a value is equal to itself, and neither less nor greater
 abbrev pub ValuesAreEqualToThemselves : Type 0
 ValuesAreEqualToThemselves = (op : Op) (value : AtomValue) → value_comparison op value value ≡ Some (holds op Equal)
+
+-- keys are equal exactly where their values are of one family and equal, and what is hashed of equal keys is the same
+pub record KeysAreEqualAsValues : Type 0 where
+  pub equal : (a b : Atomic) → (same_key (join_key_of a) (join_key_of b) ≡ true) ↔ (order_of a.value b.value ≡ Some Equal)
+  pub hashed : (a b : Atomic) → order_of a.value b.value ≡ Some Equal → written_key (join_key_of a) ≡ written_key (join_key_of b)
 
 -- the general comparison with an empty list is false
 pub record EmptyListsCompareFalse : Type 0 where

@@ -3,3 +3,6 @@ pub mod Comparison
 pub mod EffectiveBoolean
 pub mod Fit
 pub mod Laws
+pub mod WrittenNumber
+pub mod EqualValues
+pub mod JoinKey

@@ -1,5 +1,5 @@
 // Laws of the definitions that the contracts cite.
-ghost use Rattle.gx_atomic.specs.Laws.{OperatorsAreContraries, ValuesAreEqualToThemselves, EmptyListsCompareFalse, FirstPairDecides, ComparableByFamilies, ComparisonsFailInOneWay};
+ghost use Rattle.gx_atomic.specs.Laws.{OperatorsAreContraries, ValuesAreEqualToThemselves, KeysAreEqualAsValues, EmptyListsCompareFalse, FirstPairDecides, ComparableByFamilies, ComparisonsFailInOneWay};
 ghost use Rattle.gx_atomic.specs.Laws.{CastsFitTheirTarget, CastsFailWithCodes, CastsGiveValuesOfTheirTarget, CastsToTheOwnTypeChangeNothing, CastsOfPrintedValuesGoBack};
 ghost use Rattle.gx_atomic.specs.Laws.{CastsToDeclaredTypesAreAdmitted, CastsToTheOwnDeclaredTypeChangeNothing, TextsAreCastAsTheyAreRead};
 
@@ -13,6 +13,11 @@ pub fn operators_are_contraries()
 /// A value compared with itself is equal.
 pub fn values_are_equal_to_themselves()
     ensures { ValuesAreEqualToThemselves }
+{}
+
+/// Two keys are equal exactly where their values are, and then what is hashed of them is the same.
+pub fn keys_are_equal_as_values()
+    ensures { KeysAreEqualAsValues }
 {}
 
 /// The general comparison with an empty list is false.

@@ -10,13 +10,13 @@ use Rattle.gx_model.specs.Item.{node, Items}
 use Rattle.gx_core.specs.declared.expression.Declaration.TheVariants.{Global, Function}
 use Rattle.gx_core.specs.declared.expression.DeclaredFunction.{DeclaredFunction}
 use Rattle.gx_core.specs.declared.signature.FunctionSignature.{FunctionSignature}
-use Rattle.gx_core.specs.Queries.{CoreFunction, TypedFunction, TypedDeclaration, TypedCore}
+use Rattle.gx_core.specs.Queries.{CoreFunction, TypedFunction, TypedDeclaration}
 use Rattle.gx_core.specs.Expression.{plain}
-use Rattle.gx_core.specs.Outcome.{Outcome, gives, raises, after, given}
+use Rattle.gx_core.specs.Outcome.{Outcome, raises, after, given}
 use Rattle.gx_core.specs.Converting.{converted}
 use Rattle.gx_core.specs.Meaning.{CallOutcomes, Context, Bindings, Denotation, meaning}
 use Rattle.gx_core.specs.Functions.{functions_of, arguments_bound, calls_over, context_over}
-use Rattle.gx_core.specs.QueryMeaning.{plain_function, plain_declaration, plain_query, globals_bound, outcome_within, QueryMeaningLooksAtNoType}
+use Rattle.gx_core.specs.QueryMeaning.{plain_function, plain_declaration, globals_bound, QueryMeaningLooksAtNoType}
 use Rattle.gx_core.proofs.PlainMeaning.{plain_means_the_same}
 
 -- ---- a call, unfolded

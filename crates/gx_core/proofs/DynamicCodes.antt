@@ -4,9 +4,10 @@ use Rattle.std.proofs.Common.{Option, None, Some, Result, Ok, Err, refl, subst, 
 use Rattle.std.specs.Prelude.{ℕ, suc, nat_le, option_map}
 use Rattle.std.specs.List.{list_all, list_any, slice_get}
 use Rattle.gx_base.specs.declared.code.Code.{Code}
-use Rattle.gx_base.specs.declared.code.Code.TheVariants.{GLXD0001, GLXD0002, XPDY0050}
+use Rattle.gx_base.specs.declared.code.Code.TheVariants.{GLXD0002, XPDY0050}
 use Rattle.gx_base.specs.Code.{is_dynamic}
 use Rattle.gx_base.specs.declared.type_name.TypeName.{TypeName}
+use Rattle.gx_base.specs.declared.type_name.TypeName.TheVariants as names
 use Rattle.gx_base.specs.declared.limits.TheConstants.{RANGE_ITEMS}
 use Rattle.gx_num.specs.declared.Number.{Number}
 use Rattle.gx_num.specs.declared.NumFault.{NumFault}
@@ -24,7 +25,12 @@ use Rattle.gx_atomic.specs.Cast.{cast_of}
 use Rattle.gx_atomic.specs.Comparison.{Decision, value_comparison, general_comparison}
 use Rattle.gx_funcs.specs.declared.function.Function.{Function}
 use Rattle.gx_funcs.specs.declared.function.Function.TheVariants as functions
-use Rattle.gx_funcs.specs.Function.{ItemView, effective_boolean, string_of_items, one_answer, truth_atom, string_atom, applied, text_function_of}
+use Rattle.gx_funcs.specs.declared.function.Parameter.{Parameter}
+use Rattle.gx_funcs.specs.declared.function.Conversion.{Conversion}
+use Rattle.gx_funcs.specs.declared.function.Conversion.TheVariants.{Nothing, Data, DataAndCast}
+use Rattle.gx_funcs.specs.declared.value_function.ValueFunction.{ValueFunction}
+use Rattle.gx_funcs.specs.Values.{ValueAnswer, value_answer}
+use Rattle.gx_funcs.specs.Function.{ItemView, effective_boolean, string_of_items, one_answer, truth_atom, string_atom, applied, text_function_of, value_function_of, value_parameters_of, conversion_of}
 use Rattle.gx_model.specs.Forest.{Forest, PlainNode, then_found}
 use Rattle.gx_funcs.specs.declared.text_function.TextFunction.{TextFunction}
 use Rattle.gx_funcs.specs.Texts.{text_answer}
@@ -62,7 +68,8 @@ use Rattle.gx_core.specs.ComparingNodes.{compared_nodes}
 use Rattle.gx_core.specs.CombiningNodes.{combined}
 use Rattle.gx_core.specs.Ranging.{integer_of_item, range_length, integers_from, range_between, range_of_items}
 use Rattle.gx_core.specs.Casting.{cast_outcome, cast_items, castable_items}
-use Rattle.gx_core.specs.Calling.{views_of, answered, all_argument_texts, called_as}
+use Rattle.gx_core.specs.Calling.{views_of, answered, all_argument_texts, argument_by, argument_values, all_argument_values, called_as}
+use Rattle.gx_core.proofs.ValueCodes.{AnswersDynamically, values_dynamic}
 use Rattle.gx_core.specs.Paths.{is_node, places_of, stepped, put_in_order}
 use Rattle.gx_core.specs.declared.cases.TypeCase.{TypeCase}
 use Rattle.gx_core.specs.Instances.{is_instance}
@@ -72,7 +79,7 @@ use Rattle.gx_core.specs.Meaning.{decides, any_decides, branch, switched, denote
 use Rattle.gx_core.specs.Converting.{is_untyped, is_any_atomic_type, item_converted, items_converted, converted_to, expected_atomic, converted, arguments_converted}
 use Rattle.gx_core.specs.Functions.{functions_of, arguments_bound, calls_over, context_over}
 use Rattle.gx_core.specs.QueryMeaning.{globals_bound, outcome_within, QueriesRaiseDynamicCodes}
-use Rattle.gx_core.specs.Laws.{RaisesDynamicCodes, CallsRaiseDynamicCodes, ExpressionsRaiseDynamicCodes}
+use Rattle.gx_core.specs.Laws.{RaisesDynamicCodes, ExpressionsRaiseDynamicCodes}
 
 -- the same by cases: a result, a dynamic code, or a type error
 abbrev IsDynamic : {R : Type 0} → Outcome R → Type 0
@@ -269,16 +276,6 @@ dynamic_constructor schemas constructors.Text (content ∷ []) forest =
 dynamic_constructor schemas constructors.Document (content ∷ []) forest = dynamic_built (document_built content forest) forest
 dynamic_constructor schemas _ parts forest = tt
 
--- ---- functions over strings
-
-dynamic_called : (schemas : SchemaSet) (function : Function) (texts : Option TextFunction) (values : List Items) (forest : Forest)
-    → IsDynamic (called_as texts schemas function values forest)
-dynamic_called schemas function None values forest = dynamic_call function (map (views_of forest) values) forest
-dynamic_called schemas function (Some texts) values forest =
-    dynamic_given (all_argument_texts schemas forest values)
-    (λ arguments. given (text_answer texts arguments) (λ answer. gives (atom answer ∷ []) forest))
-    (λ arguments. dynamic_given (text_answer texts arguments) (λ answer. gives (atom answer ∷ []) forest) (λ answer. tt))
-
 -- ---- conversions
 
 dynamic_item_converted : (schemas : SchemaSet) (kind : TypeName) (x : Item) (forest : Forest) → IsDynamic (item_converted schemas kind x forest)
@@ -312,6 +309,48 @@ dynamic_arguments schemas (expected ∷ parameters) (xs ∷ arguments) forest =
 dynamic_arguments schemas [] (xs ∷ arguments) forest = tt
 dynamic_arguments schemas (expected ∷ parameters) [] forest = tt
 
+-- ---- functions over strings, and over atomic values
+
+dynamic_argument : (conversion : Conversion) (schemas : SchemaSet) (xs : Items) (forest : Forest) → IsDynamic (argument_by conversion schemas xs forest)
+dynamic_argument Nothing schemas xs forest = tt
+dynamic_argument Data schemas xs forest = dynamic_given (atomized schemas forest xs) (λ ys. gives ys forest) (λ ys. tt)
+dynamic_argument (DataAndCast kind) schemas xs forest = dynamic_converted_to (Some (names.Builtin kind)) schemas xs forest
+
+dynamic_values : (conversion : Conversion) (schemas : SchemaSet) (xs : Items) (forest : Forest) → IsDynamic (argument_values conversion schemas xs forest)
+dynamic_values conversion schemas xs forest =
+    dynamic_after (argument_by conversion schemas xs forest) (λ ys left. given (atoms_among ys) (λ values. gives values left)) (dynamic_argument conversion schemas xs forest)
+    (λ ys left. dynamic_given (atoms_among ys) (λ values. gives values left) (λ values. tt))
+
+dynamic_all_values : (schemas : SchemaSet) (parameters : List Parameter) (arguments : List Items) (forest : Forest)
+    → IsDynamic (all_argument_values schemas parameters arguments forest)
+dynamic_all_values schemas [] [] forest = tt
+dynamic_all_values schemas (parameter ∷ parameters) (xs ∷ arguments) forest =
+    dynamic_after (argument_values (conversion_of parameter.takes) schemas xs forest)
+    (λ values left. after (all_argument_values schemas parameters arguments left) (λ others last. gives (values ∷ others) last))
+    (dynamic_values (conversion_of parameter.takes) schemas xs forest)
+    (λ values left. dynamic_after (all_argument_values schemas parameters arguments left) (λ others last. gives (values ∷ others) last)
+    (dynamic_all_values schemas parameters arguments left) (λ others last. tt))
+dynamic_all_values schemas [] (xs ∷ arguments) forest = tt
+dynamic_all_values schemas (parameter ∷ parameters) [] forest = tt
+
+dynamic_answered : (answer : ValueAnswer) (forest : Forest) → AnswersDynamically answer → IsDynamic (given answer (λ found. answered found forest))
+dynamic_answered None forest h = tt
+dynamic_answered (Some (Ok items)) forest h = tt
+dynamic_answered (Some (Err code)) forest h = h
+
+dynamic_called : (schemas : SchemaSet) (function : Function) (texts : Option TextFunction) (over_values : Option ValueFunction) (values : List Items) (forest : Forest)
+    → IsDynamic (called_as texts over_values schemas function values forest)
+dynamic_called schemas function None None values forest = dynamic_call function (map (views_of forest) values) forest
+dynamic_called schemas function None (Some over_values) values forest =
+    dynamic_after (all_argument_values schemas (value_parameters_of over_values) values forest)
+    (λ found left. given (value_answer over_values found) (λ answer. answered answer left))
+    (dynamic_all_values schemas (value_parameters_of over_values) values forest)
+    (λ found left. dynamic_answered (value_answer over_values found) left (values_dynamic over_values found))
+dynamic_called schemas function (Some texts) over_values values forest =
+    dynamic_given (all_argument_texts schemas forest values)
+    (λ arguments. given (text_answer texts arguments) (λ answer. gives (atom answer ∷ []) forest))
+    (λ arguments. dynamic_given (text_answer texts arguments) (λ answer. gives (atom answer ∷ []) forest) (λ answer. tt))
+
 -- ---- operators
 
 dynamic_act : (context : Context) → AreCallsDynamic context.calls → (operator : Operator) (values : List Items) (forest : Forest)
@@ -329,7 +368,7 @@ dynamic_act context k (operators.Cast kind optional) (xs ∷ []) forest = dynami
 dynamic_act context k (operators.Castable kind optional) (xs ∷ []) forest = dynamic_castable context.schemas kind optional xs forest
 dynamic_act context k (operators.Treat kind) (xs ∷ []) forest =
     dynamic_choice (is_instance context.schemas forest kind xs) (gives xs forest) (raises XPDY0050) tt refl
-dynamic_act context k (operators.Call function) values forest = dynamic_called context.schemas function (text_function_of function) values forest
+dynamic_act context k (operators.Call function) values forest = dynamic_called context.schemas function (text_function_of function) (value_function_of function) values forest
 dynamic_act context k operators.Neg (xs ∷ []) forest = dynamic_on_one xs forest negation_of_item (λ x. dynamic_negation x forest)
 dynamic_act context k (operators.Binary operator) (xs ∷ ys ∷ []) forest = dynamic_binary (class_of operator) xs ys forest
 dynamic_act context k (operators.Construct constructor count) values forest =

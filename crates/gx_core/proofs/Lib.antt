@@ -6,6 +6,7 @@ pub mod CallLemmas
 pub mod DeclaredCalls
 pub mod SoundQueries
 pub mod SlotLemmas
+pub mod ValueCodes
 pub mod DynamicCodes
 pub mod LoopBindings
 pub mod DecidingParts

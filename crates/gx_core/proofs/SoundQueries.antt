@@ -23,7 +23,7 @@ use Rattle.gx_core.specs.Outcome.{Outcome, after, given}
 use Rattle.gx_core.specs.Meaning.{Bindings, meaning}
 use Rattle.gx_core.specs.Soundness.{TypedExpression, Setting, typed_setting, calling_setting, KeepsFact}
 use Rattle.gx_core.specs.Soundness.{IsOfType, AreOfTypes, Keeps, IsBoundTo, Fits, CallsKeepTypes, Situation, KeepsItsType, IsSound}
-use Rattle.gx_core.specs.QueryMeaning.{plain_declaration, globals_bound, external_types, global_types, types_declared, outcome_within}
+use Rattle.gx_core.specs.QueryMeaning.{plain_declaration, globals_bound, external_types, global_types, types_declared}
 use Rattle.gx_core.specs.QueryMeaning.{parameter_types, functions_declared, IsSoundFunction, IsCallable, CallsCallable, DeclarationsAreSound}
 use Rattle.gx_core.specs.QueryMeaning.{IsDeclaredSo, DocumentsFit, NoneNeedsNoDocument, SoundQueriesKeepTheirTypes}
 use Rattle.gx_core.proofs.KeptFacts.{fact_after, fact_at_once, bindings_fit_still, binding_fits, calls_keep_still}

@@ -1,19 +1,11 @@
 -- Arithmetic on values (XQuery 1.0, section 3.4; Functions and Operators, section 6.2).
-use Rattle.std.specs.Prelude.{[], ◌∷◌, ℤ, Option, None, Some, Result, Ok, Err}
-use Rattle.gx_base.specs.declared.code.Code.{Code}
-use Rattle.gx_base.specs.declared.code.Code.TheVariants.{FOAR0001, FOAR0002}
-use Rattle.gx_base.specs.declared.type_name.Builtin.{Builtin}
-use Rattle.gx_base.specs.declared.type_name.Builtin.TheVariants.{Integer, Decimal}
-use Rattle.gx_base.specs.declared.type_name.TypeName.TheVariants as names
+use Rattle.std.specs.Prelude.{[], ◌∷◌, ℤ, Option, None, Result, Ok, Err}
 use Rattle.gx_num.specs.declared.Number.{Number}
-use Rattle.gx_num.specs.declared.Number.TheVariants.{Int, Dec}
+use Rattle.gx_num.specs.declared.Number.TheVariants.{Int}
 use Rattle.gx_num.specs.declared.NumFault.{NumFault}
-use Rattle.gx_num.specs.declared.NumFault.TheVariants.{Overflow, DivZero}
 use Rattle.gx_num.specs.Arithmetic.{sum_of, difference_of, product_of, quotient_of, integer_quotient_of}
 use Rattle.gx_num.specs.Arithmetic.{remainder_of, exact_negation, in_range_or_overflow}
-use Rattle.gx_facets.specs.declared.Atomic.{Atomic}
-use Rattle.gx_facets.specs.declared.AtomValue.{AtomValue}
-use Rattle.gx_facets.specs.declared.AtomValue.TheVariants.{Num}
+use Rattle.gx_funcs.specs.Numbers.{number_of_value, number_atom, fault_code}
 use Rattle.gx_model.specs.Forest.{Forest}
 use Rattle.gx_model.specs.Item.{Item, atom, node, Items}
 use Rattle.gx_core.specs.declared.expression.ArithmeticOp.{ArithmeticOp}
@@ -21,27 +13,10 @@ use Rattle.gx_core.specs.declared.expression.ArithmeticOp.TheVariants.{Add, Sub,
 use Rattle.gx_core.specs.Outcome.{Outcome, gives, raises, given}
 use Rattle.gx_core.specs.Operands.{on_one, on_two}
 
-abbrev pub number_of_value : AtomValue → Option Number
-number_of_value (Num n) = Some n
-number_of_value _ = None
-
 -- the number that an item is
 abbrev pub number_of_item : Item → Option Number
 number_of_item (atom a) = number_of_value a.value
 number_of_item (node place) = None
-
-abbrev pub type_of_number : Number → Builtin
-type_of_number (Int i) = Integer
-type_of_number (Dec d) = Decimal
-
--- a number as an atomic value
-abbrev pub number_atom : Number → Atomic
-number_atom n = record { value = Num n; kind = names.Builtin (type_of_number n) }
-
--- the codes of faults of arithmetic
-abbrev pub fault_code : NumFault → Code
-fault_code Overflow = FOAR0002
-fault_code DivZero = FOAR0001
 
 abbrev pub computed : Result Number NumFault → Forest → Outcome Items
 computed (Ok n) forest = gives (atom (number_atom n) ∷ []) forest

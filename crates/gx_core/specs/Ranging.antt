@@ -1,21 +1,16 @@
 -- Range expressions (XQuery 1.0, section 3.3.1).
-use Rattle.std.specs.Prelude.{ℕ, ◌+◌, ℤ, pos, ◌+ℤ◌, ◌-ℤ◌, int_le, unsigned_abs, nat_le, List, map, Option, None, Some, if◌then◌else◌}
+use Rattle.std.specs.Prelude.{ℕ, ◌+◌, ℤ, pos, ◌+ℤ◌, ◌-ℤ◌, int_le, unsigned_abs, nat_le, List, map, Option, None, if◌then◌else◌}
 use Rattle.std.specs.List.{range_with_len}
 use Rattle.gx_base.specs.declared.code.Code.TheVariants.{GLXD0002}
 use Rattle.gx_base.specs.declared.limits.TheConstants.{RANGE_ITEMS}
 use Rattle.gx_num.specs.declared.Number.TheVariants.{Int}
 use Rattle.gx_facets.specs.declared.Atomic.{Atomic}
-use Rattle.gx_facets.specs.declared.AtomValue.{AtomValue}
-use Rattle.gx_facets.specs.declared.AtomValue.TheVariants.{Num}
 use Rattle.gx_model.specs.Forest.{Forest}
 use Rattle.gx_model.specs.Item.{Item, atom, node, Items, atoms}
 use Rattle.gx_core.specs.Outcome.{Outcome, gives, raises, given}
 use Rattle.gx_core.specs.Operands.{on_two}
-use Rattle.gx_core.specs.Arithmetic.{number_atom}
-
-abbrev pub integer_of_value : AtomValue → Option ℤ
-integer_of_value (Num (Int i)) = Some i
-integer_of_value _ = None
+use Rattle.gx_funcs.specs.Numbers.{number_atom}
+use Rattle.gx_funcs.specs.Values.{integer_of_value}
 
 -- the integer that an item is
 abbrev pub integer_of_item : Item → Option ℤ

@@ -15,3 +15,4 @@ pub mod Picked
 pub mod ManySteps
 pub mod MadeTrees
 pub mod ArgumentTexts
+pub mod ValueArguments

@@ -13,7 +13,7 @@ use Rattle.gx_facets.specs.declared.Atomic.{Atomic}
 use Rattle.gx_model.specs.Forest.{Forest}
 use Rattle.gx_model.specs.Item.{Item, atom, Items, atoms}
 use Rattle.gx_core.specs.Outcome.{gives, raises, given}
-use Rattle.gx_core.specs.Arithmetic.{number_atom}
+use Rattle.gx_funcs.specs.Numbers.{number_atom}
 use Rattle.gx_core.specs.Ranging.{integer_of_item, range_of_items, integers_from, range_length, range_between}
 
 pub few_between : (first last : ℤ) (n : ℕ) (forest : Forest) → n ≡ range_length first last → n ≤ RANGE_ITEMS → range_between first last forest ≡ gives (atoms (integers_from first n)) forest

@@ -1,5 +1,5 @@
 -- What is left to do after a piece of work comes to the same as before it.
-use Rattle.std.proofs.Common.{◌≡◌, ◌≤◌, ℕ, zero, suc, ◌+◌, arith, subst, map, Bool, true, false, not, if◌then◌else◌, append_assoc, append-nil, List, [], ◌∷◌, ◌++◌, length, take, drop, Option, None, Some, Result, refl, sym, ◌∙◌, ap}
+use Rattle.std.proofs.Common.{◌≡◌, ◌≤◌, ℕ, suc, ◌+◌, arith, subst, map, Bool, true, false, not, if◌then◌else◌, append_assoc, append-nil, List, [], ◌∷◌, ◌++◌, length, take, drop, Option, None, Some, Result, refl, sym, ◌∙◌, ap}
 use Rattle.std.proofs.Math.Seq.{take-append_seam, drop-append_seam}
 use Rattle.gx_base.specs.declared.code.Code.{Code}
 use Rattle.gx_facets.specs.declared.Atomic.{Atomic}
@@ -7,7 +7,8 @@ use Rattle.gx_types.specs.SchemaSet.{SchemaSet}
 use Rattle.gx_funcs.specs.declared.function.Function.{Function}
 use Rattle.gx_funcs.specs.declared.function.Function.TheVariants as functions
 use Rattle.gx_funcs.specs.declared.text_function.TextFunction.{TextFunction}
-use Rattle.gx_funcs.specs.Function.{ItemView, text_function_of, applied as applied_function}
+use Rattle.gx_funcs.specs.declared.value_function.ValueFunction.{ValueFunction}
+use Rattle.gx_funcs.specs.Function.{ItemView, text_function_of, value_function_of, applied as applied_function}
 use Rattle.gx_model.specs.Forest.{Forest}
 use Rattle.gx_model.specs.Item.{Item, Items}
 use Rattle.gx_core.specs.declared.expression.BinaryOp.{BinaryOp}
@@ -237,25 +238,14 @@ no_second functions.True a b others = refl
 no_second functions.False a b others = refl
 no_second _ a b others = refl
 
--- a function that is none over strings has one parameter at most
-pub too_many : (s : SchemaSet) (function : Function) (forest : Forest) (all : List Items) → text_function_of function ≡ None → 2 ≤ length all → called s function all forest ≡ wrong
-too_many s function forest [] e h = absurd (omega (arith, h))
-too_many s function forest (x ∷ []) e h = absurd (omega (arith, h))
-too_many s function forest (x ∷ y ∷ all) e h =
-    ap (λ (o : Option TextFunction). called_as o s function (x ∷ y ∷ all) forest) e
+-- a function that is over neither strings nor atomic values has one parameter at most
+pub too_many : (s : SchemaSet) (function : Function) (forest : Forest) (all : List Items) → text_function_of function ≡ None → value_function_of function ≡ None → 2 ≤ length all → called s function all forest ≡ wrong
+too_many s function forest [] e f h = absurd (omega (arith, h))
+too_many s function forest (x ∷ []) e f h = absurd (omega (arith, h))
+too_many s function forest (x ∷ y ∷ all) e f h =
+    ap (λ (o : Option TextFunction). called_as o (value_function_of function) s function (x ∷ y ∷ all) forest) e
+    ∙ ap (λ (o : Option ValueFunction). called_as None o s function (x ∷ y ∷ all) forest) f
     ∙ ap (λ (found : Option (Result (List Atomic) Code)). given found (λ answer. answered answer forest)) (no_second function (views_of forest x) (views_of forest y) (map (views_of forest) all))
-
-all_wrong : (n : ℕ) (marks : List ℕ) (values : Items) (operands : List Items) (next : List Items → List ℕ → Items → Outcome Items)
-    → ((all : List Items) (below : List ℕ) (rest : Items) → n + length operands ≤ length all → next all below rest ≡ wrong) → between_marks n marks values operands next ≡ wrong
-all_wrong zero marks values operands next h = h operands marks values (omega arith)
-all_wrong (suc n) [] values operands next h = refl
-all_wrong (suc n) (mark ∷ marks) values operands next h = all_wrong n marks (take mark values) (drop mark values ∷ operands) next (λ all below rest l. h all below rest (omega (arith, l)))
-
-pub more_are_wrong : (k : Context) (forest : Forest) (function : Function) (work : List Pending) (values : Items) (stacks : Stacks) (bindings : Bindings) (more : ℕ)
-    → text_function_of function ≡ None → resume k (Call function more ∷ work) values stacks bindings forest ≡ wrong
-more_are_wrong k forest function work values stacks bindings more e =
-    all_wrong (more + 2) stacks.marks values [] (λ operands below rest. operated k (operators.Call function) operands rest forest (λ vs left. resume k work vs (with_marks stacks below) bindings left))
-    (λ all below rest l. ap (λ (o : Outcome Items). after o (λ more left. resume k work (rest ++ more) (with_marks stacks below) bindings left)) (too_many k.schemas function forest all e (omega (arith, l))))
 
 -- what a function answers of operands goes behind the values below them
 pub many_apply : (k : Context) (forest : Forest) (function : Function) (work : List Pending) (operands : List Items) (rest answer : Items) (stacks : Stacks) (bindings : Bindings)

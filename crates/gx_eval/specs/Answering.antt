@@ -1,6 +1,7 @@
 -- What a strict operator makes of its operands.
-use Rattle.std.specs.Prelude.{ℕ, ◌<◌, ℤ, ◌+ℤ◌, pos, FitsSigned, [], ◌∷◌, map, Option}
+use Rattle.std.specs.Prelude.{ℕ, ◌<◌, ℤ, ◌+ℤ◌, pos, FitsSigned, List, [], ◌∷◌, map, Option, Result}
 use Rattle.std.specs.Int.{w128}
+use Rattle.gx_base.specs.declared.code.Code.{Code}
 use Rattle.gx_base.specs.declared.code.Code.TheVariants as codes
 use Rattle.gx_facets.specs.declared.Atomic.{Atomic}
 use Rattle.gx_atomic.specs.declared.casting.CastError.{CastError}
@@ -9,6 +10,7 @@ use Rattle.gx_model.specs.Forest.{Forest}
 use Rattle.gx_model.specs.Item.{Item, atom, node, Items, atoms}
 use Rattle.gx_core.specs.Outcome.{Outcome, gives, given}
 use Rattle.gx_core.specs.Arithmetic.{computed_of_items}
+use Rattle.gx_core.specs.Calling.{answered}
 use Rattle.gx_core.specs.Comparing.{compared_items}
 use Rattle.gx_core.specs.ComparingNodes.{compared_nodes}
 use Rattle.gx_core.specs.Ranging.{integers_from, range_of_items}
@@ -16,7 +18,7 @@ use Rattle.gx_store.specs.Places.{node_places}
 use Rattle.gx_eval.specs.declared.failure.Failure.{Failure}
 use Rattle.gx_eval.specs.declared.failure.Failure.TheVariants.{Raised, Memory}
 use Rattle.gx_eval.specs.declared.answer.Answer.{Answer}
-use Rattle.gx_eval.specs.declared.answer.Answer.TheVariants.{Nothing, One, Integers, NodeSequence}
+use Rattle.gx_eval.specs.declared.answer.Answer.TheVariants.{Nothing, One, Integers, NodeSequence, Values}
 use Rattle.gx_eval.specs.declared.answer.Paired.{Paired}
 use Rattle.gx_eval.specs.declared.answer.Paired.TheVariants.{Arithmetic, Value, NodeComparison, Range}
 
@@ -25,6 +27,7 @@ answer_items forest Nothing = []
 answer_items forest (One a) = atom a ∷ []
 answer_items forest (Integers first count) = atoms (integers_from first count)
 answer_items forest (NodeSequence nodes) = map node (node_places forest nodes.items)
+answer_items forest (Values values) = atoms values.items
 
 -- each of so many integers is within the limits of xs:integer
 abbrev pub IntegersFit : (first : ℤ) → (count : ℕ) → Type 0
@@ -51,3 +54,7 @@ failure_of casts.Memory = Memory
 -- the one answer of a function over strings
 abbrev pub answer_found : Option Atomic → Forest → Outcome Items
 answer_found found forest = given found (λ answer. gives (atom answer ∷ []) forest)
+
+-- what a function over atomic values answers
+abbrev pub values_found : Option (Result (List Atomic) Code) → Forest → Outcome Items
+values_found found forest = given found (λ answer. answered answer forest)

@@ -17,7 +17,7 @@ use crate::arithmetic::computed;
 use crate::comparison::{compared, generally_compared};
 use crate::failure::Failure;
 use crate::nodes::{append_nodes, nodes_compare};
-use crate::operand::push_atom;
+use crate::operand::{push_atom, put_atoms};
 use crate::range::{integer_of, put_integers, range_count};
 use crate::sets::combined;
 use gx_atomic::Op;
@@ -30,13 +30,14 @@ use gx_store::number::NodeId;
 use gx_store::store::Store;
 use std::alloc::{AllocError, Global};
 
-// Nothing, one atomic value, so many integers from the first on, or nodes.
+// Nothing, one atomic value, so many integers from the first on, nodes, or atomic values.
 #[derive(Drop)]
 pub(crate) enum Answer {
     Nothing,
     One(Atomic),
     Integers(i128, u32),
     NodeSequence(Vec<NodeId>),
+    Values(Vec<Atomic>),
 }
 
 // An operation on one value of each of two operands.
@@ -171,5 +172,6 @@ pub(crate) fn put(answer: Answer, values: &mut Vec<Item>) -> Result<(), AllocErr
         Answer::One(atomic) => push_atom(atomic, values),
         Answer::Integers(first, count) => put_integers(first, count, values),
         Answer::NodeSequence(nodes) => append_nodes(nodes.as_slice(), values),
+        Answer::Values(atoms) => put_atoms(atoms.as_slice(), values),
     }
 }

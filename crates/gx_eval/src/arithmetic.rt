@@ -4,15 +4,14 @@ ghost use Rattle.std.specs.Prelude.{◌≡◌, IfOk, IfErr, ◌∷◌, []};
 ghost use Rattle.gx_model.specs.Forest.{Forest};
 ghost use Rattle.gx_model.specs.Item.{atom};
 ghost use Rattle.gx_core.specs.Outcome.{gives};
-ghost use Rattle.gx_core.specs.Arithmetic.{computed_of_items, negation_of_item, number_atom, fault_code, result_of};
+ghost use Rattle.gx_core.specs.Arithmetic.{computed_of_items, negation_of_item, result_of};
 ghost use Rattle.gx_store.specs.Items.{item_in};
 ghost use Rattle.gx_eval.specs.Failing.{FailsSo};
 
 use crate::failure::Failure;
-use gx_base::code::Code;
-use gx_base::type_name::{Builtin, TypeName};
 use gx_core::expression::ArithmeticOp;
 use gx_facets::{AtomValue, Atomic};
+use gx_funcs::numbers::{fault_code, number_atom};
 use gx_num::{NumFault, Number, add, div, idiv, modulo, mul, negate, sub};
 use gx_store::item::Item;
 
@@ -71,29 +70,5 @@ fn result_of(operation: ArithmeticOp, left: Number, right: Number) -> Result<Num
             Err(fault) => Err(fault),
         },
         ArithmeticOp::Mod => modulo(left, right),
-    }
-}
-
-// A number as an atomic value.
-pub(crate) fn number_atom(number: Number) -> Atomic
-    ensures { result ≡ number_atom number }
-{
-    let builtin = match number {
-        Number::Int(_) => Builtin::Integer,
-        Number::Dec(_) => Builtin::Decimal,
-    };
-    Atomic {
-        value: AtomValue::Num(number),
-        kind: TypeName::Builtin(builtin),
-    }
-}
-
-// The code of a fault of arithmetic (Functions and Operators, section 6.2).
-fn fault_code(fault: NumFault) -> Code
-    ensures { result ≡ fault_code fault }
-{
-    match fault {
-        NumFault::Overflow => Code::FOAR0002,
-        NumFault::DivZero => Code::FOAR0001,
     }
 }

@@ -25,6 +25,7 @@ use crate::failure::Failure;
 use crate::marking::mark_parts;
 use crate::nodes::atomized;
 use crate::single::Single;
+use crate::value_calling::{called_with_value, called_with_values};
 use gx_atomic::effective_boolean_value;
 use gx_base::text::Text;
 use gx_core::expression::TypedExpr;
@@ -43,9 +44,10 @@ pub(crate) fn called_with_none(alloc: Global, function: Function) -> Result<Answ
     ensures fits { IfOk result (λ r. AnswerFits r) }
     ensures failed { (schemas : SchemaSet) (forest : PlainForest) → IfErr result (λ e. FailsSo e (called schemas function [] forest)) }
 {
-    match function.text_function() {
-        Some(texts) => text_answer(alloc, texts, &[]),
-        None => match apply_to_none(function) {
+    match (function.text_function(), function.value_function()) {
+        (Some(texts), _) => text_answer(alloc, texts, &[]),
+        (None, Some(_)) => Err(Failure::Wrong),
+        (None, None) => match apply_to_none(function) {
             Some(answer) => Ok(Answer::One(answer)),
             None => Err(Failure::Wrong),
         },
@@ -83,6 +85,58 @@ pub(crate) fn called_with_one(
         Function::True | Function::False | Function::Data | Function::Position | Function::Last =>
             Err(Failure::Wrong),
         Function::OfTexts(texts) => called_with_text(alloc, schemas, store, texts, argument),
+        Function::OfValues(over_values) => called_with_value(
+            alloc,
+            schemas,
+            store,
+            over_values,
+            argument,
+        ),
+    }
+}
+
+// What a function answers of its arguments.
+fn called_with(
+    alloc: Global,
+    schemas: &Schemas,
+    store: &Store,
+    function: Function,
+    operands: &[Vec<Item>],
+) -> Result<Answer, Failure>
+    ensures value { (later : PlainForest) → Extends store.now later → IfOk result (λ r. called schemas.now function (parts_in later operands.now) store.now ≡ gives (answer_items later r) store.now) }
+    ensures fits { IfOk result (λ r. AnswerFits r) }
+    ensures failed { (later : PlainForest) → Extends store.now later → IfErr result (λ e. FailsSo e (called schemas.now function (parts_in later operands.now) store.now)) }
+{
+    match operands {
+        [] => called_with_none(alloc, function),
+        [argument] => called_with_one(alloc, schemas, store, function, argument.as_slice()),
+        _ => called_with_many(alloc, schemas, store, function, operands),
+    }
+}
+
+// What a function answers of several arguments: functions over strings and over atomic values alone have so many.
+fn called_with_many(
+    alloc: Global,
+    schemas: &Schemas,
+    store: &Store,
+    function: Function,
+    operands: &[Vec<Item>],
+) -> Result<Answer, Failure>
+    requires { 2 ≤ length operands.now }
+    ensures value { (later : PlainForest) → Extends store.now later → IfOk result (λ r. called schemas.now function (parts_in later operands.now) store.now ≡ gives (answer_items later r) store.now) }
+    ensures fits { IfOk result (λ r. AnswerFits r) }
+    ensures failed { (later : PlainForest) → Extends store.now later → IfErr result (λ e. FailsSo e (called schemas.now function (parts_in later operands.now) store.now)) }
+{
+    match (function.text_function(), function.value_function()) {
+        (Some(texts), _) => called_with_texts(alloc, schemas, store, texts, operands),
+        (None, Some(over_values)) => called_with_values(
+            alloc,
+            schemas,
+            store,
+            over_values,
+            operands,
+        ),
+        (None, None) => Err(Failure::Wrong),
     }
 }
 
@@ -251,7 +305,7 @@ impl<'a> Evaluation<'a> {
         Ok(())
     }
 
-    // A call of several arguments: functions over strings alone have so many.
+    // A call of several arguments is applied to the values between the last marks.
     pub(crate) fn apply_call(
         &mut self,
         alloc: Global,
@@ -263,14 +317,11 @@ impl<'a> Evaluation<'a> {
         ensures value { (calls : CallOutcomes) (later : PlainForest) → Extends store.now later → let k = context_with schemas.now calls in OnOk result (outcome_of k store.now later self.new ≡ outcome_with k store.now later (work.Call function more) self.old) }
         ensures failed { (calls : CallOutcomes) (later : PlainForest) → Extends store.now later → let k = context_with schemas.now calls in IfErr result (λ e. FailsSo e (outcome_with k store.now later (work.Call function more) self.old)) }
     {
-        let Some(texts) = function.text_function() else {
-            return Err(Failure::Wrong);
-        };
         let Some(count) = more.checked_add(2) else {
             return Err(Failure::Memory);
         };
         let operands = take_operands(alloc, count, &mut self.marks, &mut self.values)?;
-        let answer = called_with_texts(alloc, schemas, store, texts, operands.as_slice())?;
+        let answer = called_with(alloc, schemas, store, function, operands.as_slice())?;
         Ok(put(answer, &mut self.values)?)
     }
 }

@@ -173,7 +173,7 @@ fn is_any_atomic_type(kind: &TypeName) -> bool
 }
 
 // Items that are atomized, and the untyped ones of them cast.
-fn converted_items(
+pub(crate) fn converted_items(
     alloc: Global,
     schemas: &Schemas,
     store: &Store,

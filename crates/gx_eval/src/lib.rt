@@ -32,3 +32,4 @@ mod single;
 mod stepping;
 mod switching;
 mod tuples;
+mod value_calling;

@@ -3,7 +3,7 @@
 ghost use Rattle.std.specs.Prelude.{◌≡◌, ◌++◌, ◌∷◌, [], length, OnOk, IfOk, take, drop, option_copied, option_map, MatchOption, Some, None, IfSome, IsSome, IsNone};
 ghost use Rattle.std.specs.List.{list_all, list_any};
 ghost use Rattle.gx_model.specs.Forest.{Forest as PlainForest};
-ghost use Rattle.gx_model.specs.Item.{atom};
+ghost use Rattle.gx_model.specs.Item.{atom, atoms};
 ghost use Rattle.gx_core.specs.Comparing.{atoms_among, condition_of, truth_of_value};
 ghost use Rattle.gx_core.specs.Paths.{is_node as item_is_node};
 ghost use Rattle.gx_nodes.specs.Entries.{place_of_number};
@@ -193,6 +193,17 @@ pub(crate) fn push_atom(value: Atomic, values: &mut Vec<Item>) -> Result<(), All
     ensures { (later : PlainForest) → OnOk result (items_in later values.new.items ≡ items_in later values.old.items ++ atom value ∷ []) }
 {
     Ok(values.push(Item::Atom(value))?)
+}
+
+// Puts copies of atomic values behind the values.
+pub(crate) fn put_atoms(added: &[Atomic], values: &mut Vec<Item>) -> Result<(), AllocError>
+    ensures { (later : PlainForest) → OnOk result (items_in later values.new.items ≡ items_in later values.old.items ++ atoms added.now) }
+{
+    values.reserve(added.len())?;
+    for value in added {
+        push_atom(value.clone()?, values)?;
+    }
+    Ok(())
 }
 
 // Adds copies of the items behind the values.

@@ -8,10 +8,10 @@ ghost use Rattle.gx_core.specs.Ranging.{integer_of_item, integers_from, range_le
 ghost use Rattle.gx_store.specs.Items.{items_in};
 ghost use Rattle.gx_eval.specs.Answering.{IntegersFit};
 
-use crate::arithmetic::number_atom;
 use crate::operand::push_atom;
 use gx_base::limits::RANGE_ITEMS;
 use gx_facets::{AtomValue, Atomic};
+use gx_funcs::numbers::number_atom;
 use gx_num::Number;
 use gx_store::item::Item;
 use std::alloc::AllocError;

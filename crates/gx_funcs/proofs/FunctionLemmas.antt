@@ -8,6 +8,7 @@ use Rattle.gx_funcs.specs.declared.function.Function.{Function}
 use Rattle.gx_funcs.specs.declared.function.Function.TheVariants as functions
 use Rattle.gx_funcs.specs.declared.function.Parameter.{Parameter}
 use Rattle.gx_funcs.specs.declared.text_function.TextFunction.TheVariants as texts
+use Rattle.gx_funcs.specs.declared.value_function.ValueFunction.TheVariants as values
 use Rattle.gx_funcs.specs.Function.{all_functions, function_name, arity_of, is_of_name, first_named, function_named, concat_named, found_or, value_at_most, IsInTable}
 use Rattle.gx_funcs.specs.Laws.{FunctionsAreFoundByName}
 
@@ -64,6 +65,23 @@ found_by_name (functions.OfTexts texts.StartsWith) h = refl
 found_by_name (functions.OfTexts texts.EndsWith) h = refl
 found_by_name (functions.OfTexts texts.SubstringBefore) h = refl
 found_by_name (functions.OfTexts texts.SubstringAfter) h = refl
+found_by_name (functions.OfValues values.Sum) h = refl
+found_by_name (functions.OfValues values.Average) h = refl
+found_by_name (functions.OfValues values.Min) h = refl
+found_by_name (functions.OfValues values.Max) h = refl
+found_by_name (functions.OfValues values.Abs) h = refl
+found_by_name (functions.OfValues values.Floor) h = refl
+found_by_name (functions.OfValues values.Ceiling) h = refl
+found_by_name (functions.OfValues values.Round) h = refl
+found_by_name (functions.OfValues values.SubstringFrom) h = refl
+found_by_name (functions.OfValues values.Substring) h = refl
+found_by_name (functions.OfValues values.Compare) h = refl
+found_by_name (functions.OfValues values.Normalize) h = refl
+found_by_name (functions.OfValues values.NormalizeTo) h = refl
+found_by_name (functions.OfValues values.CodepointsToString) h = refl
+found_by_name (functions.OfValues values.StringToCodepoints) h = refl
+found_by_name (functions.OfValues values.DistinctValues) h = refl
+found_by_name (functions.OfValues values.IndexOf) h = refl
 found_by_name functions.True h = refl
 found_by_name functions.False h = refl
 found_by_name functions.Boolean h = refl

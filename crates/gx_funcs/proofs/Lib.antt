@@ -1,3 +1,11 @@
+pub mod CallLemmas
+pub mod CharacterLemmas
+pub mod DistinctLaws
+pub mod DistinctLemmas
+pub mod ForemostLemmas
 pub mod FunctionLemmas
 pub mod ListedTexts
+pub mod NumberLemmas
+pub mod PartLemmas
+pub mod CodepointLemmas
 pub mod TextLemmas

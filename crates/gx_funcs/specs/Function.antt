@@ -13,9 +13,14 @@ use Rattle.gx_atomic.specs.EffectiveBoolean.{effective_boolean_value}
 use Rattle.gx_funcs.specs.declared.function.Function.{Function}
 use Rattle.gx_funcs.specs.declared.function.Function.TheVariants as functions
 use Rattle.gx_funcs.specs.declared.function.Parameter.{Parameter}
+use Rattle.gx_funcs.specs.declared.function.Conversion.{Conversion}
+use Rattle.gx_funcs.specs.declared.function.Conversion.TheVariants as conversions
+use Rattle.gx_funcs.specs.declared.function.ParameterType.{ParameterType}
 use Rattle.gx_funcs.specs.declared.function.ParameterType.TheVariants as parameters
 use Rattle.gx_funcs.specs.declared.text_function.TextFunction.{TextFunction}
 use Rattle.gx_funcs.specs.declared.text_function.TextFunction.TheVariants as texts
+use Rattle.gx_funcs.specs.declared.value_function.ValueFunction.{ValueFunction}
+use Rattle.gx_funcs.specs.declared.value_function.ValueFunction.TheVariants as values
 
 -- all functions but `concat`, which there is for each number of arguments from two on
 abbrev pub all_functions : List Function
@@ -24,7 +29,13 @@ all_functions =
     ∷ functions.Position ∷ functions.Last
     ∷ functions.OfTexts texts.StringLength ∷ functions.OfTexts texts.StringJoin ∷ functions.OfTexts texts.NormalizeSpace ∷ functions.OfTexts texts.Translate
     ∷ functions.OfTexts texts.Contains ∷ functions.OfTexts texts.StartsWith ∷ functions.OfTexts texts.EndsWith
-    ∷ functions.OfTexts texts.SubstringBefore ∷ functions.OfTexts texts.SubstringAfter ∷ []
+    ∷ functions.OfTexts texts.SubstringBefore ∷ functions.OfTexts texts.SubstringAfter
+    ∷ functions.OfValues values.Sum ∷ functions.OfValues values.Average ∷ functions.OfValues values.Min ∷ functions.OfValues values.Max
+    ∷ functions.OfValues values.Abs ∷ functions.OfValues values.Floor ∷ functions.OfValues values.Ceiling ∷ functions.OfValues values.Round
+    ∷ functions.OfValues values.SubstringFrom ∷ functions.OfValues values.Substring ∷ functions.OfValues values.Compare
+    ∷ functions.OfValues values.Normalize ∷ functions.OfValues values.NormalizeTo
+    ∷ functions.OfValues values.CodepointsToString ∷ functions.OfValues values.StringToCodepoints
+    ∷ functions.OfValues values.DistinctValues ∷ functions.OfValues values.IndexOf ∷ []
 
 -- ---- names
 
@@ -40,6 +51,25 @@ text_function_name texts.EndsWith = codes "ends-with"
 text_function_name texts.SubstringBefore = codes "substring-before"
 text_function_name texts.SubstringAfter = codes "substring-after"
 
+abbrev pub value_function_name : ValueFunction → List ℕ
+value_function_name values.Sum = codes "sum"
+value_function_name values.Average = codes "avg"
+value_function_name values.Min = codes "min"
+value_function_name values.Max = codes "max"
+value_function_name values.Abs = codes "abs"
+value_function_name values.Floor = codes "floor"
+value_function_name values.Ceiling = codes "ceiling"
+value_function_name values.Round = codes "round"
+value_function_name values.SubstringFrom = codes "substring"
+value_function_name values.Substring = codes "substring"
+value_function_name values.Compare = codes "compare"
+value_function_name values.Normalize = codes "normalize-unicode"
+value_function_name values.NormalizeTo = codes "normalize-unicode"
+value_function_name values.CodepointsToString = codes "codepoints-to-string"
+value_function_name values.StringToCodepoints = codes "string-to-codepoints"
+value_function_name values.DistinctValues = codes "distinct-values"
+value_function_name values.IndexOf = codes "index-of"
+
 -- the local name of a function
 abbrev pub function_name : Function → List ℕ
 function_name functions.True = codes "true"
@@ -54,6 +84,7 @@ function_name functions.String = codes "string"
 function_name functions.Position = codes "position"
 function_name functions.Last = codes "last"
 function_name (functions.OfTexts function) = text_function_name function
+function_name (functions.OfValues function) = value_function_name function
 
 -- ---- parameters
 
@@ -82,6 +113,34 @@ any_strings = record { takes = parameters.Texts; code = XPTY0004 }
 abbrev pub value_at_most : Parameter
 value_at_most = record { takes = parameters.OptionalValue; code = XPTY0004 }
 
+-- at most one number, one number and any numbers, of which untyped values are none; any integers, as which untyped values are cast; any atomic
+-- values, and one of them; each after atomization
+abbrev pub number_at_most : Parameter
+number_at_most = record { takes = parameters.OptionalNumber; code = XPTY0004 }
+
+abbrev pub one_number : Parameter
+one_number = record { takes = parameters.OneNumber; code = XPTY0004 }
+
+abbrev pub any_numbers : Parameter
+any_numbers = record { takes = parameters.Numbers; code = XPTY0004 }
+
+abbrev pub any_integers : Parameter
+any_integers = record { takes = parameters.Integers; code = XPTY0004 }
+
+abbrev pub any_values : Parameter
+any_values = record { takes = parameters.Values; code = XPTY0004 }
+
+abbrev pub one_value : Parameter
+one_value = record { takes = parameters.OneValue; code = XPTY0004 }
+
+-- how an argument is converted before its parameter takes it (XQuery 1.0, section 3.1.5)
+abbrev pub conversion_of : ParameterType → Conversion
+conversion_of parameters.Items = conversions.Nothing
+conversion_of parameters.OptionalItem = conversions.Nothing
+conversion_of parameters.TruthValue = conversions.Nothing
+conversion_of parameters.Integers = conversions.DataAndCast types.Integer
+conversion_of takes = conversions.Data
+
 abbrev pub text_parameters_of : TextFunction → List Parameter
 text_parameters_of texts.StringLength = string_at_most ∷ []
 text_parameters_of (texts.Concat count) = replicate count value_at_most
@@ -93,6 +152,25 @@ text_parameters_of texts.StartsWith = string_at_most ∷ string_at_most ∷ []
 text_parameters_of texts.EndsWith = string_at_most ∷ string_at_most ∷ []
 text_parameters_of texts.SubstringBefore = string_at_most ∷ string_at_most ∷ []
 text_parameters_of texts.SubstringAfter = string_at_most ∷ string_at_most ∷ []
+
+abbrev pub value_parameters_of : ValueFunction → List Parameter
+value_parameters_of values.Sum = any_numbers ∷ []
+value_parameters_of values.Average = any_numbers ∷ []
+value_parameters_of values.Min = any_numbers ∷ []
+value_parameters_of values.Max = any_numbers ∷ []
+value_parameters_of values.Abs = number_at_most ∷ []
+value_parameters_of values.Floor = number_at_most ∷ []
+value_parameters_of values.Ceiling = number_at_most ∷ []
+value_parameters_of values.Round = number_at_most ∷ []
+value_parameters_of values.SubstringFrom = string_at_most ∷ one_number ∷ []
+value_parameters_of values.Substring = string_at_most ∷ one_number ∷ one_number ∷ []
+value_parameters_of values.Compare = string_at_most ∷ string_at_most ∷ []
+value_parameters_of values.Normalize = string_at_most ∷ []
+value_parameters_of values.NormalizeTo = string_at_most ∷ one_string ∷ []
+value_parameters_of values.CodepointsToString = any_integers ∷ []
+value_parameters_of values.StringToCodepoints = string_at_most ∷ []
+value_parameters_of values.DistinctValues = any_values ∷ []
+value_parameters_of values.IndexOf = any_values ∷ one_value ∷ []
 
 abbrev pub parameters_of : Function → List Parameter
 parameters_of functions.True = []
@@ -107,6 +185,7 @@ parameters_of functions.String = one_item_at_most ∷ []
 parameters_of functions.Position = []
 parameters_of functions.Last = []
 parameters_of (functions.OfTexts function) = text_parameters_of function
+parameters_of (functions.OfValues function) = value_parameters_of function
 
 -- how many arguments a function has
 abbrev pub arity_of : Function → ℕ
@@ -152,7 +231,8 @@ text_answer_type_of texts.EndsWith = types.Boolean
 text_answer_type_of texts.SubstringBefore = types.Str
 text_answer_type_of texts.SubstringAfter = types.Str
 
--- the type of the one atomic value that a function answers; what `data` answers is of the type of its argument
+-- the type of the one atomic value that a function answers; what `data` and functions over atomic values answer is of a type that their
+-- arguments give
 abbrev pub answer_type_of : Function → Option Builtin
 answer_type_of functions.True = Some types.Boolean
 answer_type_of functions.False = Some types.Boolean
@@ -166,6 +246,7 @@ answer_type_of functions.String = Some types.Str
 answer_type_of functions.Position = Some types.Integer
 answer_type_of functions.Last = Some types.Integer
 answer_type_of (functions.OfTexts function) = Some (text_answer_type_of function)
+answer_type_of (functions.OfValues function) = None
 
 -- ---- values
 
@@ -215,9 +296,14 @@ string_of_items (item ∷ other ∷ rest) = None
 abbrev pub one_answer : Atomic → Result (List Atomic) Code
 one_answer a = Ok (a ∷ [])
 
+-- the function over atomic values that a function is, if it is one
+abbrev pub value_function_of : Function → Option ValueFunction
+value_function_of (functions.OfValues function) = Some function
+value_function_of function = None
+
 -- what a function answers of its arguments, a value or the code of a dynamic error; nothing where their number is another one
 -- or they are not of the types of its parameters, of `data`, which is an operator of its own, of `position` and `last`, which are variables,
--- and of functions over strings, which look at texts
+-- of functions over strings, which look at texts, and of those over atomic values
 abbrev pub applied : Function → List (List ItemView) → Option (Result (List Atomic) Code)
 applied functions.True [] = Some (one_answer (truth_atom true))
 applied functions.False [] = Some (one_answer (truth_atom false))

@@ -1,4 +1,10 @@
 pub mod Function
 pub mod Texts
 pub mod Targets
+pub mod Numbers
+pub mod Positions
+pub mod Distinct
+pub mod Strings
+pub mod Values
+pub mod ValueLaws
 pub mod Laws

@@ -1,18 +1,19 @@
 // The table of built-in functions.
 
 ghost use Rattle.std.specs.Prelude.{◌≡◌, [], ℕ, List, encode_utf8_all, Some, None, MatchOption, slice_get, length};
-ghost use Rattle.gx_funcs.specs.Function.{applied, arity_of, concat_named, first_named, all_functions, function_name, function_named, integer_atom, is_of_name, one_answer, parameters_of, answer_type_of, string_atom, truth_atom};
-ghost use Rattle.gx_funcs.specs.Function.{text_function_name, text_function_of, text_parameters_of, text_answer_type_of};
+ghost use Rattle.gx_funcs.specs.Function.{applied, arity_of, conversion_of, concat_named, first_named, all_functions, function_name, function_named, integer_atom, is_of_name, one_answer, parameters_of, answer_type_of, string_atom, truth_atom};
+ghost use Rattle.gx_funcs.specs.Function.{text_function_name, text_function_of, text_parameters_of, text_answer_type_of, value_function_of};
 
 use crate::text_function::TextFunction;
+use crate::value_function::ValueFunction;
 use gx_base::code::Code;
 use gx_base::text::Text;
 use gx_base::type_name::{Builtin, TypeName};
 use gx_facets::{AtomValue, Atomic};
 use gx_num::Number;
 
-/// A built-in function, with a name and a number of arguments (Functions and Operators, sections 2.3, 2.4, 7.4, 7.5, 9.1, 9.3, 15.1,
-/// 15.4, 16.1 and 16.2).
+/// A built-in function, with a name and a number of arguments (Functions and Operators, sections 2.3, 2.4, 6.4, 7.2 to 7.5, 9.1, 9.3,
+/// 15.1, 15.4, 16.1 and 16.2).
 #[derive(Clone, Copy, PartialEq, Eq)]
 pub enum Function {
     /// `fn:true()`.
@@ -39,6 +40,8 @@ pub enum Function {
     Last,
     /// A function over strings.
     OfTexts(TextFunction),
+    /// A function over atomic values.
+    OfValues(ValueFunction),
 }
 
 /// What the values of a parameter are.
@@ -58,6 +61,43 @@ pub enum ParameterType {
     Texts,
     /// `xs:anyAtomicType?`: the argument is atomized.
     OptionalValue,
+    /// `xs:decimal?`: the argument is atomized, and an untyped value is no number.
+    OptionalNumber,
+    /// `xs:decimal`, likewise.
+    OneNumber,
+    /// `xs:decimal*`, likewise.
+    Numbers,
+    /// `xs:integer*`: the argument is atomized, and untyped values are cast.
+    Integers,
+    /// `xs:anyAtomicType*`: the argument is atomized.
+    Values,
+    /// `xs:anyAtomicType`, likewise.
+    OneValue,
+}
+
+/// How an argument is converted before its parameter takes it (XQuery 1.0, section 3.1.5).
+#[derive(Clone, Copy, PartialEq, Eq)]
+pub enum Conversion {
+    /// It stays as it is.
+    Nothing,
+    /// It is atomized.
+    Data,
+    /// It is atomized, and untyped values are cast to this type.
+    DataAndCast(Builtin),
+}
+
+impl ParameterType {
+    /// How an argument is converted before a parameter of this type takes it.
+    pub fn conversion(self) -> Conversion
+        ensures { result ≡ conversion_of self }
+    {
+        match self {
+            ParameterType::Items | ParameterType::OptionalItem | ParameterType::TruthValue =>
+                Conversion::Nothing,
+            ParameterType::Integers => Conversion::DataAndCast(Builtin::Integer),
+            _ => Conversion::Data,
+        }
+    }
 }
 
 /// A parameter of a function: what its values are, and the code of an argument of another type.
@@ -68,7 +108,7 @@ pub struct Parameter {
 }
 
 // All functions but `concat`, each once.
-const FUNCTIONS: [Function; 20] = [
+const FUNCTIONS: [Function; 37] = [
     Function::True,
     Function::False,
     Function::Boolean,
@@ -89,6 +129,23 @@ const FUNCTIONS: [Function; 20] = [
     Function::OfTexts(TextFunction::EndsWith),
     Function::OfTexts(TextFunction::SubstringBefore),
     Function::OfTexts(TextFunction::SubstringAfter),
+    Function::OfValues(ValueFunction::Sum),
+    Function::OfValues(ValueFunction::Average),
+    Function::OfValues(ValueFunction::Min),
+    Function::OfValues(ValueFunction::Max),
+    Function::OfValues(ValueFunction::Abs),
+    Function::OfValues(ValueFunction::Floor),
+    Function::OfValues(ValueFunction::Ceiling),
+    Function::OfValues(ValueFunction::Round),
+    Function::OfValues(ValueFunction::SubstringFrom),
+    Function::OfValues(ValueFunction::Substring),
+    Function::OfValues(ValueFunction::Compare),
+    Function::OfValues(ValueFunction::Normalize),
+    Function::OfValues(ValueFunction::NormalizeTo),
+    Function::OfValues(ValueFunction::CodepointsToString),
+    Function::OfValues(ValueFunction::StringToCodepoints),
+    Function::OfValues(ValueFunction::DistinctValues),
+    Function::OfValues(ValueFunction::IndexOf),
 ];
 
 const ANY_ITEMS: Parameter = Parameter {
@@ -106,12 +163,12 @@ const TRUTH_VALUED: Parameter = Parameter {
     code: Code::FORG0006,
 };
 
-const STRING_AT_MOST: Parameter = Parameter {
+pub(crate) const STRING_AT_MOST: Parameter = Parameter {
     takes: ParameterType::OptionalText,
     code: Code::XPTY0004,
 };
 
-const ONE_STRING: Parameter = Parameter {
+pub(crate) const ONE_STRING: Parameter = Parameter {
     takes: ParameterType::OneText,
     code: Code::XPTY0004,
 };
@@ -123,6 +180,36 @@ const ANY_STRINGS: Parameter = Parameter {
 
 const VALUE_AT_MOST: Parameter = Parameter {
     takes: ParameterType::OptionalValue,
+    code: Code::XPTY0004,
+};
+
+pub(crate) const NUMBER_AT_MOST: Parameter = Parameter {
+    takes: ParameterType::OptionalNumber,
+    code: Code::XPTY0004,
+};
+
+pub(crate) const ONE_NUMBER: Parameter = Parameter {
+    takes: ParameterType::OneNumber,
+    code: Code::XPTY0004,
+};
+
+pub(crate) const ANY_NUMBERS: Parameter = Parameter {
+    takes: ParameterType::Numbers,
+    code: Code::XPTY0004,
+};
+
+pub(crate) const ANY_INTEGERS: Parameter = Parameter {
+    takes: ParameterType::Integers,
+    code: Code::XPTY0004,
+};
+
+pub(crate) const ANY_VALUES: Parameter = Parameter {
+    takes: ParameterType::Values,
+    code: Code::XPTY0004,
+};
+
+pub(crate) const ONE_VALUE: Parameter = Parameter {
+    takes: ParameterType::OneValue,
     code: Code::XPTY0004,
 };
 
@@ -220,6 +307,7 @@ impl Function {
             Function::Position => "position",
             Function::Last => "last",
             Function::OfTexts(function) => function.name(),
+            Function::OfValues(function) => function.name(),
         }
     }
 
@@ -235,6 +323,7 @@ impl Function {
                 .copied(),
             Function::String => [ONE_ITEM_AT_MOST].get(index).copied(),
             Function::OfTexts(function) => function.parameter(index),
+            Function::OfValues(function) => function.parameter(index),
         }
     }
 
@@ -252,6 +341,7 @@ impl Function {
             | Function::Data
             | Function::String => 1,
             Function::OfTexts(function) => function.arity(),
+            Function::OfValues(function) => function.arity(),
         }
     }
 
@@ -265,7 +355,18 @@ impl Function {
         }
     }
 
-    /// The type of the one atomic value that it answers; none of `data`, whose values are of the types of its argument.
+    /// The function over atomic values that it is, if it is one.
+    pub fn value_function(self) -> Option<ValueFunction>
+        ensures { result ≡ value_function_of self }
+    {
+        match self {
+            Function::OfValues(function) => Some(function),
+            _ => None,
+        }
+    }
+
+    /// The type of the one atomic value that it answers; none of `data` and of functions over atomic values, whose answers are of types that
+    /// their arguments give.
     pub fn result(self) -> Option<Builtin>
         ensures { result ≡ answer_type_of self }
     {
@@ -279,7 +380,7 @@ impl Function {
             Function::Count | Function::Position | Function::Last => Some(Builtin::Integer),
             Function::String => Some(Builtin::Str),
             Function::OfTexts(function) => Some(function.result()),
-            Function::Data => None,
+            Function::Data | Function::OfValues(_) => None,
         }
     }
 }

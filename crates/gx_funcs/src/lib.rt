@@ -1,7 +1,14 @@
 //! The built-in functions: their names, their parameters, the types of their results, and their values.
 #![tactic(auto)]
 
+mod distinct;
 pub mod function;
 pub mod laws;
+mod normal_forms;
+pub mod numbers;
+mod strings;
 pub mod text_function;
 pub mod texts;
+pub mod value_function;
+pub mod values;
+mod whole;

@@ -233,7 +233,7 @@ fn count_of(text: &str) -> usize
 }
 
 // The text as white space is collapsed.
-fn without_spare_space(alloc: Global, text: &Text) -> Result<Text, AllocError>
+pub(crate) fn without_spare_space(alloc: Global, text: &Text) -> Result<Text, AllocError>
     ensures { IfOk result (λ t. t ≡ collapsed text.now) }
 {
     match read_value(alloc, Builtin::Token, text) {

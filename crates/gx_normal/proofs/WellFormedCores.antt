@@ -2,7 +2,7 @@
 use Rattle.std.specs.Prelude.{Contains, map, slice_get}
 use Rattle.std.proofs.lemmas.Option.{get_or_from_slice_get, slice_get_within}
 use Rattle.std.proofs.lemmas.List.Elements.{Contains-get_or}
-use Rattle.std.proofs.Common.{◌≡◌, ℕ, zero, suc, ◌+◌, ◌==◌, ◌<◌, length, ap, Bool, true, false, List, [], ◌∷◌, ◌++◌, Option, Some, None, Result, Ok, Err, IfOk, refl, sym, ◌∙◌, subst, if◌then◌else◌, arith}
+use Rattle.std.proofs.Common.{◌≡◌, ℕ, suc, ◌+◌, ◌==◌, length, ap, Bool, true, false, List, [], ◌∷◌, ◌++◌, Option, Some, None, Result, Ok, Err, IfOk, refl, sym, ◌∙◌, subst, if◌then◌else◌, arith}
 use Rattle.std.proofs.lemmas.Bool.{eqb-true}
 use Rattle.gx_base.specs.declared.place.Place.{Place}
 use Rattle.gx_num.specs.declared.Number.{Number}
@@ -32,13 +32,12 @@ use Rattle.gx_core.specs.declared.operator.ClauseKind.TheVariants as kinds
 use Rattle.gx_core.specs.declared.operator.Operator.TheVariants as operators
 use Rattle.gx_core.specs.declared.signature.FunctionSignature.{FunctionSignature}
 use Rattle.gx_normal.specs.declared.signatures.Signatures.{Signatures}
-use Rattle.gx_normal.specs.Signatures.{inside_parameters, of_arguments, numbered_signature, same_function, signature_called, signature_written, signatures_written, signatures_of, type_or_items, parameter_binder, parameter_binders, user_call_at}
+use Rattle.gx_normal.specs.Signatures.{inside_parameters, of_arguments, numbered_signature, same_function, signature_called, signature_written, signatures_written, signatures_of, type_or_items, parameter_binders, user_call_at}
 use Rattle.gx_resolved.specs.NestedMap.{innermost_value}
 use Rattle.gx_resolved.specs.declared.tree.BoundName.{BoundName}
-use Rattle.gx_core.specs.declared.expression.Binder.{Binder}
 use Rattle.gx_core.specs.CalledFunctions.{type_of_parameter, signatures_from}
 use Rattle.gx_core.specs.Functions.{functions_of}
-use Rattle.gx_core.specs.Arithmetic.{number_atom}
+use Rattle.gx_funcs.specs.Numbers.{number_atom}
 use Rattle.gx_core.specs.Queries.{Core}
 use Rattle.gx_core.specs.Expression.{CoreExpression, At, a_part, one_part, all_parts, outer_of}
 use Rattle.gx_core.specs.Invariant.{IsCoreLiteral, number_of_parts, IsWellFormedExpression, ArePartsWellFormed, AreValuesWellFormed, IsWellFormedQuery, CallsDeclaredFunctions}

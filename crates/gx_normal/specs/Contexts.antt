@@ -9,7 +9,7 @@ use Rattle.gx_resolved.specs.ResolvedTree.{ResolvedTree, ResolvedTrees, resolved
 use Rattle.gx_funcs.specs.declared.function.Function.TheVariants as functions
 use Rattle.gx_core.specs.declared.expression.BinaryOp.TheVariants as core
 use Rattle.gx_core.specs.declared.operator.Operator.TheVariants as operators
-use Rattle.gx_core.specs.Arithmetic.{number_atom}
+use Rattle.gx_funcs.specs.Numbers.{number_atom}
 use Rattle.gx_core.specs.Expression.{CoreExpression, one_part, two_parts, core_at}
 use Rattle.gx_normal.specs.declared.contexts.ContextNumbers.{ContextNumbers}
 use Rattle.gx_normal.specs.declared.focus.Focus.{Focus}

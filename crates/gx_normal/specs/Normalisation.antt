@@ -20,7 +20,7 @@ use Rattle.gx_core.specs.declared.expression.Binder.{Binder}
 use Rattle.gx_core.specs.Queries.{Core, CoreDeclaration, CoreFunction}
 use Rattle.gx_core.specs.declared.expression.Declaration.TheVariants.{Global, Function}
 use Rattle.gx_core.specs.declared.operator.Operator.TheVariants as operators
-use Rattle.gx_core.specs.Arithmetic.{number_atom}
+use Rattle.gx_funcs.specs.Numbers.{number_atom}
 use Rattle.gx_core.specs.Expression.{CoreExpression, no_parts, core_at}
 use Rattle.gx_normal.specs.Constructs.{within, literal_at, core_sequence, call_of, empty_at, of_one, conditional_at, signed_at, cast_at, castable_at, joining, context_item_at, step_at, constructor_at}
 use Rattle.gx_normal.specs.declared.signatures.Signatures.{Signatures}

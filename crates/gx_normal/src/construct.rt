@@ -1,7 +1,7 @@
 // The Core of each construct, over its parts.
 
 ghost use Rattle.std.specs.Prelude.{◌≡◌, IfOk, MatchOption, Some, None};
-ghost use Rattle.gx_core.specs.Arithmetic.{number_atom};
+ghost use Rattle.gx_funcs.specs.Numbers.{number_atom};
 ghost use Rattle.gx_funcs.specs.Function.{string_atom};
 ghost use Rattle.gx_core.specs.Expression.{CoreExpression, core_at, no_parts, one_part};
 ghost use Rattle.gx_core.specs.ExpressionView.{operator_of, parts_of};

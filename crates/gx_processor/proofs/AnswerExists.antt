@@ -3,7 +3,7 @@ use Rattle.std.proofs.Common.{◌≡◌, ℕ, Bool, true, false, List, [], ◌�
 use Rattle.std.specs.Bool.{MatchBool}
 use Rattle.std.proofs.lemmas.List.{append-nil}
 use Rattle.std.specs.Str.{chars}
-use Rattle.gx_base.specs.declared.code.Code.TheVariants.{XPST0003, GLXS0001, SENR0001}
+use Rattle.gx_base.specs.declared.code.Code.TheVariants.{GLXS0001, SENR0001}
 use Rattle.gx_base.specs.declared.limits.TheConstants.{FILE_BYTES}
 use Rattle.gx_types.specs.SchemaSet.{SchemaSet}
 use Rattle.gx_types.specs.SchemaInvariant.{IsSchemaSet}
@@ -25,7 +25,7 @@ use Rattle.gx_documents.specs.Bindings.{Misbound, misbound, files_bound}
 use Rattle.gx_validate.specs.Outcome.{Fault}
 use Rattle.gx_documents.specs.Documents.{Files, Request, AreKept, document_nodes, tree_requests}
 use Rattle.gx_documents.proofs.DocumentTrees.{documents_are_as_asked, documents_are_honest}
-use Rattle.gx_processor.specs.ExternalDocuments.{AreDocumentsOf, ExternalsAreDocuments}
+use Rattle.gx_processor.specs.ExternalDocuments.{AreDocumentsOf}
 use Rattle.gx_processor.proofs.WholeQueries.{named_queries_have_documents}
 use Rattle.gx_processor.specs.Externals.{external_words, documents_bound}
 use Rattle.gx_processor.specs.SchemaFiles.{schema_files, schema_requests, file_name_at}
@@ -36,7 +36,6 @@ use Rattle.gx_static.specs.QueryJudgement.{QueryJudgement, query_typed, query_re
 use Rattle.gx_static.proofs.QueryLaws.{query_sound}
 use Rattle.gx_types.specs.SequenceType.{SequenceType}
 use Rattle.gx_io.specs.Load.{file_of}
-use Rattle.gx_base.specs.declared.place.Place.{Place}
 use Rattle.gx_ast.specs.declared.query.Query.{Query as SyntaxQuery}
 use Rattle.gx_parse_grammar.specs.Query.{Parsing, parsed, refused}
 use Rattle.gx_parse_grammar.proofs.SomeParsing.{a_parsing_exists}

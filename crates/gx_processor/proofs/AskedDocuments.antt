@@ -1,6 +1,5 @@
 -- The documents that are asked for in the place of external variables.
-use Rattle.std.proofs.Common.{◌≡◌, ℕ, suc, List, [], ◌∷◌, length, Option, None, Some, IfSome, IsSome, inl, inr, sym, ◌∙◌, ap, subst, refl, arith}
-use Rattle.gx_base.specs.declared.name.Name.{Name}
+use Rattle.std.proofs.Common.{◌≡◌, ℕ, suc, List, [], ◌∷◌, length, Option, None, Some, IfSome, IsSome, inl, inr, sym, ap, subst, refl, arith}
 use Rattle.gx_types.specs.SchemaSet.{SchemaSet, global_type}
 use Rattle.gx_types.specs.SequenceType.{SequenceType}
 use Rattle.gx_model.specs.Forest.{Forest}

@@ -1,5 +1,5 @@
 -- The headline, from the answer that a run ends with.
-use Rattle.std.proofs.Common.{◌≡◌, ℕ, ◌≤◌, Bool, true, false, List, [], ◌∷◌, ◌++◌, suc, inl, inr, length, append_assoc, Option, Some, None, Result, Ok, Err, refl, sym, ◌∙◌, ap, subst, nat_le}
+use Rattle.std.proofs.Common.{◌≡◌, ℕ, ◌≤◌, Bool, true, false, List, [], ◌∷◌, ◌++◌, inl, inr, length, append_assoc, Option, Some, None, Result, Ok, Err, refl, sym, ◌∙◌, ap, subst, nat_le}
 use Rattle.std.specs.Bool.{MatchBool}
 use Rattle.std.proofs.lemmas.Bool.{leb-true, le-leb}
 use Rattle.std.proofs.lemmas.List.{append-nil}
@@ -34,7 +34,6 @@ use Rattle.gx_static.specs.QueryJudgement.{QueryJudgement, query_typed, query_re
 use Rattle.gx_io.specs.Load.{file_of}
 use Rattle.gx_processor.specs.declared.status.Status.{Status}
 use Rattle.gx_processor.specs.declared.status.Status.TheVariants.{Query, Schema, Document}
-use Rattle.gx_base.specs.declared.place.Place.{Place}
 use Rattle.gx_ast.specs.declared.query.Query.{Query as SyntaxQuery}
 use Rattle.gx_parse_grammar.specs.Query.{Parsing, parsed, refused, Parses}
 use Rattle.gx_parse_grammar.proofs.OneParsing.{one_parsing}
@@ -47,7 +46,7 @@ use Rattle.gx_processor.specs.FaultLines.{code_line, placed_line, long_document_
 use Rattle.gx_processor.specs.Answer.{Answer, writes, refuses, status_of, output_of, can_be_written, AnswersOutcome, AnswersEvaluated, AnswersRead, AnswersKept, AnswersLoaded, AnswersFiles, AnswersBound, AnswersRun, AnswersTyped, AnswersJudged, AnswersNamed, AnswersImported, AnswersSources, AnswersSchemas, AnswersParsed, AnswersBytes, AnswersFile, Answers}
 use Rattle.gx_processor.specs.Run.{Run}
 use Rattle.gx_processor.specs.Promises.{LeavesAnswer}
-use Rattle.gx_processor.specs.Headline.{BindDocuments, RunEnds, RunsTyped, ChecksTyped, HoldsTyped, RunsAsChecked, RejectsUntyped}
+use Rattle.gx_processor.specs.Headline.{RunEnds, RunsTyped, ChecksTyped, HoldsTyped, RunsAsChecked, RejectsUntyped}
 use Rattle.gx_processor.proofs.AnswerLemmas.{answer_at, answer_asked}
 use Rattle.gx_processor.proofs.LoadLemmas.{OfDocument}
 use Rattle.gx_processor.proofs.PromiseLemmas.{AnsweredOrStarved}

@@ -7,7 +7,7 @@ use Rattle.gx_io.specs.LibraryUse.{LibraryUse}
 use Rattle.gx_ast.specs.declared.query.Query.{Query as SyntaxQuery}
 use Rattle.gx_xml.specs.declared.source.Source.{Source}
 use Rattle.gx_validate.specs.declared.invalid.InvalidRule.{InvalidRule}
-use Rattle.gx_schema.specs.Import.{declares, breaks, IsImported}
+use Rattle.gx_schema.specs.Import.{breaks}
 use Rattle.gx_documents.specs.declared.documents.DocumentFault.TheVariants as faults
 use Rattle.gx_documents.specs.declared.documents.DocumentsError.{DocumentsError}
 use Rattle.gx_documents.specs.declared.documents.DocumentsError.TheVariants.{Failed, Memory as NoMemory}

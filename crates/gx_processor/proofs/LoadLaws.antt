@@ -4,7 +4,6 @@ use Rattle.std.specs.Bool.{MatchBool}
 use Rattle.std.proofs.lemmas.Bool.{leb-true}
 use Rattle.std.proofs.lemmas.List.{append-nil}
 use Rattle.gx_base.specs.declared.code.Code.TheVariants.{GLXS0001, SENR0001}
-use Rattle.gx_base.specs.declared.place.Place.{Place}
 use Rattle.gx_types.specs.SchemaSet.{SchemaSet}
 use Rattle.gx_schema.specs.Import.{Imported, declares, breaks, IsImported}
 use Rattle.gx_schema.specs.Laws.{ImportsAreOne}

@@ -29,7 +29,8 @@ use Rattle.gx_core.specs.declared.expression.BinaryClass.TheVariants as classes
 use Rattle.gx_core.specs.declared.operator.Operator.TheVariants as operators
 use Rattle.gx_core.specs.Outcome.{given}
 use Rattle.gx_core.specs.Meaning.{binary_meaning}
-use Rattle.gx_core.specs.Arithmetic.{number_of_value, number_of_item, type_of_number, number_atom, computed, integer_result, result_of, computed_of_items, negation_of_item, negation}
+use Rattle.gx_funcs.specs.Numbers.{number_of_value, type_of_number, number_atom}
+use Rattle.gx_core.specs.Arithmetic.{number_of_item, computed, integer_result, result_of, computed_of_items, negation_of_item, negation}
 use Rattle.gx_core.specs.Soundness.{typed_setting, IsOfType, Keeps}
 use Rattle.gx_core.proofs.KeptFacts.{fact_at_once}
 use Rattle.gx_static.specs.Rule.{atomic, is_all_in, is_at_most_one, is_optional_in, integer_if, number_type, arithmetic_type}
@@ -63,7 +64,7 @@ value_is_integer s (values.Num (Dec u)) kind n f d e = absurd (f.1 d)
 pub item_is_integer : (s : SchemaSet) (x : Item) (n : Number) → IsAtomIn s Integer x → number_of_item x ≡ Some n → (i : ℤ) × (n ≡ Int i)
 item_is_integer s x n a e = value_is_integer s a.value.value a.value.kind n a.fits a.derived (subst (λ (y : Item). number_of_item y ≡ Some n) a.is e)
 
-number_is_decimal : (s : SchemaSet) (n : Number) → DerivesFrom s (names.Builtin (type_of_number n)) (names.Builtin Decimal)
+pub number_is_decimal : (s : SchemaSet) (n : Number) → DerivesFrom s (names.Builtin (type_of_number n)) (names.Builtin Decimal)
 number_is_decimal s (Int i) = (1, (names.Builtin Decimal, refl, refl))
 number_is_decimal s (Dec u) = (0, refl)
 
@@ -76,7 +77,7 @@ computed_keeps s forest t (Err fault) honest h = tt
 
 -- ---- what an operation yields of two integers is an integer
 
-abbrev IsInteger : Number → Type 0
+abbrev pub IsInteger : Number → Type 0
 IsInteger n = (i : ℤ) × (n ≡ Int i)
 
 ranged_is : {T : Type 0} (fits : Bool) (x n : T) → ranged fits x ≡ Ok n → n ≡ x
@@ -102,11 +103,11 @@ integers_yield_integers Mod i j n e h = (int_rem i j, divided_is (is_zero (Int j
 integer_derives : (s : SchemaSet) (n : Number) → IsInteger n → DerivesFrom s (names.Builtin (type_of_number n)) (names.Builtin Integer)
 integer_derives s n k = subst (λ (a : Number). DerivesFrom s (names.Builtin (type_of_number a)) (names.Builtin Integer)) (sym k.1) (0, refl)
 
-both_integers : (s : SchemaSet) (operation : ArithmeticOp) (m n r : Number) → (operation ≡ Div → ⊥) → IsInteger m → IsInteger n → result_of operation m n ≡ Ok r → IsInteger r
+pub both_integers : (s : SchemaSet) (operation : ArithmeticOp) (m n r : Number) → (operation ≡ Div → ⊥) → IsInteger m → IsInteger n → result_of operation m n ≡ Ok r → IsInteger r
 both_integers s operation m n r h i j e =
     integers_yield_integers operation i.0 j.0 r (subst (λ (a : Number). result_of operation a (Int j.0) ≡ Ok r) i.1 (subst (λ (a : Number). result_of operation m a ≡ Ok r) j.1 e)) h
 
-if_whole : (s : SchemaSet) (whole : Bool) (n : Number) → (whole ≡ true → IsInteger n) → DerivesFrom s (names.Builtin (type_of_number n)) (names.Builtin (integer_if whole))
+pub if_whole : (s : SchemaSet) (whole : Bool) (n : Number) → (whole ≡ true → IsInteger n) → DerivesFrom s (names.Builtin (type_of_number n)) (names.Builtin (integer_if whole))
 if_whole s true n h = integer_derives s n (h refl)
 if_whole s false n h = number_is_decimal s n
 

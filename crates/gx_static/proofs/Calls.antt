@@ -16,22 +16,25 @@ use Rattle.gx_funcs.specs.declared.function.Function.{Function}
 use Rattle.gx_funcs.specs.declared.function.Function.TheVariants as functions
 use Rattle.gx_funcs.specs.declared.function.Parameter.{Parameter}
 use Rattle.gx_funcs.specs.declared.text_function.TextFunction.{TextFunction}
+use Rattle.gx_funcs.specs.declared.function.Conversion.{Conversion}
+use Rattle.gx_funcs.specs.declared.function.Conversion.TheVariants.{Nothing}
 use Rattle.gx_funcs.specs.Texts.{text_answer}
-use Rattle.gx_funcs.specs.Function.{text_parameters_of, text_answer_type_of, integer_atom, string_atom, string_of_item, has_no_item, any_items, one_item_at_most, truth_valued}
+use Rattle.gx_funcs.specs.Function.{conversion_of, value_parameters_of, text_parameters_of, text_answer_type_of, integer_atom, string_atom, string_of_item, has_no_item, any_items, one_item_at_most, truth_valued}
 use Rattle.gx_model.specs.Forest.{Forest}
 use Rattle.gx_model.specs.Honest.{IsHonest}
 use Rattle.gx_model.specs.Item.{atom, Items}
 use Rattle.gx_model.specs.Belongs.{ValueFits, Belongs}
 use Rattle.gx_core.specs.Outcome.{Outcome, gives, given}
-use Rattle.gx_core.specs.Calling.{view_of, views_of, text_called, called}
+use Rattle.gx_core.specs.Calling.{value_called, view_of, views_of, text_called, called}
 use Rattle.gx_core.specs.Soundness.{typed_setting, IsOfType, AreOfTypes, Keeps}
 use Rattle.gx_core.proofs.KeptFacts.{fact_at_once}
-use Rattle.gx_static.specs.Rule.{Ruling, has_type, has_none, atomic, is_at_most_one, data_rule, atomizes, seen_argument, takes_argument, if_taken, arguments_rule, call_rule}
+use Rattle.gx_static.specs.Rule.{value_answer_type, first_seen, Ruling, has_type, has_none, atomic, is_at_most_one, type_by, seen_argument, takes_argument, if_taken, arguments_rule, call_rule}
 use Rattle.gx_static.specs.Laws.{CallKeepsType}
 use Rattle.gx_static.proofs.Comparisons.{truth_keeps}
 use Rattle.gx_static.proofs.BooleanTypes.{HasTruth, is_empty, begins_with_node, is_one_atom, has_truth}
 use Rattle.gx_static.proofs.Singles.{one_atom_belongs}
 use Rattle.gx_static.proofs.Keeping.{ruled}
+use Rattle.gx_static.proofs.ValueCalls.{value_call_keeps}
 use Rattle.gx_static.proofs.TextCalls.{few_items, IsTaken, AreTaken, arguments_have_texts, text_parameters_atomize, text_is_answered}
 
 -- what a function answers: one atomic value of a type
@@ -85,9 +88,9 @@ arguments_taken s (p ∷ ps) (a ∷ arguments) number ruling t e =
     ((record { seen = w.0; as_seen = w.1; taken = w.2 }, r.0), r.1)
 
 -- a parameter that does not atomize sees the argument itself
-taken_itself : (s : SchemaSet) (p : Parameter) (a : SequenceType) → atomizes p.takes ≡ false → IsTaken s p a → takes_argument s p.takes a ≡ true
+taken_itself : (s : SchemaSet) (p : Parameter) (a : SequenceType) → conversion_of p.takes ≡ Nothing → IsTaken s p a → takes_argument s p.takes a ≡ true
 taken_itself s p a plain h =
-    let e : has_type a ≡ has_type h.seen = sym (ap (λ (b : Bool). if b then data_rule s a else has_type a) plain) ∙ h.as_seen in
+    let e : has_type a ≡ has_type h.seen = sym (ap (λ (conversion : Conversion). type_by s conversion a) plain) ∙ h.as_seen in
     subst (λ (u : SequenceType). takes_argument s p.takes u ≡ true) (sym (ruled a h.seen e)) h.taken
 
 -- a function of no argument, and of one
@@ -100,7 +103,7 @@ with_none s forest function b t (a ∷ arguments) values e h k = absurd (cc)
 
 with_one : (s : SchemaSet) (forest : Forest) (function : Function) (p : Parameter) (b : Builtin) (t : SequenceType) (arguments : List SequenceType) (values : List Items)
     → arguments_rule s (p ∷ []) arguments 0 (has_type (atomic b)) ≡ has_type t → AreOfTypes s arguments forest values
-    → atomizes p.takes ≡ false
+    → conversion_of p.takes ≡ Nothing
     → ((a : SequenceType) (xs : Items) → takes_argument s p.takes a ≡ true → Belongs s forest xs a → Keeps (typed_setting s) forest (atomic b) (called s function (xs ∷ []) forest))
     → Keeps (typed_setting s) forest t (called s function values forest)
 with_one s forest function p b t (a ∷ []) (xs ∷ []) e h plain k =
@@ -148,4 +151,8 @@ call_keeps s functions.Position is arguments t forest values e honest h = absurd
 call_keeps s functions.Last is arguments t forest values e honest h = absurd (cc (arguments_taken s [] arguments 0 (has_none XPTY0004 None) t e).1)
 call_keeps s functions.String is arguments t forest values e honest h =
     with_one s forest functions.String one_item_at_most Str t arguments values e h refl (λ a xs taken b. text_keeps s forest a xs honest taken b)
+call_keeps s (functions.OfValues function) is arguments t forest values e honest h =
+    let answer : SequenceType = value_answer_type s function (first_seen s (value_parameters_of function) arguments) in
+    let r = arguments_taken s (value_parameters_of function) arguments 0 (has_type answer) t e in
+    subst (λ (u : SequenceType). Keeps (typed_setting s) forest u (value_called s function values forest)) (ruled answer t r.1) (value_call_keeps s is forest function arguments r.0 values honest h)
 call_keeps s (functions.OfTexts function) is arguments t forest values e honest h = text_call_keeps s is forest function arguments values t e honest h

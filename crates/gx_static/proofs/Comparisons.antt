@@ -202,7 +202,7 @@ each_with_each : (as' bs : List Atomic) → EachItem (λ x. EachItem (AreCompara
 each_with_each [] bs h = All-nil ComparePair
 each_with_each (a ∷ as') bs h = All-append ComparePair (map (λ b. (a, b)) bs) (pairs_of as' bs) (with_each a bs h.0) (each_with_each as' bs h.1)
 
-atoms_are_among : (as' : List Atomic) → atoms_among (atoms as') ≡ Some as'
+pub atoms_are_among : (as' : List Atomic) → atoms_among (atoms as') ≡ Some as'
 atoms_are_among [] = refl
 atoms_are_among (a ∷ as') = ap (option_map (λ rest. a ∷ rest)) (atoms_are_among as')
 

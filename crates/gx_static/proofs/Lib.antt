@@ -53,3 +53,5 @@ pub mod FreeVariables
 pub mod ConstructorTypes
 pub mod ConstructorLemmas
 pub mod TextCalls
+pub mod ValueArguments
+pub mod ValueCalls

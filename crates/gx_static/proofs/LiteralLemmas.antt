@@ -19,7 +19,7 @@ use Rattle.gx_types.proofs.EqualNames.{builtins_are_one}
 use Rattle.gx_types.proofs.DerivationLemmas.{from_base, baseless}
 use Rattle.gx_types.proofs.DerivationOrder.{derivation_is_linear, derivation_is_a_preorder}
 use Rattle.gx_model.specs.Belongs.{ValueFits}
-use Rattle.gx_core.specs.Arithmetic.{type_of_number}
+use Rattle.gx_funcs.specs.Numbers.{type_of_number}
 use Rattle.gx_static.specs.Rule.{shown_type}
 
 -- a type that is derived from xs:anyAtomicType at once is derived from no other type than those above it

@@ -1,5 +1,5 @@
 -- Each rule gives a normal type where the parts have such.
-use Rattle.std.proofs.Common.{◌≡◌, ℕ, ◌+◌, Bool, true, false, ◌&&◌, List, [], ◌∷◌, None, Some, refl, if◌then◌else◌, length, min, ◌==◌}
+use Rattle.std.proofs.Common.{◌≡◌, ℕ, ◌+◌, Bool, true, false, ◌&&◌, List, [], ◌∷◌, None, Some, refl, if◌then◌else◌, length, min, ◌==◌, Option}
 use Rattle.gx_types.specs.Choice.{choice_among}
 use Rattle.gx_base.specs.declared.type_name.Builtin.TheVariants.{AnyAtomic, Boolean, Decimal, Integer}
 use Rattle.gx_base.specs.declared.type_name.Builtin.TheVariants as builtins
@@ -10,13 +10,14 @@ use Rattle.gx_facets.specs.declared.Atomic.{Atomic}
 use Rattle.gx_facets.specs.declared.AtomValue.{AtomValue}
 use Rattle.gx_facets.specs.declared.AtomValue.TheVariants.{Untyped, Str, Truth, Num}
 use Rattle.gx_num.specs.declared.Number.TheVariants.{Int, Dec}
+use Rattle.gx_types.specs.declared.item_type.ItemType.{ItemType}
 use Rattle.gx_types.specs.declared.item_type.ItemType.TheVariants as items
 use Rattle.gx_types.specs.SameItemType.{same_type_name}
 use Rattle.gx_types.specs.SameType.{same_type}
 use Rattle.gx_types.specs.SchemaSet.{SchemaSet}
 use Rattle.gx_types.specs.SchemaInvariant.{HoldsOfEach, IsSchemaSet}
 use Rattle.gx_types.specs.Occurrence.{occurrence_of, occurs}
-use Rattle.gx_types.specs.Prime.{prime_of}
+use Rattle.gx_types.specs.Prime.{items_of, prime_of}
 use Rattle.gx_types.specs.SequenceType.{SequenceType, never, item, optional, star}
 use Rattle.gx_types.specs.TypeRules.{sequence_of, choice_of, times_of, limited}
 use Rattle.gx_types.specs.Derivation.{DerivesFrom}
@@ -27,7 +28,10 @@ use Rattle.gx_steptype.specs.StepType.{node_type, step_type}
 use Rattle.gx_funcs.specs.declared.function.Function.{Function}
 use Rattle.gx_funcs.specs.declared.function.Function.TheVariants as functions
 use Rattle.gx_funcs.specs.declared.function.Parameter.{Parameter}
-use Rattle.gx_funcs.specs.Function.{parameters_of, text_answer_type_of}
+use Rattle.gx_funcs.specs.declared.value_function.ValueFunction.{ValueFunction}
+use Rattle.gx_funcs.specs.declared.value_function.ValueFunction.TheVariants as values
+use Rattle.gx_funcs.specs.declared.function.Conversion.TheVariants.{Data}
+use Rattle.gx_funcs.specs.Function.{parameters_of, text_answer_type_of, value_function_of}
 use Rattle.gx_core.specs.declared.expression.ArithmeticOp.{ArithmeticOp}
 use Rattle.gx_core.specs.declared.expression.ArithmeticOp.TheVariants.{Div, IDiv}
 use Rattle.gx_core.specs.declared.expression.BinaryClass.{BinaryClass}
@@ -41,15 +45,17 @@ use Rattle.gx_core.specs.declared.constructor.Constructor.{Constructor}
 use Rattle.gx_core.specs.declared.constructor.Constructor.TheVariants as constructors
 use Rattle.gx_core.specs.declared.operator.Operator.TheVariants as operators
 use Rattle.gx_core.specs.BinaryOperators.{class_of}
-use Rattle.gx_static.specs.Rule.{converted_type, converted_arguments_rule, if_atomized, if_all_atomized, only_element_of, constructor_rule, called_type, Ruling, has_type, has_none, type_if, atomic, all_items, is_atomic, is_all_in, is_optional_in, is_at_most_one, is_at_least_one, both_occur, integer_if, number_type, arithmetic_type, compared_occur, are_of_one_family, value_comparison_type, are_comparable_types, shown_type, literal_rule, is_as_written, data_rule, optional_node, nodes_type, set_type, order_rule, takes_argument, arguments_rule, answer_rule, call_rule, binary_rule, is_first, allows_clause, allows_key, tuples_occur, returned_rule, clauses_rule, if_taken, seen_argument, constructed_text, constructed_element}
+use Rattle.gx_static.specs.Rule.{converted_type, converted_arguments_rule, if_atomized, if_all_atomized, only_element_of, constructor_rule, called_type, Ruling, has_type, has_none, type_if, atomic, all_items, is_atomic, is_all_in, is_optional_in, is_at_most_one, is_at_least_one, both_occur, integer_if, number_type, arithmetic_type, compared_occur, are_of_one_family, value_comparison_type, are_comparable_types, shown_type, literal_rule, is_as_written, data_rule, optional_node, nodes_type, set_type, order_rule, takes_argument, arguments_rule, answer_rule, call_rule, binary_rule, is_first, allows_clause, allows_key, tuples_occur, returned_rule, clauses_rule, if_taken, seen_argument, constructed_text, constructed_element, answer_ruling, cast_item, cast_ruling, first_seen, type_ruled, as_optional, value_answer_type}
 use Rattle.gx_funcs.specs.declared.function.ParameterType.{ParameterType}
 use Rattle.gx_funcs.specs.declared.function.ParameterType.TheVariants as parameters
 use Rattle.gx_funcs.specs.declared.text_function.TextFunction.{TextFunction}
 use Rattle.gx_funcs.specs.declared.text_function.TextFunction.TheVariants as texts
-use Rattle.gx_static.specs.NormalTypes.{IsNormalType, GivesNormalType, RulesGiveNormalTypes}
+use Rattle.gx_static.specs.NormalTypes.{IsNormalType, GivesNormalType, RulesGiveNormalTypes, IsOfKnownType}
 use Rattle.gx_static.proofs.NormalTypes.{times_is_normal, prime_is_normal, sequence_is_normal, choice_of_two_is_normal, limited_is_normal, choice_of_normal}
 use Rattle.gx_static.proofs.AtomicTypes.{untyped_is_atomic, boolean_is_atomic, integer_is_atomic, nameable_is_atomic}
 use Rattle.gx_static.proofs.NormalData.{data_is_normal}
+use Rattle.gx_static.proofs.NormalParts.{each_so, replaced_is_normal}
+use Rattle.gx_static.proofs.DemandLaws.{normal_kinds}
 use Rattle.gx_static.proofs.NormalSteps.{step_is_normal, untyped_is_simple}
 
 type_if_normal : (s : SchemaSet) (test : Bool) (t : SequenceType) → IsNormalType s t → GivesNormalType s (type_if test t)
@@ -173,19 +179,38 @@ answer_is_normal s functions.Last = tt
 answer_is_normal s functions.Count = integer_is_atomic s
 answer_is_normal s functions.String = nameable_is_atomic s builtins.Str refl
 answer_is_normal s (functions.OfTexts function) = answer_of_texts s function
+answer_is_normal s (functions.OfValues function) = tt
 answer_is_normal s _ = boolean_is_atomic s
 
 chosen_is_normal : (s : SchemaSet) (takes : Bool) (given refused : Ruling) → GivesNormalType s given → GivesNormalType s refused → GivesNormalType s (if takes then given else refused)
 chosen_is_normal s true given refused n m = n
 chosen_is_normal s false given refused n m = m
 
+-- untyped values that are cast to integers
+cast_item_is_normal : (s : SchemaSet) (kind : ItemType) → IsOfKnownType s kind → IsNormalType s (cast_item (names.Builtin Integer) kind)
+cast_item_is_normal s (items.Atom own) k = by_test (same_type_name own (names.Builtin builtins.UntypedAtomic))
+  where
+    by_test : (b : Bool) → IsNormalType s (item (items.Atom (if b then names.Builtin Integer else own)))
+    by_test true = integer_is_atomic s
+    by_test false = k
+cast_item_is_normal s (items.Element name t) k = k
+cast_item_is_normal s (items.Attribute name t) k = k
+cast_item_is_normal s items.Text k = k
+cast_item_is_normal s (items.Document element) k = k
+
+cast_gives_normal : (s : SchemaSet) (r : Ruling) → GivesNormalType s r → GivesNormalType s (cast_ruling (names.Builtin Integer) r)
+cast_gives_normal s (has_type t) n =
+    replaced_is_normal s (cast_item (names.Builtin Integer)) t
+    (each_so (IsOfKnownType s) (λ kind. IsNormalType s (cast_item (names.Builtin Integer) kind)) (items_of t) (λ kind k. cast_item_is_normal s kind k) (normal_kinds s t n))
+cast_gives_normal s (has_none code part) n = tt
+
 -- the type of an argument as its parameter sees it
 pub seen_is_normal : (s : SchemaSet) (takes : ParameterType) (argument : SequenceType) → IsSchemaSet s → IsNormalType s argument → GivesNormalType s (seen_argument s takes argument)
-seen_is_normal s parameters.OptionalText argument is n = atomized_is_normal s argument is n
-seen_is_normal s parameters.OneText argument is n = atomized_is_normal s argument is n
-seen_is_normal s parameters.Texts argument is n = atomized_is_normal s argument is n
-seen_is_normal s parameters.OptionalValue argument is n = atomized_is_normal s argument is n
-seen_is_normal s _ argument is n = n
+seen_is_normal s parameters.Items argument is n = n
+seen_is_normal s parameters.OptionalItem argument is n = n
+seen_is_normal s parameters.TruthValue argument is n = n
+seen_is_normal s parameters.Integers argument is n = cast_gives_normal s (data_rule s argument) (atomized_is_normal s argument is n)
+seen_is_normal s _ argument is n = atomized_is_normal s argument is n
 
 taken_is_normal : (s : SchemaSet) (takes : SequenceType → Bool) (code : Code) (number : ℕ) (next seen : Ruling) → GivesNormalType s next → GivesNormalType s (if_taken takes code number next seen)
 taken_is_normal s takes code number next (has_type t) n = chosen_is_normal s (takes t) next (has_none code (Some number)) n tt
@@ -198,9 +223,45 @@ arguments_are_normal s (parameter ∷ others) (argument ∷ arguments) number ru
     (arguments_are_normal s others arguments (number + 1) ruling n)
 arguments_are_normal s _ _ number ruling n = tt
 
-call_is_normal : (s : SchemaSet) (function : Function) (arguments : List SequenceType) → GivesNormalType s (call_rule s function arguments)
+-- the type of the first argument
+first_is_normal : (s : SchemaSet) (parameters : List Parameter) (arguments : List SequenceType) → IsSchemaSet s → HoldsOfEach (IsNormalType s) arguments → IsNormalType s (first_seen s parameters arguments)
+first_is_normal s (parameter ∷ parameters) (argument ∷ arguments) is n = by_ruling (seen_argument s parameter.takes argument) (seen_is_normal s parameter.takes argument is n.0)
+  where
+    by_ruling : (r : Ruling) → GivesNormalType s r → IsNormalType s (type_ruled r)
+    by_ruling (has_type t) h = h
+    by_ruling (has_none code part) h = tt
+first_is_normal s [] arguments is n = tt
+first_is_normal s (parameter ∷ parameters) [] is n = tt
+
+optional_is_normal : (s : SchemaSet) (argument t : SequenceType) → IsNormalType s t → IsNormalType s (as_optional argument t)
+optional_is_normal s argument t n = times_is_normal s t (occurs (occurrence_of argument).least 1) n
+
+value_is_normal : (s : SchemaSet) (function : ValueFunction) (first : SequenceType) → IsNormalType s first → IsNormalType s (value_answer_type s function first)
+value_is_normal s values.Sum first n = whole_is_atomic s (is_all_in s Integer first)
+value_is_normal s values.Average first n = optional_is_normal s first (atomic Decimal) (nameable_is_atomic s Decimal refl)
+value_is_normal s values.Min first n = times_is_normal s (prime_of first) (occurs (occurrence_of first).least (min 1 (occurrence_of first).greatest)) (prime_is_normal s first n)
+value_is_normal s values.Max first n = times_is_normal s (prime_of first) (occurs (occurrence_of first).least (min 1 (occurrence_of first).greatest)) (prime_is_normal s first n)
+value_is_normal s values.Abs first n = optional_is_normal s first (atomic (integer_if (is_all_in s Integer first))) (whole_is_atomic s (is_all_in s Integer first))
+value_is_normal s values.Floor first n = optional_is_normal s first (atomic (integer_if (is_all_in s Integer first))) (whole_is_atomic s (is_all_in s Integer first))
+value_is_normal s values.Ceiling first n = optional_is_normal s first (atomic (integer_if (is_all_in s Integer first))) (whole_is_atomic s (is_all_in s Integer first))
+value_is_normal s values.Round first n = optional_is_normal s first (atomic (integer_if (is_all_in s Integer first))) (whole_is_atomic s (is_all_in s Integer first))
+value_is_normal s values.Compare first n = integer_is_atomic s
+value_is_normal s values.StringToCodepoints first n = integer_is_atomic s
+value_is_normal s values.DistinctValues first n = times_is_normal s (prime_of first) (occurrence_of first) (prime_is_normal s first n)
+value_is_normal s values.IndexOf first n = integer_is_atomic s
+value_is_normal s _ first n = nameable_is_atomic s builtins.Str refl
+
+ruled_is_normal : (s : SchemaSet) (over_values : Option ValueFunction) (function : Function) (arguments : List SequenceType) → IsSchemaSet s → HoldsOfEach (IsNormalType s) arguments
+    → GivesNormalType s (answer_ruling s over_values function arguments)
+ruled_is_normal s None function arguments is n = answer_is_normal s function
+ruled_is_normal s (Some over_values) function arguments is n =
+    value_is_normal s over_values (first_seen s (parameters_of function) arguments) (first_is_normal s (parameters_of function) arguments is n)
+
+call_is_normal : (s : SchemaSet) (function : Function) (arguments : List SequenceType) → IsSchemaSet s → HoldsOfEach (IsNormalType s) arguments → GivesNormalType s (call_rule s function arguments)
 unfolding call_rule
-call_is_normal s function arguments = arguments_are_normal s (parameters_of function) arguments 0 (answer_rule (called_type function)) (answer_is_normal s function)
+call_is_normal s function arguments is n =
+    arguments_are_normal s (parameters_of function) arguments 0 (answer_ruling s (value_function_of function) function arguments)
+    (ruled_is_normal s (value_function_of function) function arguments is n)
 
 -- ---- calls of declared functions
 
@@ -266,7 +327,7 @@ rules_give_normal_types s (operators.Cast kind false) (operand ∷ []) is c n =
 rules_give_normal_types s (operators.Castable kind allows_empty) (operand ∷ []) is c n =
     type_if_normal s (is_at_most_one operand && all_items is_atomic operand) (atomic Boolean) (boolean_is_atomic s)
 rules_give_normal_types s (operators.Treat kind) (operand ∷ []) is c n = c
-rules_give_normal_types s (operators.Call function) arguments is c n = call_is_normal s function arguments
+rules_give_normal_types s (operators.Call function) arguments is c n = call_is_normal s function arguments is n
 rules_give_normal_types s (operators.Construct constructor count) parts is c n = constructor_is_normal s constructor parts
 rules_give_normal_types s (operators.User signature count) arguments is c n =
     converted_are_normal s signature.parameters arguments 0 (has_type signature.result) c

@@ -27,10 +27,10 @@ use Rattle.gx_static.proofs.Orders.{least_is_small}
 -- ---- at most one of some items
 
 -- each of those that are picked is one of a type, and there is at most one, and none where there is no item
-record ArePicked (s : SchemaSet) (forest : Forest) (t : SequenceType) (xs picked : Items) : Type 0 where
-  each : EachBelongs s forest t picked
-  one : length picked ≤ 1
-  fewer : length picked ≤ length xs
+pub record ArePicked (s : SchemaSet) (forest : Forest) (t : SequenceType) (xs picked : Items) : Type 0 where
+  pub each : EachBelongs s forest t picked
+  pub one : length picked ≤ 1
+  pub fewer : length picked ≤ length xs
 
 nothing_picked : (s : SchemaSet) (forest : Forest) (t : SequenceType) (xs : Items) → ArePicked s forest t xs []
 nothing_picked s forest t xs = record { each = tt; one = omega arith; fewer = omega arith }
@@ -72,7 +72,7 @@ one_allowed zero count h k = absurd (omega (arith, h (omega arith), k))
 one_allowed (suc n) count h k = omega arith
 
 -- where one is picked for certain, there is one as soon as there is an item
-abbrev IsCertain : Bool → (xs picked : Items) → Type 0
+abbrev pub IsCertain : Bool → (xs picked : Items) → Type 0
 IsCertain certain xs picked = certain ≡ true → 1 ≤ length xs → 1 ≤ length picked
 
 one_belongs : (s : SchemaSet) (forest : Forest) (t : SequenceType) (o : Occurs) (x : Item) → Allows o 1 → Belongs s forest (x ∷ []) t → Belongs s forest (x ∷ []) (times_of t o)
@@ -81,7 +81,7 @@ one_belongs s forest t o x a b = joined_belongs_times s forest t o 1 (x ∷ []) 
 none_belongs : (s : SchemaSet) (forest : Forest) (t : SequenceType) (o : Occurs) → Allows o 0 → Belongs s forest [] (times_of t o)
 none_belongs s forest t o a = joined_belongs_times s forest t o 0 [] [] a tt (record { parts = []; joined = refl; each = tt; count = refl })
 
-picked_belongs : (s : SchemaSet) (forest : Forest) (t : SequenceType) (certain : Bool) (xs picked : Items) → Allows (occurrence_of t) (length xs) → ArePicked s forest (prime_of t) xs picked → IsCertain certain xs picked
+pub picked_belongs : (s : SchemaSet) (forest : Forest) (t : SequenceType) (certain : Bool) (xs picked : Items) → Allows (occurrence_of t) (length xs) → ArePicked s forest (prime_of t) xs picked → IsCertain certain xs picked
     → Belongs s forest picked (one_of_type certain t)
 picked_belongs s forest t true [] [] a p c = none_belongs s forest (prime_of t) (occurs (occurrence_of t).least (min 1 (occurrence_of t).greatest)) (record { least = a.least; greatest = λ g. omega arith })
 picked_belongs s forest t true (x ∷ xs) [] a p c = absurd (omega (arith, c refl (omega arith)))

@@ -24,10 +24,11 @@ use Rattle.gx_model.specs.Honest.{IsHonest}
 use Rattle.gx_model.specs.Item.{Item, Items, atoms}
 use Rattle.gx_model.specs.Belongs.{ValueFits, HaveShapes, Belongs}
 use Rattle.gx_core.specs.declared.expression.BinaryClass.TheVariants as classes
-use Rattle.gx_core.specs.Arithmetic.{number_atom}
+use Rattle.gx_funcs.specs.Numbers.{number_atom}
 use Rattle.gx_core.specs.Meaning.{binary_meaning}
 use Rattle.gx_core.specs.Outcome.{gives, raises, given}
-use Rattle.gx_core.specs.Ranging.{integer_of_value, integer_of_item, range_length, integers_from, range_between, range_of_items}
+use Rattle.gx_funcs.specs.Values.{integer_of_value}
+use Rattle.gx_core.specs.Ranging.{integer_of_item, range_length, integers_from, range_between, range_of_items}
 use Rattle.gx_core.specs.Soundness.{typed_setting, IsOfType, Keeps}
 use Rattle.gx_core.proofs.KeptFacts.{fact_at_once}
 use Rattle.gx_static.specs.Rule.{atomic, is_at_most_one, is_all_in, is_optional_in}
@@ -45,13 +46,14 @@ value_is_integer s (values.Truth b) kind f d = absurd (boolean_is_no_number s ki
 value_is_integer s (values.Num (Int i)) kind f d = (i, refl)
 value_is_integer s (values.Num (Dec u)) kind f d = absurd (f.1 d)
 
-abbrev IsInteger : Item → Type 0
+abbrev pub IsInteger : Item → Type 0
 IsInteger x = (i : ℤ) × (integer_of_item x ≡ Some i)
 
+pub integer_of : (s : SchemaSet) (x : Item) → IsAtomIn s Integer x → IsInteger x
+integer_of s x a = subst IsInteger (sym a.is) (value_is_integer s a.value.value a.value.kind a.fits a.derived)
+
 the_integer : (s : SchemaSet) (forest : Forest) (t : SequenceType) (xs : Items) (x : Item) → is_all_in s Integer t ≡ true → Belongs s forest xs t → xs ≡ x ∷ [] → IsInteger x
-the_integer s forest t xs x e b i =
-    let a = the_item (IsAtomIn s Integer) xs x i (items_are_in s forest Integer xs t e b) in
-    subst IsInteger (sym a.is) (value_is_integer s a.value.value a.value.kind a.fits a.derived)
+the_integer s forest t xs x e b i = integer_of s x (the_item (IsAtomIn s Integer) xs x i (items_are_in s forest Integer xs t e b))
 
 -- integers belong to xs:integer*
 abbrev integer_shape : Shape

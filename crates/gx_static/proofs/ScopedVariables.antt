@@ -28,7 +28,11 @@ use Rattle.gx_funcs.specs.declared.function.ParameterType.{ParameterType}
 use Rattle.gx_funcs.specs.declared.function.ParameterType.TheVariants as parameters
 use Rattle.gx_funcs.specs.declared.text_function.TextFunction.{TextFunction}
 use Rattle.gx_funcs.specs.declared.text_function.TextFunction.TheVariants as texts
-use Rattle.gx_funcs.specs.Function.{parameters_of, text_parameters_of, value_at_most}
+use Rattle.gx_funcs.specs.declared.value_function.ValueFunction.{ValueFunction}
+use Rattle.gx_funcs.specs.declared.value_function.ValueFunction.TheVariants as values
+use Rattle.gx_funcs.specs.declared.function.Conversion.{Conversion}
+use Rattle.gx_funcs.specs.declared.function.Conversion.TheVariants.{Nothing, Data, DataAndCast}
+use Rattle.gx_funcs.specs.Function.{value_function_of, parameters_of, text_parameters_of, value_at_most, value_parameters_of, conversion_of}
 use Rattle.gx_core.specs.declared.expression.BinaryClass.{BinaryClass}
 use Rattle.gx_core.specs.declared.expression.BinaryClass.TheVariants as classes
 use Rattle.gx_core.specs.BinaryOperators.{class_of}
@@ -44,7 +48,7 @@ use Rattle.gx_core.specs.Expression.{CoreExpression, At, Parts, no_parts, a_part
 use Rattle.gx_core.specs.Bindings.{look_up, Types, types_bound, numbers_bound_by, branch_numbers, branch_types, position_bound, position_numbers, clause_types_bound, clause_numbers_bound, block_types_bound, block_numbers_bound}
 use Rattle.gx_core.specs.Invariant.{is_among, IsInScope, IsScoped, ArePartsScoped}
 use Rattle.gx_core.specs.Converting.{expected_atomic}
-use Rattle.gx_static.specs.Rule.{cast_ruling, converted_ruling, converted_type, converted_arguments_rule, Ruling, if_atomized, if_all_atomized, constructor_rule, called_type, has_type, has_none, all_items, is_atomic, nodes_type, step_rule, reaching, step_ruling, order_rule, data_rule, binary_rule, takes_argument, arguments_rule, answer_rule, call_rule, ruling, variable_ruling, allows_clause, allows_key, tuples_occur, returned_rule, clauses_rule, if_taken, seen_argument, constructed_text}
+use Rattle.gx_static.specs.Rule.{answer_ruling, cast_ruling, converted_ruling, converted_type, converted_arguments_rule, Ruling, if_atomized, if_all_atomized, constructor_rule, called_type, has_type, has_none, all_items, is_atomic, nodes_type, step_rule, reaching, step_ruling, order_rule, data_rule, binary_rule, takes_argument, arguments_rule, answer_rule, call_rule, ruling, variable_ruling, allows_clause, allows_key, tuples_occur, returned_rule, clauses_rule, if_taken, seen_argument, constructed_text, type_by}
 use Rattle.gx_static.specs.Judgement.{typed, with_typed, concluded, judged, parts_judged}
 use Rattle.gx_static.specs.Laws.{ScopedVariablesHaveTypes}
 use Rattle.gx_static.proofs.Failing.{IfRejected, made_fails, own_fails}
@@ -99,12 +103,21 @@ text_parameters_code (texts.Concat count) = values_code count
 text_parameters_code texts.Translate = (λ e. cc, (λ e. cc, (λ e. cc, tt)))
 text_parameters_code _ = (λ e. cc, (λ e. cc, tt))
 
+value_parameters_code : (function : ValueFunction) → HaveOtherCodes (value_parameters_of function)
+value_parameters_code values.Substring = (λ e. cc, (λ e. cc, (λ e. cc, tt)))
+value_parameters_code values.SubstringFrom = (λ e. cc, (λ e. cc, tt))
+value_parameters_code values.Compare = (λ e. cc, (λ e. cc, tt))
+value_parameters_code values.NormalizeTo = (λ e. cc, (λ e. cc, tt))
+value_parameters_code values.IndexOf = (λ e. cc, (λ e. cc, tt))
+value_parameters_code _ = (λ e. cc, tt)
+
 parameters_code : (function : Function) → HaveOtherCodes (parameters_of function)
 parameters_code functions.True = tt
 parameters_code functions.False = tt
 parameters_code functions.Position = tt
 parameters_code functions.Last = tt
 parameters_code (functions.OfTexts function) = text_parameters_code function
+parameters_code (functions.OfValues function) = value_parameters_code function
 parameters_code _ = (λ e. cc, tt)
 
 answer_code : (found : Option Builtin) (code : Code) (part : Option ℕ) → answer_rule found ≡ has_none code part → code ≢ XPST0008
@@ -115,12 +128,17 @@ data_code : (s : SchemaSet) (t : SequenceType) (code : Code) (part : Option ℕ)
 unfolding data_rule
 data_code s t code part e = tested_code (has_data s t) (type_of_data s t) FOTY0012 code part (λ x. cc) e
 
+cast_code : (kind : TypeName) (r : Ruling) (code : Code) (part : Option ℕ) → ((c : Code) (there : Option ℕ) → r ≡ has_none c there → c ≢ XPST0008) → cast_ruling kind r ≡ has_none code part → code ≢ XPST0008
+cast_code kind (has_type t) code part h e = absurd (cc)
+cast_code kind (has_none own there) code part h e = h code part e
+
 seen_code : (s : SchemaSet) (takes : ParameterType) (t : SequenceType) (code : Code) (part : Option ℕ) → seen_argument s takes t ≡ has_none code part → code ≢ XPST0008
-seen_code s parameters.OptionalText t code part e = data_code s t code part e
-seen_code s parameters.OneText t code part e = data_code s t code part e
-seen_code s parameters.Texts t code part e = data_code s t code part e
-seen_code s parameters.OptionalValue t code part e = data_code s t code part e
-seen_code s _ t code part e = absurd (cc)
+seen_code s takes t code part e = by_conversion (conversion_of takes) e
+  where
+    by_conversion : (conversion : Conversion) → type_by s conversion t ≡ has_none code part → code ≢ XPST0008
+    by_conversion Nothing h = absurd (cc)
+    by_conversion Data h = data_code s t code part h
+    by_conversion (DataAndCast kind) h = cast_code (names.Builtin kind) (data_rule s t) code part (data_code s t) h
 
 taken_code : (takes : SequenceType → Bool) (own : Code) (number : ℕ) (next seen : Ruling) (code : Code) (part : Option ℕ) → own ≢ XPST0008
     → ((other : Code) (there : Option ℕ) → seen ≡ has_none other there → other ≢ XPST0008) → (next ≡ has_none code part → code ≢ XPST0008)
@@ -132,18 +150,24 @@ taken_code takes own number next (has_type t) code part o h k e =
     ] e
 taken_code takes own number next (has_none other there) code part o h k e = let same : other ≡ code = cc in subst (λ (c : Code). c ≢ XPST0008) same (h other there refl)
 
-arguments_code : (s : SchemaSet) (ps : List Parameter) (ts : List SequenceType) (number : ℕ) (found : Option Builtin) (code : Code) (part : Option ℕ) → HaveOtherCodes ps
-    → arguments_rule s ps ts number (answer_rule found) ≡ has_none code part → code ≢ XPST0008
-arguments_code s [] [] number found code part h e = answer_code found code part e
-arguments_code s [] (t ∷ ts) number found code part h e = other_code code part e
-arguments_code s (p ∷ ps) [] number found code part h e = other_code code part e
-arguments_code s (p ∷ ps) (t ∷ ts) number found code part h e =
-    taken_code (takes_argument s p.takes) p.code number (arguments_rule s ps ts (number + 1) (answer_rule found)) (seen_argument s p.takes t) code part h.0 (λ other there k. seen_code s p.takes t other there k)
-    (λ k. arguments_code s ps ts (number + 1) found code part h.1 k) e
+arguments_code : (s : SchemaSet) (ps : List Parameter) (ts : List SequenceType) (number : ℕ) (r : Ruling) (code : Code) (part : Option ℕ) → HaveOtherCodes ps
+    → (r ≡ has_none code part → code ≢ XPST0008) → arguments_rule s ps ts number r ≡ has_none code part → code ≢ XPST0008
+arguments_code s [] [] number r code part h k e = k e
+arguments_code s [] (t ∷ ts) number r code part h k e = other_code code part e
+arguments_code s (p ∷ ps) [] number r code part h k e = other_code code part e
+arguments_code s (p ∷ ps) (t ∷ ts) number r code part h k e =
+    taken_code (takes_argument s p.takes) p.code number (arguments_rule s ps ts (number + 1) r) (seen_argument s p.takes t) code part h.0 (λ other there l. seen_code s p.takes t other there l)
+    (λ l. arguments_code s ps ts (number + 1) r code part h.1 k l) e
+
+ruled_code : (s : SchemaSet) (over_values : Option ValueFunction) (function : Function) (ts : List SequenceType) (code : Code) (part : Option ℕ) → answer_ruling s over_values function ts ≡ has_none code part → code ≢ XPST0008
+ruled_code s None function ts code part e = answer_code (called_type function) code part e
+ruled_code s (Some over_values) function ts code part e = absurd (cc)
 
 call_code : (s : SchemaSet) (function : Function) (ts : List SequenceType) (code : Code) (part : Option ℕ) → call_rule s function ts ≡ has_none code part → code ≢ XPST0008
 unfolding call_rule
-call_code s function ts code part e = arguments_code s (parameters_of function) ts 0 (called_type function) code part (parameters_code function) e
+call_code s function ts code part e =
+    arguments_code s (parameters_of function) ts 0 (answer_ruling s (value_function_of function) function ts) code part (parameters_code function)
+    (λ k. ruled_code s (value_function_of function) function ts code part k) e
 
 -- a step from a variable that has a type
 another_code : (given code : Code) (there part : Option ℕ) → given ≢ XPST0008 → has_none given there ≡ has_none code part → code ≢ XPST0008
@@ -200,10 +224,6 @@ constructor_code s constructors.Document (t ∷ []) code part e = tested_code _ 
 constructor_code s constructors.Document (t ∷ u ∷ ts) code part e = other_code code part e
 
 -- ---- calls of declared functions
-
-cast_code : (kind : TypeName) (r : Ruling) (code : Code) (part : Option ℕ) → ((c : Code) (there : Option ℕ) → r ≡ has_none c there → c ≢ XPST0008) → cast_ruling kind r ≡ has_none code part → code ≢ XPST0008
-cast_code kind (has_type t) code part h e = absurd (cc)
-cast_code kind (has_none own there) code part h e = h code part e
 
 conversion_code : (s : SchemaSet) (o : Option TypeName) (t : SequenceType) (code : Code) (part : Option ℕ) → converted_ruling s o t ≡ has_none code part → code ≢ XPST0008
 conversion_code s None t code part e = absurd (cc)

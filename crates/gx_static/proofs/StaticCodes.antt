@@ -29,7 +29,11 @@ use Rattle.gx_funcs.specs.declared.function.ParameterType.{ParameterType}
 use Rattle.gx_funcs.specs.declared.function.ParameterType.TheVariants as parameters
 use Rattle.gx_funcs.specs.declared.text_function.TextFunction.{TextFunction}
 use Rattle.gx_funcs.specs.declared.text_function.TextFunction.TheVariants as texts
-use Rattle.gx_funcs.specs.Function.{parameters_of, text_parameters_of, value_at_most}
+use Rattle.gx_funcs.specs.declared.value_function.ValueFunction.{ValueFunction}
+use Rattle.gx_funcs.specs.declared.value_function.ValueFunction.TheVariants as values
+use Rattle.gx_funcs.specs.declared.function.Conversion.{Conversion}
+use Rattle.gx_funcs.specs.declared.function.Conversion.TheVariants.{Nothing, Data, DataAndCast}
+use Rattle.gx_funcs.specs.Function.{parameters_of, text_parameters_of, value_at_most, value_parameters_of, value_function_of, conversion_of}
 use Rattle.gx_core.specs.declared.expression.BinaryClass.{BinaryClass}
 use Rattle.gx_core.specs.declared.expression.BinaryClass.TheVariants as classes
 use Rattle.gx_core.specs.declared.expression.Binder.{Binder}
@@ -49,7 +53,7 @@ use Rattle.gx_core.specs.Bindings.{look_up, Types, types_bound}
 use Rattle.gx_core.specs.QueryMeaning.{global_types, types_declared, parameter_types}
 use Rattle.gx_core.specs.Soundness.{TypedExpression}
 use Rattle.gx_core.specs.Converting.{expected_atomic}
-use Rattle.gx_static.specs.Rule.{included_ruling, result_rule, cast_ruling, converted_ruling, converted_type, converted_arguments_rule, if_atomized, if_all_atomized, constructor_rule, called_type, Ruling, has_type, has_none, all_items, is_atomic, is_as_written, nodes_type, step_rule, reaching, step_ruling, order_rule, data_rule, binary_rule, takes_argument, arguments_rule, answer_rule, call_rule, ruling, variable_ruling, allows_clause, allows_key, tuples_occur, returned_rule, clauses_rule, if_taken, seen_argument, constructed_text}
+use Rattle.gx_static.specs.Rule.{included_ruling, result_rule, cast_ruling, converted_ruling, converted_type, converted_arguments_rule, if_atomized, if_all_atomized, constructor_rule, called_type, Ruling, has_type, has_none, all_items, is_atomic, is_as_written, nodes_type, step_rule, reaching, step_ruling, order_rule, data_rule, binary_rule, takes_argument, arguments_rule, answer_rule, call_rule, ruling, variable_ruling, allows_clause, allows_key, tuples_occur, returned_rule, clauses_rule, if_taken, seen_argument, constructed_text, type_by, answer_ruling}
 use Rattle.gx_static.specs.Judgement.{typed, rejected, with_typed, concluded, judged, parts_judged}
 use Rattle.gx_settling.specs.Reaching.{function_uses}
 use Rattle.gx_static.specs.QueryJudgement.{declared_as, declared_where, function_with, declaration_judged, declarations_judged, core_typed, first_unsettled, unless_unsettled, core_judged, QueriesAreRejectedWithStaticCodes}
@@ -131,24 +135,38 @@ text_parameters_static (texts.Concat count) = values_static count
 text_parameters_static texts.Translate = (refl, (refl, (refl, tt)))
 text_parameters_static _ = (refl, (refl, tt))
 
+value_parameters_static : (function : ValueFunction) → HaveStaticCodes (value_parameters_of function)
+value_parameters_static values.Substring = (refl, (refl, (refl, tt)))
+value_parameters_static values.SubstringFrom = (refl, (refl, tt))
+value_parameters_static values.Compare = (refl, (refl, tt))
+value_parameters_static values.NormalizeTo = (refl, (refl, tt))
+value_parameters_static values.IndexOf = (refl, (refl, tt))
+value_parameters_static _ = (refl, tt)
+
 parameters_static : (function : Function) → HaveStaticCodes (parameters_of function)
 parameters_static functions.True = tt
 parameters_static functions.False = tt
 parameters_static functions.Position = tt
 parameters_static functions.Last = tt
 parameters_static (functions.OfTexts function) = text_parameters_static function
+parameters_static (functions.OfValues function) = value_parameters_static function
 parameters_static _ = (refl, tt)
 
 static_answer : (found : Option Builtin) → RulesStatically (answer_rule found)
 static_answer None = refl
 static_answer (Some b) = tt
 
+static_cast : (kind : TypeName) (r : Ruling) → RulesStatically r → RulesStatically (cast_ruling kind r)
+static_cast kind (has_type t) h = tt
+static_cast kind (has_none code part) h = h
+
 static_seen : (s : SchemaSet) (takes : ParameterType) (t : SequenceType) → RulesStatically (seen_argument s takes t)
-static_seen s parameters.OptionalText t = static_data s t
-static_seen s parameters.OneText t = static_data s t
-static_seen s parameters.Texts t = static_data s t
-static_seen s parameters.OptionalValue t = static_data s t
-static_seen s _ t = tt
+static_seen s takes t = by_conversion (conversion_of takes)
+  where
+    by_conversion : (conversion : Conversion) → RulesStatically (type_by s conversion t)
+    by_conversion Nothing = tt
+    by_conversion Data = static_data s t
+    by_conversion (DataAndCast kind) = static_cast (names.Builtin kind) (data_rule s t) (static_data s t)
 
 static_taken : (takes : SequenceType → Bool) (code : Code) (number : ℕ) (next seen : Ruling) → is_static code ≡ true → RulesStatically seen → RulesStatically next
     → RulesStatically (if_taken takes code number next seen)
@@ -164,13 +182,15 @@ static_arguments s (p ∷ ps) (t ∷ ts) number r h k =
 
 static_call : (s : SchemaSet) (function : Function) (ts : List SequenceType) → RulesStatically (call_rule s function ts)
 unfolding call_rule
-static_call s function ts = static_arguments s (parameters_of function) ts 0 (answer_rule (called_type function)) (parameters_static function) (static_answer (called_type function))
+static_call s function ts =
+    static_arguments s (parameters_of function) ts 0 (answer_ruling s (value_function_of function) function ts) (parameters_static function)
+    (static_ruled (value_function_of function))
+  where
+    static_ruled : (over_values : Option ValueFunction) → RulesStatically (answer_ruling s over_values function ts)
+    static_ruled None = static_answer (called_type function)
+    static_ruled (Some over_values) = tt
 
 -- ---- calls of declared functions
-
-static_cast : (kind : TypeName) (r : Ruling) → RulesStatically r → RulesStatically (cast_ruling kind r)
-static_cast kind (has_type t) h = tt
-static_cast kind (has_none code part) h = h
 
 static_conversion : (s : SchemaSet) (o : Option TypeName) (t : SequenceType) → RulesStatically (converted_ruling s o t)
 static_conversion s None t = tt

@@ -1,5 +1,5 @@
 -- Arguments of functions over strings have texts, and these an answer.
-use Rattle.std.proofs.Common.{◌≡◌, ◌≤◌, ℕ, zero, suc, ◌+◌, Bool, true, ◌&&◌, List, [], ◌∷◌, ◌++◌, length, map, replicate, Option, None, Some, refl, ◌∙◌, ap, subst, arith, if◌then◌else◌}
+use Rattle.std.proofs.Common.{◌≡◌, ◌≤◌, ℕ, zero, suc, ◌+◌, Bool, true, false, ◌&&◌, List, [], ◌∷◌, ◌++◌, length, map, replicate, Option, None, Some, refl, ◌∙◌, ap, subst, arith, if◌then◌else◌}
 use Rattle.std.specs.Prelude.{option_map, ◌==◌, is_some, pos}
 use Rattle.std.specs.List.{starts_with, ends_with}
 use Rattle.std.proofs.lemmas.Bool.{and_parts, eq-eqb}
@@ -28,7 +28,7 @@ use Rattle.gx_steptype.proofs.DataTypes.{data_keeps_its_type}
 use Rattle.gx_core.specs.Calling.{text_of_value, argument_texts, texts_behind, all_argument_texts}
 use Rattle.gx_core.specs.Soundness.{AreOfTypes}
 use Rattle.gx_static.specs.declared.comparison.Family.TheVariants as families
-use Rattle.gx_static.specs.Rule.{has_type, all_items, is_atomic, is_of_family, is_at_most_one, is_at_least_one, data_rule, atomizes, seen_argument, takes_argument}
+use Rattle.gx_static.specs.Rule.{has_type, all_items, is_atomic, is_of_family, is_at_most_one, is_at_least_one, data_rule, seen_argument, takes_argument}
 use Rattle.gx_static.proofs.ItemLemmas.{belongs_within, at_most_one, at_least_one}
 use Rattle.gx_static.proofs.Keeping.{tested}
 
@@ -39,7 +39,7 @@ few_items s forest a xs e b =
     let g = at_most_one (occurrence_of a).greatest e in
     let l = (belongs_within s forest a xs b).greatest (omega (arith, g)) in omega (arith, l, g)
 
-some_item : (s : SchemaSet) (forest : Forest) (a : SequenceType) (xs : Items) → is_at_least_one a ≡ true → Belongs s forest xs a → 1 ≤ length xs
+pub some_item : (s : SchemaSet) (forest : Forest) (a : SequenceType) (xs : Items) → is_at_least_one a ≡ true → Belongs s forest xs a → 1 ≤ length xs
 some_item s forest a xs e b = let l = (belongs_within s forest a xs b).least in let m = at_least_one (occurrence_of a).least e in omega (arith, l, m)
 
 -- ---- an argument, as its parameter sees it
@@ -55,9 +55,17 @@ AreTaken s (p ∷ ps) (a ∷ arguments) = IsTaken s p a × AreTaken s ps argumen
 AreTaken s [] (a ∷ arguments) = ⊥
 AreTaken s (p ∷ ps) [] = ⊥
 
+-- parameters of functions over strings
+abbrev takes_texts : ParameterType → Bool
+takes_texts parameters.OptionalText = true
+takes_texts parameters.OneText = true
+takes_texts parameters.Texts = true
+takes_texts parameters.OptionalValue = true
+takes_texts takes = false
+
 abbrev AllAtomize : List Parameter → Type 0
 AllAtomize [] = Unit {0}
-AllAtomize (p ∷ ps) = (atomizes p.takes ≡ true) × AllAtomize ps
+AllAtomize (p ∷ ps) = (takes_texts p.takes ≡ true) × AllAtomize ps
 
 -- as many texts as a parameter takes
 abbrev FitsParameter : ParameterType → List Text → Type 0
@@ -93,7 +101,7 @@ values_of s is forest honest a u xs e b =
 few_texts : (s : SchemaSet) (forest : Forest) (u : SequenceType) (xs : Items) (v : HasValues s forest u xs) → is_at_most_one u ≡ true → length (map text_of_value v.values) ≤ 1
 few_texts s forest u xs v e = let l = few_items s forest u v.values e v.belong in let m = length-map v.values text_of_value in omega (arith, l, m)
 
-argument_has_texts : (s : SchemaSet) → IsSchemaSet s → (forest : Forest) → IsHonest s forest → (takes : ParameterType) (a u : SequenceType) (xs : Items) → atomizes takes ≡ true
+argument_has_texts : (s : SchemaSet) → IsSchemaSet s → (forest : Forest) → IsHonest s forest → (takes : ParameterType) (a u : SequenceType) (xs : Items) → takes_texts takes ≡ true
     → seen_argument s takes a ≡ has_type u → takes_argument s takes u ≡ true → Belongs s forest xs a → HasTexts s forest takes xs
 argument_has_texts s is forest honest parameters.OptionalText a u xs t e h b =
     let v = values_of s is forest honest a u xs e b in record { texts = map text_of_value v.values; are = v.are; fit = few_texts s forest u xs v (and_parts (is_at_most_one u) (all_items (is_of_family s families.Text) u) h).0 }
@@ -107,9 +115,7 @@ argument_has_texts s is forest honest parameters.OneText a u xs t e h b =
 argument_has_texts s is forest honest parameters.Texts a u xs t e h b = let v = values_of s is forest honest a u xs e b in record { texts = map text_of_value v.values; are = v.are; fit = tt }
 argument_has_texts s is forest honest parameters.OptionalValue a u xs t e h b =
     let v = values_of s is forest honest a u xs e b in record { texts = map text_of_value v.values; are = v.are; fit = few_texts s forest u xs v (and_parts (is_at_most_one u) (all_items is_atomic u) h).0 }
-argument_has_texts s is forest honest parameters.Items a u xs t e h b = absurd (cc)
-argument_has_texts s is forest honest parameters.OptionalItem a u xs t e h b = absurd (cc)
-argument_has_texts s is forest honest parameters.TruthValue a u xs t e h b = absurd (cc)
+argument_has_texts s is forest honest _ a u xs t e h b = absurd (cc)
 
 -- ---- all arguments
 
@@ -154,12 +160,12 @@ text_parameters_atomize _ = (refl, (refl, tt))
 
 -- ---- answers
 
-optional_there : (ts : List Text) → length ts ≤ 1 → (t : Text) × (text_or_empty ts ≡ Some t)
+pub optional_there : (ts : List Text) → length ts ≤ 1 → (t : Text) × (text_or_empty ts ≡ Some t)
 optional_there [] h = ([], refl)
 optional_there (t ∷ []) h = (t, refl)
 optional_there (t ∷ u ∷ ts) h = absurd (omega arith)
 
-one_there : (ts : List Text) → (1 ≤ length ts) × (length ts ≤ 1) → (t : Text) × (one_text ts ≡ Some t)
+pub one_there : (ts : List Text) → (1 ≤ length ts) × (length ts ≤ 1) → (t : Text) × (one_text ts ≡ Some t)
 one_there [] h = let l = h.0 in absurd (omega arith)
 one_there (t ∷ []) h = (t, refl)
 one_there (t ∷ u ∷ ts) h = let l = h.1 in absurd (omega arith)

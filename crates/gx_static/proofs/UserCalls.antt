@@ -43,7 +43,7 @@ use Rattle.gx_core.specs.Expression.{each_of, annotation_of}
 use Rattle.gx_core.specs.Casting.{cast_outcome}
 use Rattle.gx_core.specs.Converting.{expected_atomic, is_untyped, is_any_atomic_type, item_converted, items_converted, converted_to, converted, arguments_converted}
 use Rattle.gx_core.specs.Outcome.{Outcome, gives, raises, wrong, after, given}
-use Rattle.gx_core.specs.Meaning.{CallOutcomes, acts, all_of, meanings}
+use Rattle.gx_core.specs.Meaning.{acts, all_of, meanings}
 use Rattle.gx_core.specs.Soundness.{Setting, typed_setting, calling_setting, context_of, IsOfType, AreOfTypes, KeepsFact, Keeps}
 use Rattle.gx_core.proofs.KeptFacts.{fact_after, fact_at_once, operands_keep}
 use Rattle.gx_static.specs.Rule.{Ruling, has_type, has_none, if_taken, cast_item, untyped_cast, cast_ruling, converted_ruling, converted_type, converted_arguments_rule, data_rule}
@@ -249,7 +249,7 @@ cast_ruled : (target : TypeName) (r : Ruling) (u : SequenceType) → cast_ruling
 cast_ruled target (has_type t) u e = (t, refl, ruled (untyped_cast target t) u e)
 cast_ruled target (has_none code part) u e = absurd (cc)
 
-converted_keeps : (s : SchemaSet) → IsSchemaSet s → (o : Option TypeName) (given seen : SequenceType) (forest : Forest) (xs : Items) → IsHonest s forest → converted_ruling s o given ≡ has_type seen
+pub converted_keeps : (s : SchemaSet) → IsSchemaSet s → (o : Option TypeName) (given seen : SequenceType) (forest : Forest) (xs : Items) → IsHonest s forest → converted_ruling s o given ≡ has_type seen
     → Belongs s forest xs given → Keeps (typed_setting s) forest seen (converted_to o s xs forest)
 converted_keeps s is None a u forest xs honest e b = value_keeps s a u forest xs (ruled a u e) honest b
 converted_keeps s is (Some target) a u forest xs honest e b =

@@ -33,7 +33,11 @@ use Rattle.gx_funcs.specs.declared.function.Function.TheVariants as functions
 use Rattle.gx_funcs.specs.declared.function.Parameter.{Parameter}
 use Rattle.gx_funcs.specs.declared.function.ParameterType.{ParameterType}
 use Rattle.gx_funcs.specs.declared.function.ParameterType.TheVariants as parameters
-use Rattle.gx_funcs.specs.Function.{parameters_of, arity_of, answer_type_of}
+use Rattle.gx_funcs.specs.declared.function.Conversion.{Conversion}
+use Rattle.gx_funcs.specs.declared.function.Conversion.TheVariants.{Nothing, Data, DataAndCast}
+use Rattle.gx_funcs.specs.declared.value_function.ValueFunction.{ValueFunction}
+use Rattle.gx_funcs.specs.declared.value_function.ValueFunction.TheVariants as values
+use Rattle.gx_funcs.specs.Function.{parameters_of, value_function_of, conversion_of, arity_of, answer_type_of}
 use Rattle.gx_core.specs.declared.expression.ArithmeticOp.{ArithmeticOp}
 use Rattle.gx_core.specs.declared.expression.ArithmeticOp.TheVariants.{Div, IDiv}
 use Rattle.gx_core.specs.declared.expression.BinaryClass.{BinaryClass}
@@ -51,7 +55,7 @@ use Rattle.gx_core.specs.declared.operator.ClauseKind.{ClauseKind}
 use Rattle.gx_core.specs.declared.operator.ClauseKind.TheVariants as kinds
 use Rattle.gx_core.specs.declared.operator.Operator.{Operator}
 use Rattle.gx_core.specs.declared.operator.Operator.TheVariants as operators
-use Rattle.gx_core.specs.Arithmetic.{type_of_number}
+use Rattle.gx_funcs.specs.Numbers.{type_of_number}
 use Rattle.gx_core.specs.BinaryOperators.{class_of}
 use Rattle.gx_include.specs.Decision.{is_included}
 use Rattle.gx_static.specs.declared.comparison.Family.{Family}
@@ -304,6 +308,21 @@ cast_rule kind allows_empty operand =
 abbrev pub castable_rule : SequenceType → Ruling
 castable_rule operand = type_if (is_at_most_one operand && all_items is_atomic operand) (atomic Boolean)
 
+-- ---- conversions
+
+-- an item type of untyped values, each of which is cast to a type
+abbrev pub cast_item : TypeName → ItemType → SequenceType
+cast_item kind (items.Atom own) = item (items.Atom (if same_type_name own (names.Builtin UntypedAtomic) then kind else own))
+cast_item kind own = item own
+
+-- the type of values each of which is cast where it is untyped, unless all atomic values are expected
+abbrev pub untyped_cast : TypeName → SequenceType → SequenceType
+untyped_cast kind t = if is_any_atomic_type kind then t else replaced_items (cast_item kind) t
+
+abbrev pub cast_ruling : TypeName → Ruling → Ruling
+cast_ruling kind (has_type t) = has_type (untyped_cast kind t)
+cast_ruling kind (has_none code part) = has_none code part
+
 -- ---- calls of built-in functions
 
 -- the boolean types: values of such a type have an effective boolean value (XQuery 1.0, section 2.4.3)
@@ -316,19 +335,16 @@ abbrev pub has_effective_boolean : SchemaSet → ItemType → Bool
 has_effective_boolean schemas kind =
     is_of_family schemas families.Truth kind || is_of_family schemas families.Text kind || is_of_family schemas families.Number kind
 
--- a parameter of atomic values takes the typed values of its argument (XQuery 1.0, section 3.1.5)
-abbrev pub atomizes : ParameterType → Bool
-atomizes parameters.OptionalText = true
-atomizes parameters.OneText = true
-atomizes parameters.Texts = true
-atomizes parameters.OptionalValue = true
-atomizes takes = false
+-- the type of an argument as its parameter asks for it (XQuery 1.0, section 3.1.5)
+abbrev pub type_by : SchemaSet → Conversion → SequenceType → Ruling
+type_by schemas Nothing argument = has_type argument
+type_by schemas Data argument = data_rule schemas argument
+type_by schemas (DataAndCast kind) argument = cast_ruling (names.Builtin kind) (data_rule schemas argument)
 
--- the type of an argument as its parameter sees it
 abbrev pub seen_argument : SchemaSet → ParameterType → SequenceType → Ruling
-seen_argument schemas takes argument = if atomizes takes then data_rule schemas argument else has_type argument
+seen_argument schemas takes argument = type_by schemas (conversion_of takes) argument
 
--- a parameter takes the values of a type; an untyped value is a string
+-- a parameter takes the values of a type; an untyped value is a string, and no number
 abbrev pub takes_argument : SchemaSet → ParameterType → SequenceType → Bool
 takes_argument schemas parameters.Items argument = true
 takes_argument schemas parameters.OptionalItem argument = is_at_most_one argument
@@ -338,6 +354,12 @@ takes_argument schemas parameters.OneText argument =
     is_at_least_one argument && is_at_most_one argument && all_items (is_of_family schemas families.Text) argument
 takes_argument schemas parameters.Texts argument = all_items (is_of_family schemas families.Text) argument
 takes_argument schemas parameters.OptionalValue argument = is_at_most_one argument && all_items is_atomic argument
+takes_argument schemas parameters.OptionalNumber argument = is_optional_in schemas Decimal argument
+takes_argument schemas parameters.OneNumber argument = is_at_least_one argument && is_at_most_one argument && is_all_in schemas Decimal argument
+takes_argument schemas parameters.Numbers argument = is_all_in schemas Decimal argument
+takes_argument schemas parameters.Integers argument = is_all_in schemas Integer argument
+takes_argument schemas parameters.Values argument = all_items is_atomic argument
+takes_argument schemas parameters.OneValue argument = is_at_least_one argument && is_at_most_one argument && all_items is_atomic argument
 
 -- what follows an argument that its parameter takes; the codes of the others stand at them
 abbrev pub if_taken : (takes : SequenceType → Bool) → Code → (number : ℕ) → (next : Ruling) → (argument : Ruling) → Ruling
@@ -366,8 +388,47 @@ abbrev pub answer_rule : Option Builtin → Ruling
 answer_rule None = has_none XPTY0004 None
 answer_rule (Some builtin) = has_type (atomic builtin)
 
+-- the type of the first argument as its parameter asks for it, if it has one
+abbrev pub type_ruled : Ruling → SequenceType
+type_ruled (has_type t) = t
+type_ruled (has_none code part) = never
+
+abbrev pub first_seen : SchemaSet → List Parameter → List SequenceType → SequenceType
+first_seen schemas (parameter ∷ parameters) (argument ∷ arguments) = type_ruled (seen_argument schemas parameter.takes argument)
+first_seen schemas _ _ = never
+
+-- one value, or none where an argument may have none
+abbrev pub as_optional : (argument : SequenceType) → SequenceType → SequenceType
+as_optional argument t = times_of t (occurs (occurrence_of argument).least 1)
+
+-- the type of one number, which is whole where the argument is
+abbrev pub rounded_type : SchemaSet → SequenceType → SequenceType
+rounded_type schemas argument = as_optional argument (atomic (integer_if (is_all_in schemas Integer argument)))
+
+-- the type of what a function over atomic values answers, from that of its first argument
+abbrev pub value_answer_type : SchemaSet → ValueFunction → (first : SequenceType) → SequenceType
+value_answer_type schemas values.Sum first = atomic (integer_if (is_all_in schemas Integer first))
+value_answer_type schemas values.Average first = as_optional first (atomic Decimal)
+value_answer_type schemas values.Min first = one_of_type true first
+value_answer_type schemas values.Max first = one_of_type true first
+value_answer_type schemas values.Abs first = rounded_type schemas first
+value_answer_type schemas values.Floor first = rounded_type schemas first
+value_answer_type schemas values.Ceiling first = rounded_type schemas first
+value_answer_type schemas values.Round first = rounded_type schemas first
+value_answer_type schemas values.Compare first = optional (atomic Integer)
+value_answer_type schemas values.StringToCodepoints first = star (atomic Integer)
+value_answer_type schemas values.DistinctValues first = times_of (prime_of first) (occurrence_of first)
+value_answer_type schemas values.IndexOf first = star (atomic Integer)
+value_answer_type schemas function first = atomic builtins.Str
+
+abbrev pub answer_ruling : SchemaSet → Option ValueFunction → Function → List SequenceType → Ruling
+answer_ruling schemas None function arguments = answer_rule (called_type function)
+answer_ruling schemas (Some over_values) function arguments =
+    has_type (value_answer_type schemas over_values (first_seen schemas (parameters_of function) arguments))
+
 unfoldable pub call_rule : SchemaSet → Function → List SequenceType → Ruling
-call_rule schemas function arguments = arguments_rule schemas (parameters_of function) arguments 0 (answer_rule (called_type function))
+call_rule schemas function arguments =
+    arguments_rule schemas (parameters_of function) arguments 0 (answer_ruling schemas (value_function_of function) function arguments)
 
 -- ---- blocks
 
@@ -473,20 +534,7 @@ constructor_rule schemas constructors.Text (content ∷ []) = text_rule schemas 
 constructor_rule schemas constructors.Document (content ∷ []) = document_rule schemas content
 constructor_rule schemas _ parts = has_none XPTY0004 None
 
--- ---- conversions, and calls of declared functions
-
--- an item type of untyped values, each of which is cast to a type
-abbrev pub cast_item : TypeName → ItemType → SequenceType
-cast_item kind (items.Atom own) = item (items.Atom (if same_type_name own (names.Builtin UntypedAtomic) then kind else own))
-cast_item kind own = item own
-
--- the type of values each of which is cast where it is untyped, unless all atomic values are expected
-abbrev pub untyped_cast : TypeName → SequenceType → SequenceType
-untyped_cast kind t = if is_any_atomic_type kind then t else replaced_items (cast_item kind) t
-
-abbrev pub cast_ruling : TypeName → Ruling → Ruling
-cast_ruling kind (has_type t) = has_type (untyped_cast kind t)
-cast_ruling kind (has_none code part) = has_none code part
+-- ---- calls of declared functions
 
 abbrev pub converted_ruling : SchemaSet → (atomic_type : Option TypeName) → SequenceType → Ruling
 converted_ruling schemas None t = has_type t

@@ -1,19 +1,24 @@
 // The static rule of calls of built-in functions.
 
 ghost use Rattle.std.specs.Prelude.{◌≡◌, ◌++◌, [], ◌∷◌, true, IfOk, IfErr, IsTrue, OnOk, Some};
+ghost use Rattle.gx_funcs.specs.Function.{parameters_of, value_function_of};
 ghost use Rattle.gx_types.specs.SequenceType.{both, star as any_number};
 ghost use Rattle.gx_include.specs.Decision.{is_included};
 ghost use Rattle.gx_steptype.specs.StepType.{node_type as type_of_node, any_item};
-ghost use Rattle.gx_static.specs.Rule.{has_type, atomic, has_effective_boolean, boolean_types, takes_argument, atomizes, seen_argument, argument_ruling, answer_rule, called_type, call_rule, Ruling, has_none};
+ghost use Rattle.gx_static.specs.Rule.{has_type, atomic, has_effective_boolean, boolean_types, takes_argument, seen_argument, argument_ruling, answer_ruling, called_type, type_ruled, first_seen, call_rule, Ruling, has_none};
 ghost use Rattle.gx_static.specs.Refusal.{RefusesType};
 
 use crate::comparison::{Family, is_all_of_family, is_of_family};
+use crate::conversions::untyped_cast;
 use crate::error::RuleError;
-use crate::item_tests::{atomic, is_all_atomic, is_at_least_one, is_at_most_one, no_type};
+use crate::item_tests::{
+    atomic, is_all_atomic, is_all_in, is_at_least_one, is_at_most_one, is_optional_in, no_type,
+};
 use crate::rules::data_type;
+use crate::value_types::value_answer_type;
 use gx_base::code::Code;
-use gx_base::type_name::Builtin;
-use gx_funcs::function::{Function, Parameter, ParameterType};
+use gx_base::type_name::{Builtin, TypeName};
+use gx_funcs::function::{Conversion, Function, Parameter, ParameterType};
 use gx_include::decision::is_included;
 use gx_steptype::axis_type::{item_type, node_type};
 use gx_types::item_type::ItemType;
@@ -45,18 +50,18 @@ fn takes_argument(
         ),
         ParameterType::Texts => Ok(is_all_of_family(schemas, Family::Text, argument)),
         ParameterType::OptionalValue => Ok(is_at_most_one(argument) && is_all_atomic(argument)),
-    }
-}
-
-fn atomizes(takes: ParameterType) -> bool
-    ensures { result ≡ atomizes takes }
-{
-    match takes {
-        ParameterType::OptionalText
-        | ParameterType::OneText
-        | ParameterType::Texts
-        | ParameterType::OptionalValue => true,
-        ParameterType::Items | ParameterType::OptionalItem | ParameterType::TruthValue => false,
+        ParameterType::OptionalNumber => Ok(is_optional_in(schemas, Builtin::Decimal, argument)),
+        ParameterType::OneNumber => Ok(
+            is_at_least_one(argument)
+                && is_at_most_one(argument)
+                && is_all_in(schemas, Builtin::Decimal, argument),
+        ),
+        ParameterType::Numbers => Ok(is_all_in(schemas, Builtin::Decimal, argument)),
+        ParameterType::Integers => Ok(is_all_in(schemas, Builtin::Integer, argument)),
+        ParameterType::Values => Ok(is_all_atomic(argument)),
+        ParameterType::OneValue => Ok(
+            is_at_least_one(argument) && is_at_most_one(argument) && is_all_atomic(argument),
+        ),
     }
 }
 
@@ -145,14 +150,55 @@ fn called_type(function: Function) -> Option<Builtin>
     }
 }
 
-// The type of what a function answers.
-fn answer_type(alloc: Global, function: Function) -> Result<Ty, RuleError>
-    ensures typed { IfOk result (λ t. answer_rule (called_type function) ≡ has_type t) }
-    ensures refused { IfErr result (λ e. RefusesType e (answer_rule (called_type function))) }
+// The type of what a function answers of arguments that its parameters take.
+fn answer_type(
+    alloc: Global,
+    schemas: &Schemas,
+    function: Function,
+    arguments: &[Ty],
+) -> Result<Ty, RuleError>
+    ensures typed { IfOk result (λ t. answer_ruling schemas.now (value_function_of function) function arguments.now ≡ has_type t) }
+    ensures refused { IfErr result (λ e. RefusesType e (answer_ruling schemas.now (value_function_of function) function arguments.now)) }
 {
+    if let Some(over_values) = function.value_function() {
+        let first = first_seen(alloc, schemas, function, arguments)?;
+        let answer = value_answer_type(alloc, schemas, over_values, &first);
+        drop(first);
+        return Ok(answer?);
+    }
     match called_type(function) {
         Some(builtin) => Ok(atomic(alloc, builtin)?),
         None => Err(no_type(Code::XPTY0004)),
+    }
+}
+
+// The type of the first argument as its parameter asks for it, if it has one.
+fn first_seen(
+    alloc: Global,
+    schemas: &Schemas,
+    function: Function,
+    arguments: &[Ty],
+) -> Result<Ty, AllocError>
+    ensures { IfOk result (λ t. t ≡ first_seen schemas.now (parameters_of function) arguments.now) }
+{
+    match (function.parameter(0), arguments.first()) {
+        (Some(parameter), Some(argument)) => type_seen(alloc, schemas, parameter.takes, argument),
+        _ => Ok(Ty::none()),
+    }
+}
+
+fn type_seen(
+    alloc: Global,
+    schemas: &Schemas,
+    takes: ParameterType,
+    argument: &Ty,
+) -> Result<Ty, AllocError>
+    ensures { IfOk result (λ t. t ≡ type_ruled (seen_argument schemas.now takes argument.now)) }
+{
+    match seen_argument(alloc, schemas, takes, argument) {
+        Ok(seen) => Ok(seen),
+        Err(RuleError::NoType { .. }) => Ok(Ty::none()),
+        Err(RuleError::Memory) => Err(AllocError),
     }
 }
 
@@ -179,10 +225,13 @@ fn seen_argument(
     ensures typed { IfOk result (λ t. seen_argument schemas.now takes argument.now ≡ has_type t) }
     ensures refused { IfErr result (λ e. RefusesType e (seen_argument schemas.now takes argument.now)) }
 {
-    if atomizes(takes) {
-        data_type(alloc, schemas, argument)
-    } else {
-        Ok(argument.clone()?)
+    match takes.conversion() {
+        Conversion::Nothing => Ok(argument.clone()?),
+        Conversion::Data => data_type(alloc, schemas, argument),
+        Conversion::DataAndCast(kind) => {
+            let values = data_type(alloc, schemas, argument)?;
+            Ok(untyped_cast(alloc, &TypeName::Builtin(kind), values)?)
+        }
     }
 }
 
@@ -233,7 +282,7 @@ pub(crate) fn call_type(
         number += 1;
     }
     if number == function.arity() {
-        answer_type(alloc, function)
+        answer_type(alloc, schemas, function, arguments)
     } else {
         Err(no_type(Code::XPTY0004))
     }

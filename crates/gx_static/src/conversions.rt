@@ -76,7 +76,7 @@ fn is_any_atomic_type(kind: &TypeName) -> bool
 }
 
 // The type of values each of which is cast where it is untyped.
-fn untyped_cast(alloc: Global, kind: &TypeName, values: Ty) -> Result<Ty, AllocError>
+pub(crate) fn untyped_cast(alloc: Global, kind: &TypeName, values: Ty) -> Result<Ty, AllocError>
     ensures { IfOk result (λ t. t ≡ untyped_cast kind.now values) }
 {
     if is_any_atomic_type(kind) {

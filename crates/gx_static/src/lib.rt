@@ -24,3 +24,4 @@ mod places;
 pub mod rules;
 mod switch_tasks;
 mod typing;
+mod value_types;

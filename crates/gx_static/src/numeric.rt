@@ -16,7 +16,7 @@ use gx_types::type_rules::{occurrence, star, times};
 use std::alloc::Global;
 
 // An integer where all operands are.
-fn integer_if(whole: bool) -> Builtin
+pub(crate) fn integer_if(whole: bool) -> Builtin
     ensures { result ≡ integer_if whole }
 {
     if whole {

@@ -1,10 +1,11 @@
-//! Worked values of texts, names, numbers and atomic values, and of casts, comparisons and sorting of these: each line of standard
-//! input is a call with its arguments, and is written again with its answer.
+//! Worked values of texts, names, numbers and atomic values, of casts, comparisons and sorting of these,
+//! and of functions over atomic values: each line of standard input is a call with its arguments, and is written again with its answer.
 #![tactic(auto)]
 
 mod casts;
 mod codes;
 mod comparisons;
+mod functions;
 mod names;
 mod numbers;
 mod sorting;
@@ -13,6 +14,7 @@ mod values;
 use casts::{cast_row, effective_row, fits_row};
 use codes::code_row;
 use comparisons::{any_row, single_row};
+use functions::call_row;
 use names::{build_row, names_row, texts_row, type_names_row};
 use numbers::{number, one_number, two_numbers};
 use rows_words::not_a_row;
@@ -80,6 +82,7 @@ fn sorting_answer(alloc: Global, words: &[&str]) -> Result<String, AllocError> {
     match words {
         ["sort", words @ ..] => sort_row(alloc, words),
         ["compare_keys", words @ ..] => keys_row(alloc, words),
+        ["call", name, words @ ..] => call_row(alloc, name, words),
         [call, a] => one_number(alloc, call, a),
         [call, a, b] => two_numbers(alloc, call, number(a), number(b)),
         _ => not_a_row(alloc),

@@ -2,6 +2,7 @@ use Rattle.std.proofs.Common.{◌≡◌, ◌++◌, ℤ, List, map, rules, subst}
 use Rattle.std.specs.Prelude.{FitsSigned, OnOk}
 use Rattle.std.specs.Int.{w128}
 use Rattle.std.proofs.lemmas.Int.{to_z-of_z}
+use Rattle.gx_facets.specs.declared.Atomic.{Atomic}
 use Rattle.gx_model.specs.Item.{atoms, node}
 use Rattle.gx_core.specs.Ranging.{integers_from}
 use Rattle.gx_store.specs.declared.number.NodeId.{NodeId}
@@ -24,3 +25,8 @@ returns-in-NodeSequence c = λ later.
     rw c.in-NodeSequence.is
     (subst (λ (ns : List NodeId). OnOk c.append_nodes.result (items_in later c.append_nodes.new.items.items ≡ items_in later c.args.values.now.items ++ map node (node_places later ns)))
     c.as_slice.ensures.value (c.append_nodes.ensures later))
+
+pub returns-in-Values : goal.returns-in-Values
+returns-in-Values c = λ later.
+    rw c.in-Values.is
+    (subst (λ (added : List Atomic). OnOk c.put_atoms.result (items_in later c.put_atoms.new.values.items ≡ items_in later c.args.values.now.items ++ atoms added)) c.as_slice-in-Values.ensures.value (c.put_atoms.ensures later))

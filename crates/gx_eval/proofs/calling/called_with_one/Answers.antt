@@ -34,3 +34,9 @@ returns-in-OfTexts-clause-value c = λ later x. rw c.in-OfTexts.is (c.called_wit
 
 pub returns-in-OfTexts-clause-failed : goal.returns-in-OfTexts-clause-failed
 returns-in-OfTexts-clause-failed c = λ later x. rw c.in-OfTexts.is (c.called_with_text.ensures.failed later x)
+
+pub returns-in-OfValues-clause-value : goal.returns-in-OfValues-clause-value
+returns-in-OfValues-clause-value c = λ later x. rw c.in-OfValues.is (c.called_with_value.ensures.value later x)
+
+pub returns-in-OfValues-clause-failed : goal.returns-in-OfValues-clause-failed
+returns-in-OfValues-clause-failed c = λ later x. rw c.in-OfValues.is (c.called_with_value.ensures.failed later x)

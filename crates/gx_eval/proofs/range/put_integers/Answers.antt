@@ -4,7 +4,7 @@ use Rattle.std.specs.Int.{w128, cast_signed, cast_unsigned}
 use Rattle.std.proofs.lemmas.Int.{to_z-of_z}
 use Rattle.gx_num.specs.declared.Number.TheVariants.{Int}
 use Rattle.gx_model.specs.Item.{atoms}
-use Rattle.gx_core.specs.Arithmetic.{number_atom}
+use Rattle.gx_funcs.specs.Numbers.{number_atom}
 use Rattle.gx_core.specs.Ranging.{integers_from}
 use Rattle.gx_store.specs.Items.{items_in}
 use Rattle.gx_eval.proofs.Ranges.{integers_pushed}

@@ -1,4 +1,4 @@
-use Rattle.std.proofs.Common.{◌≡◌, drop, ap, ◌∙◌, sym}
+use Rattle.std.proofs.Common.{drop, ap, ◌∙◌, sym}
 use Rattle.gx_normal.specs.Clauses.{Numbers}
 use Rattle.gx_normal.proofs.ParameterScopes.{drop_next}
 use Rattle.gx_normal.proofs.signatures.unbind_parameters.Goals as goal

@@ -1,4 +1,4 @@
-use Rattle.std.proofs.Common.{◌≡◌, List, length, string_bytes, ap, ◌∙◌}
+use Rattle.std.proofs.Common.{List, length, string_bytes, ap, ◌∙◌}
 use Rattle.std.proofs.lemmas.List.{length-map}
 use Rattle.gx_xml.specs.declared.source.Source.{Source}
 use Rattle.gx_io.specs.LibraryUse.{library_use}

@@ -1,11 +1,9 @@
-use Rattle.std.proofs.Common.{◌≡◌, ◌+◌, ℕ, List, [], Option, Some, ap, sym, ◌∙◌, subst, rules}
+use Rattle.std.proofs.Common.{◌≡◌, ◌+◌, ℕ, List, [], ap, sym, ◌∙◌, subst, rules}
 use Rattle.std.specs.Global.{Global}
 use Rattle.std.specs.Prelude.{Vec}
 use Rattle.std.proofs.lemmas.Result.{err_from_is_err_and}
-use Rattle.gx_funcs.specs.declared.text_function.TextFunction.{TextFunction}
-use Rattle.gx_funcs.specs.Function.{text_function_of}
 use Rattle.gx_model.specs.Item.{Items}
-use Rattle.gx_core.specs.Calling.{text_called, called_as, called}
+use Rattle.gx_core.specs.Calling.{called}
 use Rattle.gx_core.specs.declared.operator.Operator.TheVariants as operators
 use Rattle.gx_core.specs.Meaning.{Context, Bindings}
 use Rattle.gx_core.specs.Outcome.{Outcome, gives}
@@ -15,13 +13,8 @@ use Rattle.gx_build.specs.Parts.{parts_in}
 use Rattle.gx_eval.specs.Answering.{answer_items}
 use Rattle.gx_eval.specs.Failing.{FailsSo}
 use Rattle.gx_eval.specs.Resume.{Stacks, context_with, between_marks, operated, resume, with_marks, items_of, stacks_of}
-use Rattle.gx_eval.proofs.Resuming.{more_are_wrong, many_apply, many_fail}
+use Rattle.gx_eval.proofs.Resuming.{many_apply, many_fail}
 use Rattle.gx_eval.proofs.evaluation.Evaluation.apply_call.Goals as goal
-
-pub returns-in_default-clause-failed : goal.returns-in_default-clause-failed
-returns-in_default-clause-failed c = λ calls later x.
-    more_are_wrong (context_with c.args.schemas.now calls) c.args.store.now c.args.function c.args.self.now.work (items_in later c.args.self.now.values.items) (stacks_of later c.args.self.now) (items_of later c.args.self.now.scope) c.args.more
-    (sym c.text_function.ensures ∙ c.in_default.is)
 
 pub returns-in_err-operands-clause-failed : goal.returns-in_err-operands-clause-failed
 returns-in_err-operands-clause-failed c = λ calls later x.
@@ -31,7 +24,7 @@ returns-in_err-operands-clause-failed c = λ calls later x.
     let values : Items = items_in later c.args.self.now.values.items in
     let next : List Items → List ℕ → Items → Outcome Items =
     λ operands below rest. operated k (operators.Call c.args.function) operands rest c.args.store.now (λ vs left. resume k c.args.self.now.work vs (with_marks stacks below) (items_of later c.args.self.now.scope) left) in
-    let all : c.in-Some-checked_add.count ≡ c.args.more + 2 = search rules in
+    let all : c.in-Some.count ≡ c.args.more + 2 = search rules in
     let p = err_from_is_err_and c.from_residual.result c.from_residual.ensures.1 in
     rw (p.1, p.2) (subst (λ (n : ℕ). FailsSo c.in_err-operands.field-0.0 (between_marks n marks values [] next)) all (c.in_err-operands.ensures.failed later next))
 
@@ -50,11 +43,9 @@ returns-in_err-answer-clause-failed c = λ calls later x.
     let bindings : Bindings = items_of later c.args.self.now.scope in
     let next : List Items → List ℕ → Items → Outcome Items =
     λ operands below rest. operated k (operators.Call function) operands rest forest (λ vs left. resume k c.args.self.now.work vs (with_marks stacks below) bindings left) in
-    let all : c.in-Some-checked_add.count ≡ c.args.more + 2 = search rules in
-    let over_texts : text_function_of function ≡ Some c.in-Some.texts = sym c.text_function.ensures ∙ c.in-Some.is in
+    let all : c.in-Some.count ≡ c.args.more + 2 = search rules in
     let failed : FailsSo error (called s function operands forest) =
-    subst (λ (texts : Option TextFunction). FailsSo error (called_as texts s function operands forest)) (sym over_texts)
-    (subst (λ (taken : List (Vec Item Global)). FailsSo error (text_called s c.in-Some.texts (parts_in later taken) forest)) c.as_slice.ensures.value (c.in_err-answer.ensures.failed later x)) in
+    subst (λ (taken : List (Vec Item Global)). FailsSo error (called s function (parts_in later taken) forest)) c.as_slice.ensures.value (c.in_err-answer.ensures.failed later x) in
     let p = err_from_is_err_and c.from_residual-in_err-answer.result c.from_residual-in_err-answer.ensures.1 in
     rw (p.1, p.2)
     (subst (λ (n : ℕ). FailsSo error (between_marks n marks values [] next)) all
@@ -76,12 +67,9 @@ returns-clause-value c = λ calls later x.
     let bindings : Bindings = items_of later c.args.self.now.scope in
     let next : List Items → List ℕ → Items → Outcome Items =
     λ operands below rest. operated k (operators.Call function) operands rest forest (λ vs left. resume k c.args.self.now.work vs (with_marks stacks below) bindings left) in
-    let all : c.in-Some-checked_add.count ≡ c.args.more + 2 = search rules in
-    let over_texts : text_function_of function ≡ Some c.in-Some.texts = sym c.text_function.ensures ∙ c.in-Some.is in
+    let all : c.in-Some.count ≡ c.args.more + 2 = search rules in
     let answered : called s function operands forest ≡ gives answer forest =
-    ap (λ (texts : Option TextFunction). called_as texts s function operands forest) over_texts
-    ∙ ap (λ (taken : List (Vec Item Global)). text_called s c.in-Some.texts (parts_in later taken) forest) (sym c.as_slice.ensures.value)
-    ∙ c.in_ok-answer.ensures.value later x in
+    ap (λ (taken : List (Vec Item Global)). called s function (parts_in later taken) forest) (sym c.as_slice.ensures.value) ∙ c.in_ok-answer.ensures.value later x in
     ap (λ (vs : Items). resume k c.args.self.now.work vs (with_marks stacks c.take_operands.new.marks) bindings forest) (c.in_ok-put.ensures later)
     ∙ many_apply k forest function c.args.self.now.work operands rest answer (with_marks stacks c.take_operands.new.marks) bindings answered
     ∙ sym (c.in_ok-operands.ensures.taken later next)
