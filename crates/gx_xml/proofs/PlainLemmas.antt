@@ -51,20 +51,14 @@ byte_more : (p : Plain) (x : List ℕ) (i : ℕ) (b : Bool) → i < length x →
 byte_more p x i b l e =
     ap (all_pass (is_plain_character p)) (take_more x i 0 l) ∙ all_pass_parts (is_plain_character p) (take i x) (get_or x i 0 ∷ []) ∙ ap (λ c. all_pass (is_plain_character p) (take i x) && (c && true)) e
 
-and_false : (a : Bool) → (a && false) ≡ false
-and_false true = refl
-and_false false = refl
-
 and_true : (a : Bool) → (a && true) ≡ a
 and_true true = refl
 and_true false = refl
 
-pub byte_fails : (p : Plain) (x : List ℕ) (i : ℕ) → i < length x → is_plain_character p (get_or x i 0) ≡ false → false ≡ all_pass (is_plain_character p) (take (i + 1) x)
-byte_fails p x i l e = sym (byte_more p x i false l e ∙ and_false (all_pass (is_plain_character p) (take i x)))
-
-pub byte_passes : (p : Plain) (x : List ℕ) (i : ℕ) → i < length x → is_plain_character p (get_or x i 0) ≡ true
-    → all_pass (is_plain_character p) (take i x) ≡ all_pass (is_plain_character p) (take (i + 1) x)
-byte_passes p x i l e = sym (byte_more p x i true l e ∙ and_true (all_pass (is_plain_character p) (take i x)))
+pub byte_joins : (p : Plain) (x : List ℕ) (i : ℕ) (all b : Bool) → i < length x → all ≡ all_pass (is_plain_character p) (take i x) → b ≡ is_plain_character p (get_or x i 0)
+    → (all && b) ≡ all_pass (is_plain_character p) (take (i + 1) x)
+byte_joins p x i all b l e f =
+    ap (λ a. a && b) e ∙ ap (λ c. all_pass (is_plain_character p) (take i x) && c) (sym (and_true b)) ∙ sym (byte_more p x i b l (sym f))
 
 -- a text is cut behind plain characters
 pub record PlainCut (p : Plain) (text : List ℕ) (n : ℕ) : Type 0 where

@@ -5,6 +5,8 @@ ghost use Rattle.gx_grammar.specs.Walks.{all_walk, reached};
 ghost use Rattle.gx_xml.specs.Characters.{spelled};
 ghost use Rattle.gx_xml.specs.Plain.{RunsOnWith, is_plain_character, state_behind};
 ghost use Rattle.gx_xml.specs.Runs.{walk_for};
+ghost use Rattle.gx_xml.specs.declared.plain.Plain.TheVariants.{Text};
+ghost use Rattle.gx_base.specs.NameCharacters.{lies_between};
 ghost use Rattle.std.specs.Prelude.{◌≡◌, ◌≤◌, ◌<◌, ◌++◌, IfSome, length, take, true};
 ghost use Rattle.std.specs.Str.{chars};
 
@@ -30,12 +32,7 @@ impl Plain {
         ensures { result ≡ is_plain_character self byte }
     {
         match self {
-            Plain::Text => {
-                (97 <= byte && byte <= 126)
-                    || byte == 32
-                    || (40 <= byte && byte <= 59)
-                    || (64 <= byte && byte <= 92)
-            }
+            Plain::Text => is_text(byte),
             Plain::Name => {
                 (97 <= byte && byte <= 122)
                     || (65 <= byte && byte <= 90)
@@ -45,35 +42,15 @@ impl Plain {
         }
     }
 
-    // Whether all bytes are such characters.
-    fn has_all(self, bytes: &[u8]) -> bool
-        ensures { result ≡ all_pass (is_plain_character self) bytes.now }
-    {
-        let mut all = true;
-        for byte in bytes {
-            if !self.has(*byte) {
-                all = false;
-            }
-        }
-        all
-    }
-
-    // How many of them stand at the front, as far as they fill parts that are looked at as a whole.
+    // How many of them stand at the front, as far as they fill parts that are looked at as a whole. Few names fill one.
     fn count_in_parts(self, bytes: &[u8]) -> usize
         ensures within { result ≤ length bytes.now }
         ensures plain { all_pass (is_plain_character self) (take result bytes.now) ≡ true }
     {
-        let mut count = 0;
-        let mut left = bytes;
-        while left.len() >= PART {
-            let (part, others) = left.split_at(PART);
-            if !self.has_all(part) {
-                break;
-            }
-            count += PART;
-            left = others;
+        match self {
+            Plain::Text => text_in_parts(bytes),
+            Plain::Name => 0,
         }
-        count
     }
 
     // How many of them stand at the front.
@@ -128,6 +105,49 @@ impl Plain {
             Plain::Name => 1,
         }
     }
+}
+
+// Whether a byte lies between two, which count as well; without a branch, so that many bytes are tested at once.
+fn lies(low: u8, high: u8, byte: u8) -> bool
+    ensures { result ≡ lies_between low high byte }
+{
+    (low <= byte) & (byte <= high)
+}
+
+// Whether a byte is a plain character of text.
+fn is_text(byte: u8) -> bool
+    ensures { result ≡ is_plain_character Text byte }
+{
+    lies(97, 126, byte) | ((byte == 32) | (lies(40, 59, byte) | lies(64, 92, byte)))
+}
+
+// Whether all bytes are plain characters of text.
+fn are_text(bytes: &[u8]) -> bool
+    ensures { result ≡ all_pass (is_plain_character Text) bytes.now }
+{
+    let mut all = true;
+    for byte in bytes {
+        all = all & is_text(*byte);
+    }
+    all
+}
+
+// How many plain characters of text stand at the front, as far as they fill parts.
+fn text_in_parts(bytes: &[u8]) -> usize
+    ensures within { result ≤ length bytes.now }
+    ensures plain { all_pass (is_plain_character Text) (take result bytes.now) ≡ true }
+{
+    let mut count = 0;
+    let mut left = bytes;
+    while left.len() >= PART {
+        let (part, others) = left.split_at(PART);
+        if !are_text(part) {
+            break;
+        }
+        count += PART;
+        left = others;
+    }
+    count
 }
 
 // The plain characters with which a run goes on from a state on.

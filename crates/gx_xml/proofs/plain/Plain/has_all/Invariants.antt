@@ -1,7 +1,0 @@
-use Rattle.std.proofs.Common.{◌≡◌, take}
-use Rattle.gx_grammar.specs.Tokens.{all_pass}
-use Rattle.gx_xml.specs.Plain.{is_plain_character}
-use Rattle.gx_xml.proofs.plain.Plain.has_all.Given as goal
-
-abbrev pub invariant-loop-byte : goal.invariant-loop-byte
-invariant-loop-byte l = l.all ≡ all_pass (is_plain_character l.self) (take l.byte-index l.bytes)
